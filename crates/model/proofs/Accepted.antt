@@ -1,0 +1,172 @@
+-- What the questions show: the problem that an accepted sheet states is well formed. Assumes nothing.
+use mathlib.Core.Path.{_≡_, refl, sym, ap, _∙_, subst}
+use mathlib.Core.Bool.{Bool, true, false, not}
+use mathlib.Core.List.{List, [], _∷_, List·Memᴰ, List·Memᴰ·not-nil, List·Memᴰ·cases-cons}
+use mathlib.Core.Logic.{⊎-elim}
+use Prim.Native.Nat.{ℕ, zero, suc, _+_, _*_, _^_, _≤_, _<_}
+use native.Mathlib.Omega.{arith}
+use lib.Dec.{T, T-not, leb, ltb, eqb, leb→le, ltb→lt, eqb→eq}
+use lib.ListN.{length}
+use borrow.Author.Tests.{eq-eqb}
+use Rattle.model.specs.Lists.{all, both, below, at, ascending, rowsAscend}
+use Rattle.model.specs.Problem.{Problem, Constraint, respects}
+use Rattle.model.specs.Verdict.{Verdict, refused, ask, isAccepted}
+use Rattle.model.specs.Sheet.{Header, word, words, headerOf, setsVerdict, scopeAt, rowsAt, afterAt, constraintsVerdict, constraintsFrom, tableAt, problemOf, permutesPairs, symmetriesVerdict, verdictOf}
+use Rattle.model.proofs.WellFormed.{WellFormed, GoodConstraint}
+use Rattle.model.proofs.Basics.{both-l, both-r, T-of, all-e, map-e, below-i, length-below, at-below}
+
+-- a question that was passed, in its two forms
+pub asked : (c : Bool) (n i : ℕ) (v : Verdict) → T (isAccepted (ask c n i v)) → T c × T (isAccepted v)
+unfolding isAccepted
+asked true n i v h = (tt, h)
+asked false n i v h = absurd h
+
+pub length-words : (b : List ℕ) (o k : ℕ) → length (words b o k) ≡ k
+unfolding words
+length-words b o k = length-below (λ i. word b (o + 2 * i)) k
+
+pub at-words : (b : List ℕ) (o k i : ℕ) → i < k → at (words b o k) i ≡ word b (o + 2 * i)
+unfolding words
+at-words b o k i h = at-below (λ i. word b (o + 2 * i)) k i h
+
+positive : (s : ℕ) → T (not (eqb s 0)) → 0 < s
+positive zero t = absurd (T-not (eqb 0 0) t (T-of (eqb 0 0) (eq-eqb 0 0 refl)))
+positive (suc s) t = omega arith
+
+sets-e : (b : List ℕ) (h : Header) (xs : List ℕ) (v : Verdict) → T (isAccepted (setsVerdict b h xs v))
+    → ((x : ℕ) → List·Memᴰ x xs → (word b (16 + 2 * x) < 2 ^ h .values) × (0 < word b (16 + 2 * x))) × T (isAccepted v)
+unfolding setsVerdict
+sets-e b h [] v t = (λ x m. absurd (List·Memᴰ·not-nil m), t)
+sets-e b h (y ∷ ys) v t =
+    let narrow = ltb (word b (16 + 2 * y)) (2 ^ h .values) in
+    let some = not (eqb (word b (16 + 2 * y)) 0) in
+    let r = asked (both narrow some) 8 y (setsVerdict b h ys v) t in
+    let ih = sets-e b h ys v (r .1) in (
+      λ x m. ⊎-elim {C = (word b (16 + 2 * x) < 2 ^ h .values) × (0 < word b (16 + 2 * x))}
+          (λ e. subst (λ (z : ℕ). (word b (16 + 2 * z) < 2 ^ h .values) × (0 < word b (16 + 2 * z))) (sym e) (ltb→lt (word b (16 + 2 * y)) (2 ^ h .values) (both-l narrow some (r .0)), positive (word b (16 + 2 * y)) (both-r narrow some (r .0))))
+          (ih .0 x) (List·Memᴰ·cases-cons m),
+      ih .1,
+    )
+
+module _ (p : Problem) (b : List ℕ) (h : Header) (en : h .variables ≡ p .variables) (ed : h .values ≡ p .values) where
+  constraint-e : (o : ℕ) → T (both (both (leb 1 (word b o)) (leb (word b o) 3)) (leb (word b (o + 2)) 256))
+      → T (both (all (λ x. ltb x (h .variables)) (scopeAt b o)) (ascending (scopeAt b o))) → T (all (all (λ w. ltb w (h .values))) (rowsAt b o))
+      → GoodConstraint p (record { scope = scopeAt b o; rows = rowsAt b o })
+  unfolding scopeAt rowsAt
+  constraint-e o t s r =
+      let a = word b o in
+      let e : length (scopeAt b o) ≡ a = length-words b (o + 4) a in
+      let one = both-l (both (leb 1 a) (leb a 3)) (leb (word b (o + 2)) 256) t in
+      let low : 1 ≤ a = leb→le 1 a (both-l (leb 1 a) (leb a 3) one) in
+      let high : a ≤ 3 = leb→le a 3 (both-r (leb 1 a) (leb a 3) one) in
+      let sizes : (l : List ℕ) → List·Memᴰ l (rowsAt b o) → length l ≡ length (scopeAt b o) = λ l m. (let q = map-e (λ i. words b (o + 4 + 2 * a + 2 * (i * a)) a) (below (word b (o + 2))) l m in
+      ap length (q .2) ∙ length-words b (o + 4 + 2 * a + 2 * (q .0 * a)) a ∙ sym e) in
+      record {
+        some = omega arith;
+        few = omega arith;
+        inside = λ x m. subst (λ (n : ℕ). x < n) en (ltb→lt x (h .variables) (all-e (λ x. ltb x (h .variables)) (scopeAt b o) (both-l (all (λ x. ltb x (h .variables)) (scopeAt b o)) (ascending (scopeAt b o)) s) x m));
+        ordered = both-r (all (λ x. ltb x (h .variables)) (scopeAt b o)) (ascending (scopeAt b o)) s;
+        sized = sizes;
+        valued = λ l m v k. subst (λ (d : ℕ). v < d) ed (ltb→lt v (h .values) (all-e (λ w. ltb w (h .values)) l (all-e (all (λ w. ltb w (h .values))) (rowsAt b o) r l m) v k));
+      }
+
+  constraints-e : (k i o : ℕ) (v : Verdict) → T (isAccepted (constraintsVerdict b h k i o v)) → ((c : Constraint) → List·Memᴰ c (constraintsFrom b k o) → GoodConstraint p c) × T (isAccepted v)
+  unfolding constraintsVerdict constraintsFrom
+  constraints-e zero i o v t = (λ c m. absurd (List·Memᴰ·not-nil m), asked (eqb o (h .third)) 9 i v t .1)
+  constraints-e (suc k) i o v t =
+      let q1 = asked (leb (o + 4) (h .third)) 9 i _ t in
+      let q2 = asked (both (both (leb 1 (word b o)) (leb (word b o) 3)) (leb (word b (o + 2)) 256)) 10 i _ (q1 .1) in
+      let q3 = asked (leb (afterAt b o) (h .third)) 9 i _ (q2 .1) in
+      let q4 = asked (both (all (λ x. ltb x (h .variables)) (scopeAt b o)) (ascending (scopeAt b o))) 11 i _ (q3 .1) in
+      let q5 = asked (all (all (λ w. ltb w (h .values))) (rowsAt b o)) 12 i _ (q4 .1) in
+      let q6 = asked (rowsAscend (rowsAt b o)) 13 i (constraintsVerdict b h k (suc i) (afterAt b o) v) (q5 .1) in
+      let ih = constraints-e k (suc i) (afterAt b o) v (q6 .1) in
+      (λ c m. ⊎-elim {C = GoodConstraint p c} (λ e. subst (GoodConstraint p) (sym e) (constraint-e o (q2 .0) (q4 .0) (q5 .0))) (ih .0 c) (List·Memᴰ·cases-cons m), ih .1)
+
+symmetries-e : (p : Problem) (i : ℕ) (gs : List (List ℕ)) → T (isAccepted (symmetriesVerdict p i gs)) → (g : List ℕ) → List·Memᴰ g gs → T (permutesPairs p g) × T (respects p g)
+unfolding symmetriesVerdict
+symmetries-e p i [] t g m = absurd (List·Memᴰ·not-nil m)
+symmetries-e p i (f ∷ gs) t g m =
+    let q1 = asked (permutesPairs p f) 15 i _ t in
+    let q2 = asked (respects p f) 16 i (symmetriesVerdict p (suc i) gs) (q1 .1) in
+    ⊎-elim {C = T (permutesPairs p g) × T (respects p g)} (λ e. subst (λ (l : List ℕ). T (permutesPairs p l) × T (respects p l)) (sym e) (q1 .0, q2 .0)) (symmetries-e p (suc i) gs (q2 .1) g) (List·Memᴰ·cases-cons m)
+
+-- ---- the whole sheet
+pub record Passed (b : List ℕ) : Type 0 where
+  pub long : 16 ≤ length b
+  pub some : 1 ≤ headerOf b .variables
+  pub few : headerOf b .variables ≤ 12
+  pub one : 1 ≤ headerOf b .values
+  pub sixteen : headerOf b .values ≤ 16
+  pub constraints : headerOf b .constraints ≤ 32
+  pub symmetries : headerOf b .symmetries ≤ 16
+  pub whole : headerOf b .size ≡ length b
+  pub first : headerOf b .first ≡ 16
+  pub second : headerOf b .second ≡ 16 + 2 * headerOf b .variables
+  pub ordered : headerOf b .second ≤ headerOf b .third
+  pub third : headerOf b .third ≤ headerOf b .size
+  pub fits : headerOf b .size ≡ headerOf b .third + 2 * (headerOf b .symmetries * (headerOf b .variables * headerOf b .values))
+  -- what the questions on the constraints were asked of
+  pub walked : (v : Verdict) × T (isAccepted (constraintsVerdict b (headerOf b) (headerOf b .constraints) 0 (headerOf b .second) v))
+  pub well : WellFormed (problemOf b)
+
+pub passed : (b : List ℕ) → T (isAccepted (verdictOf b)) → Passed b
+unfolding verdictOf problemOf tableAt
+passed b t =
+    let h = headerOf b in
+    let n = h .variables in
+    let d = h .values in
+    let p = problemOf b in
+    let q1 = asked (leb 16 (length b)) 1 0 _ t in
+    let q2 = asked (both (leb 1 n) (leb n 12)) 2 0 _ (q1 .1) in
+    let q3 = asked (both (leb 1 d) (leb d 16)) 3 0 _ (q2 .1) in
+    let q4 = asked (leb (h .constraints) 32) 4 0 _ (q3 .1) in
+    let q5 = asked (leb (h .symmetries) 16) 5 0 _ (q4 .1) in
+    let q6 = asked (eqb (h .size) (length b)) 6 0 _ (q5 .1) in
+    let second = eqb (h .second) (16 + 2 * n) in
+    let third = both (leb (h .second) (h .third)) (leb (h .third) (h .size)) in
+    let q7 = asked (both (eqb (h .first) 16) (both second third)) 7 0 _ (q6 .1) in
+    let places = both-r (eqb (h .first) 16) (both second third) (q7 .0) in
+    let ends = ask (eqb (h .size) (h .third + 2 * (h .symmetries * (n * d)))) 14 0 (symmetriesVerdict p 0 (p .symmetries)) in
+    let q8 = sets-e b h (below n) (constraintsVerdict b h (h .constraints) 0 (h .second) ends) (q7 .1) in
+    let q9 = constraints-e p b h refl refl (h .constraints) 0 (h .second) ends (q8 .1) in
+    let q14 = asked (eqb (h .size) (h .third + 2 * (h .symmetries * (n * d)))) 14 0 (symmetriesVerdict p 0 (p .symmetries)) (q9 .1) in
+    let q15 = symmetries-e p 0 (p .symmetries) (q14 .1) in
+    let some : 1 ≤ n = leb→le 1 n (both-l (leb 1 n) (leb n 12) (q2 .0)) in
+    let few : n ≤ 12 = leb→le n 12 (both-r (leb 1 n) (leb n 12) (q2 .0)) in
+    let one : 1 ≤ d = leb→le 1 d (both-l (leb 1 d) (leb d 16) (q3 .0)) in
+    let sixteen : d ≤ 16 = leb→le d 16 (both-r (leb 1 d) (leb d 16) (q3 .0)) in
+    record {
+      long = leb→le 16 (length b) (q1 .0);
+      some = some;
+      few = few;
+      one = one;
+      sixteen = sixteen;
+      constraints = leb→le (h .constraints) 32 (q4 .0);
+      symmetries = leb→le (h .symmetries) 16 (q5 .0);
+      whole = eqb→eq (h .size) (length b) (q6 .0);
+      first = eqb→eq (h .first) 16 (both-l (eqb (h .first) 16) (both second third) (q7 .0));
+      second = eqb→eq (h .second) (16 + 2 * n) (both-l second third places);
+      ordered = leb→le (h .second) (h .third) (both-l (leb (h .second) (h .third)) (leb (h .third) (h .size)) (both-r second third places));
+      third = leb→le (h .third) (h .size) (both-r (leb (h .second) (h .third)) (leb (h .third) (h .size)) (both-r second third places));
+      fits = eqb→eq (h .size) (h .third + 2 * (h .symmetries * (n * d))) (q14 .0);
+      walked = (ends, q8 .1);
+      well = record {
+        some = some;
+        few = few;
+        one = one;
+        sixteen = sixteen;
+        sized = length-words b 16 n;
+        nonempty = λ x l. subst (λ (s : ℕ). 0 < s) (sym (at-words b 16 n x l)) (q8 .0 x (below-i n x l) .1);
+        narrow = λ x l. subst (λ (s : ℕ). s < 2 ^ d) (sym (at-words b 16 n x l)) (q8 .0 x (below-i n x l) .0);
+        constrained = q9 .0;
+        symmetric = λ g m. record {
+          sized = (let r = map-e (tableAt b h) (below (h .symmetries)) g m in ap length (r .2) ∙ length-words b (h .third + 2 * (r .0 * (n * d))) (n * d));
+          permutes = q15 g m .0;
+          respectful = q15 g m .1;
+        };
+      };
+    }
+
+pub well-formed : (b : List ℕ) → T (isAccepted (verdictOf b)) → WellFormed (problemOf b)
+well-formed b t = passed b t .well

@@ -1,0 +1,99 @@
+-- Laws of the assignments drawn from sets: membership, order. Assumes nothing.
+use mathlib.Core.Path.{_≡_, refl, sym, ap, ap₂, _∙_, subst}
+use mathlib.Core.Bool.{Bool, true, false, not}
+use mathlib.Core.Logic.{_⊎_, inl, inr, ⊎-elim, _↔_}
+use mathlib.Core.List.{List, [], _∷_, _++_, map, List·Memᴰ, List·Memᴰ·head, List·Memᴰ·tail, List·Memᴰ·not-nil, List·Memᴰ·eq-of-singleton, Memᴰ·map, Memᴰ·of-map, Memᴰ·cast}
+use Prim.Native.Nat.{ℕ, zero, suc, _+_, _^_, _≤_, _<_}
+use native.Mathlib.Nat.{not-suc-le-zero, le-of-suc-le-suc}
+use native.Mathlib.Omega.{arith}
+use lib.Dec.{T, eqb, eqb→eq, eqb-refl}
+use lib.ListN.{length, getD}
+use Rattle.model.specs.Lists.{both, either, all, any, keep, flat, below, at, earlier, rowsAscend, tabulate}
+use Rattle.model.specs.ValueSets.{has, maskOf, members}
+use Rattle.model.specs.Problem.{assignments}
+use Rattle.model.specs.Nogood.{Entry, equality, disequality, is, obeysFrom, obeys, obeying, used, filtered}
+use Rattle.model.proofs.Lists.{T-of, both-i, both-l, both-r, keep-i, keep-e, any-i, any-e, flat-i, flat-e, Sorted, sorted-imp, sorted-flat-map, sorted-ext, sorted-of-rowsAscend, earlier-irrefl, rowsAscend-of, earlier-lt, earlier-eq, earlier-asym, at-tabulate, length-tabulate, getD-at, at-ext, at-out}
+use Rattle.model.proofs.Sets.{has-lt, mask-i, mask-e, mask-lt, members-i, members-e, members-sorted, Sets, Inside, inside-antisym, has-at-lt}
+
+-- ---- membership: one value of each set
+pub assign-i : (ds a : List ℕ) → length a ≡ length ds → ((x : ℕ) → x < length ds → List·Memᴰ (at a x) (members (at ds x))) → List·Memᴰ a (assignments ds)
+unfolding assignments at
+assign-i [] [] e h = List·Memᴰ·head refl
+assign-i [] (v ∷ a) e h = absurd (omega arith)
+assign-i (s ∷ ds) [] e h = absurd (omega arith)
+assign-i (s ∷ ds) (v ∷ a) e h =
+    flat-i (map F (members s)) (F v) (v ∷ a) (Memᴰ·map F (h 0 (omega arith))) (Memᴰ·map (λ (b : List ℕ). v ∷ b) (assign-i ds a (omega arith) (λ x l. h (suc x) (omega arith))))
+  where
+    F : ℕ → List (List ℕ)
+    F w = map (λ (b : List ℕ). w ∷ b) (assignments ds)
+
+pub assign-e : (ds a : List ℕ) → List·Memᴰ a (assignments ds) → (length a ≡ length ds) × ((x : ℕ) → x < length ds → List·Memᴰ (at a x) (members (at ds x)))
+unfolding assignments at
+assign-e [] a m = (ap length (List·Memᴰ·eq-of-singleton m), λ x l. absurd (not-suc-le-zero l))
+assign-e (s ∷ ds) a m =
+    let q = flat-e (map F (members s)) a m in
+    let r = Memᴰ·of-map F (members s) (q .1) in
+    let k = Memᴰ·of-map (λ (b : List ℕ). r .0 ∷ b) (assignments ds) (subst (λ z. List·Memᴰ a z) (sym (r .2)) (q .2)) in
+    let ih = assign-e ds (k .0) (k .1) in
+    subst P (k .2) (ap suc (ih .0), front (r .0) (k .0) (r .1) (ih .1))
+  where
+    F : ℕ → List (List ℕ)
+    F w = map (λ (b : List ℕ). w ∷ b) (assignments ds)
+
+    P : List ℕ → Type 0
+    P b = (length b ≡ suc (length ds)) × ((x : ℕ) → x < suc (length ds) → List·Memᴰ (at b x) (members (at (s ∷ ds) x)))
+
+    front : (v : ℕ) (b : List ℕ) → List·Memᴰ v (members s) → ((x : ℕ) → x < length ds → List·Memᴰ (at b x) (members (at ds x))) → (x : ℕ) → x < suc (length ds) → List·Memᴰ (at (v ∷ b) x) (members (at (s ∷ ds) x))
+    front v b i h zero l = i
+    front v b i h (suc x) l = h x (le-of-suc-le-suc l)
+
+pub assignments-mem : (ds a : List ℕ) → List·Memᴰ a (assignments ds) ↔ ((length a ≡ length ds) × ((x : ℕ) → x < length ds → List·Memᴰ (at a x) (members (at ds x))))
+assignments-mem ds a = (assign-e ds a, λ h. assign-i ds a (h .0) (h .1))
+
+-- drawn from sets of sixteen bits
+abbrev pub Drawn : List ℕ → List ℕ → Type 0
+Drawn ds a = (length a ≡ length ds) × ((x : ℕ) → x < length ds → T (has (at ds x) (at a x)))
+
+pub drawn-i : (ds a : List ℕ) → ((x : ℕ) → at ds x < 2 ^ 16) → Drawn ds a → List·Memᴰ a (assignments ds)
+drawn-i ds a b d = assign-i ds a (d .0) (λ x l. members-i (at ds x) (at a x) (has-lt 16 (at ds x) (at a x) (b x) (d .1 x l)) (d .1 x l))
+
+pub drawn-e : (ds a : List ℕ) → List·Memᴰ a (assignments ds) → Drawn ds a
+drawn-e ds a m = let r = assign-e ds a m in (r .0, λ x l. members-e (at ds x) (at a x) (r .1 x l) .1)
+
+pub assign-mono : (ds es a : List ℕ) → length ds ≡ length es → Inside ds es → List·Memᴰ a (assignments ds) → List·Memᴰ a (assignments es)
+assign-mono ds es a e h m =
+    let r = assign-e ds a m in
+    assign-i es a (r .0 ∙ e)
+    (λ x l. let q = members-e (at ds x) (at a x) (r .1 x (subst (λ (n : ℕ). x < n) (sym e) l)) in members-i (at es x) (at a x) (q .0) (h x (at a x) (q .1)))
+
+-- ---- in reading order, each once
+sorted-cons : (v : ℕ) (l : List (List ℕ)) → Sorted (λ (x y : List ℕ). T (earlier x y)) l → Sorted (λ (x y : List ℕ). T (earlier x y)) (map (λ (b : List ℕ). v ∷ b) l)
+sorted-cons v [] s = tt
+sorted-cons v (a ∷ l) s =
+    (λ y m. let r = Memᴰ·of-map (λ (b : List ℕ). v ∷ b) l m in subst (λ (z : List ℕ). T (earlier (v ∷ a) z)) (r .2) (earlier-eq v a (r .0) (s .0 (r .0) (r .1))), sorted-cons v l (s .1))
+
+pub assignments-sorted : (ds : List ℕ) → Sorted (λ (x y : List ℕ). T (earlier x y)) (assignments ds)
+unfolding assignments
+assignments-sorted [] = (λ y m. absurd (List·Memᴰ·not-nil m), tt)
+assignments-sorted (s ∷ ds) =
+    sorted-flat-map (λ (x y : ℕ). x < y) (λ (x y : List ℕ). T (earlier x y)) F (members s) (members-sorted s) (λ v. sorted-cons v (assignments ds) (assignments-sorted ds))
+    (λ x y h a b i j.
+    let q = Memᴰ·of-map (λ (c : List ℕ). x ∷ c) (assignments ds) i in
+    let r = Memᴰ·of-map (λ (c : List ℕ). y ∷ c) (assignments ds) j in
+    subst (λ (z : List ℕ). T (earlier z b)) (q .2) (subst (λ (z : List ℕ). T (earlier (x ∷ q .0) z)) (r .2) (earlier-lt x y (q .0) (r .0) h)))
+  where
+    F : ℕ → List (List ℕ)
+    F w = map (λ (b : List ℕ). w ∷ b) (assignments ds)
+
+pub assignments-distinct : (ds : List ℕ) → Sorted (λ (x y : List ℕ). x ≡ y → ⊥) (assignments ds)
+assignments-distinct ds = sorted-imp (λ (x y : List ℕ). T (earlier x y)) (λ (x y : List ℕ). x ≡ y → ⊥) (λ x y t e. earlier-irrefl y (subst (λ (z : List ℕ). T (earlier z y)) e t)) (assignments ds) (assignments-sorted ds)
+
+pub assignments-ascend : (ds : List ℕ) → T (rowsAscend (assignments ds))
+assignments-ascend ds = rowsAscend-of (assignments ds) (assignments-sorted ds)
+
+-- two lists that ascend in reading order, with the same members, are equal
+pub reading-ext : (l m : List (List ℕ)) → Sorted (λ (x y : List ℕ). T (earlier x y)) l → Sorted (λ (x y : List ℕ). T (earlier x y)) m → ((a : List ℕ) → List·Memᴰ a l ↔ List·Memᴰ a m) → l ≡ m
+reading-ext l m s t h = sorted-ext (λ (x y : List ℕ). T (earlier x y)) earlier-asym l m s t (λ a. h a .0) (λ a. h a .1)
+
+pub rows-ext : (l m : List (List ℕ)) → T (rowsAscend l) → T (rowsAscend m) → ((a : List ℕ) → List·Memᴰ a l ↔ List·Memᴰ a m) → l ≡ m
+rows-ext l m s t h = reading-ext l m (sorted-of-rowsAscend l s) (sorted-of-rowsAscend m t) h

@@ -1,0 +1,365 @@
+-- A sheet with one exchange more states the same problem with one symmetry more. Assumes nothing.
+use mathlib.Core.Path.{_≡_, refl, ap, ap₂, _∙_, subst}
+use mathlib.Core.List.{List, _∷_, _++_, map, append-assoc}
+use Prim.Native.Nat.{ℕ, zero, suc, _+_, _-_, _*_, _/_, _%_, _≤_, _<_}
+use native.Mathlib.Nat.{mul-le-mul-right, suc-add}
+use native.Mathlib.Omega.{arith}
+use lib.Dec.{T, leb, ltb, leb→le}
+use lib.ListN.{length, getD, take, drop, length-take, length-drop, List·getD-append}
+use lib.Seq.{getD-take, getD-drop, getD-append-add}
+use Rattle.model.specs.Lists.{below, upFrom, at, all, both, ascending, rowsAscend}
+use Rattle.model.specs.Problem.{Problem, Constraint}
+use Rattle.model.specs.Verdict.{Verdict, isAccepted}
+use Rattle.model.specs.Sheet.{Header, word, words, headerOf, scopeAt, rowsAt, afterAt, constraintsVerdict, constraintsFrom, tableAt, problemOf, verdictOf}
+use Rattle.model.specs.Claims.{OneMore, put16}
+use Rattle.model.proofs.Accepted.{Passed, passed, asked}
+
+-- ---- elements of joined lists
+at-left : (xs ys : List ℕ) (n i : ℕ) → length xs ≡ n → i < n → at (xs ++ ys) i ≡ at xs i
+unfolding at
+at-left xs ys n i e h = List·getD-append xs ys 0 i (omega arith)
+
+at-skip : (xs ys : List ℕ) (n i : ℕ) → length xs ≡ n → n ≤ i → at (xs ++ ys) i ≡ at ys (i - n)
+unfolding at
+at-skip xs ys n i e h = ap (λ (j : ℕ). getD (xs ++ ys) j 0) (omega arith) ∙ getD-append-add xs ys (i - n) 0
+
+-- ---- lists of the first numbers
+map-up : {A : Type 0} (f h : ℕ → A) (j a k : ℕ) → ((i : ℕ) → a ≤ i → i < a + k → f (j + i) ≡ h i) → map f (upFrom (j + a) k) ≡ map h (upFrom a k)
+unfolding upFrom
+map-up f h j a zero e = refl
+map-up {A} f h j a (suc k) e =
+    ap₂ (λ (x : A) (r : List A). x ∷ r) (e a (omega arith) (omega arith))
+    (ap (λ (m : ℕ). map f (upFrom m k)) (omega arith) ∙ map-up f h j (suc a) k (λ i p q. e i (omega arith) (omega arith)))
+
+pub map-below : {A : Type 0} (f h : ℕ → A) (k : ℕ) → ((i : ℕ) → i < k → f i ≡ h i) → map f (below k) ≡ map h (below k)
+unfolding below
+map-below {A} f h k e = map-up f h 0 0 k (λ i p q. ap f (omega arith) ∙ e i (omega arith))
+
+up-split : {A : Type 0} (f : ℕ → A) (a m n : ℕ) → map f (upFrom a (m + n)) ≡ map f (upFrom a m) ++ map f (upFrom (a + m) n)
+unfolding upFrom
+up-split f a zero n = let z : 0 + n ≡ n = omega arith in let y : a ≡ a + 0 = omega arith in ap₂ (λ (x k : ℕ). map f (upFrom x k)) y z
+up-split {A} f a (suc m) n =
+    ap (λ (k : ℕ). map f (upFrom a k)) (suc-add m n)
+    ∙ ap (λ (r : List A). f a ∷ r) (up-split f (suc a) m n ∙ ap (λ (x : ℕ). map f (upFrom (suc a) m) ++ map f (upFrom x n)) (omega arith))
+
+after-low : (b : List ℕ) (o : ℕ) → 16 ≤ o → 16 ≤ afterAt b o
+unfolding afterAt
+after-low b o h = omega arith
+
+-- ---- two sheets that agree on the bytes from 16 up to an end
+module _ (b c : List ℕ) (end : ℕ) (agree : (i : ℕ) → 16 ≤ i → i < end → at c i ≡ at b i) where
+  word-agree : (o : ℕ) → 16 ≤ o → o + 2 ≤ end → word c o ≡ word b o
+  unfolding word
+  word-agree o h l = ap₂ (λ (x y : ℕ). x + 256 * y) (agree o h (omega arith)) (agree (o + 1) (omega arith) (omega arith))
+
+  pub words-agree : (o k : ℕ) → 16 ≤ o → o + 2 * k ≤ end → words c o k ≡ words b o k
+  unfolding words
+  words-agree o k h l = map-below (λ i. word c (o + 2 * i)) (λ i. word b (o + 2 * i)) k (λ i m. word-agree (o + 2 * i) (omega arith) (omega arith))
+
+  module _ (o : ℕ) (low : 16 ≤ o) (head : o + 4 ≤ end) (tail : afterAt b o ≤ end) where
+    arity : word c o ≡ word b o
+    arity = word-agree o low (omega arith)
+
+    count : word c (o + 2) ≡ word b (o + 2)
+    count = word-agree (o + 2) (omega arith) (omega arith)
+
+    after-agree : afterAt c o ≡ afterAt b o
+    unfolding afterAt
+    after-agree = ap₂ (λ (a r : ℕ). o + 4 + 2 * a + 2 * (r * a)) arity count
+
+    scope-agree : scopeAt c o ≡ scopeAt b o
+    unfolding scopeAt afterAt
+    scope-agree = ap (words c (o + 4)) arity ∙ words-agree (o + 4) (word b o) (omega arith) (omega arith)
+
+    rows-agree : rowsAt c o ≡ rowsAt b o
+    unfolding rowsAt afterAt
+    rows-agree =
+        let a = word b o in
+        let r = word b (o + 2) in
+        ap₂ (λ (x y : ℕ). map (λ i. words c (o + 4 + 2 * x + 2 * (i * x)) x) (below y)) arity count
+        ∙ map-below (λ i. words c (o + 4 + 2 * a + 2 * (i * a)) a) (λ i. words b (o + 4 + 2 * a + 2 * (i * a)) a) r
+        (λ i m. words-agree (o + 4 + 2 * a + 2 * (i * a)) a (omega arith) (omega (arith, mul-le-mul-right a m)))
+
+  constraints-agree : (h : Header) → h .third ≡ end → (k i o : ℕ) (v : Verdict) → 16 ≤ o → T (isAccepted (constraintsVerdict b h k i o v)) → constraintsFrom c k o ≡ constraintsFrom b k o
+  unfolding constraintsVerdict constraintsFrom
+  constraints-agree h e zero i o v low t = refl
+  constraints-agree h e (suc k) i o v low t =
+      let q1 = asked (leb (o + 4) (h .third)) 9 i _ t in
+      let q2 = asked (both (both (leb 1 (word b o)) (leb (word b o) 3)) (leb (word b (o + 2)) 256)) 10 i _ (q1 .1) in
+      let q3 = asked (leb (afterAt b o) (h .third)) 9 i _ (q2 .1) in
+      let q4 = asked (both (all (λ x. ltb x (h .variables)) (scopeAt b o)) (ascending (scopeAt b o))) 11 i _ (q3 .1) in
+      let q5 = asked (all (all (λ w. ltb w (h .values))) (rowsAt b o)) 12 i _ (q4 .1) in
+      let q6 = asked (rowsAscend (rowsAt b o)) 13 i (constraintsVerdict b h k (suc i) (afterAt b o) v) (q5 .1) in
+      let head : o + 4 ≤ end = subst (λ (z : ℕ). o + 4 ≤ z) e (leb→le (o + 4) (h .third) (q1 .0)) in
+      let tail : afterAt b o ≤ end = subst (λ (z : ℕ). afterAt b o ≤ z) e (leb→le (afterAt b o) (h .third) (q3 .0)) in
+      ap₂ (λ (x : Constraint) (r : List Constraint). x ∷ r)
+      (ap₂ (λ (x : List ℕ) (r : List (List ℕ)). record { scope = x; rows = r }) (scope-agree o low head tail) (rows-agree o low head tail))
+      (ap (constraintsFrom c k) (after-agree o low head tail) ∙ constraints-agree h e k (suc i) (afterAt b o) v (after-low b o low) (q6 .1))
+
+-- the problem with other symmetries
+abbrev pub withSymmetries : Problem → List (List ℕ) → Problem
+withSymmetries p gs = record { variables = p .variables; values = p .values; initial = p .initial; constraints = p .constraints; symmetries = gs }
+
+-- ---- the bytes of the longer sheet
+word-of : (l : List ℕ) (o v : ℕ) → at l o ≡ v % 256 → at l (o + 1) ≡ v / 256 → word l o ≡ v
+unfolding word
+word-of l o v e f = omega arith
+
+module _ (b c t : List ℕ) (k : ℕ) (more : OneMore b c k t) (ok : Passed b) where
+  abbrev n : ℕ
+  n = headerOf b .variables * headerOf b .values
+
+  abbrev third : ℕ
+  third = headerOf b .third
+
+  cut : ℕ
+  cut = third + k * length t
+
+  table : length t ≡ 2 * n
+  table = more .1
+
+  cut-low : 16 ≤ cut
+  unfolding cut
+  cut-low = omega (arith, ok .second, ok .ordered)
+
+  third-cut : third ≤ cut
+  unfolding cut
+  third-cut = omega arith
+
+  cut-high : cut ≤ length b
+  unfolding cut
+  cut-high =
+      let e : k * length t ≡ k * (2 * n) = ap (λ (x : ℕ). k * x) table in
+      let l : k * (2 * n) ≤ headerOf b .symmetries * (2 * n) = mul-le-mul-right (2 * n) (more .0) in
+      omega (arith, ok .fits, ok .whole)
+
+  abbrev up : ℕ
+  up = headerOf b .symmetries + 1
+
+  abbrev size : ℕ
+  size = headerOf b .size + length t
+
+  l1 : length (take 6 b) ≡ 6
+  l1 = length-take 6 b ∙ omega (arith, ok .long)
+
+  l3 : length (take 6 (drop 8 b)) ≡ 6
+  l3 = length-take 6 (drop 8 b) ∙ omega (arith, ok .long, length-drop 8 b)
+
+  l5 : length (take (cut - 16) (drop 16 b)) ≡ cut - 16
+  l5 = length-take (cut - 16) (drop 16 b) ∙ omega (arith, cut-high, length-drop 16 b)
+
+  -- what is left of it from each seam on
+  e6 : List ℕ
+  e6 = t ++ drop cut b
+
+  e5 : List ℕ
+  e5 = take (cut - 16) (drop 16 b) ++ e6
+
+  e4 : List ℕ
+  e4 = put16 size ++ e5
+
+  e3 : List ℕ
+  e3 = take 6 (drop 8 b) ++ e4
+
+  e2 : List ℕ
+  e2 = put16 up ++ e3
+
+  whole : c ≡ take 6 b ++ e2
+  unfolding e2 e3 e4 e5 e6 cut
+  whole = more .2 ∙ simp append-assoc
+
+  at2 : (i : ℕ) → 6 ≤ i → at c i ≡ at e2 (i - 6)
+  at2 i h = ap (λ (l : List ℕ). at l i) whole ∙ at-skip (take 6 b) e2 6 i l1 h
+
+  at3 : (i : ℕ) → 8 ≤ i → at c i ≡ at e3 (i - 8)
+  unfolding e2
+  at3 i h = at2 i (omega arith) ∙ at-skip (put16 up) e3 2 (i - 6) refl (omega arith) ∙ ap (at e3) (omega arith)
+
+  at4 : (i : ℕ) → 14 ≤ i → at c i ≡ at e4 (i - 14)
+  unfolding e3
+  at4 i h = at3 i (omega arith) ∙ at-skip (take 6 (drop 8 b)) e4 6 (i - 8) l3 (omega arith) ∙ ap (at e4) (omega arith)
+
+  at5 : (i : ℕ) → 16 ≤ i → at c i ≡ at e5 (i - 16)
+  unfolding e4
+  at5 i h = at4 i (omega arith) ∙ at-skip (put16 size) e5 2 (i - 14) refl (omega arith) ∙ ap (at e5) (omega arith)
+
+  at6 : (i : ℕ) → cut ≤ i → at c i ≡ at e6 (i - cut)
+  unfolding e5
+  at6 i h =
+      let q = cut-low in
+      at5 i (omega arith) ∙ at-skip (take (cut - 16) (drop 16 b)) e6 (cut - 16) (i - 16) l5 (omega arith) ∙ ap (at e6) (omega arith)
+
+  -- the bytes, part by part
+  front : (i : ℕ) → i < 6 → at c i ≡ at b i
+  unfolding at
+  front i h = ap (λ (l : List ℕ). at l i) whole ∙ at-left (take 6 b) e2 6 i l1 h ∙ getD-take 6 b i 0 h
+
+  raised : word c 6 ≡ up
+  unfolding e2 at
+  raised = word-of c 6 up (at2 6 (omega arith)) (at2 7 (omega arith))
+
+  middle : (i : ℕ) → 8 ≤ i → i < 14 → at c i ≡ at b i
+  unfolding e3 at
+  middle i h l =
+      at3 i h ∙ at-left (take 6 (drop 8 b)) e4 6 (i - 8) l3 (omega arith) ∙ getD-take 6 (drop 8 b) (i - 8) 0 (omega arith) ∙ getD-drop 8 b (i - 8) 0 ∙ ap (at b) (omega arith)
+
+  body : (i : ℕ) → 16 ≤ i → i < cut → at c i ≡ at b i
+  unfolding e5 at
+  body i h l =
+      at5 i h ∙ at-left (take (cut - 16) (drop 16 b)) e6 (cut - 16) (i - 16) l5 (omega arith) ∙ getD-take (cut - 16) (drop 16 b) (i - 16) 0 (omega arith)
+      ∙ getD-drop 16 b (i - 16) 0 ∙ ap (at b) (omega arith)
+
+  inserted : (i : ℕ) → i < length t → at c (cut + i) ≡ at t i
+  unfolding e6
+  inserted i h = at6 (cut + i) (omega arith) ∙ at-left t (drop cut b) (length t) (cut + i - cut) refl (omega arith) ∙ ap (at t) (omega arith)
+
+  behind : (i : ℕ) → at c (cut + length t + i) ≡ at b (cut + i)
+  unfolding e6 at
+  behind i =
+      at6 (cut + length t + i) (omega arith) ∙ at-skip t (drop cut b) (length t) (cut + length t + i - cut) refl (omega arith) ∙ getD-drop cut b (cut + length t + i - cut - length t) 0 ∙ ap (at b) (omega arith)
+
+  -- the header
+  word-front : (o : ℕ) → o + 1 < 6 → word c o ≡ word b o
+  unfolding word
+  word-front o h = ap₂ (λ (x y : ℕ). x + 256 * y) (front o (omega arith)) (front (o + 1) (omega arith))
+
+  word-middle : (o : ℕ) → 8 ≤ o → o + 1 < 14 → word c o ≡ word b o
+  unfolding word
+  word-middle o h l = ap₂ (λ (x y : ℕ). x + 256 * y) (middle o h (omega arith)) (middle (o + 1) (omega arith) l)
+
+  pub same-variables : headerOf c .variables ≡ headerOf b .variables
+  unfolding headerOf
+  same-variables = word-front 0 (omega arith)
+
+  pub same-values : headerOf c .values ≡ headerOf b .values
+  unfolding headerOf
+  same-values = word-front 2 (omega arith)
+
+  same-constraints : headerOf c .constraints ≡ headerOf b .constraints
+  unfolding headerOf
+  same-constraints = word-front 4 (omega arith)
+
+  more-symmetries : headerOf c .symmetries ≡ up
+  unfolding headerOf
+  more-symmetries = raised
+
+  same-second : headerOf c .second ≡ headerOf b .second
+  unfolding headerOf
+  same-second = word-middle 10 (omega arith) (omega arith)
+
+  same-third : headerOf c .third ≡ headerOf b .third
+  unfolding headerOf
+  same-third = word-middle 12 (omega arith) (omega arith)
+
+  -- sets and constraints
+  below-third : (i : ℕ) → 16 ≤ i → i < third → at c i ≡ at b i
+  below-third i h l = body i h (omega (arith, third-cut))
+
+  pub same-initial : words c 16 (headerOf c .variables) ≡ words b 16 (headerOf b .variables)
+  same-initial = ap (words c 16) same-variables ∙ words-agree b c third below-third 16 (headerOf b .variables) (omega arith) (omega (arith, ok .second, ok .ordered))
+
+  pub same-rules : constraintsFrom c (headerOf c .constraints) (headerOf c .second) ≡ constraintsFrom b (headerOf b .constraints) (headerOf b .second)
+  same-rules =
+      ap₂ (constraintsFrom c) same-constraints same-second
+      ∙ constraints-agree b c third below-third (headerOf b) refl (headerOf b .constraints) 0 (headerOf b .second) (ok .walked .0) (omega (arith, ok .second)) (ok .walked .1)
+
+  -- the tables
+  pub added : List ℕ
+  added = words t 0 n
+
+  table-c : (i : ℕ) → tableAt c (headerOf c) i ≡ words c (third + 2 * (i * n)) n
+  unfolding tableAt
+  table-c i = ap₂ (λ (o m : ℕ). words c (o + 2 * (i * m)) m) same-third (ap₂ (λ (x y : ℕ). x * y) same-variables same-values)
+
+  cut-is : (m : ℕ) → third + 2 * ((k + m) * n) ≡ cut + 2 * (m * n)
+  unfolding cut
+  cut-is m = let e : k * length t ≡ k * (2 * n) = ap (λ (x : ℕ). k * x) table in omega arith
+
+  table-before : (i : ℕ) → i < k → tableAt c (headerOf c) i ≡ tableAt b (headerOf b) i
+  unfolding tableAt
+  table-before i h =
+      let l : suc i * n ≤ k * n = mul-le-mul-right n h in
+      table-c i ∙ words-agree b c cut body (third + 2 * (i * n)) n (omega (arith, ok .second, ok .ordered)) (omega (arith, cut-is 0))
+
+  word-inserted : (j : ℕ) → j < n → word c (third + 2 * (k * n) + 2 * j) ≡ word t (0 + 2 * j)
+  unfolding word
+  word-inserted j h =
+      let e = cut-is 0 in
+      let q = table in
+      let e1 : third + 2 * (k * n) + 2 * j ≡ cut + 2 * j = omega arith in
+      let e2 : third + 2 * (k * n) + 2 * j + 1 ≡ cut + (2 * j + 1) = omega arith in
+      let z1 : 2 * j ≡ 0 + 2 * j = omega arith in
+      let z2 : 2 * j + 1 ≡ 0 + 2 * j + 1 = omega arith in
+      ap₂ (λ (x y : ℕ). x + 256 * y)
+      (ap (at c) e1 ∙ inserted (2 * j) (omega arith) ∙ ap (at t) z1)
+      (ap (at c) e2 ∙ inserted (2 * j + 1) (omega arith) ∙ ap (at t) z2)
+
+  table-at : tableAt c (headerOf c) k ≡ added
+  unfolding added words
+  table-at = table-c k ∙ map-below (λ i. word c (third + 2 * (k * n) + 2 * i)) (λ i. word t (0 + 2 * i)) n word-inserted
+
+  word-behind : (m j : ℕ) → word c (third + 2 * ((1 + (k + m)) * n) + 2 * j) ≡ word b (third + 2 * ((k + m) * n) + 2 * j)
+  unfolding word
+  word-behind m j =
+      let e = cut-is m in
+      let q = table in
+      let x = 2 * (m * n) + 2 * j in
+      let e1 : third + 2 * ((1 + (k + m)) * n) + 2 * j ≡ cut + length t + x = omega arith in
+      let e2 : third + 2 * ((1 + (k + m)) * n) + 2 * j + 1 ≡ cut + length t + (x + 1) = omega arith in
+      let z1 : cut + x ≡ third + 2 * ((k + m) * n) + 2 * j = omega arith in
+      let z2 : cut + (x + 1) ≡ third + 2 * ((k + m) * n) + 2 * j + 1 = omega arith in
+      ap₂ (λ (x y : ℕ). x + 256 * y) (ap (at c) e1 ∙ behind x ∙ ap (at b) z1) (ap (at c) e2 ∙ behind (x + 1) ∙ ap (at b) z2)
+
+  table-after : (i : ℕ) → k ≤ i → tableAt c (headerOf c) (1 + i) ≡ tableAt b (headerOf b) i
+  unfolding tableAt words
+  table-after i h =
+      let e : k + (i - k) ≡ i = omega arith in
+      table-c (1 + i)
+      ∙ subst (λ (x : ℕ). map (λ j. word c (third + 2 * ((1 + x) * n) + 2 * j)) (below n) ≡ map (λ j. word b (third + 2 * (x * n) + 2 * j)) (below n)) e
+      (map-below (λ j. word c (third + 2 * ((1 + (k + (i - k))) * n) + 2 * j)) (λ j. word b (third + 2 * ((k + (i - k)) * n) + 2 * j)) n (λ j l. word-behind (i - k) j))
+
+  -- the symmetries before the inserted one, and those behind it
+  pub before : List (List ℕ)
+  before = map (tableAt b (headerOf b)) (below k)
+
+  pub after : List (List ℕ)
+  after = map (tableAt b (headerOf b)) (upFrom k (headerOf b .symmetries - k))
+
+  pub old-tables : map (tableAt b (headerOf b)) (below (headerOf b .symmetries)) ≡ before ++ after
+  unfolding below before after
+  old-tables =
+      let f = tableAt b (headerOf b) in
+      let m = headerOf b .symmetries - k in
+      let h = more .0 in
+      let e : headerOf b .symmetries ≡ k + m = omega arith in
+      let z : 0 + k ≡ k = omega arith in
+      ap (λ (x : ℕ). map f (upFrom 0 x)) e ∙ up-split f 0 k m ∙ ap (λ (x : ℕ). map f (upFrom 0 k) ++ map f (upFrom x m)) z
+
+  pub new-tables : map (tableAt c (headerOf c)) (below (headerOf c .symmetries)) ≡ before ++ (added ∷ after)
+  unfolding below before after upFrom
+  new-tables =
+      let f = tableAt b (headerOf b) in
+      let f′ = tableAt c (headerOf c) in
+      let m = headerOf b .symmetries - k in
+      let h = more .0 in
+      let q = more-symmetries in
+      let e : headerOf c .symmetries ≡ k + suc m = omega arith in
+      let z : 0 + k ≡ k = omega arith in
+      let y : suc (0 + k) ≡ 1 + k = omega arith in
+      ap (λ (x : ℕ). map f′ (upFrom 0 x)) e ∙ up-split f′ 0 k (suc m)
+      ∙ ap₂ (λ (xs ys : List (List ℕ)). xs ++ ys) (map-below f′ f k table-before)
+      (ap₂ (λ (x : List ℕ) (r : List (List ℕ)). x ∷ r) (ap f′ z ∙ table-at) (ap (λ (x : ℕ). map f′ (upFrom x m)) y ∙ map-up f′ f 1 k m (λ i l r. table-after i l)))
+
+  longer : problemOf c ≡ withSymmetries (problemOf b) (before ++ (added ∷ after))
+  unfolding problemOf
+  longer = λ i. record { variables = same-variables i; values = same-values i; initial = same-initial i; constraints = same-rules i; symmetries = new-tables i }
+
+  old : problemOf b .symmetries ≡ before ++ after
+  unfolding problemOf
+  old = old-tables
+
+pub one-more : (b c t : List ℕ) (k : ℕ) → OneMore b c k t → T (isAccepted (verdictOf b))
+    → (xs : List (List ℕ)) × (g : List ℕ) × (ys : List (List ℕ)) × (problemOf b .symmetries ≡ xs ++ ys) × (problemOf c ≡ withSymmetries (problemOf b) (xs ++ (g ∷ ys)))
+one-more b c t k more acc =
+    let ok = passed b acc in
+    (before b c t k more ok, added b c t k more ok, after b c t k more ok, old b c t k more ok, longer b c t k more ok)

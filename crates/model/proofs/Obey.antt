@@ -1,0 +1,154 @@
+-- Reading order, and what obeying the nogoods of a symmetry means entry by entry. Assumes nothing.
+use mathlib.Core.Path.{_≡_, refl, sym, subst}
+use mathlib.Core.Bool.{Bool, true, false, not}
+use mathlib.Core.List.{List, [], _∷_, _++_, map, List·Memᴰ, List·Memᴰ·head, List·Memᴰ·tail, List·Memᴰ·not-nil, List·Memᴰ·cases-cons}
+use mathlib.Core.Logic.{_⊎_, inl, inr, ⊎-elim}
+use Prim.Native.Nat.{ℕ, zero, suc, _+_, _≤_, _<_, _/_, _%_}
+use native.Mathlib.Nat.{not-suc-le-zero, le-of-suc-le-suc, zero-lt-suc, le-refl}
+use native.Mathlib.Decide.{ℕ-discrete}
+use native.Mathlib.Omega.{arith}
+use lib.Dec.{T, T-not, not-T, eqb, ltb, ltb→lt, lt→ltb}
+use lib.ListN.{length}
+use lib.Seq.{append-snoc}
+use borrow.Author.Tests.{eq-eqb, eqb-true}
+use Rattle.model.specs.Lists.{both, flat, upFrom, below, at, keep, earlier}
+use Rattle.model.specs.ValueSets.{members}
+use Rattle.model.specs.Problem.{Problem, pair}
+use Rattle.model.specs.Nogood.{Entry, equality, disequality, is, obeysFrom, obeys}
+use Rattle.model.specs.Search.{entriesAt, nogoodsOf}
+use Rattle.model.proofs.Basics.{both-i, both-l, both-r, T-dec}
+
+-- ---- the first difference
+abbrev pub First : List ℕ → List ℕ → ℕ → Type 0
+First t s j = (j < length t) × (j < length s) × ((i : ℕ) → i < j → at t i ≡ at s i) × (at t j < at s j)
+
+pub earlier-e : (t s : List ℕ) → T (earlier t s) → (j : ℕ) × First t s j
+unfolding earlier at
+earlier-e [] s h = absurd h
+earlier-e (x ∷ t) [] h = absurd h
+earlier-e (x ∷ t) (y ∷ s) h = go (earlier-e t s) (eqb x y) refl h
+  where
+    go : (T (earlier t s) → (j : ℕ) × First t s j) → (b : Bool) → eqb x y ≡ b → T (elim b [ true ↦ earlier t s | false ↦ ltb x y ]) → (j : ℕ) × First (x ∷ t) (y ∷ s) j
+    go ih true e k =
+        let r = ih k in
+        let f : (i : ℕ) → i < suc (r .0) → at (x ∷ t) i ≡ at (y ∷ s) i = elim [ zero ↦ λ l. eqb-true x y e | suc i ↦ λ l. r .1 .2 i (le-of-suc-le-suc l) ] in
+        (suc (r .0), (omega (arith, r .1 .0), omega (arith, r .1 .1), f, r .1 .3))
+    go ih false e k = (0, (zero-lt-suc (length t), zero-lt-suc (length s), λ i l. absurd (not-suc-le-zero l), ltb→lt x y k))
+
+pub earlier-i : (t s : List ℕ) (j : ℕ) → First t s j → T (earlier t s)
+unfolding earlier at
+earlier-i [] s j f = absurd (not-suc-le-zero (f .0))
+earlier-i (x ∷ t) [] j f = absurd (not-suc-le-zero (f .1))
+earlier-i (x ∷ t) (y ∷ s) zero f = go (eqb x y) refl
+  where
+    go : (b : Bool) → eqb x y ≡ b → T (elim b [ true ↦ earlier t s | false ↦ ltb x y ])
+    go true e = absurd (let q : x ≡ y = eqb-true x y e in let l : x < y = f .3 in omega arith)
+    go false e = lt→ltb x y (f .3)
+earlier-i (x ∷ t) (y ∷ s) (suc j) f =
+    subst (λ (b : Bool). T (elim b [ true ↦ earlier t s | false ↦ ltb x y ])) (sym (eq-eqb x y (f .2 0 (zero-lt-suc j))))
+    (earlier-i t s j (le-of-suc-le-suc (f .0), le-of-suc-le-suc (f .1), λ i l. f .2 (suc i) (omega arith), f .3))
+
+-- ---- a list that puts, for each j, nogoods and then one equality
+module _ (s : List ℕ) (var val : ℕ → ℕ → ℕ) (others : ℕ → List ℕ) (own : ℕ → ℕ) where
+  abbrev pub hit : ℕ → ℕ → Bool
+  hit j v = is s (var j v) (val j v)
+
+  abbrev dis : ℕ → ℕ → Entry
+  dis j v = disequality (var j v) (val j v)
+
+  abbrev pub block : ℕ → List Entry
+  block j = map (λ v. disequality (var j v) (val j v)) (others j) ++ (equality (var j (own j)) (val j (own j)) ∷ [])
+
+  kept-dis : (held : Bool) (j : ℕ) (vs : List ℕ) (es : List Entry) → T (obeysFrom held s (map (dis j) vs ++ es)) → ((v : ℕ) → List·Memᴰ v vs → T held → T (hit j v) → ⊥) × T (obeysFrom held s es)
+  unfolding obeysFrom
+  kept-dis held j [] es h = (λ v m. absurd (List·Memᴰ·not-nil m), h)
+  kept-dis held j (u ∷ vs) es h =
+      let c = not (both held (hit j u)) in
+      let rest = obeysFrom held s (map (dis j) vs ++ es) in
+      let ih = kept-dis held j vs es (both-r c rest h) in
+      let here = T-not (both held (hit j u)) (both-l c rest h) in
+      (λ v m t k. ⊎-elim {C = ⊥} (λ e. here (both-i held (hit j u) t (subst (λ (x : ℕ). T (hit j x)) e k))) (λ i. ih .0 v i t k) (List·Memᴰ·cases-cons m), ih .1)
+
+  broken-dis : (held : Bool) (j : ℕ) (vs : List ℕ) (es : List Entry) → (T (obeysFrom held s (map (dis j) vs ++ es)) → ⊥)
+      → ((v : ℕ) × List·Memᴰ v vs × T held × T (hit j v)) ⊎ (T (obeysFrom held s es) → ⊥)
+  unfolding obeysFrom
+  broken-dis held j [] es h = inr h
+  broken-dis held j (u ∷ vs) es h = go (T-dec (both held (hit j u))) (broken-dis held j vs es)
+    where
+      go : Dec (T (both held (hit j u))) → ((T (obeysFrom held s (map (dis j) vs ++ es)) → ⊥) → ((v : ℕ) × List·Memᴰ v vs × T held × T (hit j v)) ⊎ (T (obeysFrom held s es) → ⊥))
+          → ((v : ℕ) × List·Memᴰ v (u ∷ vs) × T held × T (hit j v)) ⊎ (T (obeysFrom held s es) → ⊥)
+      go (yes t) ih = inl (u, List·Memᴰ·head refl, both-l held (hit j u) t, both-r held (hit j u) t)
+      go (no t) ih =
+          ⊎-elim {C = ((v : ℕ) × List·Memᴰ v (u ∷ vs) × T held × T (hit j v)) ⊎ (T (obeysFrom held s es) → ⊥)} (λ r. inl (r .0, List·Memᴰ·tail (r .1), r .2, r .3)) inr
+          (ih (λ k. h (both-i (not (both held (hit j u))) _ (not-T (both held (hit j u)) t) k)))
+
+  abbrev blocks : ℕ → ℕ → List Entry
+  blocks a k = flat (map block (upFrom a k))
+
+  -- the next block, and what follows its equality
+  next : (a k : ℕ) → blocks a (suc k) ≡ map (dis a) (others a) ++ (equality (var a (own a)) (val a (own a)) ∷ blocks (suc a) k)
+  unfolding upFrom flat
+  next a k = append-snoc (map (dis a) (others a)) (equality (var a (own a)) (val a (own a))) (blocks (suc a) k)
+
+  kept : (k a : ℕ) (held : Bool) → T held → T (obeysFrom held s (blocks a k)) → (j v : ℕ) → a ≤ j → j < a + k
+      → ((i : ℕ) → a ≤ i → i < j → T (hit i (own i))) → List·Memᴰ v (others j) → T (hit j v) → ⊥
+  unfolding obeysFrom
+  kept zero a held t h j v b c eqs m k = omega arith
+  kept (suc n) a held t h j v b c eqs m k = go (kept n (suc a)) (ℕ-discrete j a)
+    where
+      now : ((u : ℕ) → List·Memᴰ u (others a) → T held → T (hit a u) → ⊥) × T (obeysFrom (both held (hit a (own a))) s (blocks (suc a) n))
+      now = kept-dis held a (others a) (equality (var a (own a)) (val a (own a)) ∷ blocks (suc a) n) (subst (λ (es : List Entry). T (obeysFrom held s es)) (next a n) h)
+
+      go : ((held : Bool) → T held → T (obeysFrom held s (blocks (suc a) n)) → (j v : ℕ) → suc a ≤ j → j < suc a + n → ((i : ℕ) → suc a ≤ i → i < j → T (hit i (own i))) → List·Memᴰ v (others j) → T (hit j v) → ⊥)
+          → Dec (j ≡ a) → ⊥
+      go ih (yes e) = now .0 v (subst (λ (x : ℕ). List·Memᴰ v (others x)) e m) t (subst (λ (x : ℕ). T (hit x v)) e k)
+      go ih (no e) =
+          ih (both held (hit a (own a))) (both-i held (hit a (own a)) t (eqs a (le-refl a) (omega arith))) (now .1) j v (omega arith) (omega arith) (λ i p q. eqs i (omega arith) q) m k
+
+  abbrev pub Broken : ℕ → ℕ → Bool → Type 0
+  Broken a k held = (j : ℕ) × (v : ℕ) × (a ≤ j) × (j < a + k) × T held × ((i : ℕ) → a ≤ i → i < j → T (hit i (own i))) × List·Memᴰ v (others j) × T (hit j v)
+
+  broken : (k a : ℕ) (held : Bool) → (T (obeysFrom held s (blocks a k)) → ⊥) → Broken a k held
+  unfolding obeysFrom upFrom flat
+  broken zero a held h = absurd (h tt)
+  broken (suc n) a held h =
+      ⊎-elim {C = Broken a (suc n) held}
+      (λ r. (a, r .0, le-refl a, omega arith, r .2, λ i p q. absurd (omega arith), r .1, r .3))
+      (λ k. later (broken n (suc a) (both held (hit a (own a))) k))
+      (broken-dis held a (others a) (equality (var a (own a)) (val a (own a)) ∷ blocks (suc a) n) (λ t. h (subst (λ (es : List Entry). T (obeysFrom held s es)) (sym (next a n)) t)))
+    where
+      later : Broken (suc a) n (both held (hit a (own a))) → Broken a (suc n) held
+      later r =
+          (r .0, r .1, omega (arith, r .2), omega (arith, r .3), both-l held (hit a (own a)) (r .4), λ i p q. eqs i p q (ℕ-discrete i a), r .6, r .7)
+        where
+          eqs : (i : ℕ) → a ≤ i → i < r .0 → Dec (i ≡ a) → T (hit i (own i))
+          eqs i p q (yes e) = subst (λ (x : ℕ). T (hit x (own x))) (sym e) (both-r held (hit a (own a)) (r .4))
+          eqs i p q (no e) = r .5 i (omega arith) q
+
+-- ---- the nogoods of a symmetry
+module _ (p : Problem) (g s : List ℕ) where
+  abbrev pub image : ℕ → ℕ → ℕ
+  image j v = at g (pair p j v)
+
+  abbrev pub smaller : ℕ → List ℕ
+  smaller j = keep (λ v. ltb v (at s j)) (members (at (p .initial) j))
+
+  -- the image of (j, v) is a pair of s
+  abbrev pub meets : ℕ → ℕ → Bool
+  meets j v = is s (image j v / p .values) (image j v % p .values)
+
+  nogoods-are : nogoodsOf p g s ≡ flat (map (block s (λ j v. image j v / p .values) (λ j v. image j v % p .values) smaller (at s)) (below (length s)))
+  unfolding nogoodsOf entriesAt
+  nogoods-are = refl
+
+  pub obeys-e : T (obeys s (nogoodsOf p g s)) → (j v : ℕ) → j < length s → ((i : ℕ) → i < j → T (meets i (at s i))) → List·Memᴰ v (smaller j) → T (meets j v) → ⊥
+  unfolding below
+  obeys-e h j v l eqs m k =
+      kept s (λ j v. image j v / p .values) (λ j v. image j v % p .values) smaller (at s) (length s) 0 true tt
+      (subst (λ (es : List Entry). T (obeys s es)) nogoods-are h) j v (omega arith) (omega arith) (λ i b c. eqs i c) m k
+
+  pub obeys-not : (T (obeys s (nogoodsOf p g s)) → ⊥) → (j : ℕ) × (v : ℕ) × (j < length s) × ((i : ℕ) → i < j → T (meets i (at s i))) × List·Memᴰ v (smaller j) × T (meets j v)
+  unfolding below
+  obeys-not h =
+      let r = broken s (λ j v. image j v / p .values) (λ j v. image j v % p .values) smaller (at s) (length s) 0 true (λ t. h (subst (λ (es : List Entry). T (obeys s es)) (sym nogoods-are) t)) in
+      (r .0, r .1, omega (arith, r .3), λ i l. r .5 i (omega arith) l, r .6, r .7)

@@ -1,0 +1,12 @@
+use borrow.Author.Needs.{needs}
+use Rattle.model.proofs.Masks.{common-op}
+use Rattle.model.proofs.ValueSet.common.Statement.{statement}
+use Rattle.model.proofs.ValueSet.common.Tie as tie
+use Rattle.model.proofs.ValueSet.common.Reads as reads
+use Rattle.model.proofs.ValueSet.common.Lts as lts
+
+returns : tie.Need-returns
+returns c = common-op _ _ (search needs) (search needs)
+
+pub common-spec : {M : Type 1} → statement M
+common-spec = tie.close (tie.spec returns)

@@ -1,0 +1,21 @@
+use borrow.Author.Needs.{needs}
+use Rattle.model.proofs.Masks.{full-op, full-all, shl-pos}
+use Rattle.model.proofs.ValueSet.full.Statement.{statement}
+use Rattle.model.proofs.ValueSet.full.Tie as tie
+use Rattle.model.proofs.ValueSet.full.Reads as reads
+use Rattle.model.proofs.ValueSet.full.Lts as lts
+
+shl-t4 : tie.Need-shl-t4
+shl-t4 c = search needs
+
+sub-t5 : tie.Need-sub-t5
+sub-t5 c = shl-pos _ (search needs)
+
+returns : tie.Need-returns
+returns c = full-op _ (search needs)
+
+returns-2 : tie.Need-returns-2
+returns-2 c = full-all _ (search needs)
+
+pub full-spec : {M : Type 1} → statement M
+full-spec = tie.close (tie.spec shl-t4 sub-t5 returns returns-2)

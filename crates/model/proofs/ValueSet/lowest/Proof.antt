@@ -1,0 +1,12 @@
+use borrow.Author.Needs.{needs}
+use Rattle.model.proofs.Masks.{lowest-op}
+use Rattle.model.proofs.ValueSet.lowest.Statement.{statement}
+use Rattle.model.proofs.ValueSet.lowest.Tie as tie
+use Rattle.model.proofs.ValueSet.lowest.Reads as reads
+use Rattle.model.proofs.ValueSet.lowest.Lts as lts
+
+returns : tie.Need-returns
+returns c = lowest-op 16 _
+
+pub lowest-spec : {M : Type 1} → statement M
+lowest-spec = tie.close (tie.spec returns)

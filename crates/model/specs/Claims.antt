@@ -1,0 +1,106 @@
+-- The second and the third demand, as statements about what a caller holds after a run: the answer, and the listed plans.
+-- The proofs are in proofs/Demands.antt.
+use mathlib.Core.Path.{_≡_}
+use mathlib.Core.Logic.{_↔_}
+use mathlib.Core.Bool.{Bool, true, false, not}
+use mathlib.Core.List.{List, [], _∷_, _++_, List·Memᴰ, Sublistᴰ}
+use Prim.Native.Nat.{ℕ, zero, suc, _+_, _-_, _*_, _/_, _%_, _≤_, _<_}
+use lib.ListN.{length, take, drop}
+use lib.Dec.{T}
+use Rattle.model.specs.Lists.{any, keep, both, earlier, rowsAscend}
+use Rattle.model.specs.Problem.{Problem, isSolution, assignments, takes}
+use Rattle.model.specs.Sheet.{problemOf, headerOf}
+use Rattle.model.specs.Search.{nodes, isPlan}
+use Rattle.model.specs.Run.{Ending, finished, spent, full, plansIn, nodesIn, answerOf, ended, listOf, listedPlans}
+
+-- the plans that a caller finds in its list after a run that ended so
+abbrev pub plansHeld : List ℕ → ℕ → List ℕ → Ending → List (List ℕ)
+plansHeld b limit out e = listedPlans (problemOf b .variables) (plansIn e) (listOf b limit out)
+
+-- ---- demand 2
+-- s is a solution, and no symmetry takes a solution that reads earlier to it
+abbrev pub isLeader : Problem → List ℕ → Bool
+isLeader p s =
+    both (isSolution p s)
+    (not (any (λ g. any (λ t. both (isSolution p t) (both (earlier t s) (takes p g t s))) (assignments (p .initial))) (p .symmetries)))
+
+-- the leaders in reading order, each once
+abbrev pub leaders : Problem → List (List ℕ)
+leaders p = keep (isLeader p) (assignments (p .initial))
+
+-- a finished run lists exactly the leaders
+abbrev pub Lists-leaders : Type 0
+Lists-leaders =
+    (b : List ℕ) (limit : ℕ) (out : List ℕ) (plans made : ℕ) → answerOf b limit out ≡ ended (finished plans made) →
+    plansHeld b limit out (finished plans made) ≡ leaders (problemOf b)
+
+-- `leaders` says what it should: it holds exactly the solutions that are leaders, strictly ascending
+abbrev pub Leaders-ascend : Type 0
+Leaders-ascend = (b : List ℕ) (limit : ℕ) (out : List ℕ) (e : Ending) → answerOf b limit out ≡ ended e →
+    T (rowsAscend (leaders (problemOf b))) × ((s : List ℕ) → List·Memᴰ s (leaders (problemOf b)) ↔ T (isLeader (problemOf b) s))
+
+-- any run holds a first part of that list
+abbrev pub First-part : Type 0
+First-part =
+    (b : List ℕ) (limit : ℕ) (out : List ℕ) (e : Ending) → answerOf b limit out ≡ ended e →
+    plansHeld b limit out e ≡ take (plansIn e) (leaders (problemOf b))
+
+-- the counts are those of the tree up to where the run ended:
+-- a finished run made every node; a spent one as many as the limit, and a further node is due; a full one ended on a plan that found no room
+abbrev pub CountsAt : List ℕ → ℕ → List ℕ → Ending → Type 0
+CountsAt b limit out (finished plans made) = made ≡ length (nodes (problemOf b))
+CountsAt b limit out (spent plans made) = (made ≡ limit) × (made < length (nodes (problemOf b)))
+CountsAt b limit out (full plans made) =
+    (length out < suc plans * problemOf b .variables) × (length (keep (isPlan (problemOf b)) (take made (nodes (problemOf b)))) ≡ suc plans)
+    × (length (keep (isPlan (problemOf b)) (take (made - 1) (nodes (problemOf b)))) ≡ plans)
+
+abbrev pub Counts : Type 0
+Counts =
+    (b : List ℕ) (limit : ℕ) (out : List ℕ) (e : Ending) → answerOf b limit out ≡ ended e →
+    (nodesIn e ≤ limit) × CountsAt b limit out e
+
+-- ---- demand 3
+-- from a to c by symmetries, one after another, each step giving a solution that reads later than the one before
+pub data Chain (p : Problem) (a : List ℕ) : List ℕ → Type 0 where
+  here : Chain p a a
+  step : (b c g : List ℕ) → Chain p a b → List·Memᴰ g (p .symmetries) → T (takes p g b c) → T (isSolution p c) → T (earlier b c) → Chain p a c
+
+-- after a finished run, s is a solution exactly when some listed plan becomes s by such a chain
+abbrev pub Chains : Type 0
+Chains =
+    (b : List ℕ) (limit : ℕ) (out : List ℕ) (plans made : ℕ) → answerOf b limit out ≡ ended (finished plans made) →
+    (s : List ℕ) → length s ≡ problemOf b .variables →
+    T (isSolution (problemOf b) s) ↔ ∥ ((l : List ℕ) × List·Memᴰ l (plansHeld b limit out (finished plans made)) × Chain (problemOf b) l s) ∥₁
+
+-- so a finished run lists nothing exactly when there is no solution
+abbrev pub Nothing-listed : Type 0
+Nothing-listed =
+    (b : List ℕ) (limit : ℕ) (out : List ℕ) (plans made : ℕ) → answerOf b limit out ≡ ended (finished plans made) →
+    (plans ≡ 0) ↔ ((s : List ℕ) → T (isSolution (problemOf b) s) → ⊥)
+
+abbrev pub put16 : ℕ → List ℕ
+put16 w = w % 256 ∷ w / 256 ∷ []
+
+-- sheet c has one exchange more than b: the table t stands at place k among them, g and the length are raised to fit,
+-- and all other bytes are the same in the same order
+abbrev pub OneMore : List ℕ → List ℕ → ℕ → List ℕ → Type 0
+OneMore b c k t =
+    (k ≤ headerOf b .symmetries) × (length t ≡ 2 * (headerOf b .variables * headerOf b .values)) ×
+    (c ≡ take 6 b ++ put16 (headerOf b .symmetries + 1) ++ take 6 (drop 8 b) ++ put16 (headerOf b .size + length t)
+    ++ take (headerOf b .third + k * length t - 16) (drop 16 b) ++ t ++ drop (headerOf b .third + k * length t) b)
+
+-- where b's run finished: a finished run of c lists no other plan and makes no more nodes
+abbrev pub Fewer : Type 0
+Fewer =
+    (b c t : List ℕ) (k : ℕ) → OneMore b c k t →
+    (limit : ℕ) (out : List ℕ) (plans made : ℕ) → answerOf b limit out ≡ ended (finished plans made) →
+    (limit′ : ℕ) (out′ : List ℕ) (plans′ made′ : ℕ) → answerOf c limit′ out′ ≡ ended (finished plans′ made′) →
+    Sublistᴰ (plansHeld c limit′ out′ (finished plans′ made′)) (plansHeld b limit out (finished plans made)) × (made′ ≤ made)
+
+-- and under b's limit and room the run of c, if accepted, always is finished
+abbrev pub Finishes-too : Type 0
+Finishes-too =
+    (b c t : List ℕ) (k : ℕ) → OneMore b c k t →
+    (limit : ℕ) (out : List ℕ) (plans made : ℕ) → answerOf b limit out ≡ ended (finished plans made) →
+    (out′ : List ℕ) → length out′ ≡ length out → (e : Ending) → answerOf c limit out′ ≡ ended e →
+    (plans′ : ℕ) × (made′ : ℕ) × (e ≡ finished plans′ made′)

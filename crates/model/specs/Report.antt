@@ -1,0 +1,56 @@
+-- The text of the report, as bytes (paper 01, "The report").
+use mathlib.Core.Bool.{Bool, true, false}
+use mathlib.Core.List.{List, [], _∷_, _++_, map}
+use Prim.Native.Nat.{ℕ, zero, suc, _+_, _*_, _/_, _%_}
+use lib.ListN.{take}
+use lib.Dec.{ltb}
+use Rattle.model.specs.Lists.{flat}
+use Rattle.model.specs.Problem.{Problem}
+use Rattle.model.specs.Verdict.{Verdict, accepted, refused}
+use Rattle.model.specs.Sheet.{verdictOf, problemOf}
+use Rattle.model.specs.Run.{Ending, finished, spent, full, Result, resultOf}
+
+-- a number in decimal, at most k digits
+unfoldable pub digits : ℕ → ℕ → List ℕ
+digits zero n = []
+digits (suc k) n = elim (ltb n 10) [ true ↦ (48 + n) ∷ [] | false ↦ digits k (n / 10) ++ ((48 + n % 10) ∷ []) ]
+
+unfoldable pub decimal : ℕ → List ℕ
+decimal n = digits 20 n
+
+-- a line: a word and numbers, one space before each, then the newline
+unfoldable pub line : List ℕ → List ℕ → List ℕ
+line word numbers = word ++ flat (map (λ n. 32 ∷ decimal n) numbers) ++ (10 ∷ [])
+
+-- "plan", "finished", "spent", "full", "refused"
+abbrev pub planWord : List ℕ
+planWord = 112 ∷ 108 ∷ 97 ∷ 110 ∷ []
+
+abbrev pub finishedWord : List ℕ
+finishedWord = 102 ∷ 105 ∷ 110 ∷ 105 ∷ 115 ∷ 104 ∷ 101 ∷ 100 ∷ []
+
+abbrev pub spentWord : List ℕ
+spentWord = 115 ∷ 112 ∷ 101 ∷ 110 ∷ 116 ∷ []
+
+abbrev pub fullWord : List ℕ
+fullWord = 102 ∷ 117 ∷ 108 ∷ 108 ∷ []
+
+abbrev pub refusedWord : List ℕ
+refusedWord = 114 ∷ 101 ∷ 102 ∷ 117 ∷ 115 ∷ 101 ∷ 100 ∷ []
+
+-- the ending, plans, trials, families: families is the number of plans listed
+unfoldable pub endingLine : Ending → List ℕ
+endingLine (finished plans made) = line finishedWord (plans ∷ made ∷ plans ∷ [])
+endingLine (spent plans made) = line spentWord (plans ∷ made ∷ plans ∷ [])
+endingLine (full plans made) = line fullWord (plans ∷ made ∷ plans ∷ [])
+
+unfoldable pub resultText : Result → List ℕ
+resultText r = flat (map (line planWord) (r .rows)) ++ endingLine (r .ending)
+
+unfoldable pub reportFor : Verdict → List ℕ → List ℕ
+reportFor accepted b = resultText (resultOf (problemOf b) 1000000 (4096 * problemOf b .variables))
+reportFor (refused number item) b = line refusedWord (number ∷ item ∷ [])
+
+-- the report on an input: of a longer one its first 65,536 bytes are the sheet
+unfoldable pub reportOf : List ℕ → List ℕ
+reportOf input = let b = take 65536 input in reportFor (verdictOf b) b

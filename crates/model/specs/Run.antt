@@ -1,0 +1,89 @@
+-- A run: the nodes of the tree in their order, up to where it ends (paper 01, "The search").
+use mathlib.Core.Bool.{Bool, true, false}
+use mathlib.Core.List.{List, [], _∷_, _++_}
+use Prim.Native.Nat.{ℕ, zero, suc, _*_}
+use lib.ListN.{length, take, drop}
+use lib.Dec.{leb, eqb}
+use Rattle.model.specs.Lists.{flat}
+use Rattle.model.specs.Problem.{Problem}
+use Rattle.model.specs.Search.{nodes, isPlan}
+use Rattle.model.specs.Verdict.{Verdict, accepted, refused}
+use Rattle.model.specs.Sheet.{verdictOf, problemOf}
+
+-- how a run ends; each ending carries the plans listed and the nodes made (the paper's trial figure)
+pub data Ending : Type 0 where
+  finished : ℕ → ℕ → Ending
+  spent : ℕ → ℕ → Ending
+  full : ℕ → ℕ → Ending
+
+abbrev pub plansIn : Ending → ℕ
+plansIn (finished plans made) = plans
+plansIn (spent plans made) = plans
+plansIn (full plans made) = plans
+
+abbrev pub nodesIn : Ending → ℕ
+nodesIn (finished plans made) = made
+nodesIn (spent plans made) = made
+nodesIn (full plans made) = made
+
+pub record Result : Type 0 where
+  pub ending : Ending
+  pub rows : List (List ℕ)
+
+-- a walk along the nodes that are left, after `made` nodes that listed `rows`; limit is the paper's allowance, room the list's length in bytes
+unfoldable pub search : Problem → ℕ → ℕ → List (List ℕ) → ℕ → List (List ℕ) → Result
+search p limit room [] made rows = record { ending = finished (length rows) made; rows = rows }
+search p limit room (t ∷ ts) made rows =
+    elim (eqb made limit) [
+      | true ↦ record { ending = spent (length rows) made; rows = rows }
+      | false ↦
+          elim (isPlan p t) [
+            | false ↦ search p limit room ts (suc made) rows
+            | true ↦
+                elim (leb (suc (length rows) * p .variables) room) [
+                  | false ↦ record { ending = full (length rows) (suc made); rows = rows }
+                  | true ↦
+                      search p limit room ts (suc made) (rows ++ (t ∷ []))
+                ]
+          ]
+    ]
+
+unfoldable pub resultOf : Problem → ℕ → ℕ → Result
+resultOf p limit room = search p limit room (nodes p) 0 []
+
+-- ---- what a caller holds
+-- what a run answers: the number and item of a refusal, or the ending
+pub data Answer : Type 0 where
+  refusal : ℕ → ℕ → Answer
+  ended : Ending → Answer
+
+unfoldable pub answerFor : Verdict → List ℕ → ℕ → ℕ → Answer
+answerFor accepted b limit room = ended (resultOf (problemOf b) limit room .ending)
+answerFor (refused number item) b limit room = refusal number item
+
+unfoldable pub answerOf : List ℕ → ℕ → List ℕ → Answer
+answerOf b limit out = answerFor (verdictOf b) b limit (length out)
+
+-- the caller's list after the run: the rows at its front, all bytes after them as they came
+unfoldable pub written : List (List ℕ) → List ℕ → List ℕ
+written rows out = flat rows ++ drop (length (flat rows)) out
+
+unfoldable pub listFor : Verdict → List ℕ → ℕ → List ℕ → List ℕ
+listFor accepted b limit out = written (resultOf (problemOf b) limit (length out) .rows) out
+listFor (refused number item) b limit out = out
+
+unfoldable pub listOf : List ℕ → ℕ → List ℕ → List ℕ
+listOf b limit out = listFor (verdictOf b) b limit out
+
+-- the caller's tally after the run: the nodes made, or as it came where the sheet was refused
+abbrev pub tallyFor : Answer → ℕ → ℕ
+tallyFor (refusal number item) tally = tally
+tallyFor (ended e) tally = nodesIn e
+
+unfoldable pub tallyOf : List ℕ → ℕ → List ℕ → ℕ → ℕ
+tallyOf b limit out tally = tallyFor (answerOf b limit out) tally
+
+-- the listed plans: k rows of n bytes at the front of the list
+unfoldable pub listedPlans : ℕ → ℕ → List ℕ → List (List ℕ)
+listedPlans n zero out = []
+listedPlans n (suc k) out = take n out ∷ listedPlans n k (drop n out)

@@ -1,0 +1,78 @@
+-- The nogoods of a symmetry at a prefix, the sets at a prefix, and the tree as the list of its nodes (paper 01, "The search").
+-- A prefix is the list of the values of variables 0 to k - 1.
+use mathlib.Core.Bool.{Bool, true, false, not}
+use mathlib.Core.List.{List, [], _∷_, _++_, map}
+use Prim.Native.Nat.{ℕ, zero, suc, _+_, _*_, _/_, _%_}
+use lib.ListN.{length}
+use lib.Dec.{eqb, ltb}
+use Rattle.model.specs.Lists.{all, any, keep, flat, below, at, same, both, tabulate}
+use Rattle.model.specs.ValueSets.{has, maskOf, members, anyEmpty}
+use Rattle.model.specs.Problem.{Problem, Constraint, pair}
+use Rattle.model.specs.Nogood.{Entry, equality, disequality, filtered}
+
+-- the entries that variable j adds to a symmetry's list: "not the image of (j, v)" for every smaller v of j's initial set,
+-- then the image of the prefix's own pair as an equality
+unfoldable pub entriesAt : Problem → List ℕ → List ℕ → ℕ → List Entry
+entriesAt p g prefix j =
+    let image : ℕ → ℕ = λ v. at g (pair p j v) in
+    map (λ v. disequality (image v / p .values) (image v % p .values)) (keep (λ v. ltb v (at prefix j)) (members (at (p .initial) j)))
+    ++ (equality (image (at prefix j) / p .values) (image (at prefix j) % p .values) ∷ [])
+
+-- the nogoods of a symmetry at a prefix, one list
+unfoldable pub nogoodsOf : Problem → List ℕ → List ℕ → List Entry
+nogoodsOf p g prefix = flat (map (entriesAt p g prefix) (below (length prefix)))
+
+-- a row inside the sets, with v at variable x
+unfoldable pub rowWith : List ℕ → ℕ → ℕ → List ℕ → List ℕ → Bool
+rowWith ds x v [] [] = true
+rowWith ds x v [] (w ∷ ws) = false
+rowWith ds x v (y ∷ ys) [] = false
+rowWith ds x v (y ∷ ys) (w ∷ ws) =
+    both (has (at ds y) w) (both (elim (eqb x y) [ true ↦ eqb v w | false ↦ true ]) (rowWith ds x v ys ws))
+
+-- v has a row of the constraint inside the sets, where x is one of its variables
+unfoldable pub supported : List ℕ → ℕ → ℕ → Constraint → Bool
+supported ds x v c = elim (any (eqb x) (c .scope)) [ true ↦ any (rowWith ds x v (c .scope)) (c .rows) | false ↦ true ]
+
+-- one round: the values that have a row of every constraint, and that the filter of every symmetry's list leaves
+unfoldable pub pruned : Problem → List ℕ → List ℕ → List ℕ
+pruned p prefix ds =
+    let left = map (λ g. filtered ds (nogoodsOf p g prefix)) (p .symmetries) in
+    tabulate (p .variables) (λ x. maskOf (λ v. both (has (at ds x) v) (both (all (supported ds x v) (p .constraints)) (all (λ f. has (at f x) v) left))))
+
+-- the sets with the variables of the prefix fixed
+unfoldable pub narrowed : List ℕ → List ℕ → List ℕ
+narrowed [] ds = ds
+narrowed (v ∷ vs) [] = []
+narrowed (v ∷ vs) (s ∷ ss) = maskOf (λ w. both (eqb w v) (has s w)) ∷ narrowed vs ss
+
+-- rounds until one changes nothing, at most k
+unfoldable pub rounds : Problem → List ℕ → ℕ → List ℕ → List ℕ
+rounds p prefix zero ds = ds
+rounds p prefix (suc k) ds =
+    let next = pruned p prefix ds in
+    elim (same ds next) [ true ↦ ds | false ↦ rounds p prefix k next ]
+
+-- the sets at a prefix: the largest sets that a round leaves as they are (proofs/Prune, `largest`); if one is empty, all are.
+-- Each round but the last takes a value away, so as many rounds as there are values are enough.
+unfoldable pub setsAt : Problem → List ℕ → List ℕ
+setsAt p prefix =
+    let ds = rounds p prefix (p .variables * 16) (narrowed prefix (p .initial)) in
+    elim (anyEmpty ds) [ true ↦ map (λ s. 0) ds | false ↦ ds ]
+
+-- the prefix is not dead
+unfoldable pub isLive : Problem → List ℕ → Bool
+isLive p prefix = not (anyEmpty (setsAt p prefix))
+
+-- the nodes below a prefix, k variables left to settle (a node is the paper's trial), in the order of the search
+unfoldable pub nodesBelow : Problem → ℕ → List ℕ → List (List ℕ)
+nodesBelow p zero prefix = []
+nodesBelow p (suc k) prefix =
+    flat (map (λ v. (prefix ++ (v ∷ [])) ∷ nodesBelow p k (prefix ++ (v ∷ []))) (members (at (setsAt p prefix) (length prefix))))
+
+unfoldable pub nodes : Problem → List (List ℕ)
+nodes p = nodesBelow p (p .variables) []
+
+-- a live prefix of all variables
+unfoldable pub isPlan : Problem → List ℕ → Bool
+isPlan p node = both (eqb (length node) (p .variables)) (isLive p node)
