@@ -9,3 +9,4 @@ pub mod Search
 pub mod Run
 pub mod Report
 pub mod Claims
+pub mod Examples
