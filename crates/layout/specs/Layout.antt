@@ -1,0 +1,55 @@
+-- What the arrays of a compiled problem hold. The questions fill them once, and the search reads nothing else of the sheet.
+-- No reader has to believe this: it stands between proved functions.
+use mathlib.Core.Path.{_≡_}
+use mathlib.Core.List.{List, [], _∷_, _++_}
+use Prim.Native.Nat.{ℕ, suc, _+_, _*_, _/_, _%_, _^_, _≤_, _<_}
+use lib.ListN.{length, getD}
+use lib.Dec.{eqb}
+use Rattle.model.specs.Lists.{any, at, same}
+use Rattle.model.specs.ValueSets.{has, maskOf}
+use Rattle.model.specs.Problem.{Problem, Constraint, pair}
+
+abbrev pub constraintAt : Problem → ℕ → Constraint
+constraintAt p k = getD (p .constraints) k (record { scope = []; rows = [] })
+
+abbrev pub symmetryAt : Problem → ℕ → List ℕ
+symmetryAt p e = getD (p .symmetries) e []
+
+-- where the set of last values stands that go with the other values of a row
+abbrev pub place : List ℕ → ℕ
+place [] = 0
+place (x ∷ []) = x
+place (x ∷ y ∷ r) = 16 * x + y
+
+-- `numbers`, 128 of 64 bits: from 0 on, for each of sixteen variables, the set of the constraints that have it in their scope;
+-- from 16 on the initial sets, {0} for a variable from n up; from 32 on, for each constraint, its arity and its scope, a byte each;
+-- at 64 to 67 n, d, c and g
+pub record Numbers (p : Problem) (numbers : List ℕ) : Type 0 where
+  pub touching : (x k : ℕ) → x < 16 → k < length (p .constraints) → has (at numbers x) k ≡ any (eqb x) (constraintAt p k .scope)
+  pub touching-few : (x : ℕ) → x < 16 → at numbers x < 2 ^ length (p .constraints)
+  pub initial : (x : ℕ) → x < p .variables → at numbers (16 + x) ≡ at (p .initial) x
+  pub unused : (x : ℕ) → p .variables ≤ x → x < 16 → at numbers (16 + x) ≡ 1
+  pub arity : (k : ℕ) → k < length (p .constraints) → at numbers (32 + k) % 256 ≡ length (constraintAt p k .scope)
+  pub scope : (k i : ℕ) → k < length (p .constraints) → i < length (constraintAt p k .scope) →
+      at numbers (32 + k) / 256 ^ suc i % 256 ≡ at (constraintAt p k .scope) i
+  pub variables : at numbers 64 ≡ p .variables
+  pub values : at numbers 65 ≡ p .values
+  pub constraints : at numbers 66 ≡ length (p .constraints)
+  pub symmetries : at numbers 67 ≡ length (p .symmetries)
+
+-- `supports`, 256 sets for each constraint: for all values of a row but the last, the set of the last values
+abbrev pub Supports : Problem → List ℕ → Type 0
+Supports p supports =
+    (k : ℕ) → k < length (p .constraints) → (vs : List ℕ) → suc (length vs) ≡ length (constraintAt p k .scope) → ((i : ℕ) → i < length vs → at vs i < 16) →
+    at supports (256 * k + place vs) ≡ maskOf (λ v. any (same (vs ++ (v ∷ []))) (constraintAt p k .rows))
+
+-- `images`, 192 bytes for each symmetry: the image of the pair (x, v) at 16 x + v, as 16 times its variable plus its value
+abbrev pub Images : Problem → List ℕ → Type 0
+Images p images =
+    (e x v : ℕ) → e < length (p .symmetries) → x < p .variables → v < p .values →
+    at images (192 * e + 16 * x + v) ≡ 16 * (at (symmetryAt p e) (pair p x v) / p .values) + at (symmetryAt p e) (pair p x v) % p .values
+
+pub record Compiled (p : Problem) (numbers supports images : List ℕ) : Type 0 where
+  pub numbers : Numbers p numbers
+  pub supports : Supports p supports
+  pub images : Images p images
