@@ -50,6 +50,6 @@ Images p images =
     at images (192 * e + 16 * x + v) ≡ 16 * (at (symmetryAt p e) (pair p x v) / p .values) + at (symmetryAt p e) (pair p x v) % p .values
 
 pub record Compiled (p : Problem) (numbers supports images : List ℕ) : Type 0 where
-  pub numbers : Numbers p numbers
-  pub supports : Supports p supports
-  pub images : Images p images
+  pub numbered : Numbers p numbers
+  pub supported : Supports p supports
+  pub imaged : Images p images
