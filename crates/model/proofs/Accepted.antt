@@ -15,9 +15,8 @@ use Rattle.model.specs.Sheet.{Header, word, words, headerOf, setsVerdict
 use Rattle.model.proofs.WellFormed.{WellFormed, GoodConstraint}
 use Rattle.model.proofs.Basics.{both-l, both-r, T-of, all-e, map-e, below-i, length-below, at-below}
 
--- a question that was passed, in its two forms
+-- a question that was passed
 pub asked : (c : Bool) (n i : ℕ) (v : Verdict) → T (isAccepted (ask c n i v)) → T c × T (isAccepted v)
-unfolding isAccepted
 asked true n i v h = (tt, h)
 asked false n i v h = absurd h
 

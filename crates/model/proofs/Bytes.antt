@@ -1,6 +1,7 @@
 -- A sheet with one exchange more states the same problem with one symmetry more. Assumes nothing.
 use mathlib.Core.Path.{_≡_, refl, ap, ap₂, _∙_, subst}
-use mathlib.Core.List.{List, _∷_, _++_, map, append-assoc}
+use mathlib.Core.List.{List, _∷_, _++_, map, append-assoc, List·Memᴰ, List·Memᴰ·tail, List·Memᴰ·append-cases, Memᴰ·append-left, Memᴰ·append-right}
+use mathlib.Core.Logic.{⊎-elim}
 use Prim.Native.Nat.{ℕ, zero, suc, _+_, _-_, _*_, _/_, _%_, _≤_, _<_}
 use native.Mathlib.Nat.{mul-le-mul-right, suc-add}
 use native.Mathlib.Omega.{arith}
@@ -13,6 +14,7 @@ use Rattle.model.specs.Verdict.{Verdict, isAccepted}
 use Rattle.model.specs.Sheet.{Header, word, words, headerOf, scopeAt, rowsAt, afterAt, constraintsVerdict, constraintsFrom, tableAt, problemOf, verdictOf}
 use Rattle.model.specs.Claims.{OneMore, put16}
 use Rattle.model.proofs.Accepted.{Passed, passed, asked}
+use Rattle.model.proofs.More.{withSymmetries}
 
 -- ---- elements of joined lists
 at-left : (xs ys : List ℕ) (n i : ℕ) → length xs ≡ n → i < n → at (xs ++ ys) i ≡ at xs i
@@ -95,10 +97,6 @@ module _ (b c : List ℕ) (end : ℕ) (agree : (i : ℕ) → 16 ≤ i → i < en
       ap₂ (λ (x : Constraint) (r : List Constraint). x ∷ r)
       (ap₂ (λ (x : List ℕ) (r : List (List ℕ)). record { scope = x; rows = r }) (scope-agree o low head tail) (rows-agree o low head tail))
       (ap (constraintsFrom c k) (after-agree o low head tail) ∙ constraints-agree h e k (suc i) (afterAt b o) v (after-low b o low) (q6 .1))
-
--- the problem with other symmetries
-abbrev pub withSymmetries : Problem → List (List ℕ) → Problem
-withSymmetries p gs = record { variables = p .variables; values = p .values; initial = p .initial; constraints = p .constraints; symmetries = gs }
 
 -- ---- the bytes of the longer sheet
 word-of : (l : List ℕ) (o v : ℕ) → at l o ≡ v % 256 → at l (o + 1) ≡ v / 256 → word l o ≡ v
@@ -358,8 +356,16 @@ module _ (b c t : List ℕ) (k : ℕ) (more : OneMore b c k t) (ok : Passed b) w
   unfolding problemOf
   old = old-tables
 
+-- one table more, anywhere
+kept-among : (xs ys : List (List ℕ)) (g h : List ℕ) → List·Memᴰ h (xs ++ ys) → List·Memᴰ h (xs ++ (g ∷ ys))
+kept-among xs ys g h m = ⊎-elim {C = List·Memᴰ h (xs ++ (g ∷ ys))} (λ k. Memᴰ·append-left (g ∷ ys) k) (λ k. Memᴰ·append-right xs (List·Memᴰ·tail k)) (List·Memᴰ·append-cases xs m)
+
+-- the longer sheet states the same problem with further symmetries
 pub one-more : (b c t : List ℕ) (k : ℕ) → OneMore b c k t → T (isAccepted (verdictOf b))
-    → (xs : List (List ℕ)) × (g : List ℕ) × (ys : List (List ℕ)) × (problemOf b .symmetries ≡ xs ++ ys) × (problemOf c ≡ withSymmetries (problemOf b) (xs ++ (g ∷ ys)))
+    → (gs : List (List ℕ)) × ((g : List ℕ) → List·Memᴰ g (problemOf b .symmetries) → List·Memᴰ g gs) × (problemOf c ≡ withSymmetries (problemOf b) gs)
 one-more b c t k more acc =
     let ok = passed b acc in
-    (before b c t k more ok, added b c t k more ok, after b c t k more ok, old b c t k more ok, longer b c t k more ok)
+    let xs = before b c t k more ok in
+    let ys = after b c t k more ok in
+    let h = added b c t k more ok in
+    (xs ++ (h ∷ ys), λ g m. kept-among xs ys h g (subst (List·Memᴰ g) (old b c t k more ok) m), longer b c t k more ok)

@@ -14,8 +14,8 @@ use Rattle.model.specs.Problem.{Problem, pair, isPair, pairsOf, within, 
 use Rattle.model.specs.Nogood.{is, obeys}
 use Rattle.model.specs.Search.{nogoodsOf}
 use Rattle.model.proofs.WellFormed.{WellFormed, GoodSymmetry}
-use Rattle.model.specs.Claims.{isLeader}
-use Rattle.model.proofs.Basics.{both-i, both-l, both-r, T-ext, T-of, stable, any-i, any-e, map-i, map-e, keep-i, keep-e}
+use Rattle.model.specs.Claims.{Leader, isLeader}
+use Rattle.model.proofs.Basics.{both-i, both-l, both-r, T-ext, T-of, stable, all-i, all-e, any-i, any-e, map-i, map-e, keep-i, keep-e}
 use Rattle.model.proofs.Draws.{members-i, members-e, Drawn, drawn-i}
 use Rattle.model.proofs.Pairs as P
 use Rattle.model.proofs.Symmetry as S
@@ -154,3 +154,19 @@ module _ (p : Problem) (w : WellFormed p) where
   leader-is s =
       guarded (isSolution p s) (not (any (λ g. any (λ t. both (isSolution p t) (both (earlier t s) (takes p g t s))) (assignments (p .initial))) (p .symmetries))) (all (λ g. obeys s (nogoodsOf p g s)) (p .symmetries))
       (λ sol. not-any (λ g. any (λ t. both (isSolution p t) (both (earlier t s) (takes p g t s))) (assignments (p .initial))) (λ g. obeys s (nogoodsOf p g s)) (p .symmetries) (λ g m. heart s sol g m))
+
+  -- the test says what it should
+  pub leader-e : (s : List ℕ) → T (isLeader p s) → Leader p s
+  leader-e s h = record {
+    solves = sol;
+    unbeaten = λ g t m st e tk. obeys-none s sol g m (all-e (λ k. obeys s (nogoodsOf p k s)) (p .symmetries) (both-r (isSolution p s) (all (λ k. obeys s (nogoodsOf p k s)) (p .symmetries)) (subst T (leader-is s) h)) g m) t st e tk;
+  }
+    where
+      sol : T (isSolution p s)
+      sol = both-l (isSolution p s) _ h
+
+  pub leader-i : (s : List ℕ) → Leader p s → T (isLeader p s)
+  leader-i s l =
+      subst T (sym (leader-is s))
+      (both-i (isSolution p s) (all (λ k. obeys s (nogoodsOf p k s)) (p .symmetries)) (l .solves)
+      (all-i (λ k. obeys s (nogoodsOf p k s)) (p .symmetries) (λ g m. none-obeys s (l .solves) g m (λ t st e tk. l .unbeaten g t m st e tk))))

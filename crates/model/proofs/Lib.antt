@@ -1,6 +1,8 @@
 pub mod Accepted
 pub mod Assignments
 pub mod Basics
+pub mod Chains
+pub mod Demands
 pub mod Bytes
 pub mod Draws
 pub mod Filter

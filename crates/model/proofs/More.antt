@@ -20,24 +20,9 @@ use Rattle.model.proofs.Sets.{has-none, Sets, Inside, inside-antisym, e
 use Rattle.model.proofs.Prune.{Kept, pruned-i, pruned-e, pruned-inside, pruned-sets, Sized, closed, Largest, largest, setsAt-live, setsAt-dead}
 use Rattle.model.proofs.Runs.{finished-rows, finished-fits, finishes}
 
--- p′ is p with further symmetries: every other field is the same
-pub record Extends (p p′ : Problem) : Type 0 where
-  pub variables : p′ .variables ≡ p .variables
-  pub values : p′ .values ≡ p .values
-  pub initial : p′ .initial ≡ p .initial
-  pub constraints : p′ .constraints ≡ p .constraints
-  pub among : Sublistᴰ (p .symmetries) (p′ .symmetries)
-
+-- the problem with other symmetries
 abbrev pub withSymmetries : Problem → List (List ℕ) → Problem
 withSymmetries p gs = record { variables = p .variables; values = p .values; initial = p .initial; constraints = p .constraints; symmetries = gs }
-
-pub extends-path : (p p′ : Problem) → Extends p p′ → p′ ≡ withSymmetries p (p′ .symmetries)
-extends-path p p′ e = λ i. record { variables = e .variables i; values = e .values i; initial = e .initial i; constraints = e .constraints i; symmetries = p′ .symmetries }
-
--- one table more, anywhere
-pub one-more : {A : Type 0} (xs ys : List A) (g : A) → Sublistᴰ (xs ++ ys) (xs ++ (g ∷ ys))
-one-more [] ys g = Sublistᴰ·cons (mathlib.Core.List.Sublistᴰ·refl ys)
-one-more (x ∷ xs) ys g = Sublistᴰ·cons-cons refl (one-more xs ys g)
 
 module _ (p : Problem) (gs : List (List ℕ)) (s : Sized p) (h : (g : List ℕ) → List·Memᴰ g (p .symmetries) → List·Memᴰ g gs) where
   nogoods-same : (g prefix : List ℕ) → nogoodsOf (withSymmetries p gs) g prefix ≡ nogoodsOf p g prefix
@@ -109,38 +94,25 @@ module _ (p : Problem) (gs : List (List ℕ)) (s : Sized p) (h : (g : List ℕ) 
   pub plans-less : Sublistᴰ (keep (isPlan (withSymmetries p gs)) (nodes (withSymmetries p gs))) (keep (isPlan p) (nodes p))
   plans-less = sublist-keep (isPlan (withSymmetries p gs)) (isPlan p) nodes-less plan-less
 
--- the claim `Fewer` of the problems: the runs of p′ against a finished run of p
+-- the runs of p′ against a finished run of p: a finished one lists no other plan and makes no more nodes, and under the same limit and room it is finished
 abbrev pub FewerIn : Problem → Problem → Type 0
 FewerIn p p′ =
-    (allowance room plans used : ℕ) → resultOf p allowance room .ending ≡ finished plans used →
-    ((allowance′ room′ plans′ used′ : ℕ) → resultOf p′ allowance′ room′ .ending ≡ finished plans′ used′ →
-    Sublistᴰ (resultOf p′ allowance′ room′ .rows) (resultOf p allowance room .rows) × (used′ ≤ used))
-    × ((plans′ : ℕ) × (used′ : ℕ) × (resultOf p′ allowance room .ending ≡ finished plans′ used′))
+    (limit room plans made : ℕ) → resultOf p limit room .ending ≡ finished plans made →
+    ((limit′ room′ plans′ made′ : ℕ) → resultOf p′ limit′ room′ .ending ≡ finished plans′ made′ →
+    Sublistᴰ (resultOf p′ limit′ room′ .rows) (resultOf p limit room .rows) × (made′ ≤ made))
+    × ((plans′ : ℕ) × (made′ : ℕ) × (resultOf p′ limit room .ending ≡ finished plans′ made′))
 
-fewer-with : (p : Problem) (gs : List (List ℕ)) → Sized p → ((g : List ℕ) → List·Memᴰ g (p .symmetries) → List·Memᴰ g gs) → FewerIn p (withSymmetries p gs)
-fewer-with p gs s h allowance room plans used e =
+pub fewer : (p : Problem) (gs : List (List ℕ)) → Sized p → ((g : List ℕ) → List·Memᴰ g (p .symmetries) → List·Memᴰ g gs) → FewerIn p (withSymmetries p gs)
+fewer p gs s h limit room plans made e =
     let q = withSymmetries p gs in
-    let r = finished-rows p allowance room plans used e in
-    let f = finished-fits p allowance room plans used e in
+    let r = finished-rows p limit room plans made e in
+    let f = finished-fits p limit room plans made e in
     let n = sublist-length (nodes-less p gs s h) in
     let m = sublist-length (plans-less p gs s h) in (
-      λ allowance′ room′ plans′ used′ e′.
-          let r′ = finished-rows q allowance′ room′ plans′ used′ e′ in (
-            subst (λ (l : List (List ℕ)). Sublistᴰ l (resultOf p allowance room .rows)) (sym (r′ .0)) (subst (λ (l : List (List ℕ)). Sublistᴰ (keep (isPlan q) (nodes q)) l) (sym (r .0)) (plans-less p gs s h)),
-            subst (λ (k : ℕ). k ≤ used) (sym (r′ .2)) (subst (λ (k : ℕ). length (nodes q) ≤ k) (sym (r .2)) n),
+      λ limit′ room′ plans′ made′ e′.
+          let r′ = finished-rows q limit′ room′ plans′ made′ e′ in (
+            subst (λ (l : List (List ℕ)). Sublistᴰ l (resultOf p limit room .rows)) (sym (r′ .0)) (subst (λ (l : List (List ℕ)). Sublistᴰ (keep (isPlan q) (nodes q)) l) (sym (r .0)) (plans-less p gs s h)),
+            subst (λ (k : ℕ). k ≤ made) (sym (r′ .2)) (subst (λ (k : ℕ). length (nodes q) ≤ k) (sym (r .2)) n),
           ),
-      (length (keep (isPlan q) (nodes q)), length (nodes q), finishes q allowance room (le-trans n (f .0)) (le-trans (mul-le-mul-right (p .variables) m) (f .1))),
+      (length (keep (isPlan q) (nodes q)), length (nodes q), finishes q limit room (le-trans n (f .0)) (le-trans (mul-le-mul-right (p .variables) m) (f .1))),
     )
-
--- 6. with further symmetries
-pub more-sets : (p p′ : Problem) → Sized p → Extends p p′ → (prefix : List ℕ) → Inside (setsAt p′ prefix) (setsAt p prefix)
-more-sets p p′ s e = subst (λ (q : Problem). (prefix : List ℕ) → Inside (setsAt q prefix) (setsAt p prefix)) (sym (extends-path p p′ e)) (setsAt-less p (p′ .symmetries) s (sublist-mem (e .among)))
-
-pub more-nodes : (p p′ : Problem) → Sized p → Extends p p′ → Sublistᴰ (nodes p′) (nodes p)
-more-nodes p p′ s e = subst (λ (q : Problem). Sublistᴰ (nodes q) (nodes p)) (sym (extends-path p p′ e)) (nodes-less p (p′ .symmetries) s (sublist-mem (e .among)))
-
-pub more-plans : (p p′ : Problem) → Sized p → Extends p p′ → Sublistᴰ (keep (isPlan p′) (nodes p′)) (keep (isPlan p) (nodes p))
-more-plans p p′ s e = subst (λ (q : Problem). Sublistᴰ (keep (isPlan q) (nodes q)) (keep (isPlan p) (nodes p))) (sym (extends-path p p′ e)) (plans-less p (p′ .symmetries) s (sublist-mem (e .among)))
-
-pub fewer : (p p′ : Problem) → Sized p → Extends p p′ → FewerIn p p′
-fewer p p′ s e = subst (λ (q : Problem). FewerIn p q) (sym (extends-path p p′ e)) (fewer-with p (p′ .symmetries) s (sublist-mem (e .among)))

@@ -9,7 +9,8 @@ use lib.ListN.{length, take, drop}
 use lib.Dec.{T}
 use Rattle.model.specs.Lists.{any, keep, both, earlier, rowsAscend}
 use Rattle.model.specs.Problem.{Problem, isSolution, assignments, takes}
-use Rattle.model.specs.Sheet.{problemOf, headerOf}
+use Rattle.model.specs.Verdict.{accepted}
+use Rattle.model.specs.Sheet.{problemOf, headerOf, verdictOf}
 use Rattle.model.specs.Search.{nodes, isPlan}
 use Rattle.model.specs.Run.{Ending, finished, spent, full, plansIn, nodesIn, answerOf, ended, listOf, listedPlans}
 
@@ -18,7 +19,12 @@ abbrev pub plansHeld : List ℕ → ℕ → List ℕ → Ending → List (List �
 plansHeld b limit out e = listedPlans (problemOf b .variables) (plansIn e) (listOf b limit out)
 
 -- ---- demand 2
--- s is a solution, and no symmetry takes a solution that reads earlier to it
+-- s is a leader: a solution onto which no symmetry takes a solution that reads earlier
+pub record Leader (p : Problem) (s : List ℕ) : Type 0 where
+  pub solves : T (isSolution p s)
+  pub unbeaten : (g t : List ℕ) → List·Memᴰ g (p .symmetries) → T (isSolution p t) → T (earlier t s) → T (takes p g t s) → ⊥
+
+-- the same as a test: every solution is one of the assignments
 abbrev pub isLeader : Problem → List ℕ → Bool
 isLeader p s =
     both (isSolution p s)
@@ -28,16 +34,17 @@ isLeader p s =
 abbrev pub leaders : Problem → List (List ℕ)
 leaders p = keep (isLeader p) (assignments (p .initial))
 
+-- `leaders` says what it should: it ascends strictly, and holds exactly the leaders
+abbrev pub Leaders-ascend : Type 0
+Leaders-ascend =
+    (b : List ℕ) → verdictOf b ≡ accepted →
+    T (rowsAscend (leaders (problemOf b))) × ((s : List ℕ) → List·Memᴰ s (leaders (problemOf b)) ↔ Leader (problemOf b) s)
+
 -- a finished run lists exactly the leaders
 abbrev pub Lists-leaders : Type 0
 Lists-leaders =
     (b : List ℕ) (limit : ℕ) (out : List ℕ) (plans made : ℕ) → answerOf b limit out ≡ ended (finished plans made) →
     plansHeld b limit out (finished plans made) ≡ leaders (problemOf b)
-
--- `leaders` says what it should: it holds exactly the solutions that are leaders, strictly ascending
-abbrev pub Leaders-ascend : Type 0
-Leaders-ascend = (b : List ℕ) (limit : ℕ) (out : List ℕ) (e : Ending) → answerOf b limit out ≡ ended e →
-    T (rowsAscend (leaders (problemOf b))) × ((s : List ℕ) → List·Memᴰ s (leaders (problemOf b)) ↔ T (isLeader (problemOf b) s))
 
 -- any run holds a first part of that list
 abbrev pub First-part : Type 0
@@ -45,14 +52,17 @@ First-part =
     (b : List ℕ) (limit : ℕ) (out : List ℕ) (e : Ending) → answerOf b limit out ≡ ended e →
     plansHeld b limit out e ≡ take (plansIn e) (leaders (problemOf b))
 
+-- how many of the tree's first k nodes are plans
+abbrev pub plansAmong : Problem → ℕ → ℕ
+plansAmong p k = length (keep (isPlan p) (take k (nodes p)))
+
 -- the counts are those of the tree up to where the run ended:
 -- a finished run made every node; a spent one as many as the limit, and a further node is due; a full one ended on a plan that found no room
 abbrev pub CountsAt : List ℕ → ℕ → List ℕ → Ending → Type 0
-CountsAt b limit out (finished plans made) = made ≡ length (nodes (problemOf b))
-CountsAt b limit out (spent plans made) = (made ≡ limit) × (made < length (nodes (problemOf b)))
+CountsAt b limit out (finished plans made) = (made ≡ length (nodes (problemOf b))) × (plansAmong (problemOf b) made ≡ plans)
+CountsAt b limit out (spent plans made) = (made ≡ limit) × (made < length (nodes (problemOf b))) × (plansAmong (problemOf b) made ≡ plans)
 CountsAt b limit out (full plans made) =
-    (length out < suc plans * problemOf b .variables) × (length (keep (isPlan (problemOf b)) (take made (nodes (problemOf b)))) ≡ suc plans)
-    × (length (keep (isPlan (problemOf b)) (take (made - 1) (nodes (problemOf b)))) ≡ plans)
+    (length out < suc plans * problemOf b .variables) × (plansAmong (problemOf b) made ≡ suc plans) × (plansAmong (problemOf b) (made - 1) ≡ plans)
 
 abbrev pub Counts : Type 0
 Counts =
@@ -60,6 +70,10 @@ Counts =
     (nodesIn e ≤ limit) × CountsAt b limit out e
 
 -- ---- demand 3
+-- on an accepted sheet every run ends, whatever limit and list it is given
+abbrev pub Ends : Type 0
+Ends = (b : List ℕ) (limit : ℕ) (out : List ℕ) → verdictOf b ≡ accepted → (e : Ending) × (answerOf b limit out ≡ ended e)
+
 -- from a to c by symmetries, one after another, each step giving a solution that reads later than the one before
 pub data Chain (p : Problem) (a : List ℕ) : List ℕ → Type 0 where
   here : Chain p a a
