@@ -2,6 +2,7 @@ pub mod Accepted
 pub mod Assignments
 pub mod Basics
 pub mod Chains
+pub mod Child
 pub mod Demands
 pub mod Bytes
 pub mod Draws

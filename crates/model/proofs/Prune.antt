@@ -276,10 +276,11 @@ pub record Way (p : Problem) (prefix es : List ℕ) : Type 0 where
   pub inside : Inside es (narrowed prefix (p .initial))
   pub over : Inside (closed p prefix) es
 
-pub way : (p : Problem) (prefix : List ℕ) → Sized p → {es : List ℕ} → Removals p prefix (narrowed prefix (p .initial)) es → Way p prefix es
-way p prefix s none = record { sets = start-sets p prefix s; inside = inside-refl (narrowed prefix (p .initial)); over = largest p prefix s .inside }
-way p prefix s (more {es = es} {fs = fs} r q) =
-    let w = way p prefix s r in
+pub way-start : (p : Problem) (prefix : List ℕ) → Sized p → Way p prefix (narrowed prefix (p .initial))
+way-start p prefix s = record { sets = start-sets p prefix s; inside = inside-refl (narrowed prefix (p .initial)); over = largest p prefix s .inside }
+
+pub way-removal : (p : Problem) (prefix : List ℕ) → Sized p → (es fs : List ℕ) → Way p prefix es → Removal p prefix es fs → Way p prefix fs
+way-removal p prefix s es fs w q =
     let l = largest p prefix s in
     record {
       sets = q .sets;
@@ -287,12 +288,18 @@ way p prefix s (more {es = es} {fs = fs} r q) =
       over = λ x v t. q .spared x v (w .over x v t) (kept-mono p prefix (closed p prefix) es (l .sets .0 ∙ sym (w .sets .0)) (w .over) x v (fixed-e p prefix (closed p prefix) (l .fixed) x v t));
     }
 
+pub way : (p : Problem) (prefix : List ℕ) → Sized p → {es : List ℕ} → Removals p prefix (narrowed prefix (p .initial)) es → Way p prefix es
+way p prefix s none = way-start p prefix s
+way p prefix s (more {es = es} {fs = fs} r q) = way-removal p prefix s es fs (way p prefix s r) q
+
 -- a program that stops where a round takes nothing away has the largest sets
-pub removals-end : (p : Problem) (prefix : List ℕ) → Sized p → (es : List ℕ) → Removals p prefix (narrowed prefix (p .initial)) es → pruned p prefix es ≡ es → es ≡ closed p prefix
-removals-end p prefix s es r e =
-    let w = way p prefix s r in
+pub way-end : (p : Problem) (prefix : List ℕ) → Sized p → (es : List ℕ) → Way p prefix es → pruned p prefix es ≡ es → es ≡ closed p prefix
+way-end p prefix s es w e =
     let l = largest p prefix s in
     inside-antisym (p .variables) es (closed p prefix) (w .sets) (l .sets) (l .above es (w .sets .0) (w .inside) e) (w .over)
+
+pub removals-end : (p : Problem) (prefix : List ℕ) → Sized p → (es : List ℕ) → Removals p prefix (narrowed prefix (p .initial)) es → pruned p prefix es ≡ es → es ≡ closed p prefix
+removals-end p prefix s es r e = way-end p prefix s es (way p prefix s r) e
 
 -- ---- the sets at a prefix
 pub setsAt-live : (p : Problem) (prefix : List ℕ) → anyEmpty (closed p prefix) ≡ false → setsAt p prefix ≡ closed p prefix
@@ -324,8 +331,14 @@ setsAt-sets p prefix s = go (anyEmpty (closed p prefix)) refl
     go true e = subst (Sets (p .variables)) (sym (setsAt-dead p prefix e)) (lib.ListN.length-map (closed p prefix) (λ z. 0) ∙ k .sets .0, λ x. subst (λ (z : ℕ). z < 2 ^ 16) (sym (at-zeros (closed p prefix) x)) (omega arith))
     go false e = subst (Sets (p .variables)) (sym (setsAt-live p prefix e)) (k .sets)
 
--- a program may stop as soon as a set is empty
-pub removals-dead : (p : Problem) (prefix : List ℕ) → Sized p → (es : List ℕ) → Removals p prefix (narrowed prefix (p .initial)) es → T (anyEmpty es) → setsAt p prefix ≡ replicate (p .variables) 0
-removals-dead p prefix s es r t =
-    let w = way p prefix s r in
+-- a program that stops where a round takes nothing away has the sets at the prefix, if none is empty
+pub way-live : (p : Problem) (prefix : List ℕ) → Sized p → (es : List ℕ) → Way p prefix es → pruned p prefix es ≡ es → anyEmpty es ≡ false → setsAt p prefix ≡ es
+way-live p prefix s es w e n = let q = way-end p prefix s es w e in setsAt-live p prefix (ap anyEmpty (sym q) ∙ n) ∙ sym q
+
+-- it may stop as soon as a set is empty: the prefix is dead
+pub way-dead : (p : Problem) (prefix : List ℕ) → Sized p → (es : List ℕ) → Way p prefix es → T (anyEmpty es) → setsAt p prefix ≡ replicate (p .variables) 0
+way-dead p prefix s es w t =
     setsAt-none p prefix s (of-T (anyEmpty (closed p prefix)) (empty-inside (p .variables) (closed p prefix) es (largest p prefix s .sets) (w .sets) (w .over) t))
+
+pub removals-dead : (p : Problem) (prefix : List ℕ) → Sized p → (es : List ℕ) → Removals p prefix (narrowed prefix (p .initial)) es → T (anyEmpty es) → setsAt p prefix ≡ replicate (p .variables) 0
+removals-dead p prefix s es r t = way-dead p prefix s es (way p prefix s r) t

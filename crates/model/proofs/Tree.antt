@@ -7,9 +7,9 @@ use Prim.Native.Nat.{ℕ, zero, suc, _+_, _*_, _/_, _%_, _^_, _≤_, _<_}
 use native.Mathlib.Nat.{not-suc-le-zero, le-of-suc-le-suc}
 use native.Mathlib.Omega.{arith}
 use lib.Dec.{T, eqb, ltb, eqb→eq, eqb-refl, T-not, not-T}
-use lib.ListN.{length, getD, drop, length-append, length-drop, List·getD-append, drop-of-length-le}
+use lib.ListN.{length, getD, drop, length-append, length-drop, drop-of-length-le}
 use lib.Pow.{pow-mono}
-use lib.Seq.{getD-append-seam, append-snoc, drop-cons}
+use lib.Seq.{append-snoc, drop-cons}
 use borrow.Author.Tests.{ltb-true, ltb-false, eqb-true, eq-eqb, ne-eqb}
 use Rattle.model.specs.Lists.{both, either, all, any, keep, flat, below, upFrom, at, same, tabulate}
 use Rattle.model.specs.ValueSets.{has, maskOf, members, anyEmpty}
@@ -17,17 +17,13 @@ use Rattle.model.specs.Problem.{Problem, Constraint, pair, assignments, 
 use Rattle.model.specs.Nogood.{Entry, equality, disequality, obeys, filtered}
 use Rattle.model.specs.Search.{entriesAt, nogoodsOf, rowWith, supported, pruned, narrowed, rounds, setsAt, isLive, nodesBelow, nodes, isPlan}
 use Rattle.model.proofs.WellFormed.{WellFormed, GoodConstraint}
-use Rattle.model.proofs.Lists.{T-of, of-T, not-of, of-not, T-ext, T-dec, both-i, both-l, both-r, all-i, all-e, any-i, any-e, keep-yes, keep-no, keep-none, keep-ext, keep-flat-map, flat-pick, flat-i, below-i, below-e, upFrom-add, upFrom-e, flat-append, map-append, map-ext, at-ext, at-out, mem-at, same-eq, same-refl}
+use Rattle.model.proofs.Lists.{T-of, of-T, not-of, of-not, T-ext, T-dec, both-i, both-l, both-r, all-i, all-e, any-i, any-e, keep-yes, keep-no, keep-none, keep-ext, keep-flat-map, flat-pick, flat-i, below-i, below-e, upFrom-add, upFrom-e, flat-append, map-append, map-ext, at-ext, at-out, at-append, at-seam, mem-at, same-eq, same-refl}
 use Rattle.model.proofs.Sets.{has-lt, has-none, Sets, Inside, has-at-lt, member, empty-i, empty-e, zeros-empty, at-zeros, members-i, members-e}
 use Rattle.model.proofs.Assignments.{Drawn, assign-i, assign-e, drawn-i, drawn-e, assign-mono}
 use Rattle.model.proofs.Filter.{filtered-i, filtered-e, filtered-drawn, obeys-front}
 use Rattle.model.proofs.Prune.{Kept, pruned-i, pruned-e, pruned-sets, rounds-ind, narrowed-i, narrowed-e, Sized, closed, Largest, largest, start-sets, fixed-e, setsAt-live, setsAt-dead, setsAt-sets}
 
 -- ---- the nogoods of a longer prefix begin with those of the shorter
-at-append : (a b : List ℕ) (j : ℕ) → j < length a → at (a ++ b) j ≡ at a j
-unfolding at
-at-append a b j h = List·getD-append a b 0 j h
-
 pub nogoods-append : (p : Problem) (g a b : List ℕ) → nogoodsOf p g (a ++ b) ≡ nogoodsOf p g a ++ flat (map (entriesAt p g (a ++ b)) (upFrom (length a) (length b)))
 unfolding nogoodsOf entriesAt below
 nogoods-append p g a b =
@@ -116,10 +112,6 @@ map-flat-map : {A B C : Type 0} (f : B → C) (F : A → List B) (l : List A) �
 unfolding flat
 map-flat-map f F [] = refl
 map-flat-map {C} f F (x ∷ l) = map-append f (F x) (flat (map F l)) ∙ ap (λ (r : List C). map f (F x) ++ r) (map-flat-map f F l)
-
-at-seam : (a : List ℕ) (v : ℕ) (b : List ℕ) → at (a ++ (v ∷ b)) (length a) ≡ v
-unfolding at
-at-seam a v b = getD-append-seam a v b 0
 
 drop-at : (l : List ℕ) (j : ℕ) → j < length l → drop j l ≡ at l j ∷ drop (suc j) l
 unfolding at
