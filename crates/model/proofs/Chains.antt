@@ -1,6 +1,6 @@
 -- Every solution is reached from a leader by symmetries, one after another, and nothing else is. Assumes nothing.
 use mathlib.Core.Path.{_≡_, refl, sym, ap, ap₂, _∙_, subst}
-use mathlib.Core.Logic.{_↔_, ∥∥₁-elim}
+use mathlib.Core.Logic.{_↔_, ∥∥₁-elim, _⊎_, inl, inr}
 use mathlib.Core.Bool.{Bool, true, false}
 use mathlib.Core.List.{List, [], _∷_, List·Memᴰ, List·Memᴰ·head, List·Memᴰ·not-nil}
 use Prim.Native.Nat.{ℕ, zero, suc, _+_, _*_, _^_, _≤_, _<_}
@@ -13,9 +13,9 @@ use Rattle.model.specs.Lists.{both, any, keep, at, earlier}
 use Rattle.model.specs.Problem.{Problem, isSolution, assignments, takes}
 use Rattle.model.proofs.WellFormed.{WellFormed}
 use Rattle.model.specs.Claims.{isLeader, leaders, Chain, here, step}
-use Rattle.model.proofs.Basics.{both-i, both-l, both-r, T-dec, stable, any-e, keep-i, keep-e}
-use Rattle.model.proofs.Pairs.{sol-length}
-use Rattle.model.proofs.Heart.{sol-small, sol-drawn}
+use Rattle.model.proofs.Lists.{both-i, both-l, both-r, T-dec, stable, any-e, keep-i, keep-e, earlier-e}
+use Rattle.model.proofs.Tree.{Solution, solution-e}
+use Rattle.model.proofs.Leaders.{sol-small, sol-drawn}
 
 -- ---- a list as a number with base-16 digits: what reads earlier is smaller
 num : List ℕ → ℕ
@@ -34,15 +34,14 @@ num-earlier : (t s : List ℕ) → length t ≡ length s → ((i : ℕ) → i < 
 unfolding num at earlier
 num-earlier [] s e h k = absurd k
 num-earlier (x ∷ t) [] e h k = absurd k
-num-earlier (x ∷ t) (y ∷ s) e h k = go (num-earlier t s (omega arith) (λ i l. h (suc i) (omega arith))) (eqb x y) refl k
+num-earlier (x ∷ t) (y ∷ s) e h k = go (num-earlier t s (omega arith) (λ i l. h (suc i) (omega arith))) (earlier-e x y t s k)
   where
-    go : (T (earlier t s) → num t < num s) → (b : Bool) → eqb x y ≡ b → T (elim b [ true ↦ earlier t s | false ↦ ltb x y ]) → x * 16 ^ length t + num t < y * 16 ^ length s + num s
-    go ih true q j =
-        let r : num t < num s = ih j in
-        let c : x * 16 ^ length t ≡ y * 16 ^ length s = ap₂ (λ (a n : ℕ). a * 16 ^ n) (eqb-true x y q) (omega arith) in
+    go : (T (earlier t s) → num t < num s) → (x < y) ⊎ ((x ≡ y) × T (earlier t s)) → x * 16 ^ length t + num t < y * 16 ^ length s + num s
+    go ih (inr q) =
+        let r : num t < num s = ih (q .1) in
+        let c : x * 16 ^ length t ≡ y * 16 ^ length s = ap₂ (λ (a n : ℕ). a * 16 ^ n) (q .0) (omega arith) in
         omega arith
-    go ih false q j =
-        let l : x < y = ltb→lt x y j in
+    go ih (inl l) =
         let n : length s ≡ length t = omega arith in
         let r : num t < 16 ^ length t = num-lt t (λ i b. h (suc i) (omega arith)) in
         let c : y * 16 ^ length s ≡ y * 16 ^ length t = ap (λ (m : ℕ). y * 16 ^ m) n in
@@ -69,9 +68,9 @@ module _ (p : Problem) (w : WellFormed p) (rows : List (List ℕ)) (listed : row
   reach zero s h sol = absurd (not-suc-le-zero h)
   reach (suc k) s h sol = go (reach k) (T-dec (isLeader p s))
     where
-      go : ((t : List ℕ) → num t < k → T (isSolution p t) → (l : List ℕ) × List·Memᴰ l rows × Chain p l t) → Dec (T (isLeader p s)) → (l : List ℕ) × List·Memᴰ l rows × Chain p l s
-      go ih (yes t) = (s, row-i s t sol, here)
-      go ih (no n) =
+      go : ((t : List ℕ) → num t < k → T (isSolution p t) → (l : List ℕ) × List·Memᴰ l rows × Chain p l t) → T (isLeader p s) ⊎ (T (isLeader p s) → ⊥) → (l : List ℕ) × List·Memᴰ l rows × Chain p l s
+      go ih (inl t) = (s, row-i s t sol, here)
+      go ih (inr n) =
           let r = any-e (λ g. any (beats s g) (assignments (p .initial))) (p .symmetries) (beaten s sol n) in
           let g = r .0 in
           let q = any-e (beats s g) (assignments (p .initial)) (r .2) in
@@ -79,7 +78,7 @@ module _ (p : Problem) (w : WellFormed p) (rows : List (List ℕ)) (listed : row
           let st : T (isSolution p t) = both-l (isSolution p t) (both (earlier t s) (takes p g t s)) (q .2) in
           let b : T (both (earlier t s) (takes p g t s)) = both-r (isSolution p t) (both (earlier t s) (takes p g t s)) (q .2) in
           let e : T (earlier t s) = both-l (earlier t s) (takes p g t s) b in
-          let lt : num t < num s = num-earlier t s (sol-length p t st ∙ sym (sol-length p s sol)) (λ i l. sol-small p w t st i (subst (λ (z : ℕ). i < z) (sol-length p t st) l)) e in
+          let lt : num t < num s = num-earlier t s (solution-e p t st .sized ∙ sym (solution-e p s sol .sized)) (λ i l. sol-small p w t st i (subst (λ (z : ℕ). i < z) (solution-e p t st .sized) l)) e in
           let c = ih t (omega arith) st in
           (c .0, c .1, step t s g (c .2) (r .1) (both-r (earlier t s) (takes p g t s) b) sol e)
 
@@ -99,5 +98,5 @@ module _ (p : Problem) (w : WellFormed p) (rows : List (List ℕ)) (listed : row
   pub empty : rows ≡ [] ↔ ((s : List ℕ) → length s ≡ p .variables → T (isSolution p s) → ⊥)
   empty = (
     λ e s n sol. List·Memᴰ·not-nil (subst (List·Memᴰ (reach (suc (num s)) s (omega arith) sol .0)) e (reach (suc (num s)) s (omega arith) sol .1)),
-    λ h. none-left rows (λ l m. h l (sol-length p l (row-e l m)) (row-e l m)),
+    λ h. none-left rows (λ l m. h l (solution-e p l (row-e l m) .sized) (row-e l m)),
   )

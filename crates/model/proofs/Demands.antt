@@ -16,11 +16,10 @@ use Rattle.model.specs.Claims.{Leader, isLeader, leaders, plansHeld, Lis
 use Rattle.model.proofs.WellFormed.{WellFormed}
 use Rattle.model.proofs.Lists.{keep-ext, keep-i, keep-e, sorted-keep, rowsAscend-of}
 use Rattle.model.proofs.Assignments.{assignments-sorted}
-use Rattle.model.proofs.Tree.{planTest, plans-of-tree, well-sized}
+use Rattle.model.proofs.Tree.{Solution, solution-e, planTest, plans-of-tree, well-sized}
 use Rattle.model.proofs.Accepted.{well-formed}
-use Rattle.model.proofs.Pairs.{sol-length}
-use Rattle.model.proofs.Heart.{sol-drawn, leader-is, leader-i, leader-e}
-use Rattle.model.proofs.Bytes.{one-more}
+use Rattle.model.proofs.Leaders.{sol-drawn, leader-is, leader-i, leader-e}
+use Rattle.model.proofs.OneMore.{one-more}
 use Rattle.model.proofs.More.{FewerIn}
 use Rattle.model.proofs.More as M
 use Rattle.model.proofs.Runs as R
@@ -118,7 +117,7 @@ chains b limit out plans made h s n =
 
 pub nothing-listed : Nothing-listed
 nothing-listed b limit out plans made h = (
-  λ z s sol. q .0 (none-of (plansHeld b limit out e) (l ∙ z)) s (sol-length p s sol) sol,
+  λ z s sol. q .0 (none-of (plansHeld b limit out e) (l ∙ z)) s (solution-e p s sol .sized) sol,
   λ none. sym l ∙ ap length (q .1 (λ s n sol. none s sol)),
 )
   where
