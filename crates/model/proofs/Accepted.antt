@@ -10,7 +10,7 @@ use lib.ListN.{length}
 use borrow.Author.Tests.{eq-eqb}
 use Rattle.model.specs.Lists.{all, both, below, at, ascending, rowsAscend}
 use Rattle.model.specs.Problem.{Problem, Constraint, respects}
-use Rattle.model.specs.Verdict.{Verdict, refused, ask, isAccepted}
+use Rattle.model.specs.Verdict.{Verdict, ask, isAccepted}
 use Rattle.model.specs.Sheet.{Header, word, words, headerOf, setsVerdict, scopeAt, rowsAt, afterAt, constraintsVerdict, constraintsFrom, tableAt, problemOf, permutesPairs, symmetriesVerdict, verdictOf}
 use Rattle.model.proofs.WellFormed.{WellFormed, GoodConstraint}
 use Rattle.model.proofs.Lists.{both-l, both-r, T-of, all-e, below-i, length-below, at-below}

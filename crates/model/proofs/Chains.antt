@@ -1,20 +1,19 @@
 -- Every solution is reached from a leader by symmetries, one after another, and nothing else is. Assumes nothing.
 use mathlib.Core.Path.{_≡_, refl, sym, ap, ap₂, _∙_, subst}
 use mathlib.Core.Logic.{_↔_, ∥∥₁-elim, _⊎_, inl, inr}
-use mathlib.Core.Bool.{Bool, true, false}
+use mathlib.Core.Bool.{Bool}
 use mathlib.Core.List.{List, [], _∷_, List·Memᴰ, List·Memᴰ·head, List·Memᴰ·not-nil}
 use Prim.Native.Nat.{ℕ, zero, suc, _+_, _*_, _^_, _≤_, _<_}
 use native.Mathlib.Nat.{not-suc-le-zero, pow-suc, mul-le-mul-right}
 use native.Mathlib.Omega.{arith}
-use lib.Dec.{T, not-T, T-prop, eqb, ltb, ltb→lt}
+use lib.Dec.{T, not-T, T-prop}
 use lib.ListN.{length}
-use borrow.Author.Tests.{eqb-true}
-use Rattle.model.specs.Lists.{both, any, keep, at, earlier}
+use Rattle.model.specs.Lists.{both, any, at, earlier}
 use Rattle.model.specs.Problem.{Problem, isSolution, assignments, takes}
 use Rattle.model.proofs.WellFormed.{WellFormed}
 use Rattle.model.specs.Claims.{isLeader, leaders, Chain, here, step}
 use Rattle.model.proofs.Lists.{both-i, both-l, both-r, T-dec, stable, any-e, keep-i, keep-e, earlier-e}
-use Rattle.model.proofs.Tree.{Solution, solution-e}
+use Rattle.model.proofs.Tree.{solution-e}
 use Rattle.model.proofs.Leaders.{sol-small, sol-drawn}
 
 -- ---- a list as a number with base-16 digits: what reads earlier is smaller

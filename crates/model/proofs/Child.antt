@@ -1,8 +1,8 @@
 -- A child's sets lie inside its parent's, so a program may start from the parent's sets with the next variable fixed. Assumes nothing.
 use mathlib.Core.Path.{_≡_, refl, sym, ap, _∙_, subst}
-use mathlib.Core.Bool.{Bool, true, false}
-use mathlib.Core.List.{List, [], _∷_, _++_, List·Memᴰ}
-use Prim.Native.Nat.{ℕ, suc, _+_, _^_, _≤_, _<_}
+use mathlib.Core.Bool.{true}
+use mathlib.Core.List.{List, [], _∷_, _++_}
+use Prim.Native.Nat.{ℕ, suc, _^_, _<_}
 use native.Mathlib.Decide.{ℕ-discrete}
 use native.Mathlib.Omega.{arith}
 use lib.Dec.{T, eqb, eqb→eq, eqb-refl}
@@ -10,15 +10,15 @@ use lib.ListN.{length, set, length-append, length-set}
 use lib.Pow.{pow-lt}
 use lib.Seq.{getD-set-same, getD-set-other}
 use Rattle.model.specs.Lists.{at}
-use Rattle.model.specs.ValueSets.{has, anyEmpty}
+use Rattle.model.specs.ValueSets.{has}
 use Rattle.model.specs.Problem.{Problem}
-use Rattle.model.specs.Nogood.{Entry, obeys, filtered}
+use Rattle.model.specs.Nogood.{Entry, obeys}
 use Rattle.model.specs.Search.{nogoodsOf, narrowed, setsAt}
-use Rattle.model.proofs.Lists.{at-append, at-seam, of-not}
-use Rattle.model.proofs.Sets.{has-lt, has-none, has-at-lt, Sets, Inside, at-zeros}
+use Rattle.model.proofs.Lists.{at-append, at-seam}
+use Rattle.model.proofs.Sets.{has-lt, has-at-lt, Inside}
 use Rattle.model.proofs.Masks.{has-one}
-use Rattle.model.proofs.Filter.{filtered-i, filtered-e, length-filtered, obeys-front}
-use Rattle.model.proofs.Prune.{Kept, fixed-i, fixed-e, narrowed-i, narrowed-e, Sized, closed, start-sets, Largest, largest, Way, setsAt-live, setsAt-dead}
+use Rattle.model.proofs.Filter.{filtered-i, filtered-e, obeys-front}
+use Rattle.model.proofs.Prune.{Kept, fixed-i, fixed-e, narrowed-i, narrowed-e, Sized, closed, start-sets, Largest, largest, Way, setsAt-live, value-live, setsAt-mono}
 use Rattle.model.proofs.Tree.{nogoods-append}
 
 -- ---- a longer prefix
@@ -47,15 +47,10 @@ module _ (p : Problem) (prefix more : List ℕ) (s : Sized p) where
       largest p prefix s .above ds (k .sets .0) (λ x v t. narrowed-longer x v (k .inside x v t))
       (fixed-i p prefix ds (k .sets) (λ x v t. kept-longer ds x v (fixed-e p (prefix ++ more) ds (k .fixed) x v t)))
 
--- ---- the child with value v
--- a value of the sets at a prefix is one of the largest sets: the prefix is live
-live-value : (p : Problem) (prefix : List ℕ) (x v : ℕ) → T (has (at (setsAt p prefix) x) v) → setsAt p prefix ≡ closed p prefix
-live-value p prefix x v t = go (anyEmpty (closed p prefix)) refl
-  where
-    go : (b : Bool) → anyEmpty (closed p prefix) ≡ b → setsAt p prefix ≡ closed p prefix
-    go true e = absurd (of-not (has 0 v) (has-none v) (subst (λ (m : ℕ). T (has m v)) (ap (λ (l : List ℕ). at l x) (setsAt-dead p prefix e) ∙ at-zeros (closed p prefix) x) t))
-    go false e = setsAt-live p prefix e
+  pub child-sets : Inside (setsAt p (prefix ++ more)) (setsAt p prefix)
+  child-sets = setsAt-mono p p (prefix ++ more) prefix s s refl child-inside
 
+-- ---- the child with value v
 -- starting from the parent's sets with the next variable fixed is a good start
 pub child-start : (p : Problem) (prefix : List ℕ) (v : ℕ) → Sized p → T (has (at (setsAt p prefix) (length prefix)) v) → Way p (prefix ++ (v ∷ [])) (set (setsAt p prefix) (length prefix) (2 ^ v))
 unfolding at
@@ -75,7 +70,7 @@ child-start p prefix v s t = record {
     ds = setsAt p prefix
 
     e : ds ≡ closed p prefix
-    e = live-value p prefix j v t
+    e = setsAt-live p prefix (value-live p prefix j v t)
 
     k : Largest p prefix ds
     k = subst (Largest p prefix) (sym e) (largest p prefix s)

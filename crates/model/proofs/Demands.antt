@@ -2,7 +2,7 @@
 use mathlib.Core.Path.{_≡_, refl, sym, ap, ap₂, _∙_, subst, subst₂}
 use mathlib.Core.Logic.{_↔_}
 use mathlib.Core.List.{List, [], _∷_, _++_, List·Memᴰ, List·Memᴰ·head, List·Memᴰ·tail, Sublistᴰ, append-assoc}
-use Prim.Native.Nat.{ℕ, zero, suc, _≤_}
+use Prim.Native.Nat.{ℕ, _≤_}
 use native.Mathlib.Omega.{arith}
 use lib.Dec.{T}
 use lib.ListN.{length, take, drop}
@@ -11,12 +11,12 @@ use Rattle.model.specs.Lists.{keep, flat, earlier}
 use Rattle.model.specs.Problem.{Problem, isSolution, assignments}
 use Rattle.model.specs.Verdict.{Verdict, accepted, refused, isAccepted}
 use Rattle.model.specs.Sheet.{verdictOf, problemOf}
-use Rattle.model.specs.Run.{Ending, finished, spent, full, plansIn, nodesIn, resultOf, Answer, refusal, ended, answerFor, answerOf, written, listFor, listOf, listedPlans}
-use Rattle.model.specs.Claims.{Leader, isLeader, leaders, plansHeld, Lists-leaders, Leaders-ascend, First-part, CountsAt, Counts, Ends, Chains, Nothing-listed, OneMore, Fewer, Finishes-too}
+use Rattle.model.specs.Run.{Ending, finished, spent, full, plansIn, nodesIn, resultOf, ended, answerFor, answerOf, written, listFor, listOf, listedPlans}
+use Rattle.model.specs.Claims.{isLeader, leaders, plansHeld, Lists-leaders, Leaders-ascend, First-part, CountsAt, Counts, Ends, Chains, Nothing-listed, OneMore, Fewer, Finishes-too}
 use Rattle.model.proofs.WellFormed.{WellFormed}
 use Rattle.model.proofs.Lists.{keep-ext, keep-i, keep-e, sorted-keep, rowsAscend-of}
 use Rattle.model.proofs.Assignments.{assignments-sorted}
-use Rattle.model.proofs.Tree.{Solution, solution-e, planTest, plans-of-tree, well-sized}
+use Rattle.model.proofs.Tree.{solution-e, planTest, plans-of-tree, well-sized}
 use Rattle.model.proofs.Accepted.{well-formed}
 use Rattle.model.proofs.Leaders.{sol-drawn, leader-is, leader-i, leader-e}
 use Rattle.model.proofs.OneMore.{one-more}

@@ -1,18 +1,15 @@
 -- A symmetry takes every solution to one solution. Assumes nothing.
 use mathlib.Core.Path.{_≡_, sym, ap, _∙_, subst}
-use mathlib.Core.Bool.{Bool, true, false}
-use mathlib.Core.List.{List, [], _∷_, map, List·Memᴰ, List·Memᴰ·head, List·Memᴰ·tail, Memᴰ·cast}
-use Prim.Native.Nat.{ℕ, zero, suc, _+_, _-_, _≤_, _<_}
-use native.Mathlib.Nat.{zero-lt-suc}
+use mathlib.Core.List.{List, List·Memᴰ, Memᴰ·cast}
+use Prim.Native.Nat.{ℕ, zero, suc, _+_, _-_, _<_}
 use native.Mathlib.Omega.{arith}
-use lib.Dec.{T, eqb, eqb→eq}
+use lib.Dec.{T}
 use lib.ListN.{length}
 use lib.Seq.{ext-getD}
-use Rattle.model.specs.Lists.{any, below, at}
+use Rattle.model.specs.Lists.{at}
 use Rattle.model.specs.Problem.{Problem, pair, takes, assignments, isSolution}
-use Rattle.model.specs.Sheet.{distinct}
 use Rattle.model.proofs.WellFormed.{WellFormed}
-use Rattle.model.proofs.Tree.{Solution, solution-e}
+use Rattle.model.proofs.Tree.{solution-e}
 use Rattle.model.proofs.Counting.{pos, pos-lt, pos-same, twice}
 use Rattle.model.proofs.Pairs as P
 use Rattle.model.proofs.Symmetry as S

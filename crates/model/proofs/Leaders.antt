@@ -1,12 +1,12 @@
 -- A solution obeys the nogoods of a symmetry exactly if the symmetry takes no solution that reads earlier to it. Assumes nothing.
 use mathlib.Core.Path.{_≡_, refl, sym, ap, ap₂, _∙_, subst}
 use mathlib.Core.Bool.{Bool, true, false, not}
-use mathlib.Core.List.{List, [], _∷_, map, List·Memᴰ, List·Memᴰ·head, List·Memᴰ·tail, Memᴰ·cast, Memᴰ·map, Memᴰ·of-map}
-use Prim.Native.Nat.{ℕ, zero, suc, _<_, _/_, _%_}
-use native.Mathlib.Nat.{not-suc-le-zero, le-of-suc-le-suc, lt-of-lt-of-le}
+use mathlib.Core.List.{List, map, List·Memᴰ, Memᴰ·cast, Memᴰ·map, Memᴰ·of-map}
+use Prim.Native.Nat.{ℕ, _<_, _/_, _%_}
+use native.Mathlib.Nat.{lt-of-lt-of-le}
 use native.Mathlib.Omega.{arith}
 use lib.Dec.{T, T-not, not-T, ltb, eqb→eq, ltb→lt, lt→ltb}
-use lib.ListN.{length, getD}
+use lib.ListN.{getD}
 use borrow.Author.Tests.{eq-eqb}
 use Rattle.model.specs.Lists.{both, all, any, at, earlier}
 use Rattle.model.specs.ValueSets.{has, members}
@@ -15,24 +15,13 @@ use Rattle.model.specs.Nogood.{is, obeys}
 use Rattle.model.specs.Search.{nogoodsOf}
 use Rattle.model.proofs.WellFormed.{WellFormed, GoodSymmetry}
 use Rattle.model.specs.Claims.{Leader, isLeader}
-use Rattle.model.proofs.Lists.{both-i, both-l, both-r, T-ext, T-of, stable, all-i, all-e, any-i, any-e, keep-i, keep-e, getD-at}
+use Rattle.model.proofs.Lists.{not-any, both-i, both-l, both-r, T-ext, T-of, stable, all-i, all-e, any-i, any-e, keep-i, keep-e, getD-at}
 use Rattle.model.proofs.Sets.{members-i, members-e}
 use Rattle.model.proofs.Assignments.{drawn-i}
-use Rattle.model.proofs.Tree.{Solution, solution-e, well-sized}
+use Rattle.model.proofs.Tree.{solution-e, well-sized}
 use Rattle.model.proofs.Pairs as P
 use Rattle.model.proofs.Symmetry as S
 use Rattle.model.proofs.Obey as O
-
-not-any : {A : Type 0} (f h : A → Bool) (xs : List A) → ((x : A) → List·Memᴰ x xs → h x ≡ not (f x)) → not (any f xs) ≡ all h xs
-unfolding any all
-not-any f h [] e = refl
-not-any {A} f h (x ∷ xs) e = go (f x) (h x) (e x (List·Memᴰ·head refl)) (not-any f h xs (λ y m. e y (List·Memᴰ·tail m)))
-  where
-    go : (b c : Bool) → c ≡ not b → not (any f xs) ≡ all h xs → not (elim b [ true ↦ true | false ↦ any f xs ]) ≡ elim c [ true ↦ all h xs | false ↦ false ]
-    go true true q r = absurd (subst T q tt)
-    go true false q r = refl
-    go false true q r = r
-    go false false q r = absurd (subst T (sym q) tt)
 
 guarded : (b c d : Bool) → (T b → c ≡ d) → both b c ≡ both b d
 guarded true c d h = h tt

@@ -1,23 +1,19 @@
 -- More symmetries: smaller sets, fewer nodes, fewer plans; and a run that finishes still finishes. Assumes nothing.
-use mathlib.Core.Path.{_≡_, refl, sym, ap, ap₂, _∙_, subst}
-use mathlib.Core.Bool.{Bool, true, false, not}
-use mathlib.Core.Logic.{_⊎_, inl, inr, ⊎-elim}
-use mathlib.Core.List.{List, [], _∷_, _++_, map, List·Memᴰ, List·Memᴰ·head, List·Memᴰ·tail, List·Memᴰ·append-cases, Memᴰ·append-left, Memᴰ·append-right, Sublistᴰ, Sublistᴰ·slnil, Sublistᴰ·cons, Sublistᴰ·cons-cons}
-use Prim.Native.Nat.{ℕ, zero, suc, _+_, _*_, _≤_, _<_}
+use mathlib.Core.Path.{_≡_, refl, sym, subst}
+use mathlib.Core.List.{List, [], _∷_, _++_, List·Memᴰ, Sublistᴰ, Sublistᴰ·slnil, Sublistᴰ·cons-cons}
+use Prim.Native.Nat.{ℕ, zero, suc, _≤_}
 use native.Mathlib.Nat.{mul-le-mul-right, le-trans}
-use native.Mathlib.Omega.{arith}
-use lib.Dec.{T, eqb, T-not, not-T}
+use lib.Dec.{T, eqb}
 use lib.ListN.{length}
-use Rattle.model.specs.Lists.{both, keep, flat, at}
-use Rattle.model.specs.ValueSets.{has, members, anyEmpty}
-use Rattle.model.specs.Problem.{Problem, Constraint, pair}
+use Rattle.model.specs.Lists.{keep, at}
+use Rattle.model.specs.ValueSets.{has}
+use Rattle.model.specs.Problem.{Problem, pair}
 use Rattle.model.specs.Nogood.{Entry, filtered}
-use Rattle.model.specs.Search.{entriesAt, nogoodsOf, pruned, narrowed, rounds, setsAt, isLive, nodesBelow, nodes, isPlan}
-use Rattle.model.specs.Run.{Ending, finished, Result, resultOf}
-use Rattle.model.proofs.WellFormed.{WellFormed}
-use Rattle.model.proofs.Lists.{T-of, of-T, of-not, both-i, both-l, both-r, sublist-keep, sublist-length, sublist-mem, sublist-flat-map}
-use Rattle.model.proofs.Sets.{has-none, Sets, Inside, inside-antisym, empty-inside, at-zeros, zeros-empty, members-sub}
-use Rattle.model.proofs.Prune.{Kept, pruned-i, pruned-e, pruned-inside, pruned-sets, Sized, closed, Largest, largest, setsAt-live, setsAt-dead}
+use Rattle.model.specs.Search.{entriesAt, nogoodsOf, pruned, setsAt, isLive, nodesBelow, nodes, isPlan}
+use Rattle.model.specs.Run.{finished, resultOf}
+use Rattle.model.proofs.Lists.{both-i, both-l, both-r, sublist-keep, sublist-length, sublist-flat-map}
+use Rattle.model.proofs.Sets.{Inside, inside-antisym, members-sub}
+use Rattle.model.proofs.Prune.{Kept, pruned-i, pruned-e, pruned-inside, pruned-sets, Sized, closed, largest, setsAt-mono, live-mono}
 use Rattle.model.proofs.Runs.{finished-rows, finished-fits, finishes}
 
 -- the problem with other symmetries
@@ -48,28 +44,12 @@ module _ (p : Problem) (gs : List (List ℕ)) (s : Sized p) (h : (g : List ℕ) 
       (inside-antisym (p .variables) (pruned p prefix ds) ds (pruned-sets p prefix ds) (k .sets) (pruned-inside p prefix ds)
       (λ x v t. pruned-less prefix ds x v (subst (λ (l : List ℕ). T (has (at l x) v)) (sym (k .fixed)) t)))
 
-  closed-empty : (prefix : List ℕ) → T (anyEmpty (closed p prefix)) → T (anyEmpty (closed (withSymmetries p gs) prefix))
-  closed-empty prefix t = empty-inside (p .variables) (closed (withSymmetries p gs) prefix) (closed p prefix) (largest (withSymmetries p gs) prefix s .sets) (largest p prefix s .sets) (closed-less prefix) t
-
   -- the sets at a prefix
   pub setsAt-less : (prefix : List ℕ) → Inside (setsAt (withSymmetries p gs) prefix) (setsAt p prefix)
-  setsAt-less prefix x v t = go (anyEmpty (closed (withSymmetries p gs) prefix)) refl (anyEmpty (closed p prefix)) refl
-    where
-      go : (b : Bool) → anyEmpty (closed (withSymmetries p gs) prefix) ≡ b → (c : Bool) → anyEmpty (closed p prefix) ≡ c → T (has (at (setsAt p prefix) x) v)
-      go true e c e′ = absurd (of-not (has 0 v) (has-none v) (subst (λ (m : ℕ). T (has m v)) (ap (λ (l : List ℕ). at l x) (setsAt-dead (withSymmetries p gs) prefix e) ∙ at-zeros (closed (withSymmetries p gs) prefix) x) t))
-      go false e true e′ = absurd (of-not (anyEmpty (closed (withSymmetries p gs) prefix)) e (closed-empty prefix (T-of (anyEmpty (closed p prefix)) e′)))
-      go false e false e′ =
-          subst (λ (l : List ℕ). T (has (at l x) v)) (sym (setsAt-live p prefix e′)) (closed-less prefix x v (subst (λ (l : List ℕ). T (has (at l x) v)) (setsAt-live (withSymmetries p gs) prefix e) t))
+  setsAt-less prefix = setsAt-mono (withSymmetries p gs) p prefix prefix s s refl (closed-less prefix)
 
   pub live-less : (prefix : List ℕ) → T (isLive (withSymmetries p gs) prefix) → T (isLive p prefix)
-  unfolding isLive
-  live-less prefix t = not-T (anyEmpty (setsAt p prefix)) (λ u. T-not (anyEmpty (setsAt (withSymmetries p gs) prefix)) t (go (anyEmpty (closed p prefix)) refl u))
-    where
-      go : (b : Bool) → anyEmpty (closed p prefix) ≡ b → T (anyEmpty (setsAt p prefix)) → T (anyEmpty (setsAt (withSymmetries p gs) prefix))
-      go true e u =
-          let d = closed-empty prefix (T-of (anyEmpty (closed p prefix)) e) in
-          subst (λ (l : List ℕ). T (anyEmpty l)) (sym (setsAt-dead (withSymmetries p gs) prefix (of-T (anyEmpty (closed (withSymmetries p gs) prefix)) d))) (zeros-empty (closed (withSymmetries p gs) prefix) d)
-      go false e u = absurd (of-not (anyEmpty (closed p prefix)) e (subst (λ (l : List ℕ). T (anyEmpty l)) (setsAt-live p prefix e) u))
+  live-less prefix = live-mono (withSymmetries p gs) p prefix prefix s s refl (closed-less prefix)
 
   -- the nodes
   nodesBelow-less : (k : ℕ) (prefix : List ℕ) → Sublistᴰ (nodesBelow (withSymmetries p gs) k prefix) (nodesBelow p k prefix)

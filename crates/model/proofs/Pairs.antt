@@ -7,16 +7,14 @@ use Prim.Native.Nat.{ℕ, suc, _+_, _<_, _/_, _%_, _*_}
 use native.Mathlib.Nat.{mul-add-div-right, mul-add-mod-self-right, mod-eq-of-lt, div-eq-of-lt, div-add-mod', div-lt-iff-lt-mul, mod-lt, mul-le-mul-right, add-zero}
 use native.Mathlib.Omega.{arith}
 use lib.Dec.{T, T-not, not-T, eqb, ltb, eqb→eq, eqb-refl, ltb→lt, lt→ltb}
-use lib.ListN.{length}
-use borrow.Author.Tests.{eq-eqb}
-use Rattle.model.specs.Lists.{all, any, keep, flat, below, at, same}
+use Rattle.model.specs.Lists.{any, keep, flat, below, at, same}
 use Rattle.model.specs.ValueSets.{has, members}
 use Rattle.model.specs.Problem.{pairsAt, Problem, Constraint, pair, isPair, pairsOf, within, assignments, excluded, doubled, forbidden, valuesAt, satisfies, isSolution}
 use Rattle.model.proofs.WellFormed.{WellFormed}
 use Rattle.model.proofs.Lists.{both-i, both-l, both-r, all-e, all-i, any-e, any-i, keep-e, keep-i, flat-i, flat-e, below-i, below-e}
 use Rattle.model.proofs.Sets.{has-lt, members-i, members-e}
 use Rattle.model.proofs.Assignments.{Drawn, drawn-e}
-use Rattle.model.proofs.Tree.{Solution, solution-e}
+use Rattle.model.proofs.Tree.{solution-e}
 
 pub within-i : (xs ys : List ℕ) → ((x : ℕ) → List·Memᴰ x xs → List·Memᴰ x ys) → T (within xs ys)
 unfolding within

@@ -2,10 +2,10 @@
 use mathlib.Core.Path.{_≡_, refl, sym, ap, ap₂, _∙_, subst}
 use mathlib.Core.Bool.{Bool, true, false}
 use mathlib.Core.List.{List, [], _∷_, _++_, List·Memᴰ, append-nil}
-use Prim.Native.Nat.{ℕ, zero, suc, _+_, _-_, _*_, _≤_, _<_}
+use Prim.Native.Nat.{ℕ, suc, _+_, _-_, _*_, _≤_, _<_}
 use native.Mathlib.Nat.{mul-le-mul-right}
 use native.Mathlib.Omega.{arith}
-use lib.Dec.{T, eqb, leb, eqb→eq}
+use lib.Dec.{eqb, leb, eqb→eq}
 use lib.ListN.{length, take, drop, length-append, take-append-drop}
 use lib.Seq.{append-snoc, take-append-seam, take-all}
 use borrow.Author.Tests.{leb-true, leb-false, eqb-true, eqb-false}
@@ -151,10 +151,7 @@ module _ (p : Problem) (limit room : ℕ) where
           }
 
   -- ---- the run of a problem
-  abbrev pub whole : Result
-  whole = resultOf p limit room
-
-  pub the-walk : Walk (nodes p) 0 [] whole
+  pub the-walk : Walk (nodes p) 0 [] (resultOf p limit room)
   unfolding resultOf
   the-walk = walk (nodes p) 0 []
 
@@ -205,7 +202,7 @@ module _ (p : Problem) (limit room : ℕ) where
   pub finishes : length (nodes p) ≤ limit → length (keep (isPlan p) (nodes p)) * p .variables ≤ room → resultOf p limit room .ending ≡ finished (length (keep (isPlan p) (nodes p))) (length (nodes p))
   finishes h k = go (resultOf p limit room .ending) refl
     where
-      w : Walk (nodes p) 0 [] whole
+      w : Walk (nodes p) 0 [] (resultOf p limit room)
       w = the-walk
 
       go : (x : Ending) → resultOf p limit room .ending ≡ x → x ≡ finished (length (keep (isPlan p) (nodes p))) (length (nodes p))
@@ -225,24 +222,17 @@ module _ (p : Problem) (limit room : ℕ) where
   Counted (spent plans made) = (made ≡ limit) × (made < length (nodes p)) × (plansAmong p made ≡ plans)
   Counted (full plans made) = (room < suc plans * p .variables) × (plansAmong p made ≡ suc plans) × (plansAmong p (made - 1) ≡ plans)
 
+  among : (k : ℕ) → the-walk .passed ≡ k → (x : Ending) → resultOf p limit room .ending ≡ x → plansAmong p k ≡ plansIn x
+  among k q x e = ap (plansAmong p) (sym q) ∙ ap length (sym (the-walk .listed)) ∙ sym (the-walk .counted) ∙ ap plansIn e
+
   pub counts : (x : Ending) → resultOf p limit room .ending ≡ x → Counted x
-  counts x e = go x e
-    where
-      w : Walk (nodes p) 0 [] whole
-      w = the-walk
-
-      among : (k : ℕ) → w .passed ≡ k → (x : Ending) → resultOf p limit room .ending ≡ x → plansAmong p k ≡ plansIn x
-      among k q x e = ap (λ (j : ℕ). length (keep (isPlan p) (take j (nodes p)))) (sym q) ∙ ap length (sym (w .listed)) ∙ sym (w .counted) ∙ ap plansIn e
-
-      go : (x : Ending) → resultOf p limit room .ending ≡ x → Counted x
-      go (finished plans made) e = let h = subst (Ended (nodes p) 0 (w .passed)) e (w .ended) in (omega (arith, h .0, h .1), among made (omega (arith, h .1)) (finished plans made) e)
-      go (spent plans made) e =
-          let h = subst (Ended (nodes p) 0 (w .passed)) e (w .ended) in
-          (h .2, omega (arith, h .0, h .1), among made (omega (arith, h .1)) (spent plans made) e)
-      go (full plans made) e =
-          let h = subst (Ended (nodes p) 0 (w .passed)) e (w .ended) in
-          let q : suc (w .passed) ≡ made = omega (arith, h .0) in (
-            h .1,
-            ap (λ (j : ℕ). length (keep (isPlan p) (take j (nodes p)))) (sym q) ∙ h .2 ∙ ap suc (among (w .passed) refl (full plans made) e),
-            among (made - 1) (omega arith) (full plans made) e,
-          )
+  counts (finished plans made) e =
+      let h = subst (Ended (nodes p) 0 (the-walk .passed)) e (the-walk .ended) in
+      (omega (arith, h .0, h .1), among made (omega (arith, h .1)) (finished plans made) e)
+  counts (spent plans made) e =
+      let h = subst (Ended (nodes p) 0 (the-walk .passed)) e (the-walk .ended) in
+      (h .2, omega (arith, h .0, h .1), among made (omega (arith, h .1)) (spent plans made) e)
+  counts (full plans made) e =
+      let h = subst (Ended (nodes p) 0 (the-walk .passed)) e (the-walk .ended) in
+      let q : suc (the-walk .passed) ≡ made = omega (arith, h .0) in
+      (h .1, ap (plansAmong p) (sym q) ∙ h .2 ∙ ap suc (among (the-walk .passed) refl (full plans made) e), among (made - 1) (omega arith) (full plans made) e)

@@ -18,7 +18,7 @@ use Rattle.model.proofs.Lists.{both-i, both-l, both-r, stable, T-dec, a
 use Rattle.model.proofs.Counting.{idx, idx-spec, distinct-at, distinct-below, onto}
 use Rattle.model.proofs.Sets.{members-i}
 use Rattle.model.proofs.Assignments.{assign-i}
-use Rattle.model.proofs.Tree.{Solution, solution-e, solution-i}
+use Rattle.model.proofs.Tree.{solution-i}
 use Rattle.model.proofs.Pairs as P
 
 pick-true : (b c d : Bool) → T (elim b [ true ↦ c | false ↦ d ]) → T b → T c

@@ -1,15 +1,14 @@
 use mathlib.Core.Path.{_≡_, refl}
-use mathlib.Core.Bool.{Bool, true, false}
 use mathlib.Core.List.{List, [], _∷_, _++_, map}
-use Prim.Native.Nat.{ℕ, _+_, _*_, _/_, _%_}
-use lib.ListN.{length, take, drop, replicate}
+use Prim.Native.Nat.{ℕ, _/_, _%_}
+use lib.ListN.{take, replicate}
 use Rattle.model.specs.Lists.{flat, keep, all}
 use Rattle.model.specs.Problem.{Problem, assignments}
 use Rattle.model.specs.Nogood.{Entry, equality, disequality, filtered}
-use Rattle.model.specs.Verdict.{accepted, refused}
+use Rattle.model.specs.Verdict.{accepted}
 use Rattle.model.specs.Sheet.{verdictOf, problemOf}
 use Rattle.model.specs.Search.{nodes}
-use Rattle.model.specs.Run.{answerOf, listOf, ended, refusal, finished, spent, full, Answer}
+use Rattle.model.specs.Run.{answerOf, listOf, ended, refusal, finished, spent, full}
 
 opened : ℕ
 unfolding Rattle.model.specs.Lists.all Rattle.model.specs.Lists.any Rattle.model.specs.Lists.keep Rattle.model.specs.Lists.flat Rattle.model.specs.Lists.tabulate Rattle.model.specs.Lists.upFrom Rattle.model.specs.Lists.below Rattle.model.specs.Lists.at Rattle.model.specs.Lists.same Rattle.model.specs.Lists.earlier Rattle.model.specs.Lists.ascending Rattle.model.specs.Lists.rowsAscend Rattle.model.specs.ValueSets.has Rattle.model.specs.ValueSets.maskBelow Rattle.model.specs.ValueSets.least Rattle.model.specs.ValueSets.members Rattle.model.specs.ValueSets.anyEmpty Rattle.model.specs.Problem.valuesAt Rattle.model.specs.Problem.satisfies Rattle.model.specs.Problem.isSolution Rattle.model.specs.Problem.assignments Rattle.model.specs.Problem.pair Rattle.model.specs.Problem.isPair Rattle.model.specs.Problem.pairsOf Rattle.model.specs.Problem.within Rattle.model.specs.Problem.takes Rattle.model.specs.Problem.doubled Rattle.model.specs.Problem.excluded Rattle.model.specs.Problem.forbidden Rattle.model.specs.Problem.respects Rattle.model.specs.Nogood.obeysFrom Rattle.model.specs.Nogood.obeying Rattle.model.specs.Nogood.used Rattle.model.specs.Nogood.filtered Rattle.model.specs.Search.entriesAt Rattle.model.specs.Search.nogoodsOf Rattle.model.specs.Problem.pairsAt Rattle.model.specs.Nogood.entries Rattle.model.specs.Search.rowWith Rattle.model.specs.Search.supported Rattle.model.specs.Search.pruned Rattle.model.specs.Search.narrowed Rattle.model.specs.Search.rounds Rattle.model.specs.Search.setsAt Rattle.model.specs.Search.isLive Rattle.model.specs.Search.nodesBelow Rattle.model.specs.Search.nodes Rattle.model.specs.Search.isPlan Rattle.model.specs.Sheet.word Rattle.model.specs.Sheet.words Rattle.model.specs.Sheet.headerOf Rattle.model.specs.Sheet.setsVerdict Rattle.model.specs.Sheet.scopeAt Rattle.model.specs.Sheet.rowsAt Rattle.model.specs.Sheet.afterAt Rattle.model.specs.Sheet.constraintsVerdict Rattle.model.specs.Sheet.constraintsFrom Rattle.model.specs.Sheet.tableAt Rattle.model.specs.Sheet.problemOf Rattle.model.specs.Sheet.distinct Rattle.model.specs.Sheet.permutesPairs Rattle.model.specs.Sheet.symmetriesVerdict Rattle.model.specs.Sheet.verdictOf Rattle.model.specs.Run.search Rattle.model.specs.Run.resultOf Rattle.model.specs.Run.answerFor Rattle.model.specs.Run.answerOf Rattle.model.specs.Run.written Rattle.model.specs.Run.listFor Rattle.model.specs.Run.listOf
