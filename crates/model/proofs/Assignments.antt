@@ -1,4 +1,4 @@
--- Laws of the assignments drawn from sets: membership, order. Assumes nothing.
+-- Laws of the assignments drawn from sets: membership, order, one through each value. Assumes nothing.
 use mathlib.Core.Path.{_≡_, refl, sym, ap, _∙_, subst}
 use mathlib.Core.List.{List, [], _∷_, map, List·Memᴰ, List·Memᴰ·head, List·Memᴰ·not-nil, List·Memᴰ·eq-of-singleton, Memᴰ·map, Memᴰ·of-map}
 use Prim.Native.Nat.{ℕ, zero, suc, _^_, _<_}
@@ -9,8 +9,8 @@ use lib.ListN.{length}
 use Rattle.model.specs.Lists.{at, earlier}
 use Rattle.model.specs.ValueSets.{has, members}
 use Rattle.model.specs.Problem.{assignments}
-use Rattle.model.proofs.Lists.{flat-i, flat-e, Sorted, sorted-flat-map, earlier-lt, earlier-eq}
-use Rattle.model.proofs.Sets.{has-lt, members-i, members-e, members-sorted, Inside}
+use Rattle.model.proofs.Lists.{of-not, flat-i, flat-e, Sorted, sorted-flat-map, earlier-lt, earlier-eq}
+use Rattle.model.proofs.Sets.{has-none, member, has-lt, members-i, members-e, members-sorted, Inside}
 
 -- ---- membership: one value of each set
 pub assign-i : (ds a : List ℕ) → length a ≡ length ds → ((x : ℕ) → x < length ds → List·Memᴰ (at a x) (members (at ds x))) → List·Memᴰ a (assignments ds)
@@ -59,6 +59,38 @@ assign-mono ds es a e h m =
     let r = assign-e ds a m in
     assign-i es a (r .0 ∙ e)
     (λ x l. let q = members-e (at ds x) (at a x) (r .1 x (subst (λ (n : ℕ). x < n) (sym e) l)) in members-i (at es x) (at a x) (q .0) (h x (at a x) (q .1)))
+
+-- through each value of sets of which none is empty goes an assignment
+drawn-cons : (s v : ℕ) (ds a : List ℕ) → T (has s v) → Drawn ds a → Drawn (s ∷ ds) (v ∷ a)
+unfolding at
+drawn-cons s v ds a t d = (ap suc (d .0), elim [ zero ↦ λ l. t | suc x ↦ λ l. d .1 x (le-of-suc-le-suc l) ])
+
+abbrev pub Filled : List ℕ → Type 0
+Filled ds = (x : ℕ) → (at ds x < 2 ^ 16) × (x < length ds → at ds x ≡ 0 → ⊥)
+
+filled-tail : (s : ℕ) (ds : List ℕ) → Filled (s ∷ ds) → Filled ds
+unfolding at
+filled-tail s ds f x = (f (suc x) .0, λ l. f (suc x) .1 (omega arith))
+
+first : (s : ℕ) (ds : List ℕ) → Filled (s ∷ ds) → (v : ℕ) × (v < 16) × T (has s v)
+unfolding at
+first s ds f = member s (f 0 .0) (f 0 .1 (omega arith))
+
+some-drawn : (ds : List ℕ) → Filled ds → (a : List ℕ) × Drawn ds a
+some-drawn [] f = ([], (refl, λ x l. absurd (not-suc-le-zero l)))
+some-drawn (s ∷ ds) f =
+    let m = first s ds f in
+    let r = some-drawn ds (filled-tail s ds f) in
+    (m .0 ∷ r .0, drawn-cons s (m .0) ds (r .0) (m .2) (r .1))
+
+pub drawn-through : (ds : List ℕ) → Filled ds → (x v : ℕ) → T (has (at ds x) v) → (a : List ℕ) × Drawn ds a × (at a x ≡ v)
+unfolding at
+drawn-through [] f x v t = absurd (of-not (has 0 v) (has-none v) t)
+drawn-through (s ∷ ds) f zero v t = let r = some-drawn ds (filled-tail s ds f) in (v ∷ r .0, drawn-cons s v ds (r .0) t (r .1), refl)
+drawn-through (s ∷ ds) f (suc x) v t =
+    let m = first s ds f in
+    let r = drawn-through ds (filled-tail s ds f) x v t in
+    (m .0 ∷ r .0, drawn-cons s (m .0) ds (r .0) (m .2) (r .1), r .2)
 
 -- ---- in reading order, each once
 sorted-cons : (v : ℕ) (l : List (List ℕ)) → Sorted (λ (x y : List ℕ). T (earlier x y)) l → Sorted (λ (x y : List ℕ). T (earlier x y)) (map (λ (b : List ℕ). v ∷ b) l)

@@ -1,4 +1,4 @@
--- Laws of obeying and of the exact filter: what it keeps, inside, monotone, idempotent. Assumes nothing.
+-- Laws of obeying and of the exact filter: what it keeps, inside, monotone, idempotent, nothing for empty lists. Assumes nothing.
 use mathlib.Core.Path.{_≡_, refl, sym, _∙_, subst}
 use mathlib.Core.Bool.{Bool, true, false, not}
 use mathlib.Core.List.{List, [], _∷_, _++_, List·Memᴰ}
@@ -7,12 +7,12 @@ use native.Mathlib.Omega.{arith}
 use lib.Dec.{T, eqb, eqb→eq, eqb-refl}
 use lib.ListN.{length, getD}
 use Rattle.model.specs.Lists.{both, any, at}
-use Rattle.model.specs.ValueSets.{has, maskOf}
+use Rattle.model.specs.ValueSets.{anyEmpty, has, maskOf}
 use Rattle.model.specs.Problem.{assignments}
 use Rattle.model.specs.Nogood.{Entry, equality, disequality, is, obeysFrom, obeys, obeying, used, filtered}
-use Rattle.model.proofs.Lists.{both-i, both-l, both-r, keep-i, keep-e, any-i, any-e, at-tabulate, length-tabulate, getD-at, at-out}
-use Rattle.model.proofs.Sets.{mask-i, mask-e, mask-lt, members-e, Sets, Inside, inside-antisym, has-at-lt}
-use Rattle.model.proofs.Assignments.{assign-e, drawn-i, drawn-e, assign-mono}
+use Rattle.model.proofs.Lists.{of-not, both-i, both-l, both-r, keep-i, keep-e, any-i, any-e, at-tabulate, length-tabulate, getD-at, at-out}
+use Rattle.model.proofs.Sets.{empty-i, mask-i, mask-e, mask-lt, members-e, Sets, Inside, inside-antisym, has-at-lt}
+use Rattle.model.proofs.Assignments.{drawn-through, assign-e, drawn-i, drawn-e, assign-mono}
 
 -- ---- obeying: the entries in front
 pub obeys-front : (h : Bool) (a : List ℕ) (es fs : List Entry) → T (obeysFrom h a (es ++ fs)) → T (obeysFrom h a es)
@@ -86,3 +86,12 @@ filtered-idem ds es =
     (subst (λ (n : ℕ). Sets n (filtered (filtered ds es) es)) (length-filtered ds es) (filtered-sets (filtered ds es) es)) (filtered-sets ds es)
     (filtered-inside (filtered ds es) es)
     (λ x v t. let r = filtered-e ds es x v t in filtered-i (filtered ds es) es x v (r .0) (has-at-lt (filtered ds es) x v t) (filtered-drawn ds es (r .0) (r .1) (r .2)) (r .2) (r .3))
+
+-- empty lists take nothing from non-empty sets
+pub filtered-none : (ds : List ℕ) → ((x : ℕ) → at ds x < 2 ^ 16) → anyEmpty ds ≡ false → filtered ds [] ≡ ds
+unfolding obeysFrom
+filtered-none ds small some =
+    inside-antisym (length ds) (filtered ds []) ds (filtered-sets ds []) (refl, small) (filtered-inside ds [])
+    (λ x v t.
+    let r = drawn-through ds (λ y. (small y, λ l e. of-not (anyEmpty ds) some (empty-i ds y l e))) x v t in
+    filtered-i ds [] x v (r .0) (has-at-lt ds x v t) (drawn-i ds (r .0) small (r .1)) tt (r .2))

@@ -20,3 +20,4 @@ pub mod Chains
 pub mod More
 pub mod OneMore
 pub mod Demands
+pub mod Examples
