@@ -2,7 +2,7 @@
 use mathlib.Core.Path.{_≡_, refl, sym, ap, ap₂, _∙_, subst}
 use mathlib.Core.Bool.{Bool, true, false}
 use mathlib.Core.List.{List, [], _∷_, _++_, map, List·Memᴰ, List·Memᴰ·head, List·Memᴰ·tail, List·Memᴰ·eq-of-singleton, Memᴰ·of-map, append-nil, map-map, map-id}
-use Prim.Native.Nat.{ℕ, zero, suc, _+_, _*_, _/_, _%_, _^_, _≤_, _<_}
+use Prim.Native.Nat.{ℕ, zero, suc, _+_, _*_, _^_, _≤_, _<_}
 use native.Mathlib.Nat.{not-suc-le-zero}
 use native.Mathlib.Omega.{arith}
 use lib.Dec.{T, eqb, ltb, eqb→eq, eqb-refl, not-T}
@@ -12,8 +12,8 @@ use lib.Seq.{append-snoc}
 use borrow.Author.Tests.{ltb-true, ltb-false, eqb-true, ne-eqb}
 use Rattle.model.specs.Lists.{both, all, any, keep, flat, below, upFrom, at, same}
 use Rattle.model.specs.ValueSets.{has, members, anyEmpty}
-use Rattle.model.specs.Problem.{Problem, Constraint, pair, assignments, valuesAt, satisfies, isSolution}
-use Rattle.model.specs.Nogood.{Entry, equality, disequality, obeys}
+use Rattle.model.specs.Problem.{Problem, Constraint, assignments, valuesAt, satisfies, isSolution}
+use Rattle.model.specs.Nogood.{Entry, obeys}
 use Rattle.model.specs.Search.{entriesAt, nogoodsOf, rowWith, supported, pruned, narrowed, setsAt, isLive, nodesBelow, nodes, isPlan}
 use Rattle.model.proofs.WellFormed.{WellFormed, GoodConstraint}
 use Rattle.model.proofs.Lists.{map-flat-map, drop-at, not-of, of-not, T-ext, both-i, both-l, both-r, all-i, all-e, any-i, any-e, keep-no, keep-none, keep-ext, keep-flat-map, flat-pick, below-i, below-e, upFrom-add, flat-append, map-append, map-ext, at-ext, at-out, at-append, at-seam, same-eq, same-refl}
@@ -23,17 +23,20 @@ use Rattle.model.proofs.Filter.{filtered-i, filtered-e, obeys-front}
 use Rattle.model.proofs.Prune.{Kept, pruned-i, pruned-sets, rounds-ind, narrowed-i, narrowed-e, Sized, closed, Largest, largest, start-sets, fixed-e, setsAt-live, live-closed, value-live}
 
 -- ---- the nogoods of a longer prefix begin with those of the shorter
+same-entries : (p : Problem) (g a b : List ℕ) (j : ℕ) → j < length a → entriesAt p g (a ++ b) j ≡ entriesAt p g a j
+unfolding entriesAt
+same-entries p g a b j h = let e = at-append a b j h in rw e
+
 pub nogoods-append : (p : Problem) (g a b : List ℕ) → nogoodsOf p g (a ++ b) ≡ nogoodsOf p g a ++ flat (map (entriesAt p g (a ++ b)) (upFrom (length a) (length b)))
-unfolding nogoodsOf entriesAt below
+unfolding nogoodsOf below
 nogoods-append p g a b =
-    ap (λ (l : List ℕ). flat (map (entriesAt p g (a ++ b)) l)) (ap (upFrom 0) (length-append a b) ∙ upFrom-add 0 (length a) (length b) ∙ ap (λ (n : ℕ). upFrom 0 (length a) ++ upFrom n (length b)) (let e : 0 + length a ≡ length a = omega arith in e))
-    ∙ ap flat (map-append (entriesAt p g (a ++ b)) (below (length a)) (upFrom (length a) (length b)))
-    ∙ flat-append (map (entriesAt p g (a ++ b)) (below (length a))) (map (entriesAt p g (a ++ b)) (upFrom (length a) (length b)))
-    ∙ ap (λ (l : List (List Entry)). flat l ++ flat (map (entriesAt p g (a ++ b)) (upFrom (length a) (length b)))) (map-ext (entriesAt p g (a ++ b)) (entriesAt p g a) (below (length a)) (λ j m. ap (F j) (at-append a b j (below-e (length a) j m))))
-  where
-    F : ℕ → ℕ → List Entry
-    F j u = map (λ v. disequality (at g (pair p j v) / p .values) (at g (pair p j v) % p .values)) (keep (λ v. ltb v u) (members (at (p .initial) j)))
-        ++ (equality (at g (pair p j u) / p .values) (at g (pair p j u) % p .values) ∷ [])
+    let E = entriesAt p g (a ++ b) in
+    let later = upFrom (length a) (length b) in
+    let z : 0 + length a ≡ length a = omega arith in
+    ap (λ (l : List ℕ). flat (map E l)) (ap (upFrom 0) (length-append a b) ∙ upFrom-add 0 (length a) (length b) ∙ ap (λ (n : ℕ). upFrom 0 (length a) ++ upFrom n (length b)) z)
+    ∙ ap flat (map-append E (below (length a)) later)
+    ∙ flat-append (map E (below (length a))) (map E later)
+    ∙ ap (λ (l : List (List Entry)). flat l ++ flat (map E later)) (map-ext E (entriesAt p g a) (below (length a)) (λ j m. same-entries p g a b j (below-e (length a) j m)))
 
 -- ---- what every plan is: a solution that obeys the list of each symmetry
 abbrev pub unbroken : Problem → List ℕ → Bool

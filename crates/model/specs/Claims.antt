@@ -89,8 +89,8 @@ Chains =
 -- so a finished run lists nothing exactly when there is no solution
 abbrev pub Nothing-listed : Type 0
 Nothing-listed =
-    (b : List ℕ) (limit : ℕ) (out : List ℕ) (plans made : ℕ) → answerOf b limit out ≡ ended (finished plans made) →
-    (plans ≡ 0) ↔ ((s : List ℕ) → T (isSolution (problemOf b) s) → ⊥)
+    (b : List ℕ) (limit : ℕ) (out : List ℕ) (plans made : ℕ) →
+    answerOf b limit out ≡ ended (finished plans made) → (plans ≡ 0) ↔ ((s : List ℕ) → T (isSolution (problemOf b) s) → ⊥)
 
 abbrev pub put16 : ℕ → List ℕ
 put16 w = w % 256 ∷ w / 256 ∷ []

@@ -1,7 +1,7 @@
 -- The starred examples of paper 01, all of them, as one list of statements about the definitions.
 -- One theorem says that each holds (proofs/Examples).
 use mathlib.Core.Path.{_≡_}
-use mathlib.Core.Bool.{Bool, true, false}
+use mathlib.Core.Bool.{true, false}
 use mathlib.Core.List.{List, [], _∷_, _++_, map}
 use Prim.Native.Nat.{ℕ, _/_, _%_, _^_, _≤_, _<_}
 use lib.ListN.{length, replicate}
