@@ -12,10 +12,12 @@ use Rattle.model.specs.Problem.{Problem, isSolution, assignments}
 use Rattle.model.specs.Verdict.{Verdict, accepted, refused, isAccepted}
 use Rattle.model.specs.Sheet.{verdictOf, problemOf}
 use Rattle.model.specs.Run.{Ending, finished, spent, full, plansIn, nodesIn, resultOf, ended, answerFor, answerOf, written, listFor, listOf, listedPlans}
-use Rattle.model.specs.Claims.{isLeader, leaders, plansHeld, Lists-leaders, Leaders-ascend, First-part, CountsAt, Counts, Ends, Chains, Nothing-listed, OneMore, Fewer, Finishes-too}
+use Rattle.model.specs.Claims.{Sets-largest, isLeader, leaders, plansHeld, Lists-leaders, Leaders-ascend, First-part, CountsAt, Counts, Ends, Chains, Nothing-listed, OneMore, Fewer, Finishes-too}
 use Rattle.model.proofs.WellFormed.{WellFormed}
 use Rattle.model.proofs.Lists.{keep-ext, keep-i, keep-e, sorted-keep, rowsAscend-of}
 use Rattle.model.proofs.Assignments.{assignments-sorted}
+use Rattle.model.proofs.Prune.{Sized}
+use Rattle.model.proofs.Consistent.{live-consistent, consistent-inside, dead-none}
 use Rattle.model.proofs.Tree.{solution-e, planTest, plans-of-tree, well-sized}
 use Rattle.model.proofs.Accepted.{well-formed}
 use Rattle.model.proofs.Leaders.{sol-drawn, leader-is, leader-i, leader-e}
@@ -50,6 +52,10 @@ ran b limit out e h = let r = go (verdictOf b) h in record { good = r .0; so = r
     go accepted h = (tt, cc, refl)
     go (refused number item) h = absurd (let z : _≡_ {A = ℕ} 0 1 = cc in omega arith)
 
+-- an accepted sheet states a well-formed problem
+of-accepted : (b : List ℕ) → verdictOf b ≡ accepted → WellFormed (problemOf b)
+of-accepted b h = well-formed b (subst (λ (v : Verdict). T (isAccepted v)) (sym h) tt)
+
 module _ (b : List ℕ) (limit : ℕ) (out : List ℕ) (e : Ending) (h : answerOf b limit out ≡ ended e) where
   abbrev p : Problem
   p = problemOf b
@@ -64,6 +70,13 @@ module _ (b : List ℕ) (limit : ℕ) (out : List ℕ) (e : Ending) (h : answerO
       let rows = resultOf p limit (length out) .rows in
       ap₂ (listedPlans (p .variables)) (sym (ap plansIn (r .so)) ∙ R.rows-counted p limit (length out)) (r .wrote)
       ∙ listed-back (p .variables) rows (drop (length (flat rows)) out) (R.rows-sized p limit (length out))
+
+-- ---- the sets at a prefix
+pub sets-largest : Sets-largest
+sets-largest b prefix h = (live-consistent (problemOf b) prefix s, consistent-inside (problemOf b) prefix s, dead-none (problemOf b) prefix s)
+  where
+    s : Sized (problemOf b)
+    s = well-sized (problemOf b) (of-accepted b h)
 
 -- ---- demand 2
 -- the plans of the tree are the leaders
@@ -90,7 +103,7 @@ leaders-ascend b h = (
 )
   where
     w : WellFormed (problemOf b)
-    w = well-formed b (subst (λ (v : Verdict). T (isAccepted v)) (sym h) tt)
+    w = of-accepted b h
 
     p : Problem
     p = problemOf b

@@ -8,6 +8,7 @@ pub mod Filter
 pub mod WellFormed
 pub mod Accepted
 pub mod Prune
+pub mod Consistent
 pub mod Tree
 pub mod Child
 pub mod Runs

@@ -1,7 +1,7 @@
 -- One round of pruning: what it keeps; rounds end in the largest sets that a round leaves as they are. Assumes nothing.
 use mathlib.Core.Path.{_≡_, refl, sym, ap, _∙_, subst}
 use mathlib.Core.Bool.{Bool, true, false, not}
-use mathlib.Core.List.{List, [], _∷_, map, List·Memᴰ, Memᴰ·map, Memᴰ·of-map}
+use mathlib.Core.List.{List, [], _∷_, map, List·Memᴰ, Memᴰ·map, Memᴰ·of-map, Memᴰ·cast}
 use Prim.Native.Nat.{ℕ, zero, suc, _*_, _^_, _≤_, _<_}
 use native.Mathlib.Nat.{not-suc-le-zero, le-of-suc-le-suc}
 use native.Mathlib.Omega.{arith}
@@ -38,6 +38,23 @@ supported-mono ds es h x v c t = go (any (eqb x) (c .scope)) t
     go : (b : Bool) → T (elim b [ true ↦ any (rowWith ds x v (c .scope)) (c .rows) | false ↦ true ]) → T (elim b [ true ↦ any (rowWith es x v (c .scope)) (c .rows) | false ↦ true ])
     go true t = let r = any-e (rowWith ds x v (c .scope)) (c .rows) t in any-i (rowWith es x v (c .scope)) (c .rows) (r .0) (r .1) (row-mono ds es h x v (c .scope) (r .0) (r .2))
     go false t = tt
+
+-- supported means: a row, where x is one of the constraint's variables
+pub supported-e : (ds : List ℕ) (x v : ℕ) (c : Constraint) → List·Memᴰ x (c .scope) → T (supported ds x v c) → T (any (rowWith ds x v (c .scope)) (c .rows))
+unfolding supported
+supported-e ds x v c m t = go (any (eqb x) (c .scope)) (any-i (eqb x) (c .scope) x m (eqb-refl x)) t
+  where
+    go : (b : Bool) → T b → T (elim b [ true ↦ any (rowWith ds x v (c .scope)) (c .rows) | false ↦ true ]) → T (any (rowWith ds x v (c .scope)) (c .rows))
+    go true b t = t
+    go false b t = absurd b
+
+pub supported-i : (ds : List ℕ) (x v : ℕ) (c : Constraint) → (List·Memᴰ x (c .scope) → T (any (rowWith ds x v (c .scope)) (c .rows))) → T (supported ds x v c)
+unfolding supported
+supported-i ds x v c h = go (any (eqb x) (c .scope)) refl
+  where
+    go : (b : Bool) → any (eqb x) (c .scope) ≡ b → T (elim b [ true ↦ any (rowWith ds x v (c .scope)) (c .rows) | false ↦ true ])
+    go true e = let r = any-e (eqb x) (c .scope) (T-of (any (eqb x) (c .scope)) e) in h (Memᴰ·cast (eqb→eq x (r .0) (r .2)) (r .1))
+    go false e = tt
 
 -- ---- what one round keeps
 pub record Kept (p : Problem) (prefix ds : List ℕ) (x v : ℕ) : Type 0 where

@@ -20,7 +20,7 @@ use Rattle.model.proofs.Lists.{map-flat-map, drop-at, not-of, of-not, T
 use Rattle.model.proofs.Sets.{has-lt, has-none, Sets, Inside, has-at-lt, member, empty-i, empty-e}
 use Rattle.model.proofs.Assignments.{Drawn, drawn-i, drawn-e}
 use Rattle.model.proofs.Filter.{filtered-i, filtered-e, obeys-front}
-use Rattle.model.proofs.Prune.{Kept, pruned-i, pruned-sets, rounds-ind, narrowed-i, narrowed-e, Sized, closed, Largest, largest, start-sets, fixed-e, setsAt-live, live-closed, value-live}
+use Rattle.model.proofs.Prune.{supported-e, Kept, pruned-i, pruned-sets, rounds-ind, narrowed-i, narrowed-e, Sized, closed, Largest, largest, start-sets, fixed-e, setsAt-live, live-closed, value-live}
 
 -- ---- the nogoods of a longer prefix begin with those of the shorter
 same-entries : (p : Problem) (g a b : List ℕ) (j : ℕ) → j < length a → entriesAt p g (a ++ b) j ≡ entriesAt p g a j
@@ -161,14 +161,6 @@ module _ (p : Problem) (w : WellFormed p) where
       go : (l : List ℕ) → 1 ≤ length l → (y : ℕ) × List·Memᴰ y l
       go [] h = absurd (not-suc-le-zero h)
       go (y ∷ l) h = (y, List·Memᴰ·head refl)
-
-  supported-e : (ds : List ℕ) (x v : ℕ) (c : Constraint) → List·Memᴰ x (c .scope) → T (supported ds x v c) → T (any (rowWith ds x v (c .scope)) (c .rows))
-  unfolding supported
-  supported-e ds x v c m t = go (any (eqb x) (c .scope)) (any-i (eqb x) (c .scope) x m (eqb-refl x)) t
-    where
-      go : (b : Bool) → T b → T (elim b [ true ↦ any (rowWith ds x v (c .scope)) (c .rows) | false ↦ true ]) → T (any (rowWith ds x v (c .scope)) (c .rows))
-      go true b t = t
-      go false b t = absurd b
 
   pub plan-sound : (s : List ℕ) → length s ≡ p .variables → T (isLive p s) → T (planTest p s)
   unfolding satisfies

@@ -1,22 +1,44 @@
--- The second and the third demand, as statements about what a caller holds after a run: the answer, and the listed plans.
+-- What the sets at a prefix are, in the paper's words; and the second and the third demand, as statements about what a caller holds after a run:
+-- the answer, and the listed plans.
 -- The proofs are in proofs/Demands.antt.
 use mathlib.Core.Path.{_≡_}
 use mathlib.Core.Logic.{_↔_}
-use mathlib.Core.Bool.{Bool, not}
+use mathlib.Core.Bool.{Bool, false, not}
 use mathlib.Core.List.{List, [], _∷_, _++_, List·Memᴰ, Sublistᴰ}
-use Prim.Native.Nat.{ℕ, suc, _+_, _-_, _*_, _/_, _%_, _≤_, _<_}
-use lib.ListN.{length, take, drop}
+use Prim.Native.Nat.{ℕ, suc, _+_, _-_, _*_, _/_, _%_, _^_, _≤_, _<_}
+use lib.ListN.{length, take, drop, replicate}
 use lib.Dec.{T}
-use Rattle.model.specs.Lists.{any, keep, both, earlier, rowsAscend}
-use Rattle.model.specs.Problem.{Problem, isSolution, assignments, takes}
+use Rattle.model.specs.Lists.{any, at, keep, both, earlier, rowsAscend}
+use Rattle.model.specs.ValueSets.{has, anyEmpty}
+use Rattle.model.specs.Problem.{Problem, Constraint, isSolution, assignments, takes}
 use Rattle.model.specs.Verdict.{accepted}
 use Rattle.model.specs.Sheet.{problemOf, headerOf, verdictOf}
-use Rattle.model.specs.Search.{nodes, isPlan}
+use Rattle.model.specs.Nogood.{filtered}
+use Rattle.model.specs.Search.{nogoodsOf, rowWith, setsAt, isLive, nodes, isPlan}
 use Rattle.model.specs.Run.{Ending, finished, spent, full, plansIn, nodesIn, answerOf, ended, listOf, listedPlans}
 
 -- the plans that a caller finds in its list after a run that ended so
 abbrev pub plansHeld : List ℕ → ℕ → List ℕ → Ending → List (List ℕ)
 plansHeld b limit out e = listedPlans (problemOf b .variables) (plansIn e) (listOf b limit out)
+
+-- ---- the sets at a prefix
+-- sets inside the initial ones, given the prefix's variables fixed, in which every value of each constraint's variable has a row of that constraint
+-- inside the sets, and the filter for each symmetry's list takes nothing away
+pub record Consistent (p : Problem) (prefix ds : List ℕ) : Type 0 where
+  pub sized : length ds ≡ p .variables
+  pub sixteen : (x : ℕ) → at ds x < 2 ^ 16
+  pub inside : (x v : ℕ) → T (has (at ds x) v) → T (has (at (p .initial) x) v)
+  pub given : (x v : ℕ) → x < length prefix → T (has (at ds x) v) → v ≡ at prefix x
+  pub rows : (c : Constraint) → List·Memᴰ c (p .constraints) → (x v : ℕ) → List·Memᴰ x (c .scope) → T (has (at ds x) v) → T (any (rowWith ds x v (c .scope)) (c .rows))
+  pub filters : (g : List ℕ) → List·Memᴰ g (p .symmetries) → filtered ds (nogoodsOf p g prefix) ≡ ds
+
+-- the sets at a live prefix are the largest such sets; at a dead one all are empty, and there are no such sets without an empty one
+abbrev pub Sets-largest : Type 0
+Sets-largest =
+    (b : List ℕ) (prefix : List ℕ) → verdictOf b ≡ accepted →
+    (T (isLive (problemOf b) prefix) → Consistent (problemOf b) prefix (setsAt (problemOf b) prefix))
+    × ((es : List ℕ) → Consistent (problemOf b) prefix es → anyEmpty es ≡ false → T (isLive (problemOf b) prefix) × ((x v : ℕ) → T (has (at es x) v) → T (has (at (setsAt (problemOf b) prefix) x) v)))
+    × (isLive (problemOf b) prefix ≡ false → setsAt (problemOf b) prefix ≡ replicate (problemOf b .variables) 0)
 
 -- ---- demand 2
 -- s is a leader: a solution onto which no symmetry takes a solution that reads earlier
