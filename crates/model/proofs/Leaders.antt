@@ -50,7 +50,7 @@ module _ (p : Problem) (w : WellFormed p) where
       let h = solution-e p a s in
       drawn-i (p .initial) a (well-sized p w .1) (h .sized ∙ sym (w .sized), λ x l. h .drawn x (subst (λ (k : ℕ). x < k) (w .sized) l))
 
-  -- a number that stands for a pair of the solution s
+  -- an entry of the list holds of s exactly if its number is one of the pairs of s
   module _ (s : List ℕ) (sol : T (isSolution p s)) where
     meets-i : (q : ℕ) → List·Memᴰ q (pairsOf p s) → T (is s (q / p .values) (q % p .values))
     meets-i q m =
@@ -85,6 +85,7 @@ module _ (p : Problem) (w : WellFormed p) where
       abbrev pub beaten : List ℕ → Bool
       beaten t = both (isSolution p t) (both (earlier t s) (takes p g t s))
 
+      -- who obeys is beaten by no solution: the first difference would break a nogood
       obeys-none : T (obeys s (nogoodsOf p g s)) → (t : List ℕ) → T (isSolution p t) → T (earlier t s) → T (takes p g t s) → ⊥
       obeys-none h t st e tk =
           let f = O.first-e t s e in
@@ -95,6 +96,7 @@ module _ (p : Problem) (w : WellFormed p) where
           (keep-i (λ v. ltb v (at s j)) (members (at (p .initial) j)) (at t j) (members-i (at (p .initial) j) (at t j) (sol-small t st j lj) (solution-e p t st .drawn j lj)) (lt→ltb (at t j) (at s j) (f .1 .3)))
           (met j lj)
 
+      -- and a broken nogood gives one: the preimage of s reads earlier
       none-obeys : ((t : List ℕ) → T (isSolution p t) → T (earlier t s) → T (takes p g t s) → ⊥) → T (obeys s (nogoodsOf p g s))
       none-obeys h =
           stable (obeys s (nogoodsOf p g s))
@@ -116,6 +118,7 @@ module _ (p : Problem) (w : WellFormed p) where
             subst (λ (z : ℕ). z < at s j) (sym ej) less,
           )) (pre .2))
 
+      -- s obeys g's list exactly if g takes no solution that reads earlier to it
       pub obeys-is : obeys s (nogoodsOf p g s) ≡ not (any (λ t. both (isSolution p t) (both (earlier t s) (takes p g t s))) (assignments (p .initial)))
       obeys-is =
           T-ext (obeys s (nogoodsOf p g s)) (not (any beaten (assignments (p .initial))))
