@@ -13,7 +13,8 @@ use Rattle.model.specs.Nogood.{obeysFrom, obeying, used, filtered, entri
 use Rattle.model.specs.Search.{entriesAt, nogoodsOf, rowWith, supported, pruned, narrowed, rounds, setsAt, isLive, nodesBelow, nodes, isPlan}
 use Rattle.model.specs.Run.{search, resultOf, answerFor, answerOf, written, listFor, listOf, tallyOf, listedPlans}
 use Rattle.model.specs.Report.{digits, decimal, line, endingLine, resultText, reportFor, reportOf}
-use Rattle.model.specs.Examples.{filterOf, tests, Each}
+use Rattle.model.specs.Claims.{leaders}
+use Rattle.model.specs.Examples.{filterOf, sheetF, tests, Each}
 use Rattle.model.specs.Verdict.{Verdict, accepted, ask}
 use Rattle.model.proofs.Filter.{filtered-none}
 
@@ -34,3 +35,8 @@ pub examples : Each tests
 unfolding opened
 examples =
     (refl, (refl, (empty-lists, (refl, (refl, (refl, (refl, (refl, (refl, (refl, (refl, (refl, (refl, (refl, (refl, (refl, (refl, (refl, (refl, tt)))))))))))))))))))
+
+-- beside the list: a sheet that shows a sibling's equality kept
+pub free-rotation : keep (isPlan (problemOf sheetF)) (nodes (problemOf sheetF)) ≡ leaders (problemOf sheetF)
+unfolding opened
+free-rotation = refl

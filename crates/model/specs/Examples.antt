@@ -54,6 +54,10 @@ abbrev pub sheetR : List ℕ
 sheetR =
     bytes ((3 ∷ 3 ∷ 3 ∷ 1 ∷ 16 ∷ 22 ∷ 118 ∷ 136 ∷ 7 ∷ 7 ∷ 7 ∷ []) ++ differ 0 1 ++ differ 0 2 ++ differ 1 2 ++ (3 ∷ 4 ∷ 5 ∷ 6 ∷ 7 ∷ 8 ∷ 0 ∷ 1 ∷ 2 ∷ []))
 
+-- not in the paper: three places, two values, no rule, and the same exchange; here nogoods wait for an equality that can hold
+abbrev pub sheetF : List ℕ
+sheetF = bytes (3 ∷ 2 ∷ 0 ∷ 1 ∷ 16 ∷ 22 ∷ 22 ∷ 34 ∷ 3 ∷ 3 ∷ 3 ∷ 2 ∷ 3 ∷ 4 ∷ 5 ∷ 0 ∷ 1 ∷ [])
+
 -- n = 1, d = 1, no rule
 abbrev pub sheet1 : List ℕ
 sheet1 = bytes (1 ∷ 1 ∷ 0 ∷ 0 ∷ 16 ∷ 18 ∷ 18 ∷ 18 ∷ 1 ∷ [])
@@ -73,6 +77,7 @@ heldAfter (ended e) b limit out = plansHeld b limit out e
 abbrev pub run : List ℕ → ℕ → ℕ → Answer × List (List ℕ)
 run b limit k = (answerOf b limit (room k), heldAfter (answerOf b limit (room k)) b limit (room k))
 
+-- the starred examples
 abbrev pub tests : List (Type 0)
 tests =
     -- 001's four nogoods. Sets x1, x2, x3, x6 {1,2}, x4, x5 {1}. Left: x1 {1}, x2 {2}, the others as lent
