@@ -4,7 +4,7 @@ use crate::symmetry::{random_symmetry, Symmetry};
 use crate::Rng;
 use oracle::nogood::assignments;
 use oracle::sheet::Constraint;
-use oracle::Problem;
+use oracle::{contains, Problem};
 
 /// The most choices of one value for each place, so that brute force stays quick.
 const MOST_ASSIGNMENTS: u64 = 1024;
@@ -110,11 +110,13 @@ fn closed(rng: &mut Rng, problem: &mut Problem) -> Vec<Vec<usize>> {
     let generators: Vec<Symmetry> =
         (0..count).map(|_| random_symmetry(rng, &problem.initial, problem.values)).collect();
     for _ in 0..rng.pick(&[0, 1, 1, 2, 3]) {
-        let mut orbit = vec![random_constraint(rng, problem)];
+        let mut constraint = random_constraint(rng, problem);
+        constraint.rows.retain(|row| meets(problem, &constraint.scope, row));
+        let mut orbit = vec![constraint];
         let mut at = 0;
         while at < orbit.len() && orbit.len() <= 32 {
             for generator in &generators {
-                let image = generator.image(problem, &orbit[at]);
+                let image = generator.image(&orbit[at]);
                 if !orbit.contains(&image) {
                     orbit.push(image);
                 }
@@ -125,15 +127,37 @@ fn closed(rng: &mut Rng, problem: &mut Problem) -> Vec<Vec<usize>> {
             problem.constraints.extend(orbit);
         }
     }
+    add_rows_never_met(rng, problem);
     generators.iter().map(|generator| generator.table(problem)).collect()
 }
 
-/// Adds up to 16 exchanges that respect the sheet: the given ones, products of those already there,
-/// random ones that move places, and for few pairs any permutation of them.
+/// Are the values of a row all in the initial sets of its places?
+fn meets(problem: &Problem, scope: &[usize], row: &[usize]) -> bool {
+    scope.iter().zip(row).all(|(&variable, &value)| contains(problem.initial[variable], value))
+}
+
+/// Adds rows with a value outside the initial sets to some rules.
+fn add_rows_never_met(rng: &mut Rng, problem: &mut Problem) {
+    let mut constraints = std::mem::take(&mut problem.constraints);
+    for Constraint { scope, rows } in &mut constraints {
+        if rng.chance(50) {
+            continue;
+        }
+        let mut others = assignments(&vec![full(problem.values); scope.len()]);
+        others.retain(|row| !meets(problem, scope, row));
+        rng.shuffle(&mut others);
+        others.truncate((others.len() / 2).min(256 - rows.len()));
+        rows.extend(others);
+        rows.sort();
+    }
+    problem.constraints = constraints;
+}
+
+/// Adds up to 16 exchanges that respect the sheet: the given ones, which do so as they were made, and, tested by
+/// the oracle, products of those already there, random ones that move places, and any permutation of pairs.
 fn add_symmetries(rng: &mut Rng, problem: &mut Problem, given: Vec<Vec<usize>>) {
     let wanted = rng.pick(&[0, 1, 1, 1, 2, 2, 3, 4, 8, 16]);
     let mut found = given;
-    found.retain(|table| problem.respected_by(table));
     for _ in 0..4 * wanted {
         let candidate = if found.len() >= 2 && rng.chance(50) {
             let (first, second) = (rng.pick(&found), rng.pick(&found));

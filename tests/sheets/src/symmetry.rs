@@ -23,22 +23,16 @@ impl Symmetry {
             .collect()
     }
 
-    /// The rule on the images of a rule's places, whose rows inside the initial sets are the images of
-    /// that rule's.
-    pub fn image(&self, problem: &Problem, constraint: &Constraint) -> Constraint {
-        let mut order: Vec<usize> = (0..constraint.scope.len()).collect();
-        order.sort_by_key(|&i| self.to[constraint.scope[i]]);
-        let met = |row: &&Vec<usize>| {
-            row.iter().zip(&constraint.scope).all(|(&v, &x)| oracle::contains(problem.initial[x], v))
-        };
-        let mut rows: Vec<Vec<usize>> = constraint
-            .rows
-            .iter()
-            .filter(met)
-            .map(|row| order.iter().map(|&i| self.value[constraint.scope[i]][row[i]]).collect())
-            .collect();
+    /// The rule on the images of a rule's places, whose rows are the images of that rule's. The rows given
+    /// lie inside the initial sets.
+    pub fn image(&self, constraint: &Constraint) -> Constraint {
+        let scope = &constraint.scope;
+        let mut order: Vec<usize> = (0..scope.len()).collect();
+        order.sort_by_key(|&i| self.to[scope[i]]);
+        let image = |row: &Vec<usize>| order.iter().map(|&i| self.value[scope[i]][row[i]]).collect();
+        let mut rows: Vec<Vec<usize>> = constraint.rows.iter().map(image).collect();
         rows.sort();
-        Constraint { scope: order.iter().map(|&i| self.to[constraint.scope[i]]).collect(), rows }
+        Constraint { scope: order.iter().map(|&i| self.to[scope[i]]).collect(), rows }
     }
 }
 
