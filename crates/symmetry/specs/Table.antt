@@ -19,25 +19,30 @@ pub record Stated (p : Problem) : Type 0 where
   pub most : length (p .constraints) ≤ 32
   pub constrained : (c : Constraint) → List·Memᴰ c (p .constraints) → GoodConstraint p c
 
--- the numbers hold the problem's
+-- the numbers hold those of the problem
 pub record Framed (p : Problem) (numbers : List ℕ) : Type 0 where
   pub stated : Stated p
   pub numbered : Numbers p numbers
 
--- a table stands whole at an offset of the sheet
-abbrev pub Stands : Problem → List ℕ → ℕ → Type 0
-Stands p sheet offset = offset + 2 * (p .variables * p .values) ≤ length sheet
-
--- the arrays hold the problem
+-- both arrays hold the problem
 pub record Ready (p : Problem) (numbers supports : List ℕ) : Type 0 where
-  pub stated : Stated p
-  pub numbered : Numbers p numbers
+  pub framed : Framed p numbers
   pub supported : Supports p supports
 
--- and a table stands whole at an offset of the sheet
+-- a table stands whole at an offset of the sheet
+abbrev pub Whole : Problem → List ℕ → ℕ → Type 0
+Whole p sheet offset = offset + 2 * (p .variables * p .values) ≤ length sheet
+
+pub record Laid (p : Problem) (sheet : List ℕ) (offset : ℕ) (numbers : List ℕ) : Type 0 where
+  pub framed : Framed p numbers
+  pub whole : Whole p sheet offset
+
 pub record Asked (p : Problem) (sheet : List ℕ) (offset : ℕ) (numbers supports : List ℕ) : Type 0 where
   pub ready : Ready p numbers supports
-  pub whole : offset + 2 * (p .variables * p .values) ≤ length sheet
+  pub whole : Whole p sheet offset
+
+abbrev pub tableOf : Problem → List ℕ → ℕ → List ℕ
+tableOf p sheet offset = words sheet offset (p .variables * p .values)
 
 abbrev pub answerOf : Bool → Bool → ℕ
 answerOf false respectful = 15
@@ -46,6 +51,4 @@ answerOf true true = 0
 
 -- 0 where both answers are yes, else the number of the first that is no
 abbrev pub tableAnswer : Problem → List ℕ → ℕ → ℕ
-tableAnswer p sheet offset =
-    let g = words sheet offset (p .variables * p .values) in
-    answerOf (permutesPairs p g) (respects p g)
+tableAnswer p sheet offset = answerOf (permutesPairs p (tableOf p sheet offset)) (respects p (tableOf p sheet offset))
