@@ -21,7 +21,7 @@ use Rattle.symmetry.specs.Forbidden.{blocked, numberOf, PairCode, MaybeP
 use Rattle.symmetry.proofs.Codes.{good, init-lt, init-16, pair-lt, pair-div, pair-mod, code-value, code-is, none-out, code-lt, constraint-in}
 
 -- ---- lists
-mem-index : {A : Type 0} (l : List A) (d y : A) → List·Memᴰ y l → (i : ℕ) × (i < length l) × (getD l i d ≡ y)
+pub mem-index : {A : Type 0} (l : List A) (d y : A) → List·Memᴰ y l → (i : ℕ) × (i < length l) × (getD l i d ≡ y)
 mem-index [] d y m = absurd (List·Memᴰ·not-nil m)
 mem-index (x ∷ l) d y (List·Memᴰ·head e) = (0, omega arith, sym e)
 mem-index (x ∷ l) d y (List·Memᴰ·tail m) = let r = mem-index l d y m in (suc (r .0), omega (arith, r .1), r .2)
