@@ -8,14 +8,15 @@ use native.Mathlib.Nat.{not-suc-le-zero, le-of-suc-le-suc}
 use native.Mathlib.Omega.{arith}
 use lib.Dec.{T, eqb, ltb, eqb→eq, eqb-refl, eqb·suc-zero, eqb·suc-suc}
 use lib.Bits.{bitAnd, and-le-l, and-le-r}
+use lib.Count.{trailingZeros}
 use lib.ListN.{length, getD}
 use borrow.Author.Tests.{eqb-true, eqb-false, eq-eqb, ne-eqb}
 use Rattle.model.specs.Lists.{both, either, all, any, keep, flat, upFrom, below, at}
 use Rattle.model.specs.ValueSets.{has, least, leastStep, members, lowestOf}
 use Rattle.model.specs.Sheet.{distinct}
 use Rattle.model.proofs.Lists.{T-of, of-T, not-of, of-not, T-ext, both-i, both-l, both-r, all-cons, any-i, any-e, sorted-ext, Sorted, upFrom-i, upFrom-e, below-i, below-e, mem-at}
-use Rattle.model.proofs.Sets.{has-zero, has-suc, has-none, has-lt, mask-ext, pow2, members-i, members-e, members-sorted, member}
-use Rattle.model.proofs.Masks.{has-and, least-at, least-below, least-none}
+use Rattle.model.proofs.Sets.{has-zero, has-suc, has-none, has-lt, mask-ext, pow2, members-i, members-e, members-sorted, members-of-none}
+use Rattle.model.proofs.Masks.{has-and, least-at, least-below, lowest-op}
 
 -- ---- tests
 pub both-true : (b : Bool) → both b true ≡ b
@@ -165,6 +166,30 @@ members-step s h n =
     back : (v : ℕ) → List·Memᴰ v (l ∷ members r) → List·Memᴰ v (members s)
     back v (List·Memᴰ·head e) = Memᴰ·cast e (members-i s l (has-lt 16 s l h low) low)
     back v (List·Memᴰ·tail m) = let k = members-e r v m in members-i s v (k .0) (both-l (has s v) (not (eqb v l)) (subst T (is v) (k .1)))
+
+-- the code's count of the low zeros is the lowest member
+pub trailing-least : (n w s : ℕ) → w ≤ n → s < 2 ^ w → (s ≡ 0 → ⊥) → trailingZeros n s ≡ least w (has s)
+trailing-least n w s l h z =
+    lowest-op n s
+    ∙ least-at n (has s) (least w (has s)) (let i = has-lt w s (least w (has s)) h (has-lowest w s h z) in omega arith) (least-below w (has s)) (of-T (has s (least w (has s))) (has-lowest w s h z))
+
+pub rest-has : (s v : ℕ) → T (has (bitAnd s (s - 1)) v) → T (has s v)
+rest-has s v t = both-l (has s v) (has (s - 1) v) (subst T (has-and s (s - 1) v) t)
+
+-- a loop over a set's members, lowest first, that stops at the first that fails: one turn, and the end
+module _ (f : ℕ → Bool) (s : ℕ) (total : Bool) (e : all f (members s) ≡ total) where
+  all-turn : s < 2 ^ 16 → (s ≡ 0 → ⊥) → both (f (lowestOf s)) (all f (members (bitAnd s (s - 1)))) ≡ total
+  all-turn h n = sym (ap (all f) (members-step s h n) ∙ all-cons f (lowestOf s) (members (bitAnd s (s - 1)))) ∙ e
+
+  pub all-stop : s < 2 ^ 16 → (s ≡ 0 → ⊥) → f (lowestOf s) ≡ false → false ≡ total
+  all-stop h n q = ap (λ (b : Bool). both b (all f (members (bitAnd s (s - 1))))) (sym q) ∙ all-turn h n
+
+  pub all-rest : s < 2 ^ 16 → (s ≡ 0 → ⊥) → f (lowestOf s) ≡ true → all f (members (bitAnd s (s - 1))) ≡ total
+  all-rest h n q = ap (λ (b : Bool). both b (all f (members (bitAnd s (s - 1))))) (sym q) ∙ all-turn h n
+
+  pub all-over : s ≡ 0 → true ≡ total
+  unfolding all
+  all-over z = sym (ap (λ (n : ℕ). all f (members n)) z ∙ ap (all f) members-of-none) ∙ e
 
 -- ---- distinct numbers
 nor-e : (b c : Bool) → T (elim b [ true ↦ false | false ↦ c ]) → (T b → ⊥) × T c

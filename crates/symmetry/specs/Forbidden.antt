@@ -70,8 +70,8 @@ pub record Triple (p : Problem) (numbers supports : List ℕ) (short a b e : ℕ
 
 -- ---- the walk of a constraint's forbidden sets
 unfoldable pub codesAt : List ℕ → List ℕ → List ℕ → List ℕ
-codesAt codes [] vs = []
-codesAt codes (x ∷ xs) [] = []
+codesAt codes xs [] = []
+codesAt codes [] (v ∷ vs) = []
 codesAt codes (x ∷ xs) (v ∷ vs) = at codes (16 * x + v) ∷ codesAt codes xs vs
 
 -- the values vs are chosen for the first variables of a constraint, those of xs are to come:
