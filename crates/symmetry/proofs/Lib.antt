@@ -3,6 +3,7 @@ pub mod Codes
 pub mod Keys
 pub mod Laws
 pub mod Respects
+pub mod Scans
 pub mod Scopes
 pub mod Triples
 pub mod Walks
