@@ -1,8 +1,10 @@
 pub mod Blocks
 pub mod Codes
+pub mod Frames
 pub mod Keys
 pub mod Laws
 pub mod Respects
+pub mod Rows
 pub mod Scans
 pub mod Scopes
 pub mod Triples

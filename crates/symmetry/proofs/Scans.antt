@@ -18,7 +18,7 @@ use Rattle.model.proofs.Lists.{T-of, of-T, not-of, of-not, T-dec, both-i, both-
 use Rattle.symmetry.specs.Table.{Stated, Framed, tableOf}
 use Rattle.symmetry.specs.Forbidden.{Decoded}
 use Rattle.symmetry.specs.Scan.{fits, Seen, DecodedTo}
-use Rattle.symmetry.proofs.Codes.{isPair-lt, pair-div, pair-mod, pair-lt, div-small, mod-small, pair-of}
+use Rattle.symmetry.proofs.Codes.{isPair-lt, image-lt, pair-div, pair-mod, pair-lt, div-small, mod-small, pair-of}
 use Rattle.symmetry.proofs.Laws.{distinct-at, distinct-of}
 
 -- ---- the words of a table
@@ -154,6 +154,29 @@ seen-all p g seen s z =
     two i j l h e false b true c = of-not (isPair p i) b (subst (λ (y : ℕ). T (isPair p y)) (sym e ∙ same-to i (omega arith) b) (pair-to j h c))
     two i j l h e false b false c = let f : i ≡ j = sym (same-to i (omega arith) b) ∙ e ∙ same-to j h c in omega arith
 
+-- as the code reads a table: y is the number at q
+module _ (p : Problem) (sheet : List ℕ) (offset : ℕ) (seen : List ℕ) (q y : ℕ) (s : Seen p (tableOf p sheet offset) seen q) (h : q < p .variables * p .values) (e : y ≡ word sheet (offset + 2 * q)) where
+  is : at (tableOf p sheet offset) q ≡ y
+  is = table-at p sheet offset q h ∙ sym e
+
+  pub read-out : isPair p q ≡ true → isPair p y ≡ false → false ≡ permutesPairs p (tableOf p sheet offset)
+  read-out t f = seen-out p _ seen q s h t (ap (isPair p) is ∙ f)
+
+  pub read-twice : at seen y ≡ 1 → false ≡ permutesPairs p (tableOf p sheet offset)
+  read-twice m = seen-twice p _ seen q s h (table-length p sheet offset) (ap (at seen) is ∙ m)
+
+  pub read-moved : isPair p q ≡ false → (y ≡ q → ⊥) → false ≡ permutesPairs p (tableOf p sheet offset)
+  read-moved t n = seen-moved p _ seen q s h t (λ i. n (sym is ∙ i))
+
+  -- `new` is what the code then has for `seen`
+  pub read-same : (new : List ℕ) → new ≡ seen → isPair p q ≡ false → y ≡ q → Seen p (tableOf p sheet offset) new (q + 1)
+  read-same new z t i = subst (λ (l : List ℕ). Seen p (tableOf p sheet offset) l (q + 1)) (sym z) (seen-same p _ seen q s t (is ∙ i))
+
+  pub read-more : (new : List ℕ) → new ≡ set seen y 1 → isPair p q ≡ true → isPair p y ≡ true → y < length seen → (at seen y ≡ 1 → ⊥) → Seen p (tableOf p sheet offset) new (q + 1)
+  read-more new z t f l n =
+      subst (λ (r : List ℕ). Seen p (tableOf p sheet offset) r (q + 1)) (sym (z ∙ ap (λ (u : ℕ). set seen u 1) (sym is)))
+      (seen-more p _ seen q s t (ap (isPair p) is ∙ f) (subst (λ (u : ℕ). u < length seen) (sym is) l) (λ m. n (sym (ap (at seen) is) ∙ m)))
+
 -- ---- the codes of a table's images
 pub decoded-none : (p : Problem) (g codes : List ℕ) → DecodedTo p g codes 0
 decoded-none p g codes j h = absurd (not-suc-le-zero h)
@@ -181,3 +204,22 @@ module _ (p : Problem) (w : Stated p) (g codes : List ℕ) where
   pub decoded-all : DecodedTo p g codes (p .variables * p .values) → Decoded p g codes
   decoded-all d x v h l =
       ap₂ (λ (y u : ℕ). at codes (16 * y + u)) (sym (pair-div p w x v l)) (sym (pair-mod p w x v l)) ∙ d (pair p x v) (pair-lt p w x v h l)
+
+-- as the code reads a table and its numbers
+module _ (p : Problem) (w : Stated p) (sheet : List ℕ) (offset : ℕ) (codes : List ℕ) (q d y : ℕ) (h : q < p .variables * p .values) (i : d ≡ p .values) (e : y ≡ word sheet (offset + 2 * q)) where
+  here-is : at (tableOf p sheet offset) q ≡ y
+  here-is = table-at p sheet offset q h ∙ sym e
+
+  pub spot-small : 16 * (q / d) + q % d < 192
+  spot-small = subst (λ (n : ℕ). 16 * (q / n) + q % n < 192) (sym i) (omega (arith, div-small p w q h, mod-small p w q, w .few, w .sixteen))
+
+  pub code-small : T (permutesPairs p (tableOf p sheet offset)) → 16 * (y / d) + y % d < 192
+  code-small t =
+      subst (λ (n : ℕ). 16 * (y / n) + y % n < 192) (sym i)
+      (omega (arith, div-small p w y (subst (λ (z : ℕ). z < p .variables * p .values) here-is (image-lt p w (tableOf p sheet offset) t q h)), mod-small p w y, w .few, w .sixteen))
+
+  pub read-code : length codes ≡ 256 → DecodedTo p (tableOf p sheet offset) codes q → DecodedTo p (tableOf p sheet offset) (set codes (16 * (q / d) + q % d) (16 * (y / d) + y % d)) (q + 1)
+  read-code z c =
+      subst (λ (n : ℕ). DecodedTo p (tableOf p sheet offset) (set codes (16 * (q / n) + q % n) (16 * (y / n) + y % n)) (q + 1)) (sym i)
+      (subst (λ (u : ℕ). DecodedTo p (tableOf p sheet offset) (set codes (16 * (q / p .values) + q % p .values) (16 * (u / p .values) + u % p .values)) (q + 1)) here-is
+      (decoded-more p w (tableOf p sheet offset) codes q (omega (arith, z, div-small p w q h, mod-small p w q, w .few, w .sixteen)) c))

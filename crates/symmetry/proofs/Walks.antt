@@ -227,6 +227,25 @@ module _ (p : Problem) (vs codes numbers supports : List ℕ) (k left key : ℕ)
               ∙ sym keeps-here;
         }
 
+-- as the code makes them
+module _ (p : Problem) (vs codes numbers supports : List ℕ) (k left key x set : ℕ) (r : Ready p numbers supports) (c : Chosen p vs k left key) (n : left ≡ 0 → ⊥) (e : x ≡ at (constraintAt p k .scope) (length vs)) where
+  pub next-small : x < 12
+  next-small = omega (arith, chosen-var p vs codes numbers supports k left key r c n, r .framed .stated .few)
+
+  pub row-small : 256 * k + key < 8192
+  row-small = omega (arith, chosen-key p vs codes numbers supports k left key r c n, c .inside, r .framed .stated .most)
+
+  initial-is : set ≡ at numbers (16 + x) → set ≡ at (p .initial) (at (constraintAt p k .scope) (length vs))
+  initial-is h = h ∙ ap (λ (i : ℕ). at numbers (16 + i)) e ∙ r .framed .numbered .initial _ (chosen-var p vs codes numbers supports k left key r c n)
+
+  pub made-all : set ≡ at numbers (16 + x) → (left ≡ 1 → ⊥) → Choices p vs codes k left set
+  made-all h m = subst (Choices p vs codes k left) (sym (initial-is h)) (choices-all p vs codes numbers supports k left key r c n m)
+
+  pub made-last : (s : ℕ) → set ≡ at numbers (16 + x) → s ≡ at supports (256 * k + key) → s < 65536 → left ≡ 1 → Choices p vs codes k left (bitAnd set (65535 - s))
+  made-last s h i l m =
+      subst (Choices p vs codes k left) (sym (ap₂ (λ (a b : ℕ). bitAnd a (65535 - b)) (initial-is h) i))
+      (choices-last p vs codes numbers supports k left key r c n m (subst (λ (b : ℕ). b < 65536) i l))
+
 -- ---- one turn of the walk's loop
 module _ (p : Problem) (vs codes : List ℕ) (k left set : ℕ) (c : Choices p vs codes k left set) where
   pub choices-low : (set ≡ 0 → ⊥) → T (has set (lowestOf set))

@@ -4,7 +4,7 @@ use mathlib.Core.Bool.{Bool, true, false, not}
 use mathlib.Core.List.{List, [], _∷_, _++_, map}
 use mathlib.Core.Logic.{_⊎_}
 use Prim.Native.Nat.{ℕ, _+_, _*_, _^_, _/_, _%_, _≤_, _<_, suc}
-use lib.ListN.{length, drop}
+use lib.ListN.{length, take, drop}
 use lib.Dec.{T, eqb, ltb}
 use Rattle.model.specs.Lists.{all, any, at, same, both, either, below}
 use Rattle.model.specs.ValueSets.{has, members}
@@ -36,6 +36,14 @@ Decoded p g codes = (x v : ℕ) → x < p .variables → v < p .values → at co
 abbrev pub Coded : Problem → List ℕ → Type 0
 Coded p codes = (x v : ℕ) → x < p .variables → T (has (at (p .initial) x) v) → PairCode p (at codes (16 * x + v))
 
+-- values as the digits of a number
+unfoldable pub packedOn : ℕ → List ℕ → ℕ
+packedOn key [] = key
+packedOn key (v ∷ vs) = packedOn (16 * key + v) vs
+
+abbrev pub packed : List ℕ → ℕ
+packed vs = packedOn 0 vs
+
 -- ---- three pairs
 abbrev pub clashes : ℕ → ℕ → Bool
 clashes a b = both (eqb (a / 16) (b / 16)) (not (eqb a b))
@@ -51,6 +59,12 @@ valueIn a b e x = pick (eqb (a / 16) x) (a % 16) (pick (eqb (b / 16) x) (b % 16)
 -- the scope lies among the variables of three pairs, whose values are no row
 unfoldable pub refusedBy : Constraint → ℕ → ℕ → ℕ → Bool
 refusedBy c a b e = both (all (λ x. ltb (valueIn a b e x) 16) (c .scope)) (not (any (same (map (valueIn a b e) (c .scope))) (c .rows)))
+
+-- the values for the first i variables of a scope are found among three pairs
+pub record LookedUp (c : Constraint) (a b e i key : ℕ) : Type 0 where
+  pub within : i ≤ length (c .scope)
+  pub keyed : key ≡ packed (map (valueIn a b e) (take i (c .scope)))
+  pub small : (j : ℕ) → j < i → valueIn a b e (at (c .scope) j) < 16
 
 -- `short`: the set of the constraints on fewer than three variables
 abbrev pub Short : Problem → ℕ → Type 0
@@ -85,14 +99,6 @@ abbrev pub Begun : Problem → List ℕ → List ℕ → Type 0
 Begun p xs [] = Unit {0}
 Begun p [] (v ∷ vs) = ⊥
 Begun p (x ∷ xs) (v ∷ vs) = T (has (at (p .initial) x) v) × Begun p xs vs
-
--- values as the digits of a number
-unfoldable pub packedOn : ℕ → List ℕ → ℕ
-packedOn key [] = key
-packedOn key (v ∷ vs) = packedOn (16 * key + v) vs
-
-abbrev pub packed : List ℕ → ℕ
-packed vs = packedOn 0 vs
 
 -- the last three of the codes, after 255 three times
 abbrev pub lastThree : List ℕ → List ℕ

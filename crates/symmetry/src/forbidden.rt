@@ -9,12 +9,13 @@ ghost use Rattle.layout.specs.Layout.{constraintAt};
 ghost use Rattle.symmetry.specs.Table.{Framed, Ready};
 ghost use Rattle.symmetry.specs.Forbidden.{Short, Candidates, Triple, clashes, valueIn, refusedBy, blocked as blockedBy, numberOf};
 use super::table::number;
+use super::table::wide16;
 
 pub fn support(supports: &[u16; 8192], i: usize) -> usize
     requires { ⌜ i < 8192 ⌝ }
     ensures { λ r. ⌜ (r ≡ at (now (supports .entry)) i) × (r < 65536) ⌝ }
 {
-    supports[i] as usize
+    wide16(supports[i])
 }
 
 // How many variables a constraint has, and the variable at a place of its scope.

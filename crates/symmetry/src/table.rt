@@ -9,9 +9,15 @@ ghost use Rattle.model.specs.Sheet.{word as wordAt, permutesPairs};
 ghost use Rattle.symmetry.specs.Table.{Framed, Laid, tableOf};
 ghost use Rattle.symmetry.specs.Forbidden.{Decoded};
 
-// An element of each kind of array as a number.
-fn wide(x: u8) -> usize
+// A byte and a 16-bit number as an index, and an element of `numbers`.
+pub fn wide(x: u8) -> usize
     ensures { λ r. ⌜ (r ≡ x) × (r < 256) ⌝ }
+{
+    x as usize
+}
+
+pub fn wide16(x: u16) -> usize
+    ensures { λ r. ⌜ (r ≡ x) × (r < 65536) ⌝ }
 {
     x as usize
 }

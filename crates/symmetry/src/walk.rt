@@ -15,12 +15,13 @@ use super::forbidden::blocked;
 use super::forbidden::scope_at;
 use super::forbidden::support;
 use super::table::number;
+use super::table::wide;
 
 fn code(codes: &[u8; 256], i: usize) -> usize
     requires { ⌜ i < 256 ⌝ }
     ensures { λ r. ⌜ r ≡ at (now (codes .entry)) i ⌝ }
 {
-    codes[i] as usize
+    wide(codes[i])
 }
 
 // The values to try for the next variable x of constraint k: those of its initial set, less for the last variable those of its rows.
