@@ -82,6 +82,11 @@ pub record Triple (p : Problem) (numbers supports : List ℕ) (short a b e : ℕ
   pub second : MaybePair p b
   pub third : MaybePair p e
 
+-- every constraint that refuses three pairs is still to be asked
+pub record Left (p : Problem) (a b e set : ℕ) : Type 0 where
+  pub few : set < 2 ^ length (p .constraints)
+  pub whole : (k : ℕ) → k < length (p .constraints) → T (refusedBy (constraintAt p k) a b e) → T (has set k)
+
 -- ---- the walk of a constraint's forbidden sets
 unfoldable pub codesAt : List ℕ → List ℕ → List ℕ → List ℕ
 codesAt codes xs [] = []
