@@ -1,6 +1,7 @@
 pub mod Asking
 pub mod Blocks
 pub mod Codes
+pub mod Doubles
 pub mod Frames
 pub mod Keys
 pub mod Laws

@@ -147,3 +147,17 @@ besides p codes x v ws = all (λ w. blocked p (numberOf p (at codes (16 * x + v)
 unfoldable pub doublings : Problem → List ℕ → ℕ → List ℕ → Bool
 doublings p codes x [] = true
 doublings p codes x (v ∷ vs) = both (besides p codes x v vs) (doublings p codes x vs)
+
+-- a pair (x, v), and values of the initial set of x beside it
+pub record Beside (p : Problem) (numbers supports codes : List ℕ) (short x v set : ℕ) : Type 0 where
+  pub lent : Lent p numbers supports codes short
+  pub variable : x < p .variables
+  pub value : T (has (at (p .initial) x) v)
+  pub others : (w : ℕ) → T (has set w) → T (has (at (p .initial) x) w)
+  pub small : set < 2 ^ 16
+
+-- what is asked of the pairs of x with the values of a set is what is asked of all
+pub record Doubling (p : Problem) (codes : List ℕ) (x set : ℕ) : Type 0 where
+  pub small : set < 2 ^ 16
+  pub allowed : (w : ℕ) → T (has set w) → T (has (at (p .initial) x) w)
+  pub whole : doublings p codes x (members set) ≡ doublings p codes x (members (at (p .initial) x))

@@ -3,13 +3,12 @@ ghost use mathlib.Core.Path.{_≡_};
 ghost use mathlib.Core.List.{List, [], _∷_};
 ghost use Prim.Native.Nat.{ℕ, _+_, _*_, _^_, _≤_, _<_};
 ghost use lib.ListN.{length, drop};
-ghost use lib.Dec.{T};
 ghost use Rattle.model.specs.Lists.{at, all, below};
-ghost use Rattle.model.specs.ValueSets.{has, members};
+ghost use Rattle.model.specs.ValueSets.{members};
 ghost use Rattle.model.specs.Problem.{Problem};
 ghost use Rattle.layout.specs.Layout.{constraintAt};
 ghost use Rattle.symmetry.specs.Table.{Ready};
-ghost use Rattle.symmetry.specs.Forbidden.{Lent, Chosen, Walking, Choices, keeps, besides, doublings};
+ghost use Rattle.symmetry.specs.Forbidden.{Lent, Chosen, Walking, Choices, Beside, keeps, besides, doublings};
 use super::forbidden::arity;
 use super::forbidden::blocked;
 use super::forbidden::scope_at;
@@ -129,8 +128,8 @@ fn beside(
     v: usize,
     set: usize,
 ) -> bool
-    requires { ⌜ ((p : Problem) × Lent p (now numbers) (now supports) (now codes) short × (x < p .variables) × T (has (at (p .initial) x) v) × (set < 2 ^ 16) × ((w : ℕ) → T (has set w) → T (has (at (p .initial) x) w))) ⌝ }
-    ensures { λ r. ⌜ ((p : Problem) → Lent p (now (numbers .entry)) (now (supports .entry)) (now (codes .entry)) short → x < p .variables → T (has (at (p .initial) x) v) → ((w : ℕ) → T (has set w) → T (has (at (p .initial) x) w)) → r ≡ besides p (now (codes .entry)) x v (members set)) ⌝ }
+    requires { ⌜ ((p : Problem) × Beside p (now numbers) (now supports) (now codes) short x v set) ⌝ }
+    ensures { λ r. ⌜ ((p : Problem) → Beside p (now (numbers .entry)) (now (supports .entry)) (now (codes .entry)) short x v set → r ≡ besides p (now (codes .entry)) x v (members set)) ⌝ }
 {
     let a = code(codes, 16 * x + v);
     let mut left = set;
