@@ -5,11 +5,13 @@ use mathlib.Core.Logic.{_⊎_, inl, inr, ⊎-elim}
 use mathlib.Core.List.{List, [], _∷_, _++_, map, List·Memᴰ, List·Memᴰ·head, List·Memᴰ·tail, List·Memᴰ·not-nil, List·Memᴰ·cases-cons, Memᴰ·cast, Memᴰ·map, Memᴰ·of-map}
 use Prim.Native.Nat.{ℕ, zero, suc, _+_, _-_, _*_, _/_, _%_, _^_, _≤_, _<_}
 use native.Mathlib.Nat.{not-suc-le-zero, le-of-suc-le-suc}
+use native.Mathlib.Numerals.{add-one}
 use native.Mathlib.Omega.{arith}
 use lib.Dec.{T, eqb, ltb, eqb→eq, eqb-refl, eqb·suc-zero, eqb·suc-suc}
 use lib.Bits.{bitAnd, and-le-l, and-le-r}
 use lib.Count.{trailingZeros}
-use lib.ListN.{length, getD}
+use lib.ListN.{length, getD, drop}
+use lib.Seq.{drop-cons, drop-length}
 use borrow.Author.Tests.{eqb-true, eqb-false, eq-eqb, ne-eqb}
 use Rattle.model.specs.Lists.{both, either, all, any, keep, flat, upFrom, below, at}
 use Rattle.model.specs.ValueSets.{has, least, leastStep, members, lowestOf}
@@ -190,6 +192,50 @@ module _ (f : ℕ → Bool) (s : ℕ) (total : Bool) (e : all f (members s) ≡ 
   pub all-over : s ≡ 0 → true ≡ total
   unfolding all
   all-over z = sym (ap (λ (n : ℕ). all f (members n)) z ∙ ap (all f) members-of-none) ∙ e
+
+-- ---- a loop over the first numbers, and over a list, that stops at the first that fails
+-- one that fails, or the rest
+both-stop : (b c total : Bool) → both b c ≡ total → b ≡ false → false ≡ total
+both-stop b c total e f = ap (λ (t : Bool). both t c) (sym f) ∙ e
+
+both-rest : (b c total : Bool) → both b c ≡ total → b ≡ true → c ≡ total
+both-rest b c total e f = ap (λ (t : Bool). both t c) (sym f) ∙ e
+
+module _ (f : ℕ → Bool) (n : ℕ) where
+  pub numbers-start : all f (upFrom 0 (n - 0)) ≡ all f (below n)
+  unfolding below
+  numbers-start = ap (λ (k : ℕ). all f (upFrom 0 k)) (let e : n - 0 ≡ n = omega arith in e)
+
+  module _ (i : ℕ) (total : Bool) (e : all f (upFrom i (n - i)) ≡ total) where
+    numbers-turn : i < n → both (f i) (all f (upFrom (i + 1) (n - (i + 1)))) ≡ total
+    unfolding upFrom
+    numbers-turn h =
+        ap (λ (k : ℕ). both (f i) (all f (upFrom k (n - (i + 1))))) (add-one i) ∙ sym (all-cons f i (upFrom (suc i) (n - (i + 1))))
+        ∙ ap (λ (k : ℕ). all f (upFrom i k)) (let q : suc (n - (i + 1)) ≡ n - i = omega arith in q) ∙ e
+
+    pub numbers-stop : i < n → f i ≡ false → false ≡ total
+    numbers-stop h q = both-stop (f i) _ total (numbers-turn h) q
+
+    pub numbers-rest : i < n → f i ≡ true → all f (upFrom (i + 1) (n - (i + 1))) ≡ total
+    numbers-rest h q = both-rest (f i) _ total (numbers-turn h) q
+
+    pub numbers-over : n ≤ i → true ≡ total
+    unfolding upFrom all
+    numbers-over h = sym (ap (λ (k : ℕ). all f (upFrom i k)) (let q : n - i ≡ 0 = omega arith in q)) ∙ e
+
+module _ {A : Type 0} (f : A → Bool) (l : List A) (d : A) (i : ℕ) (total : Bool) (e : all f (drop i l) ≡ total) where
+  list-turn : i < length l → both (f (getD l i d)) (all f (drop (i + 1) l)) ≡ total
+  list-turn h = ap (λ (k : ℕ). both (f (getD l i d)) (all f (drop k l))) (add-one i) ∙ sym (ap (all f) (drop-cons l i d h) ∙ all-cons f (getD l i d) (drop (suc i) l)) ∙ e
+
+  pub list-stop : i < length l → f (getD l i d) ≡ false → false ≡ total
+  list-stop h q = both-stop (f (getD l i d)) _ total (list-turn h) q
+
+  pub list-rest : i < length l → f (getD l i d) ≡ true → all f (drop (i + 1) l) ≡ total
+  list-rest h q = both-rest (f (getD l i d)) _ total (list-turn h) q
+
+  pub list-over : i ≡ length l → true ≡ total
+  unfolding all
+  list-over h = sym (ap (λ (k : ℕ). all f (drop k l)) h ∙ ap (all f) (drop-length l)) ∙ e
 
 -- ---- distinct numbers
 nor-e : (b c : Bool) → T (elim b [ true ↦ false | false ↦ c ]) → (T b → ⊥) × T c
