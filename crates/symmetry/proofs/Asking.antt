@@ -23,7 +23,6 @@ use Rattle.symmetry.proofs.Laws.{has-rest, has-lowest, trailing-least}
 use Rattle.symmetry.proofs.Triples.{Gives, OneGives, found, refused-all, refused-blocked, blocked-refused}
 
 module _ (p : Problem) (numbers supports : List ℕ) (short a b e : ℕ) (t : Triple p numbers supports short a b e) where
-
   -- ---- two of the pairs clash
   pub first-clash : clashes a b ≡ true → true ≡ blocked p (numberOf p a ∷ numberOf p b ∷ numberOf p e ∷ [])
   first-clash h = sym (of-T _ (clash-blocked p (t .ready .framed .stated) a b _ (t .first) (t .second) (T-of (clashes a b) h) (List·Memᴰ·head refl) (List·Memᴰ·tail (List·Memᴰ·head refl))))

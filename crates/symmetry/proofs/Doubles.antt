@@ -59,11 +59,10 @@ module _ (p : Problem) (numbers supports codes : List ℕ) (short x v set : ℕ)
 
     pub beside-rest : (r total : Bool) → r ≡ blocked p (numberOf p 255 ∷ numberOf p a ∷ numberOf p b ∷ []) → r ≡ true → besides p codes x v (members set) ≡ total →
         Beside p numbers supports codes short x v (bitAnd set (set - 1)) × (besides p codes x v (members (bitAnd set (set - 1))) ≡ total)
-    beside-rest r total e f q =
-        (
-          record { lent = s .lent; variable = s .variable; value = s .value; others = λ u t. s .others u (rest-has set u t); small = lt-of-le-of-lt (and-le-l set (set - 1)) (s .small) },
-          all-rest _ set total q (s .small) n (answer r e ∙ f),
-        )
+    beside-rest r total e f q = (
+      record { lent = s .lent; variable = s .variable; value = s .value; others = λ u t. s .others u (rest-has set u t); small = lt-of-le-of-lt (and-le-l set (set - 1)) (s .small) },
+      all-rest _ set total q (s .small) n (answer r e ∙ f),
+    )
 
   pub beside-over : (total : Bool) → set ≡ 0 → besides p codes x v (members set) ≡ total → true ≡ total
   beside-over total z q = all-over _ set total q z

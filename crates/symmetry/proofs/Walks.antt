@@ -11,6 +11,7 @@ use lib.Dec.{T, eqb, ltb, not-T, T-not}
 use lib.ListN.{length, drop, getD}
 use lib.Seq.{drop-cons, drop-length}
 use lib.Bits.{bitAnd, and-le-l}
+use lib.Count.{trailingZeros}
 use Rattle.model.specs.Lists.{all, any, at, same, both, either}
 use Rattle.model.specs.ValueSets.{has, members, lowestOf}
 use Rattle.model.specs.Problem.{Problem, Constraint}
@@ -24,7 +25,7 @@ use Rattle.symmetry.specs.Forbidden.{blocked, numberOf, PairCode, MaybeP
 use Rattle.symmetry.proofs.Codes.{good, init-16, init-small, none-out, code-lt}
 use Rattle.symmetry.proofs.Keys.{Digits, begun-digits, packed-snoc, packed-none, packed-lt, row-test}
 use Rattle.symmetry.proofs.Blocks.{blocked-ext}
-use Rattle.symmetry.proofs.Laws.{all-stop, all-rest, all-over, rest-has, has-lowest}
+use Rattle.symmetry.proofs.Laws.{all-stop, all-rest, all-over, rest-has, has-lowest, trailing-least}
 
 -- ---- one value more
 pub begun-snoc : (p : Problem) (xs vs : List ℕ) (v : ℕ) → length vs < length xs → Begun p xs vs → T (has (at (p .initial) (at xs (length vs))) v) → Begun p xs (vs ++ (v ∷ []))
@@ -266,3 +267,41 @@ module _ (p : Problem) (vs codes : List ℕ) (k left set : ℕ) (c : Choices p v
 
   pub choices-over : set ≡ 0 → true ≡ keeps p codes (constraintAt p k) (drop (length vs) (constraintAt p k .scope)) vs
   choices-over z = all-over _ set _ (c .whole) z
+
+-- as the code takes it: the variable x is next, v is the lowest of the values left
+module _ (p : Problem) (vs numbers supports codes : List ℕ) (short k left key a b e : ℕ) (s : Walking p vs numbers supports codes short k left key a b e) (n : left ≡ 0 → ⊥) where
+  pub next-place : (i : ℕ) → i ≡ length (constraintAt p k .scope) → (left ≤ i) × (i - left ≡ length vs) × (i - left < length (constraintAt p k .scope))
+  next-place i h = (omega (arith, s .chosen .split), omega (arith, s .chosen .split), omega (arith, s .chosen .split))
+
+  module _ (x set : ℕ) (ex : x ≡ at (constraintAt p k .scope) (length vs)) (c : Choices p vs codes k left set) (m : set ≡ 0 → ⊥) where
+    low-is : trailingZeros 64 set ≡ lowestOf set
+    low-is = trailing-least 64 16 set (omega arith) (c .small) m
+
+    low-in : T (has set (trailingZeros 64 set))
+    low-in = subst (λ (v : ℕ). T (has set v)) (sym low-is) (choices-low p vs codes k left set c m)
+
+    pub next-spot : 16 * x + trailingZeros 64 set < 256
+    next-spot =
+        let h = next-var p vs numbers supports codes short k left key a b e s n in
+        omega (arith, ex, h, init-16 p (s .lent .ready .framed .stated) _ (trailingZeros 64 set) h (c .allowed _ low-in), s .lent .ready .framed .stated .few)
+
+    pub next-key : 16 * key + trailingZeros 64 set < 4096
+    next-key =
+        let h = next-var p vs numbers supports codes short k left key a b e s n in
+        omega (arith, chosen-key p vs codes numbers supports k left key (s .lent .ready) (s .chosen) n, init-16 p (s .lent .ready .framed .stated) _ (trailingZeros 64 set) h (c .allowed _ low-in))
+
+    pub next-walk : (code : ℕ) → code ≡ at codes (16 * x + trailingZeros 64 set) → Walking p (vs ++ (trailingZeros 64 set ∷ [])) numbers supports codes short k (left - 1) (16 * key + trailingZeros 64 set) b e code
+    next-walk code h =
+        subst (Walking p (vs ++ (trailingZeros 64 set ∷ [])) numbers supports codes short k (left - 1) (16 * key + trailingZeros 64 set) b e)
+        (sym (h ∙ ap (λ (y : ℕ). at codes (16 * y + trailingZeros 64 set)) ex))
+        (further p vs numbers supports codes short k left key a b e s n (trailingZeros 64 set) (c .allowed _ low-in) (c .absent _ low-in))
+
+    module _ (r : Bool) (h : r ≡ keeps p codes (constraintAt p k) (drop (length (vs ++ (trailingZeros 64 set ∷ []))) (constraintAt p k .scope)) (vs ++ (trailingZeros 64 set ∷ []))) where
+      answer : keeps p codes (constraintAt p k) (drop (suc (length vs)) (constraintAt p k .scope)) (vs ++ (lowestOf set ∷ [])) ≡ r
+      answer = sym (h ∙ ap₂ (λ (i v : ℕ). keeps p codes (constraintAt p k) (drop i (constraintAt p k .scope)) (vs ++ (v ∷ []))) (length-snoc vs (trailingZeros 64 set)) low-is)
+
+      pub walk-stop : r ≡ false → false ≡ keeps p codes (constraintAt p k) (drop (length vs) (constraintAt p k .scope)) vs
+      walk-stop f = choices-stop p vs codes k left set c m (answer ∙ f)
+
+      pub walk-rest : r ≡ true → Choices p vs codes k left (bitAnd set (set - 1))
+      walk-rest f = choices-rest p vs codes k left set c m (answer ∙ f)

@@ -67,7 +67,6 @@ refused-requires c κs = let h = c .before .before .before .before .before .befo
 asked : (c : tie.After-refused Inv-loop μ-loop) (p : Problem) (t : Triple p (now (c .before .before .before .before .before .before .before .before .before .before .args .numbers)) (now (c .before .before .before .before .before .before .before .before .before .before .args .supports)) (c .before .before .before .before .before .before .before .before .before .before .args .short) (c .before .before .before .before .before .before .before .before .before .before .args .a) (c .before .before .before .before .before .before .before .before .before .before .args .b) (c .before .before .before .before .before .before .before .before .before .before .args .e)) → c .refused .result ≡ refusedBy (constraintAt p (trailingZeros 64 (c .before .before .loop .left))) (c .before .before .before .before .before .before .before .before .before .before .args .a) (c .before .before .before .before .before .before .before .before .before .before .args .b) (c .before .before .before .before .before .before .before .before .before .before .args .e)
 asked c p t = c .refused .ensures p (t .ready) (left-next p _ _ _ _ _ _ t _ (c .before .before .loop .inv p t) (c .before .loop-test .taken))
 
-
 -- src/forbidden.rt:138:13
 returns-4 : tie.Need-returns-4 Inv-loop μ-loop
 returns-4 c = λ p t. left-stop p _ _ _ _ _ _ t _ (c .before .before .before .loop .inv p t) (c .before .before .loop-test .taken) (sym (asked (c .before) p t) ∙ c .if4 .taken)

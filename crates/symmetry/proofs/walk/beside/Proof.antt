@@ -33,7 +33,6 @@ second c = let h = c .before .before .before .pre in beside-next (h .0) _ _ _ _ 
 triple : (c : tie.After-code2 Inv-loop μ-loop) (p : Problem) (s : Beside p (now (c .before .before .before .before .args .numbers)) (now (c .before .before .before .before .args .supports)) (now (c .before .before .before .before .args .codes)) (c .before .before .before .before .args .short) (c .before .before .before .before .args .x) (c .before .before .before .before .args .v) (c .before .before .before .before .args .set)) → Triple p (now (c .before .before .before .before .args .numbers)) (now (c .before .before .before .before .args .supports)) (c .before .before .before .before .args .short) 255 (c .before .before .before .code .result) (c .code2 .result)
 triple c p s = beside-triple p _ _ _ _ _ _ _ (c .before .before .loop .inv p s .0) _ _ (c .before .loop-test .taken) (c .before .before .before .code .ensures) (c .code2 .ensures)
 
-
 -- src/walk.rt:134:25
 mul-code : tie.Need-mul-code Inv-loop μ-loop
 mul-code c = omega (arith, first c)

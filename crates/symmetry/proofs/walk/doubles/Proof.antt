@@ -52,7 +52,6 @@ beside-requires c κs = let h = c .before .before .before .pre in (h .0, doublin
 besides-are : (c : tie.After-beside Inv-loop μ-loop) (p : Problem) → Lent p (now (c .before .before .before .before .args .numbers)) (now (c .before .before .before .before .args .supports)) (now (c .before .before .before .before .args .codes)) (c .before .before .before .before .args .short) → c .before .before .before .before .args .x < p .variables → c .beside .result ≡ besides p (now (c .before .before .before .before .args .codes)) (c .before .before .before .before .args .x) (trailingZeros 64 (c .before .before .loop .left)) (members (bitAnd (c .before .before .loop .left) (c .before .before .loop .left - 1)))
 besides-are c p l h = c .beside .ensures p (doubling-beside p _ _ _ _ _ _ l h (c .before .before .loop .inv p l h) (c .before .loop-test .taken))
 
-
 -- src/walk.rt:162:13
 returns : tie.Need-returns Inv-loop μ-loop
 returns c = λ p l h. doubling-stop p _ _ _ _ _ _ l h (c .before .before .before .loop .inv p l h) (c .before .before .loop-test .taken) _ (besides-are (c .before) p l h) (not-true _ (c .if1 .taken))
