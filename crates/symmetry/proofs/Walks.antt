@@ -305,3 +305,15 @@ module _ (p : Problem) (vs numbers supports codes : List ℕ) (short k left key 
 
       pub walk-rest : r ≡ true → Choices p vs codes k left (bitAnd set (set - 1))
       walk-rest f = choices-rest p vs codes k left set c m (answer ∙ f)
+
+-- before the first variable
+pub walk-start : (p : Problem) (numbers supports codes : List ℕ) (short k left : ℕ) → Lent p numbers supports codes short → k < length (p .constraints) → left ≡ length (constraintAt p k .scope) →
+    Walking p [] numbers supports codes short k left 0 255 255 255
+unfolding codesAt
+walk-start p numbers supports codes short k left l h e =
+    record {
+      lent = l;
+      chosen = record { inside = h; split = omega arith; begun = tt; keyed = sym packed-none };
+      shown = refl;
+      absent = λ z. absurd (omega (arith, good p (l .ready .framed .stated) k h .some));
+    }
