@@ -2,11 +2,12 @@
 use mathlib.Core.Path.{_≡_}
 use mathlib.Core.Bool.{Bool, true, false}
 use mathlib.Core.List.{List, List·Memᴰ}
-use Prim.Native.Nat.{ℕ, _+_, _*_, _^_, _≤_, _<_}
+use Prim.Native.Nat.{ℕ, zero, suc, _+_, _*_, _^_, _≤_, _<_}
 use lib.ListN.{length}
 use Rattle.model.specs.Lists.{at}
 use Rattle.model.specs.Problem.{Problem, Constraint, respects}
 use Rattle.model.specs.Sheet.{words, permutesPairs}
+use Rattle.model.specs.Verdict.{Verdict, refused}
 use Rattle.model.proofs.WellFormed.{GoodConstraint}
 use Rattle.layout.specs.Layout.{Numbers, Supports}
 
@@ -52,3 +53,8 @@ answerOf true true = 0
 -- 0 where both answers are yes, else the number of the first that is no
 abbrev pub tableAnswer : Problem → List ℕ → ℕ → ℕ
 tableAnswer p sheet offset = answerOf (permutesPairs p (tableOf p sheet offset)) (respects p (tableOf p sheet offset))
+
+-- the verdict by such an answer: 0 goes on to what is asked later
+abbrev pub verdictBy : ℕ → ℕ → Verdict → Verdict
+verdictBy zero item later = later
+verdictBy (suc n) item later = refused (suc n) item

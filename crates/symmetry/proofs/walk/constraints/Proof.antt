@@ -27,7 +27,6 @@ kept p codes c = keeps p codes c (c .scope) []
 abbrev none : Constraint
 none = record { scope = []; rows = [] }
 
-
 abbrev Inv-loop : tie.InvT-loop
 Inv-loop numbers supports codes short c k₀ k = (p : Problem) → Lent p numbers supports codes short → (k ≤ length (p .constraints)) × (all (kept p codes) (drop k (p .constraints)) ≡ all (kept p codes) (p .constraints))
 
@@ -46,7 +45,6 @@ start c p l = walk-start p _ _ _ _ _ _ l (inside (c .before) p l) (c .arity .ens
 
 answer : (c : tie.After-walk Inv-loop μ-loop) (p : Problem) → Lent p (now (c .before .before .before .before .before .args .numbers)) (now (c .before .before .before .before .before .args .supports)) (now (c .before .before .before .before .before .args .codes)) (c .before .before .before .before .before .args .short) → kept p (now (c .before .before .before .before .before .args .codes)) (constraintAt p (c .before .before .before .loop .k)) ≡ c .walk .result
 answer c p l = sym (c .walk .ensures p [] (start (c .before) p l))
-
 
 -- src/walk.rt:101:5
 loop-holds : tie.Need-loop-holds Inv-loop μ-loop

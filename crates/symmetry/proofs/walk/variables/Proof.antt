@@ -21,7 +21,6 @@ use Rattle.symmetry.proofs.walk.doubles.Reads as doubles-reads
 abbrev kept : Problem → List ℕ → ℕ → Bool
 kept p codes x = doublings p codes x (members (at (p .initial) x))
 
-
 abbrev Inv-loop : tie.InvT-loop
 Inv-loop numbers supports codes short n x₀ x = (p : Problem) → Lent p numbers supports codes short → (x ≤ p .variables) × (all (kept p codes) (upFrom x (p .variables - x)) ≡ all (kept p codes) (below (p .variables)))
 
@@ -37,7 +36,6 @@ inside c p l = omega (arith, c .before .before .number .ensures, l .ready .frame
 
 answer : (c : tie.After-doubles Inv-loop μ-loop) (p : Problem) → Lent p (now (c .before .before .before .before .args .numbers)) (now (c .before .before .before .before .args .supports)) (now (c .before .before .before .before .args .codes)) (c .before .before .before .before .args .short) → kept p (now (c .before .before .before .before .args .codes)) (c .before .before .loop .x) ≡ c .doubles .result
 answer c p l = sym (c .doubles .ensures p l (inside (c .before) p l))
-
 
 -- src/walk.rt:180:5
 loop-holds : tie.Need-loop-holds Inv-loop μ-loop
