@@ -2,3 +2,4 @@
 pub mod Meaning
 pub mod Read
 pub mod Parts
+pub mod Fill
