@@ -3,3 +3,7 @@ pub mod Asking
 pub mod SetsTurn
 pub mod Words
 pub mod RowTurn
+pub mod Keys
+pub mod Ascend
+pub mod RowsTest
+pub mod ScopeTurn

@@ -6,7 +6,7 @@ use Prim.Native.Nat.{ℕ, zero, suc, _+_, _*_, _/_, _%_, _^_, _≤_, _<_}
 use lib.ListN.{length, set}
 use lib.Bits.{bitOr}
 use lib.Dec.{T, ltb}
-use Rattle.model.specs.Lists.{at, all}
+use Rattle.model.specs.Lists.{at, all, both, ascending}
 use Rattle.model.specs.Sheet.{word, words}
 
 abbrev pub pick : Bool → ℕ → ℕ → ℕ
@@ -27,6 +27,11 @@ touched b from k (suc i) l = touch k (word b (from + 2 * i)) (touched b from k i
 unfoldable pub packed : List ℕ → ℕ → ℕ → ℕ → ℕ
 packed b from a zero = a
 packed b from a (suc i) = packed b from a i + word b (from + 2 * i) * 256 ^ suc i
+
+-- the least variable that may stand at i
+unfoldable pub leastAt : List ℕ → ℕ → ℕ → ℕ
+leastAt b from zero = 0
+leastAt b from (suc i) = word b (from + 2 * i) + 1
 
 -- ---- rows
 -- the first i values at an offset as one number, a hexadecimal digit each
@@ -60,6 +65,14 @@ unfoldable pub supported : List ℕ → ℕ → ℕ → ℕ → ℕ → List ℕ
 supported b from a base zero l = l
 supported b from a base (suc i) l = support base (rowKey b from a i) (supported b from a base i l)
 
+-- ---- one constraint
+-- what constraint k at an offset adds to the numbers and to the support sets
+abbrev pub numbersWith : List ℕ → ℕ → ℕ → List ℕ → List ℕ
+numbersWith b o k l = set (touched b (o + 4) k (word b o) l) (32 + k) (packed b (o + 4) (word b o) (word b o))
+
+abbrev pub supportsWith : List ℕ → ℕ → ℕ → List ℕ → List ℕ
+supportsWith b o k l = supported b (o + 4 + 2 * word b o) (word b o) (256 * k) (word b (o + 2)) l
+
 -- ---- what the functions say
 -- the key of a row at an offset, 4096 where a value is not below d
 pub record RowRead (b : List ℕ) (o a d r : ℕ) : Type 0 where
@@ -70,3 +83,8 @@ pub record RowRead (b : List ℕ) (o a d r : ℕ) : Type 0 where
 pub record RowsAsked (b : List ℕ) (from a n d base : ℕ) (old new : List ℕ) (r : ℕ) : Type 0 where
   pub refused : r ≡ 12 → (i : ℕ) × (i < n) × (T (rowFits b from a d i) → ⊥)
   pub passed : (r ≡ 12 → ⊥) → (r ≡ order b from a n) × ((i : ℕ) → i < n → T (rowFits b from a d i)) × (new ≡ supported b from a base n old)
+
+-- question 11 to the scope of a variables at an offset
+pub record ScopeAsked (b : List ℕ) (from a n k : ℕ) (old new : List ℕ) (r : Bool) : Type 0 where
+  pub answers : r ≡ both (all (λ x. ltb x n) (words b from a)) (ascending (words b from a))
+  pub stored : r ≡ true → new ≡ set (touched b from k a old) (32 + k) (packed b from a a)
