@@ -7,3 +7,4 @@ pub mod Keys
 pub mod Ascend
 pub mod RowsTest
 pub mod ScopeTurn
+pub mod ConstraintTurn

@@ -3,3 +3,4 @@ pub mod Meaning
 pub mod Read
 pub mod Parts
 pub mod Fill
+pub mod Steps

@@ -1,11 +1,22 @@
 // Questions 9 to 13, and what they store of each constraint: its scope, and the set of constraints that touch a variable.
+use crate::Answer;
 use crate::read::word;
+use crate::rows;
 ghost use Prim.Native.Nat.{_+_, _*_, _≤_, _<_};
 ghost use mathlib.Core.Path.{_≡_};
 ghost use lib.ListN.{length};
 ghost use lib.Dec.{leb};
 ghost use Rattle.model.specs.Lists.{both};
+ghost use Rattle.model.specs.Sheet.{headerOf};
 ghost use Rattle.sheet.specs.Fill.{ScopeAsked};
+ghost use Rattle.sheet.specs.Parts.{Fit};
+ghost use Rattle.sheet.specs.Steps.{ConstraintAsked, ConstraintsAsked};
+
+// The answer for one constraint: where the next stands, or the number of the first "no".
+pub enum Step {
+    Next(usize),
+    Refused(u8),
+}
 
 // Question 10: one to three variables, at most 256 rows.
 fn counts_fit(a: usize, r: usize) -> bool
@@ -45,4 +56,41 @@ fn scope(sheet: &[u8], from: usize, a: usize, n: usize, k: usize, numbers: &mut 
     }
     numbers[32 + k] = packed as u64;
     true
+}
+
+// Questions 9 to 13 to constraint k at an offset.
+fn constraint(
+    sheet: &[u8],
+    n: usize,
+    d: usize,
+    third: usize,
+    o: usize,
+    k: usize,
+    numbers: &mut [u64; 128],
+    supports: &mut [u16; 8192],
+) -> Step
+    requires { ⌜ Fit (now sheet) × (n ≡ headerOf (now sheet) .variables) × (d ≡ headerOf (now sheet) .values) × (third ≡ headerOf (now sheet) .third) × (o ≤ third) × (k < 32) ⌝ }
+    ensures { λ r. ⌜ ConstraintAsked (now (sheet .entry)) o k (now (numbers .entry)) (now (supports .entry)) (now (numbers .exit)) (now (supports .exit)) r ⌝ }
+{
+    if third < o + 4 {
+        return Step::Refused(9);
+    }
+    let a = word(sheet, o);
+    let r = word(sheet, o + 2);
+    if !counts_fit(a, r) {
+        return Step::Refused(10);
+    }
+    let from = o + 4 + 2 * a;
+    let next = from + 2 * (r * a);
+    if third < next {
+        return Step::Refused(9);
+    }
+    if !scope(sheet, o + 4, a, n, k, numbers) {
+        return Step::Refused(11);
+    }
+    let refused = rows::ask(sheet, from, a, r, d, 256 * k, supports);
+    if refused != 0 {
+        return Step::Refused(refused);
+    }
+    Step::Next(next)
 }
