@@ -8,3 +8,4 @@ pub mod Ascend
 pub mod RowsTest
 pub mod ScopeTurn
 pub mod ConstraintTurn
+pub mod ConstraintsTurn

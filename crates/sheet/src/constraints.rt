@@ -1,5 +1,6 @@
 // Questions 9 to 13, and what they store of each constraint: its scope, and the set of constraints that touch a variable.
 use crate::Answer;
+use crate::read::Header;
 use crate::read::word;
 use crate::rows;
 ghost use Prim.Native.Nat.{_+_, _*_, _≤_, _<_};
@@ -10,6 +11,7 @@ ghost use Rattle.model.specs.Lists.{both};
 ghost use Rattle.model.specs.Sheet.{headerOf};
 ghost use Rattle.sheet.specs.Fill.{ScopeAsked};
 ghost use Rattle.sheet.specs.Parts.{Fit};
+ghost use Rattle.sheet.specs.Read.{stated};
 ghost use Rattle.sheet.specs.Steps.{ConstraintAsked, ConstraintsAsked};
 
 // The answer for one constraint: where the next stands, or the number of the first "no".
@@ -93,4 +95,39 @@ fn constraint(
         return Step::Refused(refused);
     }
     Step::Next(next)
+}
+
+// Questions 9 to 13 to each constraint in turn; after the last, whether it ends at the third offset.
+pub fn ask(sheet: &[u8], h: Header, numbers: &mut [u64; 128], supports: &mut [u16; 8192]) -> Answer
+    requires { ⌜ Fit (now sheet) × (stated h ≡ headerOf (now sheet)) ⌝ }
+    ensures { λ r. ⌜ ConstraintsAsked (now (sheet .entry)) (now (numbers .entry)) (now (supports .entry)) (now (numbers .exit)) (now (supports .exit)) r ⌝ }
+{
+    let c = h.constraints;
+    let mut o = h.second;
+    let mut k = 0;
+    while k < c {
+        let step = constraint(
+            sheet,
+            h.variables,
+            h.values,
+            h.third,
+            o,
+            k,
+            numbers,
+            supports,
+        );
+        match step {
+            Step::Refused(number) => {
+                return Answer::Refused { number, item: k };
+            }
+            Step::Next(next) => {
+                o = next;
+                k += 1;
+            }
+        }
+    }
+    if o != h.third {
+        return Answer::Refused { number: 9, item: c };
+    }
+    Answer::Accepted
 }
