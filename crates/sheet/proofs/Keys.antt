@@ -132,3 +132,13 @@ key-words b o zero = refl
 key-words b o (suc k) =
     ap (λ (n : ℕ). 16 * n + word b (o + 2 * k)) (key-words b o k)
     ∙ sym (key-snoc 0 (words b o k) (word b (o + 2 * k))) ∙ ap (keyFrom 0) (sym (words-snoc b o k))
+
+-- a row of at most three values
+pub key-bound : (l : List ℕ) → length l ≤ 3 → Digits l → keyFrom 0 l < 4096
+unfolding keyFrom
+key-bound [] h p = omega arith
+key-bound (x ∷ []) h p = omega (arith, digits-cons x [] p .0)
+key-bound (x ∷ y ∷ []) h p = (let q = digits-cons x (y ∷ []) p in let r = digits-cons y [] (q .1) in omega arith)
+key-bound (x ∷ y ∷ z ∷ []) h p =
+    (let q = digits-cons x (y ∷ z ∷ []) p in let r = digits-cons y (z ∷ []) (q .1) in let s = digits-cons z [] (r .1) in omega arith)
+key-bound (x ∷ y ∷ z ∷ w ∷ l) h p = absurd (omega arith)

@@ -9,3 +9,8 @@ pub mod RowsTest
 pub mod ScopeTurn
 pub mod ConstraintTurn
 pub mod ConstraintsTurn
+pub mod Any
+pub mod Touch
+pub mod Support
+pub mod Backing
+pub mod Passed
