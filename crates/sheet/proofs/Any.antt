@@ -5,6 +5,7 @@ use mathlib.Core.List.{List, [], _∷_, _++_, map, List·Memᴰ, List·Memᴰ·h
 use Prim.Native.Nat.{ℕ, zero, suc, _+_, _<_}
 use native.Mathlib.Omega.{arith}
 use native.Mathlib.Numerals.{add-one}
+use lib.ListN.{length}
 use Rattle.model.specs.Lists.{either, any, below, upFrom}
 use Rattle.model.proofs.Lists.{any-cons, upFrom-add, map-append, below-e}
 
@@ -53,3 +54,12 @@ any-map p f (x ∷ l) = any-cons p (f x) (map f l) ∙ ap (either (p (f x))) (an
 pub any-same : {A B : Type 0} (p : A → Bool) (q : B → Bool) (f : ℕ → A) (g : ℕ → B) (k : ℕ) → ((j : ℕ) → j < k → p (f j) ≡ q (g j)) → any p (map f (below k)) ≡ any q (map g (below k))
 any-same p q f g k h =
     any-map p f (below k) ∙ any-ext (λ j. p (f j)) (λ j. q (g j)) (below k) (λ j m. h j (below-e k j m)) ∙ sym (any-map q g (below k))
+
+-- as many as numbers below k
+pub length-below : {A : Type 0} (f : ℕ → A) (k : ℕ) → length (map f (below k)) ≡ k
+unfolding below upFrom
+length-below f k = from 0 k
+  where
+    from : (a k : ℕ) → length (map f (upFrom a k)) ≡ k
+    from a zero = refl
+    from a (suc k) = ap suc (from (suc a) k)

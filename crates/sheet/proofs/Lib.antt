@@ -14,3 +14,5 @@ pub mod Touch
 pub mod Support
 pub mod Backing
 pub mod Passed
+pub mod Numbered
+pub mod FormTurn

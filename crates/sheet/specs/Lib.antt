@@ -4,3 +4,4 @@ pub mod Read
 pub mod Parts
 pub mod Fill
 pub mod Steps
+pub mod Form

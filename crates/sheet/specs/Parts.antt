@@ -31,6 +31,10 @@ headerAsked h n later =
 abbrev pub headerVerdict : List ℕ → Verdict → Verdict
 headerVerdict b later = headerAsked (headerOf b) (length b) later
 
+-- the test of question 14
+abbrev pub tablesFit : Header → Bool
+tablesFit h = eqb (h .size) (h .third + 2 * (h .symmetries * (h .variables * h .values)))
+
 -- questions 1 to 14
 unfoldable pub formVerdict : List ℕ → Verdict → Verdict
 formVerdict b later =
@@ -38,7 +42,7 @@ formVerdict b later =
     headerVerdict b
     (setsVerdict b h (below (h .variables))
     (constraintsVerdict b h (h .constraints) 0 (h .second)
-    (ask (eqb (h .size) (h .third + 2 * (h .symmetries * (h .variables * h .values)))) 14 0 later)))
+    (ask (tablesFit h) 14 0 later)))
 
 -- what questions 1 to 7 leave
 pub record Fit (b : List ℕ) : Type 0 where

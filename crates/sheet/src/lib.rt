@@ -4,6 +4,7 @@ pub mod heading; // questions 1 to 7
 pub mod sets; // question 8
 pub mod rows; // questions 12 and 13 to one constraint
 pub mod constraints; // questions 9 to 13
+pub mod form; // questions 1 to 14
 
 // The first "no", with its number and item, or that there is none.
 pub enum Answer {
