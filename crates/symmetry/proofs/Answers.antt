@@ -1,0 +1,54 @@
+-- From what the code finds to the answer to questions 15 and 16, and from the answer to the verdict. Assumes nothing.
+use mathlib.Core.Path.{_≡_, refl, sym, ap, ap₂, _∙_}
+use mathlib.Core.Bool.{Bool, true, false}
+use mathlib.Core.List.{List, []}
+use Prim.Native.Nat.{ℕ}
+use lib.Dec.{T}
+use Rattle.model.specs.Lists.{all, at, below, both}
+use Rattle.model.specs.ValueSets.{members}
+use Rattle.model.specs.Problem.{Problem, Constraint, respects}
+use Rattle.model.specs.Sheet.{permutesPairs}
+use Rattle.model.specs.Verdict.{Verdict, ask}
+use Rattle.model.proofs.Lists.{T-of}
+use Rattle.symmetry.specs.Table.{Laid, Asked, tableOf, answerOf, tableAnswer, verdictBy}
+use Rattle.symmetry.specs.Forbidden.{Decoded, Short, Lent, keeps, doublings}
+use Rattle.symmetry.proofs.Codes.{decoded-coded}
+use Rattle.symmetry.proofs.Respects.{respects-are}
+
+-- ---- the code's answer
+module _ (p : Problem) (sheet : List ℕ) (offset : ℕ) (numbers supports : List ℕ) (a : Asked p sheet offset numbers supports) where
+  pub asked-laid : Laid p sheet offset numbers
+  asked-laid = record { framed = a .ready .framed; whole = a .whole }
+
+  -- 15 where the table does not permute the pairs
+  pub answer-15 : permutesPairs p (tableOf p sheet offset) ≡ false → 15 ≡ tableAnswer p sheet offset
+  answer-15 e = ap (λ (b : Bool). answerOf b (respects p (tableOf p sheet offset))) (sym e)
+
+  module _ (t : permutesPairs p (tableOf p sheet offset) ≡ true) (codes : List ℕ) (short : ℕ) (d : Decoded p (tableOf p sheet offset) codes) (s : Short p short) where
+    permutes : T (permutesPairs p (tableOf p sheet offset))
+    permutes = T-of (permutesPairs p (tableOf p sheet offset)) t
+
+    pub asked-lent : Lent p numbers supports codes short
+    asked-lent = record { ready = a .ready; shorts = s; coded = decoded-coded p (a .ready .framed .stated) (tableOf p sheet offset) permutes codes d }
+
+    module _ (v : Bool) (ev : v ≡ all (λ x. doublings p codes x (members (at (p .initial) x))) (below (p .variables))) where
+      after : (c : Bool) → c ≡ all (λ c. keeps p codes c (c .scope) []) (p .constraints) → answerOf true (both v c) ≡ tableAnswer p sheet offset
+      after c ec = ap₂ answerOf (sym t) (ap₂ both ev ec ∙ respects-are p (a .ready .framed .stated) (tableOf p sheet offset) permutes codes d)
+
+      -- 16 where the image of two pairs of a variable holds no forbidden set
+      pub answer-16 : v ≡ false → 16 ≡ tableAnswer p sheet offset
+      answer-16 f = ap (λ (b : Bool). answerOf true (both b (all (λ c. keeps p codes c (c .scope) []) (p .constraints)))) (sym f) ∙ after _ refl
+
+      -- else by the constraints' forbidden sets
+      pub answer-last : (c r : Bool) → v ≡ true → c ≡ all (λ c. keeps p codes c (c .scope) []) (p .constraints) → c ≡ r → answerOf true r ≡ tableAnswer p sheet offset
+      answer-last c r f ec e = ap₂ (λ (x y : Bool). answerOf true (both x y)) (sym f) (sym e) ∙ after c ec
+
+-- ---- the verdict
+asked-by : (b c : Bool) (item : ℕ) (later : Verdict) → ask b 15 item (ask c 16 item later) ≡ verdictBy (answerOf b c) item later
+asked-by false c item later = refl
+asked-by true false item later = refl
+asked-by true true item later = refl
+
+pub table-verdict : (p : Problem) (sheet : List ℕ) (offset item : ℕ) (later : Verdict) →
+    ask (permutesPairs p (tableOf p sheet offset)) 15 item (ask (respects p (tableOf p sheet offset)) 16 item later) ≡ verdictBy (tableAnswer p sheet offset) item later
+table-verdict p sheet offset item later = asked-by (permutesPairs p (tableOf p sheet offset)) (respects p (tableOf p sheet offset)) item later

@@ -1,0 +1,14 @@
+pub mod Answers
+pub mod Asking
+pub mod Blocks
+pub mod Codes
+pub mod Doubles
+pub mod Frames
+pub mod Keys
+pub mod Laws
+pub mod Respects
+pub mod Rows
+pub mod Scans
+pub mod Scopes
+pub mod Triples
+pub mod Walks

@@ -1,0 +1,137 @@
+-- `walk` meets its contract. The measure is how many variables are left; the loop goes through the choices for the next one.
+-- Assumes nothing.
+use mathlib.Core.Path.{_≡_, _∙_, sym, ap}
+use mathlib.Core.List.{List, [], _∷_, _++_}
+use Prim.Native.Nat.{ℕ, _+_, _-_, _*_, _≤_, _<_}
+use native.Mathlib.Nat.{lt-of-le-of-lt}
+use native.Mathlib.Omega.{arith}
+use lib.Dec.{lit<}
+use lib.ListN.{length}
+use lib.Count.{trailingZeros, trailing-le}
+use denote.Ref.{now}
+use borrow.Author.Tests.{not-true, not-false}
+use borrow.Fn.Kinds.{In}
+use borrow.Fn.PlainCycle.{Measures, is, falls, and}
+use Rattle.model.specs.Lists.{at}
+use Rattle.model.specs.Problem.{Problem}
+use Rattle.layout.specs.Layout.{constraintAt}
+use Rattle.symmetry.specs.Forbidden.{Walking, Choices}
+use Rattle.symmetry.proofs.Laws.{rest-less}
+use Rattle.symmetry.proofs.Walks.{walked, walked-triple, choices-over, next-place, next-spot, next-key, next-walk, walk-stop, walk-rest}
+use Rattle.symmetry.proofs.walk.walk.Reads as walk
+use Rattle.symmetry.proofs.walk.walk.Kinds as walk-kinds
+use Rattle.symmetry.proofs.walk.+walk.Lts-walk as lts
+use Rattle.symmetry.proofs.forbidden.arity.Reads as arity
+use Rattle.symmetry.proofs.forbidden.blocked.Reads as blocked
+use Rattle.symmetry.proofs.forbidden.scope_at.Reads as scope-at
+use Rattle.symmetry.proofs.walk.choices.Reads as choices
+use Rattle.symmetry.proofs.walk.code.Reads as code
+use Rattle.symmetry.proofs.walk.+walk.{statement}
+use Rattle.symmetry.proofs.walk.+walk.Tie.{close}
+
+abbrev μ-walk : Measures 3 walk-kinds.ps ℕ
+μ-walk κs a = a .1 .1 .1 .1 .1 .0
+
+abbrev walk-at : ℕ → In 3 walk-kinds.ps
+walk-at t = and 3 walk-kinds.ps (is 3 walk-kinds.ps μ-walk t) walk.Pre
+
+abbrev walk-below : ℕ → In 3 walk-kinds.ps
+walk-below t = and 3 walk-kinds.ps (falls 3 walk-kinds.ps _<_ μ-walk t) walk.Pre
+
+-- what the functions called ask and give, `walk` itself below the measure t
+abbrev claims : ℕ → lts.Claims
+claims t = (blocked.Asked, blocked.Learnt, arity.Asked, arity.Learnt, scope-at.Asked, scope-at.Learnt, choices.Asked, choices.Learnt, code.Asked, code.Learnt, walk-below t, walk.Post)
+
+abbrev Inv-loop : lts.InvT-loop
+Inv-loop numbers supports codes short k left key a b e x set₀ set =
+    (p : Problem) (vs : List ℕ) → Walking p vs numbers supports codes short k left key a b e → Choices p vs codes k left set
+
+abbrev μ-loop : lts.MeasureT-loop
+μ-loop numbers supports codes short k left key a b e x set₀ set = set
+
+module _ (t : ℕ) where
+  -- ---- what is known on the way
+  place : (c : lts.After-arity (claims t) (walk-at t) walk.Post Inv-loop μ-loop) (p : Problem) (vs : List ℕ) → Walking p vs (now (c .before .before .args .numbers)) (now (c .before .before .args .supports)) (now (c .before .before .args .codes)) (c .before .before .args .short) (c .before .before .args .k) (c .before .before .args .left) (c .before .before .args .key) (c .before .before .args .a) (c .before .before .args .b) (c .before .before .args .e) →
+      (c .before .before .args .left ≤ c .arity .result) × (c .arity .result - c .before .before .args .left ≡ length vs) × (c .arity .result - c .before .before .args .left < length (constraintAt p (c .before .before .args .k) .scope))
+  place c p vs s = next-place p vs _ _ _ _ _ _ _ _ _ _ s (c .before .if1 .left) _ (c .arity .ensures p (s .lent .ready .framed) (s .chosen .inside))
+
+  variable : (c : lts.After-scope-at (claims t) (walk-at t) walk.Post Inv-loop μ-loop) (p : Problem) (vs : List ℕ) → Walking p vs (now (c .before .before .before .args .numbers)) (now (c .before .before .before .args .supports)) (now (c .before .before .before .args .codes)) (c .before .before .before .args .short) (c .before .before .before .args .k) (c .before .before .before .args .left) (c .before .before .before .args .key) (c .before .before .before .args .a) (c .before .before .before .args .b) (c .before .before .before .args .e) → c .scope-at .result ≡ at (constraintAt p (c .before .before .before .args .k) .scope) (length vs)
+  variable c p vs s =
+      let h = place (c .before) p vs s in
+      c .scope-at .ensures p (s .lent .ready .framed) (s .chosen .inside) (h .2) ∙ ap (at (constraintAt p (c .before .before .before .args .k) .scope)) (h .1)
+
+  spot : (c : lts.In-loop (claims t) (walk-at t) walk.Post Inv-loop μ-loop) → 16 * c .before .before .before .scope-at .result + trailingZeros 64 (c .before .loop .set) < 256
+  spot c = let h = c .before .before .before .before .before .before .pre .1 in next-spot (h .0) (h .1) _ _ _ _ _ _ _ _ _ _ (h .2) (c .before .before .before .before .before .if1 .left) _ _ (variable (c .before .before .before) (h .0) (h .1) (h .2)) (c .before .loop .inv (h .0) (h .1) (h .2)) (c .loop-test .taken)
+
+  key : (c : lts.In-loop (claims t) (walk-at t) walk.Post Inv-loop μ-loop) → 16 * c .before .before .before .before .before .before .args .key + trailingZeros 64 (c .before .loop .set) < 4096
+  key c = let h = c .before .before .before .before .before .before .pre .1 in next-key (h .0) (h .1) _ _ _ _ _ _ _ _ _ _ (h .2) (c .before .before .before .before .before .if1 .left) _ _ (variable (c .before .before .before) (h .0) (h .1) (h .2)) (c .before .loop .inv (h .0) (h .1) (h .2)) (c .loop-test .taken)
+
+  further : (c : lts.After-code (claims t) (walk-at t) walk.Post Inv-loop μ-loop) (p : Problem) (vs : List ℕ) → Walking p vs (now (c .before .before .before .before .before .before .before .args .numbers)) (now (c .before .before .before .before .before .before .before .args .supports)) (now (c .before .before .before .before .before .before .before .args .codes)) (c .before .before .before .before .before .before .before .args .short) (c .before .before .before .before .before .before .before .args .k) (c .before .before .before .before .before .before .before .args .left) (c .before .before .before .before .before .before .before .args .key) (c .before .before .before .before .before .before .before .args .a) (c .before .before .before .before .before .before .before .args .b) (c .before .before .before .before .before .before .before .args .e) →
+      Walking p (vs ++ (trailingZeros 64 (c .before .before .loop .set) ∷ [])) (now (c .before .before .before .before .before .before .before .args .numbers)) (now (c .before .before .before .before .before .before .before .args .supports)) (now (c .before .before .before .before .before .before .before .args .codes)) (c .before .before .before .before .before .before .before .args .short) (c .before .before .before .before .before .before .before .args .k) (c .before .before .before .before .before .before .before .args .left - 1) (16 * c .before .before .before .before .before .before .before .args .key + trailingZeros 64 (c .before .before .loop .set)) (c .before .before .before .before .before .before .before .args .b) (c .before .before .before .before .before .before .before .args .e) (c .code .result)
+  further c p vs s = next-walk p vs _ _ _ _ _ _ _ _ _ _ s (c .before .before .before .before .before .before .if1 .left) _ _ (variable (c .before .before .before .before) p vs s) (c .before .before .loop .inv p vs s) (c .before .loop-test .taken) _ (c .code .ensures)
+
+  -- ---- the needs
+  blocked-requires : lts.Need-blocked-requires (claims t) (walk-at t) walk.Post Inv-loop μ-loop
+  blocked-requires c κs = let h = c .before .pre .1 in (h .0, walked-triple (h .0) (h .1) _ _ _ _ _ _ _ _ _ _ (h .2))
+
+  returns : lts.Need-returns (claims t) (walk-at t) walk.Post Inv-loop μ-loop
+  returns c = λ p vs s. c .blocked .ensures p (walked-triple p vs _ _ _ _ _ _ _ _ _ _ s) ∙ walked p vs _ _ _ _ _ _ _ _ _ _ s (c .before .if1 .taken)
+
+  arity-requires : lts.Need-arity-requires (claims t) (walk-at t) walk.Post Inv-loop μ-loop
+  arity-requires c κs = let h = c .before .pre .1 in (h .0, h .2 .lent .ready .framed, h .2 .chosen .inside)
+
+  sub-scope-at : lts.Need-sub-scope-at (claims t) (walk-at t) walk.Post Inv-loop μ-loop
+  sub-scope-at c = let h = c .before .before .pre .1 in place c (h .0) (h .1) (h .2) .0
+
+  scope-at-requires : lts.Need-scope-at-requires (claims t) (walk-at t) walk.Post Inv-loop μ-loop
+  scope-at-requires c κs = let h = c .before .before .pre .1 in (h .0, h .2 .lent .ready .framed, h .2 .chosen .inside, place c (h .0) (h .1) (h .2) .2)
+
+  choices-requires : lts.Need-choices-requires (claims t) (walk-at t) walk.Post Inv-loop μ-loop
+  choices-requires c κs = let h = c .before .before .before .pre .1 in (h .0, h .1, h .2 .lent .ready, h .2 .chosen, c .before .before .if1 .left, variable c (h .0) (h .1) (h .2))
+
+  loop-holds : lts.Need-loop-holds (claims t) (walk-at t) walk.Post Inv-loop μ-loop
+  loop-holds c = λ p vs s. c .choices .ensures p vs _ (s .lent .ready) (s .chosen) (c .before .before .before .if1 .left) (variable (c .before) p vs s)
+
+  cast-v : lts.Need-cast-v (claims t) (walk-at t) walk.Post Inv-loop μ-loop
+  cast-v c = record { fits = lt-of-le-of-lt (trailing-le 64 _) (lit< tt) }
+
+  sub-walk : lts.Need-sub-walk (claims t) (walk-at t) walk.Post Inv-loop μ-loop
+  sub-walk c = let n = c .before .before .before .before .before .if1 .left in omega arith
+
+  mul-walk : lts.Need-mul-walk (claims t) (walk-at t) walk.Post Inv-loop μ-loop
+  mul-walk c = omega (arith, key c)
+
+  add-walk : lts.Need-add-walk (claims t) (walk-at t) walk.Post Inv-loop μ-loop
+  add-walk c = omega (arith, key c)
+
+  mul-code : lts.Need-mul-code (claims t) (walk-at t) walk.Post Inv-loop μ-loop
+  mul-code c = omega (arith, spot c)
+
+  add-code : lts.Need-add-code (claims t) (walk-at t) walk.Post Inv-loop μ-loop
+  add-code c = omega (arith, spot c)
+
+  code-requires : lts.Need-code-requires (claims t) (walk-at t) walk.Post Inv-loop μ-loop
+  code-requires c κs = spot c
+
+  walk-requires : lts.Need-walk-requires (claims t) (walk-at t) walk.Post Inv-loop μ-loop
+  walk-requires c κs = let h = c .before .before .before .before .before .before .before .pre in (omega (arith, h .0, c .before .before .before .before .before .before .if1 .left), (h .1 .0, (h .1 .1) ++ (trailingZeros 64 (c .before .before .loop .set) ∷ []), further c (h .1 .0) (h .1 .1) (h .1 .2)))
+
+  returns-2 : lts.Need-returns-2 (claims t) (walk-at t) walk.Post Inv-loop μ-loop
+  returns-2 c = λ p vs s. walk-stop p vs _ _ _ _ _ _ _ _ _ _ s (c .before .before .before .before .before .before .before .before .if1 .left) _ _ (variable (c .before .before .before .before .before .before) p vs s) (c .before .before .before .before .loop .inv p vs s) (c .before .before .before .loop-test .taken) _ (c .before .walk .ensures p _ (further (c .before .before) p vs s)) (not-true _ (c .if2 .taken))
+
+  sub-set : lts.Need-sub-set (claims t) (walk-at t) walk.Post Inv-loop μ-loop
+  sub-set c = let n = c .before .before .before .loop-test .taken in omega arith
+
+  loop-less : lts.Need-loop-less (claims t) (walk-at t) walk.Post Inv-loop μ-loop
+  loop-less c = rest-less _ (c .before .before .before .loop-test .taken)
+
+  loop-again : lts.Need-loop-again (claims t) (walk-at t) walk.Post Inv-loop μ-loop
+  loop-again c = λ p vs s. walk-rest p vs _ _ _ _ _ _ _ _ _ _ s (c .before .before .before .before .before .before .before .before .if1 .left) _ _ (variable (c .before .before .before .before .before .before) p vs s) (c .before .before .before .before .loop .inv p vs s) (c .before .before .before .loop-test .taken) _ (c .before .walk .ensures p _ (further (c .before .before) p vs s)) (not-false _ (c .if2 .left))
+
+  returns-3 : lts.Need-returns-3 (claims t) (walk-at t) walk.Post Inv-loop μ-loop
+  returns-3 c = λ p vs s. choices-over p vs _ _ _ _ (c .before .loop .inv p vs s) (c .loop-test .left)
+
+pub +walk-spec : {M : Type 1} → statement M
++walk-spec =
+    close μ-walk
+    (λ t. lts.spec (claims t) (walk-at t) walk.Post Inv-loop μ-loop (blocked-requires t) (returns t) (arity-requires t) (sub-scope-at t) (scope-at-requires t) (choices-requires t) (loop-holds t) (cast-v t) (sub-walk t) (mul-walk t) (add-walk t) (mul-code t) (add-code t) (code-requires t) (walk-requires t) (returns-2 t) (sub-set t) (loop-less t) (loop-again t) (returns-3 t))

@@ -1,0 +1,163 @@
+-- The words in which the functions below question 16 speak.
+use mathlib.Core.Path.{_≡_}
+use mathlib.Core.Bool.{Bool, true, false, not}
+use mathlib.Core.List.{List, [], _∷_, _++_, map}
+use mathlib.Core.Logic.{_⊎_}
+use Prim.Native.Nat.{ℕ, _+_, _*_, _^_, _/_, _%_, _≤_, _<_, suc}
+use lib.ListN.{length, take, drop}
+use lib.Dec.{T, eqb, ltb}
+use Rattle.model.specs.Lists.{all, any, at, same, both, either, below}
+use Rattle.model.specs.ValueSets.{has, members}
+use Rattle.model.specs.Problem.{Problem, Constraint, pair, forbidden, within}
+use Rattle.layout.specs.Layout.{constraintAt}
+use Rattle.symmetry.specs.Table.{Framed, Ready}
+
+-- some forbidden set lies among the pairs
+unfoldable pub blocked : Problem → List ℕ → Bool
+blocked p image = any (λ h. within h image) (forbidden p)
+
+-- ---- codes of pairs
+-- the code of a pair is 16 times its variable plus its value; its pair number
+abbrev pub numberOf : Problem → ℕ → ℕ
+numberOf p code = pair p (code / 16) (code % 16)
+
+abbrev pub PairCode : Problem → ℕ → Type 0
+PairCode p code = (code / 16 < p .variables) × T (has (at (p .initial) (code / 16)) (code % 16))
+
+-- 255 is the code of no pair
+abbrev pub MaybePair : Problem → ℕ → Type 0
+MaybePair p code = (code ≡ 255) ⊎ PairCode p code
+
+-- `codes`: that of the image of (x, v) in a table at 16 x + v
+abbrev pub Decoded : Problem → List ℕ → List ℕ → Type 0
+Decoded p g codes = (x v : ℕ) → x < p .variables → v < p .values → at codes (16 * x + v) ≡ 16 * (at g (pair p x v) / p .values) + at g (pair p x v) % p .values
+
+-- the images of pairs are pairs
+abbrev pub Coded : Problem → List ℕ → Type 0
+Coded p codes = (x v : ℕ) → x < p .variables → T (has (at (p .initial) x) v) → PairCode p (at codes (16 * x + v))
+
+-- values as the digits of a number
+unfoldable pub packedOn : ℕ → List ℕ → ℕ
+packedOn key [] = key
+packedOn key (v ∷ vs) = packedOn (16 * key + v) vs
+
+abbrev pub packed : List ℕ → ℕ
+packed vs = packedOn 0 vs
+
+-- ---- three pairs
+abbrev pub clashes : ℕ → ℕ → Bool
+clashes a b = both (eqb (a / 16) (b / 16)) (not (eqb a b))
+
+abbrev pub pick : Bool → ℕ → ℕ → ℕ
+pick true v w = v
+pick false v w = w
+
+-- the value that the first of three pairs with this variable gives to it, 16 where none has it
+abbrev pub valueIn : ℕ → ℕ → ℕ → ℕ → ℕ
+valueIn a b e x = pick (eqb (a / 16) x) (a % 16) (pick (eqb (b / 16) x) (b % 16) (pick (eqb (e / 16) x) (e % 16) 16))
+
+-- the scope lies among the variables of three pairs, whose values are no row
+unfoldable pub refusedBy : Constraint → ℕ → ℕ → ℕ → Bool
+refusedBy c a b e = both (all (λ x. ltb (valueIn a b e x) 16) (c .scope)) (not (any (same (map (valueIn a b e) (c .scope))) (c .rows)))
+
+-- the values for the first i variables of a scope are found among three pairs
+pub record LookedUp (c : Constraint) (a b e i key : ℕ) : Type 0 where
+  pub within : i ≤ length (c .scope)
+  pub keyed : key ≡ packed (map (valueIn a b e) (take i (c .scope)))
+  pub small : (j : ℕ) → j < i → valueIn a b e (at (c .scope) j) < 16
+
+-- `short`: the set of the constraints on fewer than three variables
+abbrev pub Short : Problem → ℕ → Type 0
+Short p short = (k : ℕ) → k < length (p .constraints) → length (constraintAt p k .scope) < 3 → T (has short k)
+
+-- every constraint whose scope lies among three variables is a candidate
+pub record Candidates (p : Problem) (x y z set : ℕ) : Type 0 where
+  pub few : set < 2 ^ length (p .constraints)
+  pub whole : (k : ℕ) → k < length (p .constraints) → T (all (λ u. any (eqb u) (x ∷ y ∷ z ∷ [])) (constraintAt p k .scope)) → T (has set k)
+
+pub record Triple (p : Problem) (numbers supports : List ℕ) (short a b e : ℕ) : Type 0 where
+  pub ready : Ready p numbers supports
+  pub shorts : Short p short
+  pub first : MaybePair p a
+  pub second : MaybePair p b
+  pub third : MaybePair p e
+
+-- every constraint that refuses three pairs is still to be asked
+pub record Left (p : Problem) (a b e set : ℕ) : Type 0 where
+  pub few : set < 2 ^ length (p .constraints)
+  pub whole : (k : ℕ) → k < length (p .constraints) → T (refusedBy (constraintAt p k) a b e) → T (has set k)
+
+-- ---- the walk of a constraint's forbidden sets
+unfoldable pub codesAt : List ℕ → List ℕ → List ℕ → List ℕ
+codesAt codes xs [] = []
+codesAt codes [] (v ∷ vs) = []
+codesAt codes (x ∷ xs) (v ∷ vs) = at codes (16 * x + v) ∷ codesAt codes xs vs
+
+-- the values vs are chosen for the first variables of a constraint, those of xs are to come:
+-- whatever they are, the values are a row or their image is blocked
+unfoldable pub keeps : Problem → List ℕ → Constraint → List ℕ → List ℕ → Bool
+keeps p codes c [] vs = either (any (same vs) (c .rows)) (blocked p (map (numberOf p) (codesAt codes (c .scope) vs)))
+keeps p codes c (x ∷ xs) vs = all (λ v. keeps p codes c xs (vs ++ (v ∷ []))) (members (at (p .initial) x))
+
+-- the values are of the initial sets of the first variables
+abbrev pub Begun : Problem → List ℕ → List ℕ → Type 0
+Begun p xs [] = Unit {0}
+Begun p [] (v ∷ vs) = ⊥
+Begun p (x ∷ xs) (v ∷ vs) = T (has (at (p .initial) x) v) × Begun p xs vs
+
+-- the last three of the codes, after 255 three times
+abbrev pub lastThree : List ℕ → List ℕ
+lastThree [] = 255 ∷ 255 ∷ 255 ∷ []
+lastThree (a ∷ []) = 255 ∷ 255 ∷ a ∷ []
+lastThree (a ∷ b ∷ []) = 255 ∷ a ∷ b ∷ []
+lastThree (a ∷ b ∷ e ∷ r) = a ∷ b ∷ e ∷ []
+
+-- what the walks of the forbidden sets are lent
+pub record Lent (p : Problem) (numbers supports codes : List ℕ) (short : ℕ) : Type 0 where
+  pub ready : Ready p numbers supports
+  pub shorts : Short p short
+  pub coded : Coded p codes
+
+-- values vs are chosen for the first variables of constraint k, for `left` variables they are to come
+pub record Chosen (p : Problem) (vs : List ℕ) (k left key : ℕ) : Type 0 where
+  pub inside : k < length (p .constraints)
+  pub split : length vs + left ≡ length (constraintAt p k .scope)
+  pub begun : Begun p (constraintAt p k .scope) vs
+  pub keyed : key ≡ packed vs
+
+pub record Walking (p : Problem) (vs numbers supports codes : List ℕ) (short k left key a b e : ℕ) : Type 0 where
+  pub lent : Lent p numbers supports codes short
+  pub chosen : Chosen p vs k left key
+  pub shown : a ∷ b ∷ e ∷ [] ≡ lastThree (codesAt codes (constraintAt p k .scope) vs)
+  pub absent : left ≡ 0 → any (same vs) (constraintAt p k .rows) ≡ false
+
+-- what is asked of the values of a set as the next of constraint k is what is asked of all
+pub record Choices (p : Problem) (vs codes : List ℕ) (k left set : ℕ) : Type 0 where
+  pub small : set < 2 ^ 16
+  pub allowed : (v : ℕ) → T (has set v) → T (has (at (p .initial) (at (constraintAt p k .scope) (length vs))) v)
+  pub absent : (v : ℕ) → T (has set v) → left ≡ 1 → any (same (vs ++ (v ∷ []))) (constraintAt p k .rows) ≡ false
+  pub whole : all (λ v. keeps p codes (constraintAt p k) (drop (suc (length vs)) (constraintAt p k .scope)) (vs ++ (v ∷ []))) (members set)
+      ≡ keeps p codes (constraintAt p k) (drop (length vs) (constraintAt p k .scope)) vs
+
+-- ---- the walk of a variable's forbidden sets
+-- the images of (x, v) and of each (x, w) are blocked
+abbrev pub besides : Problem → List ℕ → ℕ → ℕ → List ℕ → Bool
+besides p codes x v ws = all (λ w. blocked p (numberOf p (at codes (16 * x + v)) ∷ numberOf p (at codes (16 * x + w)) ∷ [])) ws
+
+unfoldable pub doublings : Problem → List ℕ → ℕ → List ℕ → Bool
+doublings p codes x [] = true
+doublings p codes x (v ∷ vs) = both (besides p codes x v vs) (doublings p codes x vs)
+
+-- a pair (x, v), and values of the initial set of x beside it
+pub record Beside (p : Problem) (numbers supports codes : List ℕ) (short x v set : ℕ) : Type 0 where
+  pub lent : Lent p numbers supports codes short
+  pub variable : x < p .variables
+  pub value : T (has (at (p .initial) x) v)
+  pub others : (w : ℕ) → T (has set w) → T (has (at (p .initial) x) w)
+  pub small : set < 2 ^ 16
+
+-- what is asked of the pairs of x with the values of a set is what is asked of all
+pub record Doubling (p : Problem) (codes : List ℕ) (x set : ℕ) : Type 0 where
+  pub small : set < 2 ^ 16
+  pub allowed : (w : ℕ) → T (has set w) → T (has (at (p .initial) x) w)
+  pub whole : doublings p codes x (members set) ≡ doublings p codes x (members (at (p .initial) x))

@@ -1,0 +1,143 @@
+// Whether a forbidden set lies among up to three pairs, given by their codes; 255 stands for none.
+ghost use mathlib.Core.Path.{_≡_};
+ghost use mathlib.Core.List.{[], _∷_};
+ghost use Prim.Native.Nat.{ℕ, _+_, _*_, _≤_, _<_};
+ghost use lib.ListN.{length};
+ghost use Rattle.model.specs.Lists.{at};
+ghost use Rattle.model.specs.Problem.{Problem};
+ghost use Rattle.layout.specs.Layout.{constraintAt};
+ghost use Rattle.symmetry.specs.Table.{Framed, Ready};
+ghost use Rattle.symmetry.specs.Forbidden.{Short, Candidates, Triple, clashes, valueIn, refusedBy, blocked as blockedBy, numberOf};
+use super::table::number;
+use super::table::wide16;
+
+pub fn support(supports: &[u16; 8192], i: usize) -> usize
+    requires { ⌜ i < 8192 ⌝ }
+    ensures { λ r. ⌜ (r ≡ at (now (supports .entry)) i) × (r < 65536) ⌝ }
+{
+    wide16(supports[i])
+}
+
+// How many variables a constraint has, and the variable at a place of its scope.
+pub fn arity(numbers: &[u64; 128], k: usize) -> usize
+    requires { ⌜ ((p : Problem) × Framed p (now numbers) × (k < length (p .constraints))) ⌝ }
+    ensures { λ r. ⌜ ((p : Problem) → Framed p (now (numbers .entry)) → k < length (p .constraints) → r ≡ length (constraintAt p k .scope)) ⌝ }
+{
+    number(numbers, 32 + k) % 256
+}
+
+pub fn scope_at(numbers: &[u64; 128], k: usize, i: usize) -> usize
+    requires { ⌜ ((p : Problem) × Framed p (now numbers) × (k < length (p .constraints)) × (i < length (constraintAt p k .scope))) ⌝ }
+    ensures { λ r. ⌜ ((p : Problem) → Framed p (now (numbers .entry)) → k < length (p .constraints) → i < length (constraintAt p k .scope) → r ≡ at (constraintAt p k .scope) i) ⌝ }
+{
+    (number(numbers, 32 + k) >> (8 * i + 8)) % 256
+}
+
+// The set of the constraints on fewer than three variables.
+pub fn short_scopes(numbers: &[u64; 128]) -> usize
+    requires { ⌜ ((p : Problem) × Framed p (now numbers)) ⌝ }
+    ensures { λ r. ⌜ ((p : Problem) → Framed p (now (numbers .entry)) → Short p r) ⌝ }
+{
+    let c = number(numbers, 66);
+    let mut set = 0usize;
+    let mut k = 0;
+    while k < c {
+        if arity(numbers, k) < 3 {
+            set = set | (1usize << k);
+        }
+        k += 1;
+    }
+    set
+}
+
+// Constraints among which are all whose scope lies among three variables.
+fn candidates(numbers: &[u64; 128], short: usize, x: usize, y: usize, z: usize) -> usize
+    requires { ⌜ (x < 16) × (y < 16) × (z < 16) ⌝ }
+    ensures { λ r. ⌜ ((p : Problem) → Framed p (now (numbers .entry)) → Short p short → Candidates p x y z r) ⌝ }
+{
+    let s = number(numbers, x);
+    let t = number(numbers, y);
+    let u = number(numbers, z);
+    ((s | t | u) & short) | (s & t & u)
+}
+
+// Two pairs of one variable.
+fn clash(a: usize, b: usize) -> bool
+    ensures { λ r. ⌜ r ≡ clashes a b ⌝ }
+{
+    if a / 16 == b / 16 { a != b } else { false }
+}
+
+// The value that the first of three pairs with a variable gives to it, 16 where none has it.
+fn value_in(a: usize, b: usize, e: usize, x: usize) -> usize
+    ensures { λ r. ⌜ r ≡ valueIn a b e x ⌝ }
+{
+    if a / 16 == x {
+        return a % 16;
+    }
+    if b / 16 == x {
+        return b % 16;
+    }
+    if e / 16 == x {
+        return e % 16;
+    }
+    16
+}
+
+// Whether a constraint's scope lies among the variables of three pairs, whose values are no row of it.
+fn refused(
+    numbers: &[u64; 128],
+    supports: &[u16; 8192],
+    k: usize,
+    a: usize,
+    b: usize,
+    e: usize,
+) -> bool
+    requires { ⌜ ((p : Problem) × Ready p (now numbers) (now supports) × (k < length (p .constraints))) ⌝ }
+    ensures { λ r. ⌜ ((p : Problem) → Ready p (now (numbers .entry)) (now (supports .entry)) → k < length (p .constraints) → r ≡ refusedBy (constraintAt p k) a b e) ⌝ }
+{
+    let count = arity(numbers, k);
+    let mut key = 0usize;
+    let mut i = 0;
+    while i < count {
+        let v = value_in(a, b, e, scope_at(numbers, k, i));
+        if 16 <= v {
+            return false;
+        }
+        key = 16 * key + v;
+        i += 1;
+    }
+    (support(supports, 256 * k + key / 16) >> (key % 16)) % 2 == 0
+}
+
+// Whether some forbidden set lies among three pairs.
+pub fn blocked(
+    numbers: &[u64; 128],
+    supports: &[u16; 8192],
+    short: usize,
+    a: usize,
+    b: usize,
+    e: usize,
+) -> bool
+    requires { ⌜ ((p : Problem) × Triple p (now numbers) (now supports) short a b e) ⌝ }
+    ensures { λ r. ⌜ ((p : Problem) → Triple p (now (numbers .entry)) (now (supports .entry)) short a b e → r ≡ blockedBy p (numberOf p a ∷ numberOf p b ∷ numberOf p e ∷ [])) ⌝ }
+{
+    if clash(a, b) {
+        return true;
+    }
+    if clash(a, e) {
+        return true;
+    }
+    if clash(b, e) {
+        return true;
+    }
+    let mut left = candidates(numbers, short, a / 16, b / 16, e / 16);
+    while left != 0 {
+        let k = usize::trailing_zeros(left) as usize;
+        if refused(numbers, supports, k, a, b, e) {
+            return true;
+        }
+        left = left & (left - 1);
+    }
+    false
+}

@@ -1,0 +1,33 @@
+// Questions 15 and 16 (paper 01), for one table of a sheet.
+mod forbidden;
+mod table;
+mod walk;
+
+ghost use mathlib.Core.Path.{_≡_};
+ghost use Prim.Native.Nat.{ℕ, _+_, _*_, _≤_, _<_};
+ghost use Rattle.model.specs.Problem.{Problem};
+ghost use Rattle.symmetry.specs.Table.{Asked, tableAnswer};
+
+// 0 where the table at an offset passes both questions, else the number of the first whose answer is no.
+pub fn table_question(
+    sheet: &[u8],
+    offset: usize,
+    numbers: &[u64; 128],
+    supports: &[u16; 8192],
+) -> u8
+    requires { ⌜ ((p : Problem) × Asked p (now sheet) offset (now numbers) (now supports)) ⌝ }
+    ensures { λ r. ⌜ ((p : Problem) → Asked p (now (sheet .entry)) offset (now (numbers .entry)) (now (supports .entry)) → r ≡ tableAnswer p (now (sheet .entry)) offset) ⌝ }
+{
+    if !table::permutes(sheet, offset, numbers) {
+        return 15;
+    }
+    let codes = table::decode(sheet, offset, numbers);
+    let short = forbidden::short_scopes(numbers);
+    if !walk::variables(numbers, supports, &codes, short) {
+        return 16;
+    }
+    if !walk::constraints(numbers, supports, &codes, short) {
+        return 16;
+    }
+    0
+}
