@@ -5,7 +5,7 @@ use mathlib.Core.List.{List, [], _∷_, _++_, map, List·Memᴰ, List·Memᴰ·h
 use Prim.Native.Nat.{ℕ, zero, suc, _+_, _<_}
 use native.Mathlib.Omega.{arith}
 use native.Mathlib.Numerals.{add-one}
-use lib.ListN.{length}
+use lib.ListN.{length, getD}
 use Rattle.model.specs.Lists.{either, any, below, upFrom}
 use Rattle.model.proofs.Lists.{any-cons, upFrom-add, map-append, below-e}
 
@@ -63,3 +63,12 @@ length-below f k = from 0 k
     from : (a k : ℕ) → length (map f (upFrom a k)) ≡ k
     from a zero = refl
     from a (suc k) = ap suc (from (suc a) k)
+
+pub at-below : {A : Type 0} (f : ℕ → A) (k e : ℕ) (x : A) → e < k → getD (map f (below k)) e x ≡ f e
+unfolding below upFrom
+at-below {A} f k e x l = from 0 k e l ∙ ap f (let z : 0 + e ≡ e = omega arith in z)
+  where
+    from : (a k e : ℕ) → e < k → getD (map f (upFrom a k)) e x ≡ f (a + e)
+    from a zero e l = absurd (omega arith)
+    from a (suc k) zero l = ap f (let z : a ≡ a + 0 = omega arith in z)
+    from a (suc k) (suc e) l = from (suc a) k e (omega arith) ∙ ap f (let z : suc a + e ≡ a + suc e = omega arith in z)

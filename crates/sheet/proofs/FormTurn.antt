@@ -29,6 +29,9 @@ pair-room n d hn hd = mul-le-mul hn hd
 pub tables-room : (g n d : ℕ) → g ≤ 16 → n ≤ 12 → d ≤ 16 → g * (n * d) ≤ 3072
 tables-room g n d hg hn hd = mul-le-mul hg (mul-le-mul hn hd)
 
+pub same-size : (n d m v : ℕ) → n ≡ m → d ≡ v → n * d ≡ m * v
+same-size n d m v en ed = ap₂ (λ (x y : ℕ). x * y) en ed
+
 -- a "no" is the first, whatever is asked after it
 first-no : (p q : Verdict → Verdict) (r : Answer) (n i : ℕ) → r ≡ Refused n i → Answers p r → (later : Verdict) → p (q later) ≡ andThen (means r) later
 first-no p q r n i e a later =
@@ -42,16 +45,14 @@ refusal : (b numbers supports : List ℕ) (r : Answer) (n i : ℕ) → r ≡ Ref
 refusal b numbers supports r n i e a =
     record {
       answers = a;
-      fits = λ q. absurd (never q);
-      numbered = λ q. absurd (never q);
-      supported = λ q. absurd (never q);
+      formed = λ q. absurd (never q);
     }
   where
     never : r ≡ Accepted → ⊥
     never q = let z : _≡_ {A = ℕ} 0 1 = cc in omega arith
 
 pub fit-of : (b : List ℕ) (r : Answer) → r ≡ Accepted → Answers (headerVerdict b) r → Fit b
-fit-of b r e a = fit b (no-no (headerVerdict b) r e a accepted)
+fit-of b r e a = fit b accepted (is-accepted (headerVerdict b accepted) (no-no (headerVerdict b) r e a accepted)) .0
 
 module _ (b : List ℕ) where
   abbrev ends : Verdict → Verdict
@@ -88,13 +89,15 @@ module _ (b : List ℕ) where
         pub form-whole : (last : List ℕ) → t ≡ true → m ≡ headerOf b .variables → Zeros 128 old → Zeros 8192 sup → last ≡ counted (h .variables) (h .values) (h .constraints) (h .symmetries) numbers → FormAsked b last supports Accepted
         form-whole last q em zn zs el =
             let f = fit-of b r₁ e₁ a₁ in
-            let gs = good b (headerOf b) (headerOf b .constraints) 0 (headerOf b .second) (is-accepted (constraintsAsked b accepted) (no-no (constraintsAsked b) r₃ e₃ (a₃ .answers) accepted)) in
+            let gs = good b (headerOf b) (headerOf b .constraints) 0 (headerOf b .second) accepted (is-accepted (constraintsAsked b accepted) (no-no (constraintsAsked b) r₃ e₃ (a₃ .answers) accepted)) .0 in
             let sets = subst (λ (x : ℕ). AllSets b x old mid) em (a₂ .filled e₂) in
             record {
               answers = asked true q;
-              fits = λ _. f;
-              numbered = λ _. subst (Numbers (problemOf b)) (sym (el ∙ whole)) (numbered b f gs old mid (zn .sized) (zn .blank) sets);
-              supported = λ _. subst (Supports (problemOf b)) (sym (a₃ .supported e₃)) (supports-hold b f gs sup (zs .sized) (zs .blank));
+              formed = λ _. record {
+                passed = asked true q accepted;
+                numbered = subst (Numbers (problemOf b)) (sym (el ∙ whole)) (numbered b f gs old mid (zn .sized) (zn .blank) sets);
+                supported = subst (Supports (problemOf b)) (sym (a₃ .supported e₃)) (supports-hold b f gs sup (zs .sized) (zs .blank));
+              };
             }
           where
             whole : counted (h .variables) (h .values) (h .constraints) (h .symmetries) numbers

@@ -15,4 +15,8 @@ pub mod Support
 pub mod Backing
 pub mod Passed
 pub mod Numbered
+pub mod Stating
 pub mod FormTurn
+pub mod TablesTurn
+pub mod DecodeTurn
+pub mod Whole

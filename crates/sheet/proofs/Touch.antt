@@ -10,7 +10,7 @@ use lib.Pow.{pow-lt, pow-mono}
 use lib.Dec.{T, eqb, ltb}
 use lib.ListN.{length, set, length-set}
 use borrow.Author.Tests.{eqb-true, eqb-false, lt-ltb, le-ltb, ltb-true, ltb-false}
-use Rattle.model.specs.Lists.{at, both, either, any, below}
+use Rattle.model.specs.Lists.{at, both, either, any, below, ascending}
 use Rattle.model.specs.ValueSets.{has}
 use Rattle.model.specs.Sheet.{word, words, scopeAt}
 use Rattle.model.proofs.Masks.{has-or, has-one}
@@ -124,6 +124,7 @@ pub record Good (b : List ℕ) (n d o : ℕ) : Type 0 where
   pub some : 1 ≤ word b o
   pub few : word b o ≤ 3
   pub scoped : (j : ℕ) → j < word b o → word b (o + 4 + 2 * j) < n
+  pub ordered : T (ascending (scopeAt b o))
   pub valued : (i : ℕ) → i < word b (o + 2) → T (rowFits b (o + 4 + 2 * word b o) (word b o) d i)
 
 -- the numbers hold the first k constraints, and are otherwise as they were

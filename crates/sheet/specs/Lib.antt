@@ -5,3 +5,4 @@ pub mod Parts
 pub mod Fill
 pub mod Steps
 pub mod Form
+pub mod Decoding
