@@ -1,0 +1,22 @@
+-- Questions passed and refused. Assumes nothing.
+use mathlib.Core.Path.{_≡_, subst}
+use mathlib.Core.List.{List}
+use mathlib.Core.Bool.{true}
+use Prim.Native.Nat.{ℕ, _≤_}
+use lib.ListN.{length}
+use lib.Dec.{leb}
+use borrow.Author.Tests.{leb-true}
+use Rattle.model.specs.Lists.{both}
+use Rattle.model.proofs.Lists.{both-r, T-of, of-T}
+use Rattle.model.specs.Verdict.{Verdict}
+use Rattle.model.specs.Sheet.{headerOf, Header as Numbers}
+use Rattle.sheet.specs.Read.{stated}
+use Rattle.sheet.specs.Parts.{headerAsked, headerVerdict}
+use Rattle.sheet.specs.declared.read.Header.{Header}
+
+pub in-range : (n : ℕ) → both (leb 1 n) (leb n 12) ≡ true → n ≤ 12
+in-range n e = leb-true n 12 (of-T (leb n 12) (both-r (leb 1 n) (leb n 12) (T-of (both (leb 1 n) (leb n 12)) e)))
+
+-- what was asked of the header as read was asked of the sheet's
+pub heading : (h : Header) (b : List ℕ) (later v : Verdict) → stated h ≡ headerOf b → headerAsked (stated h) (length b) later ≡ v → headerVerdict b later ≡ v
+heading h b later v e p = subst (λ (k : Numbers). headerAsked k (length b) later ≡ v) e p

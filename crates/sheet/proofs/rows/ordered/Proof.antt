@@ -1,0 +1,16 @@
+use borrow.Author.Tests.{lt-ltb, le-ltb}
+use Rattle.sheet.proofs.rows.ordered.Statement.{statement}
+use Rattle.sheet.proofs.rows.ordered.Tie as tie
+use Rattle.sheet.proofs.rows.ordered.Reads as reads
+use Rattle.sheet.proofs.rows.ordered.Lts as lts
+
+-- src/rows.rt:29:1
+returns : tie.Need-returns
+returns c = simp (lt-ltb _ _ (c .if1 .taken))
+
+-- src/rows.rt:29:1
+returns-2 : tie.Need-returns-2
+returns-2 c = simp (le-ltb _ _ (c .if1 .left))
+
+pub ordered-spec : {M : Type 1} → statement M
+ordered-spec = tie.close (tie.spec returns returns-2)

@@ -1,0 +1,37 @@
+-- What questions 1 to 14 leave in the arrays.
+use mathlib.Core.Path.{_≡_}
+use mathlib.Core.List.{List}
+use Prim.Native.Nat.{ℕ}
+use lib.ListN.{length, set}
+use Rattle.model.specs.Lists.{at}
+use Rattle.model.specs.Verdict.{accepted}
+use Rattle.model.specs.Sheet.{problemOf, verdictOf}
+use Rattle.layout.specs.Layout.{Numbers, Supports, Compiled}
+use Rattle.sheet.specs.Meaning.{means, Answers}
+use Rattle.sheet.specs.Parts.{formVerdict}
+use Rattle.sheet.specs.declared.Answer.{Answer}
+use Rattle.sheet.specs.declared.Answer.the-variants.{Accepted}
+
+-- an array of n zeros
+pub record Zeros (n : ℕ) (l : List ℕ) : Type 0 where
+  pub sized : length l ≡ n
+  pub blank : (i : ℕ) → at l i ≡ 0
+
+-- the counts at their places
+abbrev pub counted : ℕ → ℕ → ℕ → ℕ → List ℕ → List ℕ
+counted n d c g l = set (set (set (set l 64 n) 65 d) 66 c) 67 g
+
+-- a sheet that passed questions 1 to 14, and two arrays that hold its problem
+pub record Formed (b : List ℕ) (numbers supports : List ℕ) : Type 0 where
+  pub passed : formVerdict b accepted ≡ accepted
+  pub numbered : Numbers (problemOf b) numbers
+  pub supported : Supports (problemOf b) supports
+
+pub record FormAsked (b : List ℕ) (numbers supports : List ℕ) (r : Answer) : Type 0 where
+  pub answers : Answers (formVerdict b) r
+  pub formed : r ≡ Accepted → Formed b numbers supports
+
+-- the answer to all questions, and the compiled problem of an accepted sheet
+pub record Compilation (b : List ℕ) (numbers supports images : List ℕ) (r : Answer) : Type 0 where
+  pub answers : means r ≡ verdictOf b
+  pub compiled : r ≡ Accepted → Compiled (problemOf b) numbers supports images

@@ -1,0 +1,8 @@
+-- What the answers mean, and what the parts of the questioning say.
+pub mod Meaning
+pub mod Read
+pub mod Parts
+pub mod Fill
+pub mod Steps
+pub mod Form
+pub mod Decoding

@@ -1,0 +1,19 @@
+-- The answer to the questions put to a sheet, as paper 01 has it.
+use mathlib.Core.Path.{_≡_}
+use Rattle.model.specs.Verdict.{Verdict, accepted, refused}
+use Rattle.sheet.specs.declared.Answer.{Answer}
+use Rattle.sheet.specs.declared.Answer.the-variants.{Accepted, Refused}
+
+-- the paper's number and item
+abbrev pub means : Answer → Verdict
+means Accepted = accepted
+means (Refused number item) = refused number item
+
+-- the verdict of some questions, and then of those asked after them
+abbrev pub andThen : Verdict → Verdict → Verdict
+andThen accepted later = later
+andThen (refused number item) later = refused number item
+
+-- an answer to the questions of a part: their first "no", or that there is none
+abbrev pub Answers : (Verdict → Verdict) → Answer → Type 0
+Answers part r = (later : Verdict) → part later ≡ andThen (means r) later

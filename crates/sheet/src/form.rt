@@ -1,0 +1,56 @@
+// Questions 1 to 14, and the numbers and support sets of the compiled problem (its layout is in crate layout).
+use crate::Answer;
+use crate::constraints;
+use crate::heading;
+use crate::read::Header;
+use crate::sets;
+ghost use Prim.Native.Nat.{_^_, _≤_, _<_};
+ghost use mathlib.Core.Path.{_≡_};
+ghost use Rattle.sheet.specs.Form.{Zeros, counted, FormAsked};
+ghost use Rattle.sheet.specs.Parts.{tablesFit};
+ghost use Rattle.sheet.specs.Read.{stated};
+
+// Question 14: the symmetries' tables fill the rest.
+fn tables_fit(h: Header) -> bool
+    requires { ⌜ (h .variables ≤ 12) × (h .values ≤ 16) × (h .symmetries ≤ 16) × (h .third < 2 ^ 63) ⌝ }
+    ensures { λ r. ⌜ r ≡ tablesFit (stated h) ⌝ }
+{
+    h.size == h.third + 2 * (h.symmetries * (h.variables * h.values))
+}
+
+fn store_counts(h: Header, numbers: &mut [u64; 128])
+    ensures { λ _. ⌜ now (numbers .exit) ≡ counted (h .variables) (h .values) (h .constraints) (h .symmetries) (now (numbers .entry)) ⌝ }
+{
+    numbers[64] = h.variables as u64;
+    numbers[65] = h.values as u64;
+    numbers[66] = h.constraints as u64;
+    numbers[67] = h.symmetries as u64;
+}
+
+// The arrays are lent full of zeros.
+pub fn ask(sheet: &[u8], numbers: &mut [u64; 128], supports: &mut [u16; 8192]) -> Answer
+    requires { ⌜ Zeros 128 (now numbers) × Zeros 8192 (now supports) ⌝ }
+    ensures { λ r. ⌜ FormAsked (now (sheet .entry)) (now (numbers .exit)) (now (supports .exit)) r ⌝ }
+{
+    let first = heading::ask(sheet);
+    let Answer::Accepted = first else {
+        return first;
+    };
+    let h = Header::read(sheet);
+    let second = sets::ask(sheet, h.variables, h.values, numbers);
+    let Answer::Accepted = second else {
+        return second;
+    };
+    let third = constraints::ask(sheet, h, numbers, supports);
+    let Answer::Accepted = third else {
+        return third;
+    };
+    if !tables_fit(h) {
+        return Answer::Refused {
+            number: 14,
+            item: 0,
+        };
+    }
+    store_counts(h, numbers);
+    Answer::Accepted
+}

@@ -1,0 +1,58 @@
+// Questions put to a sheet (paper 01), and the compiled problem of an accepted one.
+ghost use mathlib.Core.Path.{_≡_};
+ghost use lib.ListN.{length};
+ghost use Rattle.model.specs.Sheet.{verdictOf};
+ghost use Rattle.sheet.specs.Meaning.{means};
+ghost use Rattle.sheet.specs.Form.{Zeros, Compilation};
+
+pub mod constraints; // questions 9 to 13
+pub mod form; // questions 1 to 14
+pub mod heading; // questions 1 to 7
+pub mod read; // words and the header, by a plain offset and a slice
+pub mod rows; // questions 12 and 13 to one constraint
+pub mod sets; // question 8
+pub mod tables; // questions 15 and 16, and the images
+
+// The first "no", with its number and item, or that there is none.
+pub enum Answer {
+    Accepted,
+    Refused { number: u8, item: usize },
+}
+
+// All questions, in their order, to any bytes.
+pub fn question(sheet: &[u8]) -> Answer
+    ensures { λ r. ⌜ means r ≡ verdictOf (now (sheet .entry)) ⌝ }
+{
+    let mut numbers = [0u64; 128];
+    let mut supports = [0u16; 8192];
+    let first = form::ask(sheet, &mut numbers, &mut supports);
+    let Answer::Accepted = first else {
+        return first;
+    };
+    let h = read::Header::read(sheet);
+    tables::ask(sheet, h, &numbers, &supports)
+}
+
+// The same, and for an accepted sheet the arrays of the compiled problem (crate layout).
+// `numbers` and `supports` are lent full of zeros; after a refusal the arrays hold nothing that is meant.
+pub fn compile(
+    sheet: &[u8],
+    numbers: &mut [u64; 128],
+    supports: &mut [u16; 8192],
+    images: &mut [u8; 26112],
+) -> Answer
+    requires { ⌜ Zeros 128 (now numbers) × Zeros 8192 (now supports) × (length (now images) ≡ 26112) ⌝ }
+    ensures { λ r. ⌜ Compilation (now (sheet .entry)) (now (numbers .exit)) (now (supports .exit)) (now (images .exit)) r ⌝ }
+{
+    let first = form::ask(sheet, numbers, supports);
+    let Answer::Accepted = first else {
+        return first;
+    };
+    let h = read::Header::read(sheet);
+    let second = tables::ask(sheet, h, numbers, supports);
+    let Answer::Accepted = second else {
+        return second;
+    };
+    tables::decode_all(sheet, h, images);
+    Answer::Accepted
+}

@@ -1,0 +1,66 @@
+// Questions 12 and 13 to the rows of one constraint, and its support sets.
+use crate::read::word;
+ghost use Prim.Native.Nat.{_+_, _*_, _≤_, _<_};
+ghost use mathlib.Core.Path.{_≡_};
+ghost use lib.ListN.{length};
+ghost use lib.Dec.{ltb};
+ghost use Rattle.sheet.specs.Fill.{pick, RowRead, RowsAsked};
+
+// The row of a values at an offset as one number, a hexadecimal digit for each value; 4096 where one is not below d.
+// Rows in their order have keys in theirs.
+fn key(sheet: &[u8], o: usize, a: usize, d: usize) -> usize
+    requires { ⌜ (a ≤ 3) × (d ≤ 16) × (o + 2 * a ≤ length (now sheet)) ⌝ }
+    ensures { λ r. ⌜ RowRead (now (sheet .entry)) o a d r ⌝ }
+{
+    let mut key = 0;
+    let mut i = 0;
+    while i < a {
+        let v = word(sheet, o + 2 * i);
+        if d <= v {
+            return 4096;
+        }
+        key = 16 * key + v;
+        i += 1;
+    }
+    key
+}
+
+// 13 where a key is below the least that it may be.
+fn ordered(key: usize, least: usize, refused: u8) -> u8
+    ensures { λ r. ⌜ r ≡ pick (ltb key least) 13 refused ⌝ }
+{
+    if key < least { 13 } else { refused }
+}
+
+// The first "no" of 12 and 13 to the n rows of a values from an offset on, 0 where there is none.
+// A value that is not below d is found first, also after rows that do not ascend.
+pub fn ask(
+    sheet: &[u8],
+    from: usize,
+    a: usize,
+    n: usize,
+    d: usize,
+    base: usize,
+    supports: &mut [u16; 8192],
+) -> u8
+    requires { ⌜ (1 ≤ a) × (a ≤ 3) × (n ≤ 256) × (d ≤ 16) × (from + 2 * (n * a) ≤ length (now sheet)) × (base + 256 ≤ 8192) ⌝ }
+    ensures { λ r. ⌜ RowsAsked (now (sheet .entry)) from a n d base (now (supports .entry)) (now (supports .exit)) r ⌝ }
+{
+    let mut refused = 0u8;
+    let mut least = 0;
+    let mut at = from;
+    let mut i = 0;
+    while i < n {
+        let key = key(sheet, at, a, d);
+        if 4096 <= key {
+            return 12;
+        }
+        refused = ordered(key, least, refused);
+        least = key + 1;
+        let slot = base + key / 16;
+        supports[slot] = supports[slot] | (1u16 << (key % 16));
+        at = at + 2 * a;
+        i += 1;
+    }
+    refused
+}
