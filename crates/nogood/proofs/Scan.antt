@@ -165,7 +165,7 @@ at-empty ss x es q h e =
     subst T (ap (λ (s : ℕ). has s (at (m .0) x)) e ∙ has-none (at (m .0) x)) (m .1 .1 x h .1))
 
 -- so does one that is stored
-stored-empty : (ss : List ℕ) (x s : ℕ) (es : List Entry) (q : List ℕ → Bool) → x < length ss → s ≡ 0 → models (set ss x s) es q ≡ false
+pub stored-empty : (ss : List ℕ) (x s : ℕ) (es : List Entry) (q : List ℕ → Bool) → x < length ss → s ≡ 0 → models (set ss x s) es q ≡ false
 stored-empty ss x s es q h e = at-empty (set ss x s) x es q (subst (λ (n : ℕ). x < n) (sym (length-set ss x s)) h) (at-set-same ss x s h ∙ e)
 
 -- a set that has no member but u, and one that has not u
