@@ -1,4 +1,3 @@
-
 use Prim.Native.Nat.{ℕ, _≤_, _-_}
 use lib.ListN.{length, drop}
 use native.Mathlib.Omega.{arith}

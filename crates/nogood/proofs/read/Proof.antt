@@ -1,4 +1,3 @@
-
 use mathlib.Core.Path.{sym, subst}
 use Rattle.nogood.specs.Scan.{Right, Stepped}
 use Rattle.nogood.proofs.Marks.{marked, unmarked}
