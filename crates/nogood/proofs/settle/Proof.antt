@@ -1,41 +1,31 @@
+-- `nogood::settle` meets its contract. Assumes nothing.
 use native.Mathlib.Omega.{arith}
+use borrow.Author.Needs.{needs}
 use Rattle.model.specs.Lists.{at}
 use Rattle.nogood.proofs.Forks.{fork-asks, fork-kept, fork-gone}
-use borrow.Author.Needs.{needs}
 use Rattle.nogood.proofs.settle.Statement.{statement}
 use Rattle.nogood.proofs.settle.Tie as tie
-use Rattle.nogood.proofs.settle.Reads as reads
-use Rattle.nogood.proofs.settle.Lts as lts
-use Rattle.nogood.proofs.entry.disequality.Reads as disequality-reads
-use Rattle.nogood.proofs.stays.Reads as stays-reads
 
--- src/lib.rt:100:8
 stays-requires : tie.Need-stays-requires
 stays-requires c κs = search needs
 
--- src/lib.rt:101:9
 returns : tie.Need-returns
 unfolding at
 returns c = λ n w. fork-kept w (c .before .stays .result) (c .before .stays .ensures n w) (c .if1 .taken)
 
--- src/lib.rt:103:13
 shared-slice-read-x : tie.Need-shared-slice-read-x
 shared-slice-read-x c = search needs
 
--- src/lib.rt:103:13
 cast-x : tie.Need-cast-x
 cast-x c = omega (arith, c .shared-slice-known4 .given (c .before .before .before .before .before .before .before .args .k))
 
--- src/lib.rt:104:33
 shared-slice-read-disequality : tie.Need-shared-slice-read-disequality
 shared-slice-read-disequality c = search needs
 
--- src/lib.rt:104:5
 disequality-requires : tie.Need-disequality-requires
 unfolding at
 disequality-requires c κs = fork-asks (c .before .before .before .before .before .before .before .before .before .pre .1)
 
--- src/lib.rt:96:1
 returns-2 : tie.Need-returns-2
 unfolding at
 returns-2 c = λ n w. fork-gone w (c .before .before .before .before .before .stays .result) (c .before .before .before .before .before .stays .ensures n w) (c .before .before .before .before .if1 .left) (c .disequality .ensures)
