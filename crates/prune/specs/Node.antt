@@ -5,7 +5,7 @@ use mathlib.Core.Bool.{Bool, true, false, not}
 use mathlib.Core.List.{List, [], _∷_, _++_}
 use Prim.Native.Nat.{ℕ, _+_, _*_, _≤_, _<_}
 use lib.Dec.{T}
-use lib.ListN.{take}
+use lib.ListN.{length, take}
 use Rattle.model.specs.Lists.{at}
 use Rattle.model.specs.ValueSets.{has}
 use Rattle.model.specs.Problem.{Problem}
@@ -18,9 +18,12 @@ pub record Holds (p : Problem) (stack : List ℕ) (k : ℕ) (ds : List ℕ) : Ty
   pub sets : (x : ℕ) → x < p .variables → at stack (16 * k + x) ≡ at ds x
   pub unused : (x : ℕ) → p .variables ≤ x → x < 16 → at stack (16 * k + x) ≡ 1
 
+-- the arrays hold p, which has no more constraints and symmetries than they have room for
 pub record Ready (p : Problem) (supports images numbers : List ℕ) : Type 0 where
   pub compiled : Compiled p numbers supports images
   pub wellFormed : WellFormed p
+  pub constraints : length (p .constraints) ≤ 32
+  pub symmetries : length (p .symmetries) ≤ 136
 
 -- the prefix of k values that work holds is live, its sets are at depth k, and the next value in work is one of variable k's
 pub record AtNode (p : Problem) (stack work supports images numbers : List ℕ) (k : ℕ) : Type 0 where
