@@ -18,16 +18,19 @@ pub record Holds (p : Problem) (stack : List ℕ) (k : ℕ) (ds : List ℕ) : Ty
   pub sets : (x : ℕ) → x < p .variables → at stack (16 * k + x) ≡ at ds x
   pub unused : (x : ℕ) → p .variables ≤ x → x < 16 → at stack (16 * k + x) ≡ 1
 
--- the arrays hold p, which has no more constraints and symmetries than they have room for
-pub record Ready (p : Problem) (supports images numbers : List ℕ) : Type 0 where
+-- the arrays hold p, which has no more constraints and symmetries than they have room for; what is lent to write on has its length
+-- (a reference to an array tells its length to no proof)
+pub record Ready (p : Problem) (stack work supports images numbers : List ℕ) : Type 0 where
   pub compiled : Compiled p numbers supports images
   pub wellFormed : WellFormed p
   pub constraints : length (p .constraints) ≤ 32
   pub symmetries : length (p .symmetries) ≤ 136
+  pub stack-length : length stack ≡ 208
+  pub work-length : length work ≡ 256
 
 -- the prefix of k values that work holds is live, its sets are at depth k, and the next value in work is one of variable k's
 pub record AtNode (p : Problem) (stack work supports images numbers : List ℕ) (k : ℕ) : Type 0 where
-  pub ready : Ready p supports images numbers
+  pub ready : Ready p stack work supports images numbers
   pub room : k < p .variables
   pub live : T (isLive p (take k work))
   pub held : Holds p stack k (setsAt p (take k work))
@@ -44,3 +47,5 @@ pub record Reached (p : Problem) (prefix : List ℕ) (k : ℕ) (stack work stack
   pub before : (i : ℕ) → i < 16 * k → at stack′ i ≡ at stack i
   pub after : (i : ℕ) → 16 * k + 16 ≤ i → at stack′ i ≡ at stack i
   pub kept : (j : ℕ) → j < 12 → at work′ j ≡ at work j
+  pub stack-length : length stack′ ≡ length stack
+  pub work-length : length work′ ≡ length work

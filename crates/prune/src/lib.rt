@@ -13,8 +13,8 @@ extern "C" {
         images: &[u8; 26112],
         numbers: &[u64; 128],
     ) -> bool
-        requires { ⌜ ((p : Problem) × Ready p (now supports) (now images) (now numbers)) ⌝ }
-        ensures { λ r. ⌜ ((p : Problem) → Ready p (now (supports .entry)) (now (images .entry)) (now (numbers .entry)) → Reached p [] 0 (now (stack .entry)) (now (work .entry)) (now (stack .exit)) (now (work .exit)) r) ⌝ };
+        requires { ⌜ ((p : Problem) × Ready p (now stack) (now work) (now supports) (now images) (now numbers)) ⌝ }
+        ensures { λ r. ⌜ ((p : Problem) → Ready p (now (stack .entry)) (now (work .entry)) (now (supports .entry)) (now (images .entry)) (now (numbers .entry)) → Reached p [] 0 (now (stack .entry)) (now (work .entry)) (now (stack .exit)) (now (work .exit)) r) ⌝ };
 
     // Puts the sets at the prefix of work's first k + 1 values at depth k + 1, from those of the first k values at depth k; true where it is dead.
     pub fn child(
