@@ -1,2 +1,4 @@
 pub mod Bits
+pub mod Stores
+pub mod Rows
 pub mod Unions
