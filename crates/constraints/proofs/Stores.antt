@@ -67,15 +67,17 @@ one-there b x i n = has-oneIf b x i ∙ ap (both b) (ne-eqb i x n) ∙ both-no b
 still : (a b : ℕ) → a ≡ b → not (eqb a b) ≡ false
 still a b e = ap not (eq-eqb a b e)
 
-moves-one : (ds : List ℕ) (x b : ℕ) → x < length ds → Moves ds (set ds x b) (oneIf (not (eqb b (at ds x))) x)
-moves-one ds x b h i = go (ℕ-discrete i x)
+moves-one : (ds : List ℕ) (x b m : ℕ) → m ≡ oneIf (not (eqb b (at ds x))) x → x < length ds → Moves ds (set ds x b) m
+moves-one ds x b m q h i = ap (λ (n : ℕ). has n i) q ∙ go (ℕ-discrete i x)
   where
     go : Dec (i ≡ x) → has (oneIf (not (eqb b (at ds x))) x) i ≡ not (eqb (at (set ds x b) i) (at ds i))
-    go (yes e) = subst (λ (z : ℕ). has (oneIf (not (eqb b (at ds x))) x) z ≡ not (eqb (at (set ds x b) z) (at ds z))) (sym e) (one-here (not (eqb b (at ds x))) x ∙ ap (λ (z : ℕ). not (eqb z (at ds x))) (sym (at-same ds x b h)))
+    go (yes e) =
+        subst (λ (z : ℕ). has (oneIf (not (eqb b (at ds x))) x) z ≡ not (eqb (at (set ds x b) z) (at ds z))) (sym e)
+        (one-here (not (eqb b (at ds x))) x ∙ ap (λ (z : ℕ). not (eqb z (at ds x))) (sym (at-same ds x b h)))
     go (no n) = one-there (not (eqb b (at ds x))) x i n ∙ sym (still (at (set ds x b) i) (at ds i) (at-other ds x b i n))
 
-moves-more : (ds es : List ℕ) (m y b : ℕ) → Moves ds es m → y < length es → at es y ≡ at ds y → Moves ds (set es y b) (bitOr m (oneIf (not (eqb b (at ds y))) y))
-moves-more ds es m y b h l e i = has-or m (oneIf (not (eqb b (at ds y))) y) i ∙ go (ℕ-discrete i y)
+moves-more : (ds es : List ℕ) (m y b o : ℕ) → o ≡ oneIf (not (eqb b (at ds y))) y → Moves ds es m → y < length es → at es y ≡ at ds y → Moves ds (set es y b) (bitOr m o)
+moves-more ds es m y b o f h l e i = has-or m o i ∙ ap (λ (n : ℕ). either (has m i) (has n i)) f ∙ go (ℕ-discrete i y)
   where
     go : Dec (i ≡ y) → either (has m i) (has (oneIf (not (eqb b (at ds y))) y) i) ≡ not (eqb (at (set es y b) i) (at ds i))
     go (yes q) =
@@ -152,8 +154,8 @@ below-2 u v g h (suc (suc i)) l = absurd (omega arith)
 
 -- ---- a scope of one variable
 module _ {c : Constraint} {supports : List ℕ} {k x : ℕ} (p : Scoped c supports k (x ∷ [])) (ds : List ℕ) (s : Sets 16 ds) where
-  pub one : Revision c ds (set ds x (bitAnd (at ds x) (at supports (256 * k)))) (oneIf (not (eqb (bitAnd (at ds x) (at supports (256 * k))) (at ds x))) x)
-  one = record { sets = by-scope p ds s es t out keeps comes; moved = moves-one ds x b l }
+  pub one : (m : ℕ) → m ≡ oneIf (not (eqb (bitAnd (at ds x) (at supports (256 * k))) (at ds x))) x → Revision c ds (set ds x (bitAnd (at ds x) (at supports (256 * k)))) m
+  one m q = record { sets = by-scope p ds s es t out keeps comes; moved = moves-one ds x b m q l }
     where
       b : ℕ
       b = bitAnd (at ds x) (at supports (256 * k))
@@ -190,8 +192,8 @@ module _ {c : Constraint} {supports : List ℕ} {k x : ℕ} (p : Scoped c suppor
 
 -- ---- a scope of two variables
 module _ {c : Constraint} {supports : List ℕ} {k x y : ℕ} (p : Scoped c supports k (x ∷ y ∷ [])) (ds : List ℕ) (s : Sets 16 ds) (first last : ℕ) (f : first < 2 ^ 16) (g : last < 2 ^ 16) (j : Joined supports (256 * k) (at ds x) (at ds y) first last) where
-  pub two : Revision c ds (set (set ds x first) y last) (bitOr (oneIf (not (eqb first (at ds x))) x) (oneIf (not (eqb last (at ds y))) y))
-  two = record { sets = by-scope p ds s es t out keeps comes; moved = moves-more ds (set ds x first) _ y last (moves-one ds x first lx) ly (at-other ds x first y yx) }
+  pub two : (m n : ℕ) → m ≡ oneIf (not (eqb first (at ds x))) x → n ≡ oneIf (not (eqb last (at ds y))) y → Revision c ds (set (set ds x first) y last) (bitOr m n)
+  two m n q o = record { sets = by-scope p ds s es t out keeps comes; moved = moves-more ds (set ds x first) m y last n o (moves-one ds x first m q lx) ly (at-other ds x first y yx) }
     where
       es : List ℕ
       es = set (set ds x first) y last
@@ -255,10 +257,12 @@ module _ {c : Constraint} {supports : List ℕ} {k x y : ℕ} (p : Scoped c supp
 -- ---- a scope of three variables
 module _ {c : Constraint} {supports : List ℕ} {k x y z : ℕ} (p : Scoped c supports k (x ∷ y ∷ z ∷ [])) (ds : List ℕ) (s : Sets 16 ds) (first second last : ℕ) (f : first < 2 ^ 16) (g : second < 2 ^ 16) (h : last < 2 ^ 16)
     (j : Joined3 supports (256 * k) (at ds x) (at ds y) (at ds z) first second last) where
-  pub three : Revision c ds (set (set (set ds x first) y second) z last) (bitOr (bitOr (oneIf (not (eqb first (at ds x))) x) (oneIf (not (eqb second (at ds y))) y)) (oneIf (not (eqb last (at ds z))) z))
-  three = record {
+  pub three : (m n i : ℕ) → m ≡ oneIf (not (eqb first (at ds x))) x → n ≡ oneIf (not (eqb second (at ds y))) y → i ≡ oneIf (not (eqb last (at ds z))) z → Revision c ds (set (set (set ds x first) y second) z last) (bitOr (bitOr m n) i)
+  three m n i q o a = record {
     sets = by-scope p ds s es t out keeps comes;
-    moved = moves-more ds fs _ z last (moves-more ds (set ds x first) _ y second (moves-one ds x first lx) ly (at-other ds x first y (λ e. omega (arith, x<y, e)))) lz (at-other (set ds x first) y second z (λ e. omega (arith, y<z, e)) ∙ at-other ds x first z (λ e. omega (arith, x<y, y<z, e)));
+    moved =
+        moves-more ds fs (bitOr m n) z last i a (moves-more ds (set ds x first) m y second n o (moves-one ds x first m q lx) ly (at-other ds x first y (λ e. omega (arith, x<y, e)))) lz
+        (at-other (set ds x first) y second z (λ e. omega (arith, y<z, e)) ∙ at-other ds x first z (λ e. omega (arith, x<y, y<z, e)));
   }
     where
       fs : List ℕ
