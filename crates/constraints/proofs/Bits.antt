@@ -3,10 +3,10 @@ use mathlib.Core.Path.{_≡_, refl, sym, ap, ap₂, _∙_, subst}
 use mathlib.Core.Bool.{Bool, true, false, not}
 use mathlib.Core.Logic.{_⊎_, inl, inr}
 use Prim.Native.Nat.{ℕ, zero, suc, _+_, _-_, _*_, _/_, _%_, _^_, _≤_, _<_}
-use native.Mathlib.Nat.{not-suc-le-zero, le-of-suc-le-suc, mod-eq-of-lt}
+use native.Mathlib.Nat.{mod-eq-of-lt, lt-of-le-of-lt}
 use native.Mathlib.Omega.{arith}
 use lib.Dec.{T, eqb, eqb·suc-suc, eqb·suc-zero}
-use lib.Bits.{bitAnd, bitOr, and-step, and-self}
+use lib.Bits.{bitAnd, and-step, and-self, and-le-l}
 use lib.Count.{trailingZeros, under}
 use lib.Pow.{pow-lt}
 use borrow.Author.Tests.{eq-eqb, ne-eqb, eqb-true, eqb-false}
@@ -14,8 +14,8 @@ use Rattle.model.specs.Lists.{both, either}
 use Rattle.model.specs.ValueSets.{has}
 use Rattle.constraints.specs.Steps.{oneIf}
 use Rattle.model.proofs.Lists.{T-of, of-T, not-of, of-not, both-i, both-l, both-r}
-use Rattle.model.proofs.Sets.{has-zero, has-suc, has-none, pow2}
-use Rattle.model.proofs.Masks.{has-and, has-one}
+use Rattle.model.proofs.Sets.{has-zero, has-suc, has-none, has-lt, pow2}
+use Rattle.model.proofs.Masks.{has-and, has-not, has-one}
 
 -- ---- the lowest member, and the set without it
 low-odd : (k s : ℕ) → s % 2 ≡ 1 → trailingZeros (suc k) s ≡ 0
@@ -108,3 +108,29 @@ one-has k u v h = ap (λ (n : ℕ). has n v) (one-bit k u h) ∙ has-one u v
 pub has-oneIf : (b : Bool) (u v : ℕ) → has (oneIf b u) v ≡ both b (eqb v u)
 has-oneIf true u v = has-one u v
 has-oneIf false u v = has-none v
+
+-- a set without one of its members, by the complement of that member
+module _ (w a k : ℕ) (h : a < 2 ^ w) (l : k < w) where
+  abbrev others : ℕ
+  others = bitAnd a ((2 ^ w - 1) - 1 * 2 ^ k % 2 ^ w)
+
+  one-small : 1 * 2 ^ k % 2 ^ w < 2 ^ w
+  one-small = subst (λ (n : ℕ). n < 2 ^ w) (sym (one-bit w k l)) (pow-lt l)
+
+  others-has : (j : ℕ) → j < w → has others j ≡ both (has a j) (not (eqb j k))
+  others-has j m = has-and a ((2 ^ w - 1) - 1 * 2 ^ k % 2 ^ w) j ∙ ap (both (has a j)) (has-not w (1 * 2 ^ k % 2 ^ w) j one-small m ∙ ap not (one-has w k j l))
+
+  pub others-e : (j : ℕ) → T (has others j) → T (has a j) × (j ≡ k → ⊥)
+  others-e j t =
+      let m : j < w = has-lt w others j (lt-of-le-of-lt (and-le-l a ((2 ^ w - 1) - 1 * 2 ^ k % 2 ^ w)) h) t in
+      let q = subst T (others-has j m) t in
+      (both-l (has a j) (not (eqb j k)) q, λ e. subst T (ap not (eq-eqb j k e)) (both-r (has a j) (not (eqb j k)) q))
+
+  pub others-i : (j : ℕ) → T (has a j) → (j ≡ k → ⊥) → T (has others j)
+  others-i j t n = subst T (sym (others-has j (has-lt w a j h t))) (both-i (has a j) (not (eqb j k)) t (T-of (not (eqb j k)) (ap not (ne-eqb j k n))))
+
+  pub others-less : T (has a k) → others < a
+  others-less t =
+      let n : others ≡ a → ⊥ = λ e. others-e k (subst (λ (z : ℕ). T (has z k)) (sym e) t) .1 refl in
+      let m : others ≤ a = and-le-l a ((2 ^ w - 1) - 1 * 2 ^ k % 2 ^ w) in
+      omega arith
