@@ -80,6 +80,7 @@ pub record Turning (p : Problem) (numbers supports ds es : List ℕ) (left : ℕ
   pub others : (k : ℕ) → k < length (p .constraints) → has left k ≡ false → Fixed es (constraintAt p k)
   pub ways : (prefix : List ℕ) → Way p prefix (setsOf p ds) → Way p prefix (setsOf p es)
   pub unused : (x : ℕ) → p .variables ≤ x → at es x ≡ at ds x
+  pub less : Inside es ds
 
 module _ (p : Problem) (numbers supports ds : List ℕ) where
   pub turning-begin : (todo : ℕ) → todo < 2 ^ 64 → Waiting p numbers supports ds todo → Turning p numbers supports ds ds todo
@@ -92,12 +93,14 @@ module _ (p : Problem) (numbers supports ds : List ℕ) where
     others = λ k l e. let g = good (w .given) k l in fixed-all (p .variables) ds (w .sixteen) (omega (arith, w .given .wellFormed .few)) (constraintAt p k) (g .ordered) (g .inside) (w .others k l e);
     ways = λ prefix y. y;
     unused = λ x l. refl;
+    less = λ x v q. q;
   }
 
   pub turning-end : (es : List ℕ) (left : ℕ) → left ≡ 0 → Turning p numbers supports ds es left → Constrained p ds es false
   turning-end es left e t = record {
     ways = t .ways;
     unused = t .unused;
+    less = t .less;
     sixteen = t .sixteen;
     answers = sym (take-full (p .variables) es (t .sixteen) (omega (arith, t .given .wellFormed .few)) (t .full));
     fixed = λ q k l. let g = good (t .given) k l in
@@ -131,6 +134,9 @@ module _ {p : Problem} {numbers supports ds es : List ℕ} {left : ℕ} (t : Tur
     turn-unused : (x : ℕ) → p .variables ≤ x → at fs x ≡ at ds x
     turn-unused x l = ap (λ (z : List ℕ). at z x) (r .sets) ∙ revised-out es c (t .sixteen .1) x (λ m. let i = c-good .inside x m in omega arith) ∙ t .unused x l
 
+    turn-less : Inside fs ds
+    turn-less x v q = t .less x v (inside c es fs changed (t .sixteen) r x v q)
+
     -- a set is empty
     pub turning-dead : Emptied fs changed true → Constrained p ds fs true
     turning-dead e =
@@ -138,6 +144,7 @@ module _ {p : Problem} {numbers supports ds es : List ℕ} {left : ℕ} (t : Tur
         record {
           ways = turn-ways;
           unused = turn-unused;
+          less = turn-less;
           sixteen = after c es fs changed (t .sixteen) r;
           answers = sym (of-T (anyEmpty (setsOf p fs)) (take-empty (p .variables) fs (after c es fs changed (t .sixteen) r) (omega (arith, t .given .wellFormed .few)) (q .0) (c-good .inside (q .0) (in-scope-if c es fs changed (t .sixteen) r (q .0) (q .1))) (q .2)));
           fixed = λ z. absurd (subst T z tt);
@@ -189,6 +196,7 @@ module _ {p : Problem} {numbers supports ds es : List ℕ} {left : ℕ} (t : Tur
         others = turn-others;
         ways = turn-ways;
         unused = turn-unused;
+        less = turn-less;
       }
 
       -- the measure falls: a set loses a value, or a constraint less is left

@@ -10,7 +10,7 @@ use Rattle.model.specs.ValueSets.{has, maskOf, anyEmpty}
 use Rattle.model.specs.Problem.{Problem, Constraint}
 use Rattle.model.specs.Search.{supported}
 use Rattle.model.proofs.WellFormed.{WellFormed}
-use Rattle.model.proofs.Sets.{Sets}
+use Rattle.model.proofs.Sets.{Sets, Inside}
 use Rattle.model.proofs.Prune.{Way}
 use Rattle.layout.specs.Layout.{Numbers, Supports, constraintAt}
 
@@ -52,5 +52,6 @@ pub record Constrained (p : Problem) (sets sets′ : List ℕ) (dead : Bool) : T
   pub ways : (prefix : List ℕ) → Way p prefix (setsOf p sets) → Way p prefix (setsOf p sets′)
   pub unused : (x : ℕ) → p .variables ≤ x → at sets′ x ≡ at sets x
   pub sixteen : Sets 16 sets′
+  pub less : Inside sets′ sets
   pub answers : dead ≡ anyEmpty (setsOf p sets′)
   pub fixed : dead ≡ false → (k : ℕ) → k < length (p .constraints) → Fixed (setsOf p sets′) (constraintAt p k)

@@ -32,7 +32,7 @@ fn mark(t: u16, v: u32) -> u16
 }
 
 // The set of x where the sets a and b differ.
-fn moved(a: u16, b: u16, x: usize) -> u64
+pub fn moved(a: u16, b: u16, x: usize) -> u64
     requires { ⌜ x < 16 ⌝ }
     ensures { λ r. ⌜ r ≡ oneIf (not (eqb b a)) x ⌝ }
 {
