@@ -52,7 +52,7 @@ loop-less c = search needs
 -- src/lib.rt:53:5
 loop-again : tie.Need-loop-again Inv-loop μ-loop
 unfolding at
-loop-again c = (search needs, differing-turn _ _ _ _ _ (c .before .before .before .before .loop .inv .1) (c .moved .ensures))
+loop-again c = (search needs, differing-turn (c .before .before .before .before .before .args .old .now) (c .before .before .before .before .before .args .new .now) _ _ _ (c .before .before .before .before .loop .inv .1) (c .moved .ensures))
 
 -- src/lib.rt:48:1
 returns : tie.Need-returns Inv-loop μ-loop
