@@ -22,7 +22,7 @@ use Rattle.layout.specs.Layout.{symmetryAt}
 use Rattle.constraints.specs.Revised.{setsOf}
 use Rattle.constraints.proofs.Scopes.{mem-getD}
 use Rattle.constraints.proofs.Ways.{take-sets, take-e, take-i}
-use Rattle.prune.specs.Steps.{Ground, Live, Sifted, Ended}
+use Rattle.prune.specs.Steps.{Ground, Live, Sifted, SiftedOr}
 use Rattle.prune.specs.Stub.{Filterable, FilteredAt, leftAt}
 
 -- a member stands at some place
@@ -42,13 +42,16 @@ module _ (p : Problem) (work images numbers : List ℕ) (k : ℕ) (g : Ground p 
   pub sifting-begin : Live p ds → Sifting p (take k work) ds ds 0
   sifting-begin l = record { live = l; less = λ x v t. t; way = λ y. y; fixed = λ q i h. absurd (omega arith) }
 
-  pub sifting-end : (es : List ℕ) (e : ℕ) → at numbers 67 ≤ e → Sifting p (take k work) ds es e → Sifted p (take k work) ds es
-  sifting-end es e h s = record {
-    live = s .live;
-    less = s .less;
-    way = s .way;
-    fixed = λ q t m. let r = place-of (p .symmetries) t [] m in subst (λ (z : List ℕ). filtered (setsOf p ds) (nogoodsOf p z (take k work)) ≡ setsOf p ds) (r .2) (s .fixed q (r .0) (omega (arith, r .1, g .numbered .symmetries)));
-  }
+  pub sifting-end : (es : List ℕ) (e : ℕ) → at numbers 67 ≤ e → Sifting p (take k work) ds es e → SiftedOr p (take k work) ds es false
+  sifting-end es e h s = record { ended = λ q. absurd (subst T (sym q) tt); sifted = λ q. sifted }
+    where
+      sifted : Sifted p (take k work) ds es
+      sifted = record {
+        live = s .live;
+        less = s .less;
+        way = s .way;
+        fixed = λ q t m. let r = place-of (p .symmetries) t [] m in subst (λ (z : List ℕ). filtered (setsOf p ds) (nogoodsOf p z (take k work)) ≡ setsOf p ds) (r .2) (s .fixed q (r .0) (omega (arith, r .1, g .numbered .symmetries)));
+      }
 
   -- ---- one turn
   module _ (es fs : List ℕ) (e : ℕ) (h : e < at numbers 67) (s : Sifting p (take k work) ds es e) where
@@ -80,8 +83,8 @@ module _ (p : Problem) (work images numbers : List ℕ) (k : ℕ) (g : Ground p 
         way-removal p (take k work) (well-sized p (g .wellFormed)) (setsOf p es) (leftAt p es work e k) (s .way y)
         (filter-removal p (take k work) (setsOf p es) (take-sets (p .variables) es (s .live .sixteen) n-few) (symmetryAt p e) (mem-getD (p .symmetries) e [] e-lt))
 
-    pub sifting-dead : FilteredAt p es fs work e k true → Ended p (take k work) ds
-    sifting-dead f = (leftAt p es work e k, (left-way, T-of (anyEmpty (leftAt p es work e k)) (sym (f .answers))))
+    pub sifting-dead : FilteredAt p es fs work e k true → SiftedOr p (take k work) ds fs true
+    sifting-dead f = record { ended = λ q. (leftAt p es work e k, (left-way, T-of (anyEmpty (leftAt p es work e k)) (sym (f .answers)))); sifted = λ q. absurd (subst T q tt) }
 
     module _ (f : FilteredAt p es fs work e k false) where
       here : setsOf p fs ≡ leftAt p es work e k

@@ -42,9 +42,9 @@ pub record Sifted (p : Problem) (prefix sets sets′ : List ℕ) : Type 0 where
 abbrev pub Ended : Problem → List ℕ → List ℕ → Type 0
 Ended p prefix sets = (es : List ℕ) × ((Way p prefix (setsOf p sets) → Way p prefix es) × T (anyEmpty es))
 
-abbrev pub SiftedIf : Bool → Problem → List ℕ → List ℕ → List ℕ → Type 0
-SiftedIf true p prefix sets sets′ = Ended p prefix sets
-SiftedIf false p prefix sets sets′ = Sifted p prefix sets sets′
+pub record SiftedOr (p : Problem) (prefix sets sets′ : List ℕ) (dead : Bool) : Type 0 where
+  pub ended : dead ≡ true → Ended p prefix sets
+  pub sifted : dead ≡ false → Sifted p prefix sets sets′
 
 -- on the way to the sets at the prefix: only the constraints of `todo` may take something
 pub record Nearing (p : Problem) (work supports images numbers sets : List ℕ) (k todo : ℕ) : Type 0 where

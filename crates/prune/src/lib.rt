@@ -7,7 +7,7 @@ ghost use Rattle.model.specs.Lists.{at};
 ghost use Rattle.model.specs.Problem.{Problem};
 ghost use Rattle.prune.specs.Node.{Ready, AtNode, Reached, longer};
 ghost use Rattle.prune.specs.Stub.{Filterable, FilteredAt};
-ghost use Rattle.prune.specs.Steps.{Ground, Live, SiftedIf, Nearing, Arrived, Differ, Loaded, Stored};
+ghost use Rattle.prune.specs.Steps.{Ground, Live, SiftedOr, Nearing, Arrived, Differ, Loaded, Stored};
 
 extern "C" {
     fn filter_at(
@@ -31,7 +31,7 @@ fn filters(
     k: usize,
 ) -> bool
     requires { ⌜ ((p : Problem) × Ground p (now work) (now images) (now numbers) k × Live p (now sets)) ⌝ }
-    ensures { λ r. ⌜ ((p : Problem) → Ground p (now (work .entry)) (now (images .entry)) (now (numbers .entry)) k → Live p (now (sets .entry)) → SiftedIf r p (take k (now (work .entry))) (now (sets .entry)) (now (sets .exit))) ⌝ }
+    ensures { λ r. ⌜ ((p : Problem) → Ground p (now (work .entry)) (now (images .entry)) (now (numbers .entry)) k → Live p (now (sets .entry)) → SiftedOr p (take k (now (work .entry))) (now (sets .entry)) (now (sets .exit)) r) ⌝ }
 {
     let g = numbers[67] as usize;
     let mut e = 0;

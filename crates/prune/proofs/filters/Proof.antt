@@ -54,11 +54,13 @@ loop-less c = search needs
 -- src/lib.rt:38:5
 loop-again : tie.Need-loop-again Inv-loop μ-loop
 loop-again c =
-    let i = c .before .before .before in
-    (i .before .loop .inv .0, λ p g l.
-    let h = subst (λ (n : ℕ). i .before .loop .e < n) (i .before .loop .inv .0) (i .loop-test .taken) in
-    let s = i .before .loop .inv .1 p g l in
-    sifting-turn p _ _ _ _ g _ _ _ _ h s (subst (FilteredAt p _ _ _ _ _) (c .if1 .left) (c .before .filter-at .ensures p (filterable p _ _ _ _ g _ _ (i .before .loop .sets) _ h s))))
+    let i = c .before .before .before in (
+      i .before .loop .inv .0,
+      λ p g l.
+          let h = subst (λ (n : ℕ). i .before .loop .e < n) (i .before .loop .inv .0) (i .loop-test .taken) in
+          let s = i .before .loop .inv .1 p g l in
+          sifting-turn p _ _ _ _ g _ _ _ _ h s (subst (FilteredAt p _ _ _ _ _) (c .if1 .left) (c .before .filter-at .ensures p (filterable p _ _ _ _ g _ _ (i .before .loop .sets) _ h s))),
+    )
 
 -- src/lib.rt:26:1
 returns-2 : tie.Need-returns-2 Inv-loop μ-loop
