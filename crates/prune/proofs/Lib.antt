@@ -1,3 +1,4 @@
 pub mod Copies
 pub mod Settling
 pub mod Sifting
+pub mod Starts
