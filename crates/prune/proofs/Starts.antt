@@ -68,9 +68,18 @@ module _ (p : Problem) (few : p .variables ≤ 16) (prefix sets : List ℕ) (k :
   }
 
 -- ---- the root
+pub some-few : {p : Problem} {stack work supports images numbers : List ℕ} → Ready p stack work supports images numbers → at numbers 66 < 64
+some-few r = omega (arith, r .compiled .numbered .constraints, r .constraints)
+
+pub some-one : (c : ℕ) → c < 64 → 1 ≤ 1 * 2 ^ c % 2 ^ 64
+some-one c h = subst (λ (z : ℕ). 1 ≤ z) (sym (one-bit 64 c h)) (pow-pos c)
+
+pub ready-few : {p : Problem} {stack work supports images numbers : List ℕ} → Ready p stack work supports images numbers → p .variables ≤ 16
+ready-few r = omega (arith, r .wellFormed .few)
+
 module _ {p : Problem} {stack work supports images numbers : List ℕ} (r : Ready p stack work supports images numbers) (sets : List ℕ) (l : length sets ≡ 16) (e : (x : ℕ) → x < 16 → at sets x ≡ at numbers (16 + x) % 65536) where
   n-16 : p .variables ≤ 16
-  n-16 = omega (arith, r .wellFormed .few)
+  n-16 = ready-few r
 
   initial-sets : Sets (p .variables) (p .initial)
   initial-sets = well-sized p (r .wellFormed)
@@ -86,12 +95,6 @@ module _ {p : Problem} {stack work supports images numbers : List ℕ} (r : Read
 
   are-initial : setsOf p sets ≡ p .initial
   are-initial = padded-take (p .variables) (p .initial) sets l initial-sets n-16 at-initial at-unused
-
-  c-few : at numbers 66 < 64
-  c-few = omega (arith, r .compiled .numbered .constraints, r .constraints)
-
-  pub c-32 : at numbers 66 ≤ 32
-  c-32 = omega (arith, r .compiled .numbered .constraints, r .constraints)
 
   is-full : anyEmpty (setsOf p sets) ≡ false
   is-full = take-full (p .variables) sets sets-16 n-16 (λ x h q. let z = sym (at-initial x h) ∙ q in omega (arith, r .wellFormed .nonempty x h, z))
@@ -119,7 +122,7 @@ module _ {p : Problem} {stack work supports images numbers : List ℕ} (r : Read
   }
     where
       all : todo ≡ (2 ^ length (p .constraints) - 1) - 0
-      all = q ∙ all-of (at numbers 66) c-few ∙ ap (λ (z : ℕ). (2 ^ z - 1) - 0) (r .compiled .numbered .constraints)
+      all = q ∙ all-of (at numbers 66) (some-few r) ∙ ap (λ (z : ℕ). (2 ^ z - 1) - 0) (r .compiled .numbered .constraints)
 
       is : todo ≡ 2 ^ length (p .constraints) - 1
       is = all ∙ omega arith
@@ -136,7 +139,7 @@ module _ {p : Problem} {stack work supports images numbers : List ℕ} {k : ℕ}
   parent-sets = setsAt-sets p (take k work) wf-sized
 
   n-16′ : p .variables ≤ 16
-  n-16′ = omega (arith, a .ready .wellFormed .few)
+  n-16′ = ready-few (a .ready)
 
   k-12 : k < 12
   k-12 = omega (arith, a .room, a .ready .wellFormed .few)
@@ -262,3 +265,9 @@ module _ {p : Problem} {stack work supports images numbers : List ℕ} {k : ℕ}
       waiting = record { given = given; sixteen = after; full = start-full; known = known; others = others };
       way = way;
     }
+
+  pub child-dead : (sets : List ℕ) (r : Bool) → Arrived p (take (k + 1) work) sets r → r ≡ true → Reached p (longer work k) (k + 1) stack work stack work true
+  child-dead sets r e q = reached-dead p n-16′ (longer work k) sets (k + 1) stack work (subst (λ (z : List ℕ). Arrived p z sets true) longer-is (subst (Arrived p (take (k + 1) work) sets) q e))
+
+  pub child-live : (sets stack′ : List ℕ) (r : Bool) → Arrived p (take (k + 1) work) sets r → r ≡ false → Stored stack (k + 1) sets stack′ → Reached p (longer work k) (k + 1) stack work stack′ work false
+  child-live sets stack′ r e q t = reached-live p n-16′ (longer work k) sets (k + 1) stack work stack′ (subst (λ (z : List ℕ). Arrived p z sets false) longer-is (subst (Arrived p (take (k + 1) work) sets) q e)) t

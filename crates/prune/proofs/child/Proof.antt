@@ -1,3 +1,7 @@
+use mathlib.Core.Path.{refl}
+use native.Mathlib.Omega.{arith}
+use Rattle.model.specs.Lists.{at}
+use Rattle.prune.proofs.Starts.{v-lt, child-near, child-dead, child-live}
 use borrow.Author.Needs.{needs}
 use Rattle.prune.proofs.child.Statement.{statement}
 use Rattle.prune.proofs.child.Tie as tie
@@ -22,11 +26,13 @@ element-copy-out-one c = search needs
 
 -- src/lib.rt:167:23
 cast-one : tie.Need-cast-one
-cast-one c = ?
+unfolding at
+cast-one c = omega (arith, v-lt (c .before .before .before .before .pre .1))
 
 -- src/lib.rt:167:15
 shl-one : tie.Need-shl-one
-shl-one c = ?
+unfolding at
+shl-one c = v-lt (c .before .before .before .before .pre .1)
 
 -- src/lib.rt:168:20
 mul-due : tie.Need-mul-due
@@ -62,11 +68,13 @@ add-fixpoint c = search needs
 
 -- src/lib.rt:170:9
 fixpoint-requires : tie.Need-fixpoint-requires
-fixpoint-requires c κs = ?
+unfolding at
+fixpoint-requires c κs = (_, child-near (c .before .before .before .before .before .before .before .before .pre .1) (c .before .before .before .before .before .load .last .1 .1 .0) (c .before .before .before .before .before .load .ensures) _ _ refl (c .before .before .due .ensures))
 
 -- src/lib.rt:172:9
 returns : tie.Need-returns
-returns c = ?
+unfolding at
+returns c = λ p a. child-dead a _ _ (c .before .fixpoint .ensures p (child-near a (c .before .before .before .before .before .before .before .load .last .1 .1 .0) (c .before .before .before .before .before .before .before .load .ensures) _ _ refl (c .before .before .before .before .due .ensures))) (c .if1 .taken)
 
 -- src/lib.rt:174:18
 add-store : tie.Need-add-store
@@ -78,7 +86,8 @@ store-requires c κs = search needs
 
 -- src/lib.rt:154:1
 returns-2 : tie.Need-returns-2
-returns-2 c = ?
+unfolding at
+returns-2 c = λ p a. child-live a _ _ _ (c .before .before .before .before .fixpoint .ensures p (child-near a (c .before .before .before .before .before .before .before .before .before .before .load .last .1 .1 .0) (c .before .before .before .before .before .before .before .before .before .before .load .ensures) _ _ refl (c .before .before .before .before .before .before .before .due .ensures))) (c .before .before .before .if1 .left) (c .store .ensures)
 
 pub child-spec : {M : Type 1} → statement M
 child-spec =

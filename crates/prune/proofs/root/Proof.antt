@@ -1,3 +1,8 @@
+use mathlib.Core.Path.{refl, subst}
+use mathlib.Core.List.{[]}
+use Rattle.model.specs.Lists.{at}
+use Rattle.prune.specs.Steps.{Arrived}
+use Rattle.prune.proofs.Starts.{some-few, some-one, ready-few, root-start, reached-dead, reached-live}
 use borrow.Author.Needs.{needs}
 use Rattle.prune.proofs.root.Statement.{statement}
 use Rattle.prune.proofs.root.Tie as tie
@@ -17,19 +22,23 @@ element-copy-out-todo c = search needs
 
 -- src/lib.rt:144:17
 shl-todo : tie.Need-shl-todo
-shl-todo c = ?
+unfolding at
+shl-todo c = some-few (c .before .before .before .pre .1)
 
 -- src/lib.rt:144:16
 sub-todo : tie.Need-sub-todo
-sub-todo c = ?
+unfolding at
+sub-todo c = some-one _ (some-few (c .before .before .before .pre .1))
 
 -- src/lib.rt:145:9
 fixpoint-requires : tie.Need-fixpoint-requires
-fixpoint-requires c κs = ?
+unfolding at
+fixpoint-requires c κs = let i = c .before .before .before .initial .ensures in (_, root-start (c .before .before .before .before .before .pre .1) _ (i .0) (i .1) _ refl)
 
 -- src/lib.rt:147:9
 returns : tie.Need-returns
-returns c = ?
+unfolding at
+returns c = λ p r. let i = c .before .before .before .before .before .initial .ensures in reached-dead p (ready-few r) [] _ 0 _ _ (subst (Arrived p [] _) (c .if1 .taken) (c .before .fixpoint .ensures p (root-start r _ (i .0) (i .1) _ refl)))
 
 -- src/lib.rt:149:5
 store-requires : tie.Need-store-requires
@@ -37,7 +46,8 @@ store-requires c κs = search needs
 
 -- src/lib.rt:132:1
 returns-2 : tie.Need-returns-2
-returns-2 c = ?
+unfolding at
+returns-2 c = λ p r. let i = c .before .before .before .before .before .before .before .before .initial .ensures in reached-live p (ready-few r) [] _ 0 _ _ _ (subst (Arrived p [] _) (c .before .before .before .if1 .left) (c .before .before .before .before .fixpoint .ensures p (root-start r _ (i .0) (i .1) _ refl))) (c .store .ensures)
 
 pub root-spec : {M : Type 1} → statement M
 root-spec =
