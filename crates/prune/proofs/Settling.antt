@@ -21,7 +21,7 @@ use Rattle.constraints.specs.Steps.{Gathered}
 use Rattle.constraints.proofs.Rows.{ascending-sorted, of-scope, fixed-local}
 use Rattle.constraints.proofs.Scopes.{good}
 use Rattle.constraints.proofs.Ways.{take-at, take-sets}
-use Rattle.prune.specs.Steps.{Ground, Live, Sifted, Ended, Nearing, Arrived, Differ}
+use Rattle.prune.specs.Steps.{Ground, Live, AllSifted, Ended, Nearing, Arrived, Differ}
 use Rattle.prune.proofs.Sifting.{place-of}
 
 -- ---- a set is empty, so the prefix is dead
@@ -76,7 +76,7 @@ module _ {p : Problem} {work supports images numbers ds : List ℕ} {k todo : �
     pub sifted-dead : (fs : List ℕ) → Ended p (take k work) es → Arrived p (take k work) fs true
     sifted-dead fs e = dead p (take k work) fs (not-live p (take k work) (e .0) (e .1 .0 way-1) (well-sized p (n .ground .wellFormed)) (e .1 .1))
 
-    module _ {fs : List ℕ} (s : Sifted p (take k work) es fs) {changed : ℕ} (d : Differ es fs changed) where
+    module _ {fs : List ℕ} (s : AllSifted p (take k work) es fs) {changed : ℕ} (d : Differ es fs changed) where
       way-2 : Way p (take k work) (setsOf p fs)
       way-2 = s .way way-1
 

@@ -21,9 +21,9 @@ use Rattle.model.proofs.Tree.{well-sized}
 use Rattle.layout.specs.Layout.{symmetryAt}
 use Rattle.constraints.specs.Revised.{setsOf}
 use Rattle.constraints.proofs.Scopes.{mem-getD}
-use Rattle.constraints.proofs.Ways.{take-sets, take-e, take-i}
-use Rattle.prune.specs.Steps.{Ground, Live, Sifted, SiftedOr}
-use Rattle.prune.specs.Stub.{Filterable, FilteredAt, leftAt}
+use Rattle.constraints.proofs.Ways.{take-sets, take-e, take-i, full-take}
+use Rattle.prune.specs.Stub.{Levelled, Sifted, leaves}
+use Rattle.prune.specs.Steps.{Ground, Live, AllSifted, AllSiftedOr}
 
 -- a member stands at some place
 pub place-of : {A : Type 0} (l : List A) (x d : A) → List·Memᴰ x l → (i : ℕ) × (i < length l) × (getD l i d ≡ x)
@@ -42,10 +42,10 @@ module _ (p : Problem) (work images numbers : List ℕ) (k : ℕ) (g : Ground p 
   pub sifting-begin : Live p ds → Sifting p (take k work) ds ds 0
   sifting-begin l = record { live = l; less = λ x v t. t; way = λ y. y; fixed = λ q i h. absurd (omega arith) }
 
-  pub sifting-end : (es : List ℕ) (e : ℕ) → at numbers 67 ≤ e → Sifting p (take k work) ds es e → SiftedOr p (take k work) ds es false
+  pub sifting-end : (es : List ℕ) (e : ℕ) → at numbers 67 ≤ e → Sifting p (take k work) ds es e → AllSiftedOr p (take k work) ds es false
   sifting-end es e h s = record { ended = λ q. absurd (subst T (sym q) tt); sifted = λ q. sifted }
     where
-      sifted : Sifted p (take k work) ds es
+      sifted : AllSifted p (take k work) ds es
       sifted = record {
         live = s .live;
         less = s .less;
@@ -58,58 +58,58 @@ module _ (p : Problem) (work images numbers : List ℕ) (k : ℕ) (g : Ground p 
     e-lt : e < length (p .symmetries)
     e-lt = omega (arith, g .numbered .symmetries)
 
-    pub filterable : Filterable p es work images numbers e k
-    filterable = record {
-      numbered = g .numbered;
-      imaged = g .imaged;
-      wellFormed = g .wellFormed;
-      symmetries = g .symmetries;
-      sixteen = s .live .sixteen;
-      full = s .live .full;
-      unused = s .live .unused;
-      symmetry = e-lt;
-      depth = g .depth;
-      drawn = g .drawn;
-    }
-
     n-few : p .variables ≤ 16
     n-few = omega (arith, g .wellFormed .few)
 
-    rs : List ℕ
-    rs = leftAt p es work e k
+    pub levelled : Levelled p es work images numbers e k
+    levelled = record {
+      numbered = g .numbered;
+      imaged = g .imaged;
+      wellFormed = g .wellFormed;
+      few = g .symmetries;
+      symmetry = e-lt;
+      bound = g .depth;
+      drawn = g .drawn;
+      prefix-length = g .work-length;
+      live = record { few = n-few; sixteen = s .live .sixteen .0; small = s .live .sixteen .1; full = full-take (p .variables) es (s .live .sixteen) n-few (s .live .full) };
+      unused = s .live .unused;
+    }
 
-    left-way : Way p (take k work) (setsOf p ds) → Way p (take k work) (leftAt p es work e k)
+    left-way : Way p (take k work) (setsOf p ds) → Way p (take k work) (leaves p es work e k)
     left-way y =
-        way-removal p (take k work) (well-sized p (g .wellFormed)) (setsOf p es) (leftAt p es work e k) (s .way y)
+        way-removal p (take k work) (well-sized p (g .wellFormed)) (setsOf p es) (leaves p es work e k) (s .way y)
         (filter-removal p (take k work) (setsOf p es) (take-sets (p .variables) es (s .live .sixteen) n-few) (symmetryAt p e) (mem-getD (p .symmetries) e [] e-lt))
 
-    pub sifting-dead : FilteredAt p es fs work e k true → SiftedOr p (take k work) ds fs true
-    sifting-dead f = record { ended = λ q. (leftAt p es work e k, (left-way, T-of (anyEmpty (leftAt p es work e k)) (sym (f .answers)))); sifted = λ q. absurd (subst T q tt) }
+    pub sifting-dead : Sifted p es work e k fs true → AllSiftedOr p (take k work) ds fs true
+    sifting-dead f = record { ended = λ q. (leaves p es work e k, (left-way, T-of (anyEmpty (leaves p es work e k)) (sym (f .answers)))); sifted = λ q. absurd (subst T q tt) }
 
-    module _ (f : FilteredAt p es fs work e k false) where
-      here : setsOf p fs ≡ leftAt p es work e k
+    module _ (f : Sifted p es work e k fs false) where
+      here : setsOf p fs ≡ leaves p es work e k
       here = f .left refl
 
+      sixteen : Sets 16 fs
+      sixteen = (f .sixteen, f .live refl .small)
+
       turn-live : Live p fs
-      turn-live = record { sixteen = f .sixteen; full = ap anyEmpty here ∙ sym (f .answers); unused = f .unused refl }
+      turn-live = record { sixteen = sixteen; full = ap anyEmpty here ∙ sym (f .answers); unused = f .unused refl }
 
       turn-less : Inside fs es
       turn-less x v t = go (ltb x (p .variables)) refl
         where
           go : (b : Bool) → ltb x (p .variables) ≡ b → T (has (at es x) v)
           go true q =
-              let i = take-i (p .variables) fs (f .sixteen) n-few x v (ltb-true x (p .variables) q) t in
+              let i = take-i (p .variables) fs sixteen n-few x v (ltb-true x (p .variables) q) t in
               take-e (p .variables) es (s .live .sixteen) n-few x v (filtered-inside (setsOf p es) (nogoodsOf p (symmetryAt p e) (take k work)) x v (subst (λ (l : List ℕ). T (has (at l x) v)) here i)) .1
           go false q =
               let o = ltb-false x (p .variables) q in
-              let i : x < 16 = subst (λ (n : ℕ). x < n) (f .sixteen .0) (has-at-lt fs x v t) in
+              let i : x < 16 = subst (λ (n : ℕ). x < n) (f .sixteen) (has-at-lt fs x v t) in
               subst (λ (n : ℕ). T (has n v)) (f .unused refl x o i ∙ sym (s .live .unused x o i)) t
 
       turn-fixed : fs ≡ ds → (i : ℕ) → i < e + 1 → filtered (setsOf p ds) (nogoodsOf p (symmetryAt p i) (take k work)) ≡ setsOf p ds
       turn-fixed q i l = go (ℕ-discrete i e)
         where
           same : es ≡ ds
-          same = inside-antisym 16 es ds (s .live .sixteen) (subst (Sets 16) q (f .sixteen)) (s .less) (subst (λ (z : List ℕ). Inside z es) q turn-less)
+          same = inside-antisym 16 es ds (s .live .sixteen) (subst (Sets 16) q sixteen) (s .less) (subst (λ (z : List ℕ). Inside z es) q turn-less)
 
           go : Dec (i ≡ e) → filtered (setsOf p ds) (nogoodsOf p (symmetryAt p i) (take k work)) ≡ setsOf p ds
           go (yes o) =

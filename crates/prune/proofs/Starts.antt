@@ -109,7 +109,7 @@ module _ {p : Problem} {stack work supports images numbers : List ℕ} (r : Read
 
   pub root-start : (todo : ℕ) → todo ≡ 1 * 2 ^ at numbers 66 % 2 ^ 64 - 1 → Nearing p work supports images numbers sets 0 todo
   root-start todo q = record {
-    ground = record { numbered = r .compiled .numbered; imaged = r .compiled .imaged; wellFormed = r .wellFormed; symmetries = r .symmetries; depth = omega arith; drawn = λ j h. absurd (omega arith) };
+    ground = record { numbered = r .compiled .numbered; imaged = r .compiled .imaged; wellFormed = r .wellFormed; symmetries = r .symmetries; depth = omega arith; drawn = λ j h. absurd (omega arith); work-length = r .work-length };
     live = record { sixteen = sets-16; full = is-full; unused = at-unused };
     waiting = record {
       given = record { numbered = r .compiled .numbered; tabled = r .compiled .supported; wellFormed = r .wellFormed; constraints = r .constraints };
@@ -260,7 +260,7 @@ module _ {p : Problem} {stack work supports images numbers : List ℕ} {k : ℕ}
 
     pub child-near : Nearing p work supports images numbers (set sets k one) (k + 1) todo
     child-near = record {
-      ground = record { numbered = a .ready .compiled .numbered; imaged = a .ready .compiled .imaged; wellFormed = a .ready .wellFormed; symmetries = a .ready .symmetries; depth = omega (arith, a .room); drawn = drawn };
+      ground = record { numbered = a .ready .compiled .numbered; imaged = a .ready .compiled .imaged; wellFormed = a .ready .wellFormed; symmetries = a .ready .symmetries; depth = omega (arith, a .room); drawn = drawn; work-length = a .ready .work-length };
       live = record { sixteen = after; full = start-full; unused = start-unused };
       waiting = record { given = given; sixteen = after; full = start-full; known = known; others = others };
       way = way;

@@ -24,6 +24,7 @@ pub record Ground (p : Problem) (work images numbers : List ℕ) (k : ℕ) : Typ
   pub symmetries : length (p .symmetries) ≤ 136
   pub depth : k ≤ p .variables
   pub drawn : (j : ℕ) → j < k → T (has (at (p .initial) j) (at work j))
+  pub work-length : length work ≡ 256
 
 -- none of p's sets is empty, and every unused set is {0}
 pub record Live (p : Problem) (sets : List ℕ) : Type 0 where
@@ -32,7 +33,7 @@ pub record Live (p : Problem) (sets : List ℕ) : Type 0 where
   pub unused : (x : ℕ) → p .variables ≤ x → x < 16 → at sets x ≡ 1
 
 -- what the filters of all symmetries, one after another, leave: values that no round keeps went, and where nothing went, no filter takes anything
-pub record Sifted (p : Problem) (prefix sets sets′ : List ℕ) : Type 0 where
+pub record AllSifted (p : Problem) (prefix sets sets′ : List ℕ) : Type 0 where
   pub live : Live p sets′
   pub less : Inside sets′ sets
   pub way : Way p prefix (setsOf p sets) → Way p prefix (setsOf p sets′)
@@ -42,9 +43,9 @@ pub record Sifted (p : Problem) (prefix sets sets′ : List ℕ) : Type 0 where
 abbrev pub Ended : Problem → List ℕ → List ℕ → Type 0
 Ended p prefix sets = (es : List ℕ) × ((Way p prefix (setsOf p sets) → Way p prefix es) × T (anyEmpty es))
 
-pub record SiftedOr (p : Problem) (prefix sets sets′ : List ℕ) (dead : Bool) : Type 0 where
+pub record AllSiftedOr (p : Problem) (prefix sets sets′ : List ℕ) (dead : Bool) : Type 0 where
   pub ended : dead ≡ true → Ended p prefix sets
-  pub sifted : dead ≡ false → Sifted p prefix sets sets′
+  pub sifted : dead ≡ false → AllSifted p prefix sets sets′
 
 -- on the way to the sets at the prefix: only the constraints of `todo` may take something
 pub record Nearing (p : Problem) (work supports images numbers sets : List ℕ) (k todo : ℕ) : Type 0 where

@@ -6,8 +6,8 @@ ghost use lib.ListN.{length, take};
 ghost use Rattle.model.specs.Lists.{at};
 ghost use Rattle.model.specs.Problem.{Problem};
 ghost use Rattle.prune.specs.Node.{Ready, AtNode, Reached, longer};
-ghost use Rattle.prune.specs.Stub.{Filterable, FilteredAt};
-ghost use Rattle.prune.specs.Steps.{Ground, Live, SiftedOr, Nearing, Arrived, Differ, Loaded, Stored};
+ghost use Rattle.prune.specs.Stub.{Levelled, Sifted};
+ghost use Rattle.prune.specs.Steps.{Ground, Live, AllSiftedOr, Nearing, Arrived, Differ, Loaded, Stored};
 
 extern "C" {
     fn filter_at(
@@ -18,8 +18,8 @@ extern "C" {
         e: usize,
         k: usize,
     ) -> bool
-        requires { ⌜ ((p : Problem) × Filterable p (now sets) (now «prefix») (now images) (now numbers) e k) ⌝ }
-        ensures { λ r. ⌜ ((p : Problem) → Filterable p (now (sets .entry)) (now («prefix» .entry)) (now (images .entry)) (now (numbers .entry)) e k → FilteredAt p (now (sets .entry)) (now (sets .exit)) (now («prefix» .entry)) e k r) ⌝ };
+        requires { ⌜ ((p : Problem) × Levelled p (now sets) (now «prefix») (now images) (now numbers) e k) ⌝ }
+        ensures { λ r. ⌜ ((p : Problem) → Levelled p (now (sets .entry)) (now («prefix» .entry)) (now (images .entry)) (now (numbers .entry)) e k → Sifted p (now (sets .entry)) (now («prefix» .entry)) e k (now (sets .exit)) r) ⌝ };
 }
 
 // The filter of every symmetry's nogoods at the prefix of k values, one after another; true where a set is empty.
@@ -31,7 +31,7 @@ fn filters(
     k: usize,
 ) -> bool
     requires { ⌜ ((p : Problem) × Ground p (now work) (now images) (now numbers) k × Live p (now sets)) ⌝ }
-    ensures { λ r. ⌜ ((p : Problem) → Ground p (now (work .entry)) (now (images .entry)) (now (numbers .entry)) k → Live p (now (sets .entry)) → SiftedOr p (take k (now (work .entry))) (now (sets .entry)) (now (sets .exit)) r) ⌝ }
+    ensures { λ r. ⌜ ((p : Problem) → Ground p (now (work .entry)) (now (images .entry)) (now (numbers .entry)) k → Live p (now (sets .entry)) → AllSiftedOr p (take k (now (work .entry))) (now (sets .entry)) (now (sets .exit)) r) ⌝ }
 {
     let g = numbers[67] as usize;
     let mut e = 0;

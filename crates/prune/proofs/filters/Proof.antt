@@ -4,9 +4,9 @@ use borrow.Author.Needs.{needs}
 use lib.ListN.{take}
 use Rattle.model.specs.Lists.{at}
 use Rattle.model.specs.Problem.{Problem}
-use Rattle.prune.specs.Stub.{FilteredAt}
+use Rattle.prune.specs.Stub.{Sifted}
 use Rattle.prune.specs.Steps.{Ground, Live}
-use Rattle.prune.proofs.Sifting.{Sifting, sifting-begin, sifting-turn, sifting-dead, sifting-end, filterable}
+use Rattle.prune.proofs.Sifting.{Sifting, sifting-begin, sifting-turn, sifting-dead, sifting-end, levelled}
 use Rattle.prune.proofs.filters.Statement.{statement}
 use Rattle.prune.proofs.filters.Tie as tie
 use Rattle.prune.proofs.filters.Reads as reads
@@ -33,7 +33,7 @@ filter-at-requires : tie.Need-filter-at-requires Inv-loop μ-loop
 filter-at-requires c κs =
     let i = c .before in
     let q = i .before .before .before .pre in
-    (q .0, filterable (q .0) _ _ _ _ (q .1) _ _ (i .before .loop .sets) _ (subst (λ (n : ℕ). i .before .loop .e < n) (i .before .loop .inv .0) (i .loop-test .taken)) (i .before .loop .inv .1 (q .0) (q .1) (q .2)))
+    (q .0, levelled (q .0) _ _ _ _ (q .1) _ _ (i .before .loop .sets) _ (subst (λ (n : ℕ). i .before .loop .e < n) (i .before .loop .inv .0) (i .loop-test .taken)) (i .before .loop .inv .1 (q .0) (q .1) (q .2)))
 
 -- src/lib.rt:40:13
 returns : tie.Need-returns Inv-loop μ-loop
@@ -41,7 +41,7 @@ returns c =
     let i = c .before .before .before in λ p g l.
     let h = subst (λ (n : ℕ). i .before .loop .e < n) (i .before .loop .inv .0) (i .loop-test .taken) in
     let s = i .before .loop .inv .1 p g l in
-    sifting-dead p _ _ _ _ g _ _ _ _ h s (subst (FilteredAt p _ _ _ _ _) (c .if1 .taken) (c .before .filter-at .ensures p (filterable p _ _ _ _ g _ _ (i .before .loop .sets) _ h s)))
+    sifting-dead p _ _ _ _ g _ _ _ _ h s (subst (Sifted p _ _ _ _ _) (c .if1 .taken) (c .before .filter-at .ensures p (levelled p _ _ _ _ g _ _ (i .before .loop .sets) _ h s)))
 
 -- src/lib.rt:42:9
 add-e : tie.Need-add-e Inv-loop μ-loop
@@ -59,7 +59,7 @@ loop-again c =
       λ p g l.
           let h = subst (λ (n : ℕ). i .before .loop .e < n) (i .before .loop .inv .0) (i .loop-test .taken) in
           let s = i .before .loop .inv .1 p g l in
-          sifting-turn p _ _ _ _ g _ _ _ _ h s (subst (FilteredAt p _ _ _ _ _) (c .if1 .left) (c .before .filter-at .ensures p (filterable p _ _ _ _ g _ _ (i .before .loop .sets) _ h s))),
+          sifting-turn p _ _ _ _ g _ _ _ _ h s (subst (Sifted p _ _ _ _ _) (c .if1 .left) (c .before .filter-at .ensures p (levelled p _ _ _ _ g _ _ (i .before .loop .sets) _ h s))),
     )
 
 -- src/lib.rt:26:1

@@ -5,7 +5,7 @@ use borrow.Author.Needs.{needs}
 use Rattle.model.specs.Problem.{Problem}
 use Rattle.model.proofs.Sets.{size}
 use Rattle.constraints.specs.Revised.{Constrained}
-use Rattle.prune.specs.Steps.{Nearing, Sifted}
+use Rattle.prune.specs.Steps.{Nearing, AllSifted}
 use Rattle.prune.proofs.Settling.{constrained-dead, constrained-live, sifted-dead, settled, settling, settling-less}
 use Rattle.prune.proofs.fixpoint.Statement.{statement}
 use Rattle.prune.proofs.fixpoint.Tie as tie
@@ -29,7 +29,7 @@ constrained c p n = subst (Constrained p _ _) (c .if1 .left) (c .before .constra
 
 -- what the filters left, where no set is empty
 sifted : (c : tie.Else2 Inv-loop μ-loop) (p : Problem) (n : Nearing p (c .before .before .before .before .before .before .before .before .args .work .now) (c .before .before .before .before .before .before .before .before .args .supports .now) (c .before .before .before .before .before .before .before .before .args .images .now) (c .before .before .before .before .before .before .before .before .args .numbers .now) (c .before .before .before .before .before .before .before .loop .sets) (c .before .before .before .before .before .before .before .before .args .k) (c .before .before .before .before .before .before .before .loop .left)) →
-    Sifted p (take (c .before .before .before .before .before .before .before .before .args .k) (c .before .before .before .before .before .before .before .before .args .work .now)) (c .before .before .before .before .before .constrain .last .0) (c .before .filters .last .0)
+    AllSifted p (take (c .before .before .before .before .before .before .before .before .args .k) (c .before .before .before .before .before .before .before .before .args .work .now)) (c .before .before .before .before .before .constrain .last .0) (c .before .filters .last .0)
 sifted c p n = c .before .filters .ensures p (n .ground) (constrained-live n (constrained (c .before .before .before .before) p n)) .sifted (c .if2 .left)
 
 -- src/lib.rt:74:5
