@@ -1,0 +1,7 @@
+pub mod Bits
+pub mod Rows
+pub mod Scopes
+pub mod Stores
+pub mod Turns
+pub mod Unions
+pub mod Ways

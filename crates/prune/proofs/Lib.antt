@@ -1,0 +1,4 @@
+pub mod Copies
+pub mod Settling
+pub mod Sifting
+pub mod Starts

@@ -1,0 +1,51 @@
+-- What the functions of this crate ask and leave: the sets at a prefix (paper 01, "The search") on a lent stack of thirteen depths.
+-- Depth k has the sets of sixteen variables from 16 k on. The numbers of `work` from 0 to 11 are the prefix, the value of variable j at j.
+use mathlib.Core.Path.{_≡_}
+use mathlib.Core.Bool.{Bool, true, false, not}
+use mathlib.Core.List.{List, [], _∷_, _++_}
+use Prim.Native.Nat.{ℕ, _+_, _*_, _≤_, _<_}
+use lib.Dec.{T}
+use lib.ListN.{length, take}
+use Rattle.model.specs.Lists.{at}
+use Rattle.model.specs.ValueSets.{has}
+use Rattle.model.specs.Problem.{Problem}
+use Rattle.model.specs.Search.{setsAt, isLive}
+use Rattle.model.proofs.WellFormed.{WellFormed}
+use Rattle.layout.specs.Layout.{Compiled}
+
+-- depth k of the stack holds the sets ds of p's variables, and {0} for every other of sixteen
+pub record Holds (p : Problem) (stack : List ℕ) (k : ℕ) (ds : List ℕ) : Type 0 where
+  pub sets : (x : ℕ) → x < p .variables → at stack (16 * k + x) ≡ at ds x
+  pub unused : (x : ℕ) → p .variables ≤ x → x < 16 → at stack (16 * k + x) ≡ 1
+
+-- the arrays hold p, which has no more constraints and symmetries than they have room for; what is lent to write on has its length
+-- (a reference to an array tells its length to no proof)
+pub record Ready (p : Problem) (stack work supports images numbers : List ℕ) : Type 0 where
+  pub compiled : Compiled p numbers supports images
+  pub wellFormed : WellFormed p
+  pub constraints : length (p .constraints) ≤ 32
+  pub symmetries : length (p .symmetries) ≤ 136
+  pub stack-length : length stack ≡ 208
+  pub work-length : length work ≡ 256
+
+-- the prefix of k values that work holds is live, its sets are at depth k, and the next value in work is one of variable k's
+pub record AtNode (p : Problem) (stack work supports images numbers : List ℕ) (k : ℕ) : Type 0 where
+  pub ready : Ready p stack work supports images numbers
+  pub room : k < p .variables
+  pub live : T (isLive p (take k work))
+  pub held : Holds p stack k (setsAt p (take k work))
+  pub member : T (has (at (setsAt p (take k work)) k) (at work k))
+
+-- the prefix with one value more
+abbrev pub longer : List ℕ → ℕ → List ℕ
+longer work k = take k work ++ (at work k ∷ [])
+
+-- the answer is whether the prefix is dead; its sets are at depth k where it is live; no other depth and no value of the prefix is changed
+pub record Reached (p : Problem) (prefix : List ℕ) (k : ℕ) (stack work stack′ work′ : List ℕ) (dead : Bool) : Type 0 where
+  pub answers : dead ≡ not (isLive p prefix)
+  pub holds : dead ≡ false → Holds p stack′ k (setsAt p prefix)
+  pub before : (i : ℕ) → i < 16 * k → at stack′ i ≡ at stack i
+  pub after : (i : ℕ) → 16 * k + 16 ≤ i → at stack′ i ≡ at stack i
+  pub kept : (j : ℕ) → j < 12 → at work′ j ≡ at work j
+  pub stack-length : length stack′ ≡ length stack
+  pub work-length : length work′ ≡ length work
