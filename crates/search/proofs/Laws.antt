@@ -16,9 +16,11 @@ use Rattle.model.specs.ValueSets.{has, members, least, leastStep, lowestOf, any
 use Rattle.model.specs.Problem.{Problem}
 use Rattle.model.specs.Search.{setsAt, isLive, nodesBelow}
 use Rattle.model.proofs.Lists.{keep-yes, keep-no, keep-ext, upFrom-e, T-of, of-T, not-of, of-not}
-use Rattle.model.proofs.Sets.{has-zero, has-suc, has-none, members-of-none, member, at-zeros, pow2}
+use Rattle.model.proofs.Sets.{has-zero, has-suc, has-none, members-of-none, member, at-zeros, empty-i, pow2}
 use Rattle.model.proofs.Masks.{lowest-op, least-below, least-at, has-and}
-use Rattle.model.proofs.Prune.{closed, setsAt-live, setsAt-dead}
+use Rattle.model.proofs.Prune.{closed, setsAt-live, setsAt-dead, setsAt-sets, largest, narrowed-e}
+use Rattle.model.proofs.WellFormed.{WellFormed}
+use Rattle.model.proofs.Tree.{well-sized}
 
 -- ---- a set without its lowest member
 both-same : (b : Bool) → both b b ≡ both b true
@@ -58,7 +60,7 @@ less-one (suc k) m v h l = go (less-one k (m / 2)) (has m 0) refl v
         ∙ ap₂ (λ (a : Bool) (n : ℕ). both a (not (eqb v n))) (sym (has-suc m v)) (ap (least k) (sym (fun-ext (has-suc m))))
         ∙ ap (λ (b : Bool). both (has m (suc v)) (not b)) (sym (eqb·suc-suc v (least k (λ w. has m (suc w)))))
 
-has-more : (m v : ℕ) → 0 < m → m < 2 ^ 16 → has (bitAnd m (m - 1)) v ≡ both (has m v) (not (eqb v (lowestOf m)))
+pub has-more : (m v : ℕ) → 0 < m → m < 2 ^ 16 → has (bitAnd m (m - 1)) v ≡ both (has m v) (not (eqb v (lowestOf m)))
 has-more m v h l = has-and m (m - 1) v ∙ less-one 16 m v h l
 
 least-is : (k : ℕ) (f : ℕ → Bool) → least k f < k → f (least k f) ≡ true
@@ -122,6 +124,25 @@ dead-sets p prefix x d = go (anyEmpty (closed p prefix)) refl
         let t : anyEmpty (setsAt p prefix) ≡ true = empty (anyEmpty (setsAt p prefix)) d in
         let f : anyEmpty (setsAt p prefix) ≡ false = ap anyEmpty (setsAt-live p prefix e) ∙ e in
         let z : true ≡ false = sym t ∙ f in absurd (subst T z tt)
+
+-- the values of a live prefix are below 16
+pub live-values : (p : Problem) → WellFormed p → (t : List ℕ) → isLive p t ≡ true → (i : ℕ) → i < length t → i < p .variables → at t i < 16
+unfolding isLive
+live-values p w t l i h x = go (anyEmpty (closed p t)) refl
+  where
+    some : (b : Bool) → not b ≡ true → b ≡ false
+    some true e = sym e
+    some false e = refl
+
+    go : (b : Bool) → anyEmpty (closed p t) ≡ b → at t i < 16
+    go true e =
+        let z : at (setsAt p t) i ≡ 0 = ap (λ (d : List ℕ). at d i) (setsAt-dead p t e) ∙ at-zeros (closed p t) i in
+        absurd (of-not (anyEmpty (setsAt p t)) (some (anyEmpty (setsAt p t)) l) (empty-i (setsAt p t) i (let q = setsAt-sets p t (well-sized p w) .0 in omega arith) z))
+    go false e =
+        let k = largest p t (well-sized p w) in
+        let u = member (at (closed p t) i) (k .sets .1 i) (λ z. of-not (anyEmpty (closed p t)) e (empty-i (closed p t) i (let q = k .sets .0 in omega arith) z)) in
+        let q = narrowed-e t (p .initial) i (u .0) (k .inside i (u .0) (u .2)) .1 h in
+        let v = u .1 in omega arith
 
 pub dead-below : (p : Problem) (k : ℕ) (prefix : List ℕ) → isLive p prefix ≡ false → nodesBelow p k prefix ≡ []
 unfolding nodesBelow flat

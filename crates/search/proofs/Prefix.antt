@@ -2,10 +2,11 @@
 use mathlib.Core.Path.{_≡_, refl, sym, ap, ap₂, _∙_, subst}
 use mathlib.Core.List.{List, [], _∷_, _++_}
 use Prim.Native.Nat.{ℕ, zero, suc, _+_, _≤_, _<_}
-use native.Mathlib.Nat.{le-refl}
+use native.Mathlib.Numerals.{add-one}
+use native.Mathlib.Decide.{decLt}
 use native.Mathlib.Omega.{arith}
-use lib.ListN.{length, take, drop, getD, set, length-append}
-use lib.Seq.{length-take-le, take-suc, getD-take, getD-set-same, getD-set-other, paste}
+use lib.ListN.{length, take, drop, getD, set, length-append, List·getD-append}
+use lib.Seq.{length-take-le, take-suc, getD-take, getD-set-same, getD-set-other, getD-at, paste}
 use Rattle.model.specs.Lists.{at, tabulate}
 use Rattle.model.proofs.Lists.{length-tabulate, at-tabulate, at-ext}
 use Rattle.search.specs.Walk.{overwritten}
@@ -31,13 +32,33 @@ pub prefix-take : (work : List ℕ) (k : ℕ) → k ≤ length work → take k w
 unfolding at
 prefix-take work k h = prefix-is (take k work) work k (length-take-le k work h) (λ i m. getD-take k work i 0 m)
 
-at-set : (l : List ℕ) (i v : ℕ) → i < length l → at (set l i v) i ≡ v
+pub at-set : (l : List ℕ) (i v : ℕ) → i < length l → at (set l i v) i ≡ v
 unfolding at
 at-set l i v h = getD-set-same l i v 0 h
 
 pub at-other : (l : List ℕ) (i j v : ℕ) → (j ≡ i → ⊥) → at (set l i v) j ≡ at l j
 unfolding at
 at-other l i j v h = getD-set-other l i j v 0 h
+
+pub prefix-snoc : (work : List ℕ) (k : ℕ) → prefixOf work k ++ (at work k ∷ []) ≡ prefixOf work (suc k)
+unfolding at
+prefix-snoc work k =
+    prefix-is (prefixOf work k ++ (at work k ∷ [])) work (suc k) (length-append (prefixOf work k) (at work k ∷ []) ∙ ap (λ (n : ℕ). n + 1) (length-prefix work k) ∙ add-one k) each
+  where
+    last : at (prefixOf work k ++ (at work k ∷ [])) k ≡ at work k
+    last = getD-at (prefixOf work k) (getD work k 0) [] 0 k (length-prefix work k)
+
+    first : (i : ℕ) → i < k → at (prefixOf work k ++ (at work k ∷ [])) i ≡ at (prefixOf work k) i
+    first i h = List·getD-append (prefixOf work k) (getD work k 0 ∷ []) 0 i (subst (λ (n : ℕ). i < n) (sym (length-prefix work k)) h)
+
+    go : (i : ℕ) → i < suc k → Dec (i < k) → at (prefixOf work k ++ (at work k ∷ [])) i ≡ at work i
+    go i h (yes l) = first i l ∙ prefix-at work k i l
+    go i h (no l) =
+        let e : i ≡ k = omega arith in
+        subst (λ (j : ℕ). at (prefixOf work k ++ (at work k ∷ [])) j ≡ at work j) (sym e) last
+
+    each : (i : ℕ) → i < suc k → at (prefixOf work k ++ (at work k ∷ [])) i ≡ at work i
+    each i h = go i h (decLt i k)
 
 pub prefix-zero : (work : List ℕ) → prefixOf work 0 ≡ []
 unfolding prefixOf tabulate

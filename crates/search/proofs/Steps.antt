@@ -43,17 +43,18 @@ module _ (p : Problem) (limit k : ℕ) (prefix : List ℕ) where
   step-none s = ap (λ (l : List ℕ). walk p limit (flat (map (λ v. (prefix ++ (v ∷ [])) ∷ nodesBelow p k (prefix ++ (v ∷ []))) l)) s) members-of-none
 
   module _ (m : ℕ) (some : 0 < m) (small : m < 2 ^ 16) (s : State) (going : s .stop ≡ 0) where
-    abbrev node : List ℕ
+    abbrev pub node : List ℕ
     node = prefix ++ (lowestOf m ∷ [])
 
-    abbrev more : List (List ℕ)
+    abbrev pub more : List (List ℕ)
     more = nodesFor p k prefix (bitAnd m (m - 1))
 
     first : nodesFor p k prefix m ≡ node ∷ (nodesBelow p k node ++ more)
     unfolding nodesFor flat
     first = ap (λ (l : List ℕ). flat (map (λ v. (prefix ++ (v ∷ [])) ∷ nodesBelow p k (prefix ++ (v ∷ []))) l)) (members-first m some small)
 
-    step : walk p limit (nodesFor p k prefix m) s ≡ walk p limit more (walk p limit (nodesBelow p k node) (visit p limit node s))
+    -- one value: its node, the nodes below, then the other values
+    pub step : walk p limit (nodesFor p k prefix m) s ≡ walk p limit more (walk p limit (nodesBelow p k node) (visit p limit node s))
     unfolding walk
     step = ap (λ (l : List (List ℕ)). walk p limit l s) first ∙ walk-append p limit (nodesBelow p k node) more (visit p limit node s)
 
@@ -63,17 +64,15 @@ module _ (p : Problem) (limit k : ℕ) (prefix : List ℕ) where
         ap (λ (l : List (List ℕ)). walk p limit l s) first ∙ ap (walk p limit (nodesBelow p k node ++ more)) (visit-spent p limit node s going e)
         ∙ walk-stopped p limit (nodesBelow p k node ++ more) (exhausted s) (λ q. omega arith)
 
-    pub step-dead : (s .made ≡ limit → ⊥) → isLive p node ≡ false → walk p limit (nodesFor p k prefix m) s ≡ walk p limit more (counted s)
+  -- ---- a node and those below it: dead, a plan, or neither
+  module _ (t : List ℕ) (s : State) (going : s .stop ≡ 0) (allowed : s .made ≡ limit → ⊥) where
+    pub node-dead : isLive p t ≡ false → walk p limit (nodesBelow p k t) (visit p limit t s) ≡ counted s
     unfolding walk
-    step-dead e d =
-        step ∙ ap₂ (λ (l : List (List ℕ)) (t : State). walk p limit more (walk p limit l t)) (dead-below p k node d) (visit-other p limit node s going e (dead-no-plan p node d))
+    node-dead d = ap₂ (walk p limit) (dead-below p k t d) (visit-other p limit t s going allowed (dead-no-plan p t d))
 
-    pub step-plan : (s .made ≡ limit → ⊥) → isLive p node ≡ true → length node ≡ p .variables → k ≡ 0 →
-        walk p limit (nodesFor p k prefix m) s ≡ walk p limit more (listed (p .variables) node (counted s))
+    pub node-plan : isLive p t ≡ true → length t ≡ p .variables → k ≡ 0 → walk p limit (nodesBelow p k t) (visit p limit t s) ≡ listed (p .variables) t (counted s)
     unfolding walk nodesBelow
-    step-plan e l n z =
-        step ∙ ap₂ (λ (j : ℕ) (t : State). walk p limit more (walk p limit (nodesBelow p j node) t)) z (visit-plan p limit node s going e (is-plan p node n l))
+    node-plan l n z = ap₂ (λ (j : ℕ) (u : State). walk p limit (nodesBelow p j t) u) z (visit-plan p limit t s going allowed (is-plan p t n l))
 
-    pub step-below : (s .made ≡ limit → ⊥) → (length node ≡ p .variables → ⊥) →
-        walk p limit (nodesFor p k prefix m) s ≡ walk p limit more (walk p limit (nodesBelow p k node) (counted s))
-    step-below e n = step ∙ ap (λ (t : State). walk p limit more (walk p limit (nodesBelow p k node) t)) (visit-other p limit node s going e (short-no-plan p node n))
+    pub node-inner : (length t ≡ p .variables → ⊥) → walk p limit (nodesBelow p k t) (visit p limit t s) ≡ walk p limit (nodesBelow p k t) (counted s)
+    node-inner n = ap (walk p limit (nodesBelow p k t)) (visit-other p limit t s going allowed (short-no-plan p t n))
