@@ -9,20 +9,24 @@ use native.Mathlib.Omega.{arith}
 use lib.Dec.{T}
 use lib.ListN.{length, take, set, length-set, length-append}
 use lib.Seq.{take-set-le}
-use lib.Bits.{bitAnd}
+use lib.Bits.{bitAnd, and-le-r}
+use lib.Count.{trailingZeros}
 use Rattle.model.specs.Lists.{at, both}
 use Rattle.model.specs.ValueSets.{has, lowestOf}
 use Rattle.model.specs.Problem.{Problem}
 use Rattle.model.specs.Search.{setsAt, isLive, nodesBelow}
 use Rattle.model.proofs.Lists.{T-of, of-T, both-l}
+use Rattle.model.proofs.Masks.{lowest-op}
 use Rattle.model.proofs.WellFormed.{WellFormed}
 use Rattle.search.specs.Node.{Ready, Holds, AtNode, Reached, longer}
 use Rattle.search.specs.Walk.{State, listed, counted, exhausted, visit, walk, nodesFor}
 use Rattle.search.specs.Pair.{prefixOf, stateOf, Room, AtPrefix, AtValues, Walked, below, tried}
 use Rattle.search.specs.declared.Progress.{Progress}
-use Rattle.search.proofs.Laws.{lowest-is, has-more, live-values}
+use Rattle.search.proofs.Laws.{lowest-lt, lowest-is, has-more, live-values}
 use Rattle.search.proofs.Walk.{Fits, visit-fits, walk-fits, walk-stopped}
-use Rattle.search.proofs.Steps.{step-none, step, step-spent, node-dead, node-plan, node-inner}
+use Rattle.model.proofs.Prune.{setsAt-sets}
+use Rattle.model.proofs.Tree.{well-sized}
+use Rattle.search.proofs.Steps.{below-is, step-none, step, step-spent, node-dead, node-plan, node-inner}
 use Rattle.search.proofs.Prefix.{length-prefix, prefix-at, prefix-ext, prefix-take, prefix-snoc, at-set, at-other}
 
 -- one node more
@@ -88,6 +92,9 @@ module _ (p : Problem) (stack work supports images numbers list : List ℕ) (k m
           (walk-fits p limit (length list) (nodesBelow p left node) (visit p limit node (stateOf r list))
           (visit-fits p limit (length list) node (stateOf r list) record { allowed = h .prefix .allowed; sized = refl; roomy = h .prefix .room .listed }))
 
+      pub turn-sized : length list′ ≡ length list
+      turn-sized = fits .sized
+
       pub turn-asks : r′ .stop ≡ 0 → AtValues p stack′ work′ supports images numbers list′ k more r′
       turn-asks g = record {
         prefix = record {
@@ -96,6 +103,7 @@ module _ (p : Problem) (stack work supports images numbers list : List ℕ) (k m
           live = subst (λ (q : List ℕ). T (isLive p q)) (sym same) (h .prefix .live);
           held = held-on p stack stack′ k (setsAt p (prefixOf work′ k)) (h .prefix .ready .wellFormed) (d .sets) (subst (λ (q : List ℕ). Holds p stack k (setsAt p q)) (sym same) (h .prefix .held));
           going = g;
+          limited = h .prefix .limited;
           allowed = fits .allowed;
           room = record {
             some = h .prefix .room .some;
@@ -119,18 +127,21 @@ module _ (p : Problem) (stack work supports images numbers list : List ℕ) (k m
       }
 
     -- ---- the lowest value stands in `work`
-    module _ (long : k < length work) where
-      abbrev put : List ℕ
-      put = set work k (lowestOf m)
+    module _ (long : length work ≡ 256) (put : List ℕ) (stored : put ≡ set work k (trailingZeros 16 m)) where
+      pub within : k < length work
+      within = let f = h .prefix .ready .wellFormed .few in let g = h .prefix .inner in omega arith
 
       kept : (i : ℕ) → i < k → at put i ≡ at work i
-      kept i l = at-other work k i (lowestOf m) (λ e. omega arith)
+      kept i l = ap (λ (w : List ℕ). at w i) stored ∙ at-other work k i (trailingZeros 16 m) (λ e. omega arith)
+
+      value : at put k ≡ lowestOf m
+      value = ap (λ (w : List ℕ). at w k) stored ∙ at-set work k (trailingZeros 16 m) within ∙ lowest-op 16 m
 
       taken : take k put ≡ pre
-      taken = prefix-take put k (let e = length-set work k (lowestOf m) in omega arith) ∙ prefix-ext put work k kept
+      taken = prefix-take put k (let e = ap length stored ∙ length-set work k (trailingZeros 16 m) in let w = within in omega arith) ∙ prefix-ext put work k kept
 
       longer-is : longer put k ≡ node
-      longer-is = ap₂ (λ (q : List ℕ) (v : ℕ). q ++ (v ∷ [])) taken (at-set work k (lowestOf m) long)
+      longer-is = ap₂ (λ (q : List ℕ) (v : ℕ). q ++ (v ∷ [])) taken value
 
       pub child-asks : AtNode p stack put supports images numbers k
       child-asks = record {
@@ -138,7 +149,7 @@ module _ (p : Problem) (stack work supports images numbers list : List ℕ) (k m
         room = h .prefix .inner;
         live = subst (λ (q : List ℕ). T (isLive p q)) (sym taken) (h .prefix .live);
         held = subst (λ (q : List ℕ). Holds p stack k (setsAt p q)) (sym taken) (h .prefix .held);
-        member = subst (λ (v : ℕ). T (has (at (setsAt p (take k put)) k) v)) (sym (at-set work k (lowestOf m) long))
+        member = subst (λ (v : ℕ). T (has (at (setsAt p (take k put)) k) v)) (sym value)
         (subst (λ (q : List ℕ). T (has (at (setsAt p q) k) (lowestOf m))) (sym taken) (h .inside (lowestOf m) (T-of (has m (lowestOf m)) (lowest-is m some small))));
       }
 
@@ -157,7 +168,7 @@ module _ (p : Problem) (stack work supports images numbers list : List ℕ) (k m
             ap (prefixOf work₂) (add-one k)
             ∙ prefix-ext work₂ put (suc k) (λ i l. q .kept i (let f = h .prefix .ready .wellFormed .few in let g = h .prefix .inner in omega arith))
             ∙ sym (prefix-snoc put k)
-            ∙ ap₂ (λ (t : List ℕ) (v : ℕ). t ++ (v ∷ [])) (prefix-ext put work k kept) (at-set work k (lowestOf m) long)
+            ∙ ap₂ (λ (t : List ℕ) (v : ℕ). t ++ (v ∷ [])) (prefix-ext put work k kept) value
 
         length-node : length node ≡ k + 1
         length-node = ap length (sym node₂) ∙ length-prefix work₂ (k + 1)
@@ -211,6 +222,7 @@ module _ (p : Problem) (stack work supports images numbers list : List ℕ) (k m
           live = T-of (isLive p (prefixOf work₂ (k + 1))) (subst (λ (t : List ℕ). isLive p t ≡ true) (sym node₂) (live₂ e));
           held = subst (λ (t : List ℕ). Holds p stack₂ (k + 1) (setsAt p t)) (longer-is ∙ sym node₂) (q .holds e);
           going = refl;
+          limited = h .prefix .limited;
           allowed = let g = h .prefix .allowed in omega arith;
           room = plan-asks;
         }
@@ -223,3 +235,44 @@ module _ (p : Problem) (stack work supports images numbers list : List ℕ) (k m
           sets = λ i l. w .sets i (omega arith) ∙ sets₂ i l;
           values = λ i l. w .values i (omega arith) ∙ values₂ i l;
         }
+
+-- ---- `settle`: all values of the variable's set are to be tried
+module _ (p : Problem) (stack work supports images numbers list : List ℕ) (k : ℕ) (r : Progress) (h : AtPrefix p stack work supports images numbers list k r) where
+  all-values : at stack (17 * k) ≡ at (setsAt p (prefixOf work k)) k
+  all-values = let e : 17 * k ≡ 16 * k + k = omega arith in ap (at stack) e ∙ h .held .sets k (h .inner)
+
+  pub values-small : at stack (17 * k) < 2 ^ 16
+  values-small = subst (λ (m : ℕ). m < 2 ^ 16) (sym all-values) (setsAt-sets p (prefixOf work k) (well-sized p (h .ready .wellFormed)) .1 k)
+
+  pub values-ask : AtValues p stack work supports images numbers list k (at stack (17 * k)) r
+  values-ask = record { prefix = h; inside = λ v t. subst (λ (m : ℕ). T (has m v)) all-values t }
+
+  tried-all : tried p work k (at stack (17 * k)) ≡ below p work k
+  tried-all =
+      let e : p .variables - k ≡ suc (p .variables - (k + 1)) = let i = h .inner in omega arith in
+      ap (nodesFor p (p .variables - (k + 1)) (prefixOf work k)) (all-values ∙ ap (at (setsAt p (prefixOf work k))) (sym (length-prefix work k)))
+      ∙ sym (below-is p (at numbers 68) (p .variables - (k + 1)) (prefixOf work k))
+      ∙ ap (λ (j : ℕ). nodesBelow p j (prefixOf work k)) (sym e)
+
+  pub settled : (stack′ work′ list′ : List ℕ) (r′ : Progress) → Walked p (tried p work k (at stack (17 * k))) stack work numbers list k r stack′ work′ list′ r′ →
+      Walked p (below p work k) stack work numbers list k r stack′ work′ list′ r′
+  settled stack′ work′ list′ r′ w = subst (λ (ts : List (List ℕ)). Walked p ts stack work numbers list k r stack′ work′ list′ r′) tried-all w
+
+-- the lowest value fits any type
+pub lowest-fits : (m : ℕ) → 0 < m → m < 2 ^ 16 → trailingZeros 16 m < 2 ^ 64
+lowest-fits m h l = let e = lowest-op 16 m in let k = lowest-lt m h l in omega arith
+
+-- ---- the measures: variables left, and within them the values left
+pub settle-falls : (n k m t : ℕ) → k < n → m < 2 ^ 16 → (n - k) * 2 ^ 17 ≡ t → (n - (k + 1)) * 2 ^ 17 + m + 1 < t
+settle-falls n k m t h l e = omega arith
+
+pub inner-falls : (n k m t : ℕ) → (n - (k + 1)) * 2 ^ 17 + m + 1 ≡ t → (n - (k + 1)) * 2 ^ 17 < t
+inner-falls n k m t e = omega arith
+
+pub values-fall : (n k m t : ℕ) → 0 < m → (n - (k + 1)) * 2 ^ 17 + m + 1 ≡ t → (n - (k + 1)) * 2 ^ 17 + bitAnd m (m - 1) + 1 < t
+values-fall n k m t h e = let l = and-le-r m (m - 1) in omega arith
+
+-- what holds of four things holds of their equals
+pub four : {A B C D : Type 0} (P : A → B → C → D → Type 0) {a a′ : A} {b b′ : B} {c c′ : C} {d d′ : D} → a ≡ a′ → b ≡ b′ → c ≡ c′ → d ≡ d′ → P a′ b′ c′ d′ → P a b c d
+four P {a} {a′} {b} {b′} {c} {c′} {d} {d′} ea eb ec ed x =
+    subst (λ (z : _). P z b c d) (sym ea) (subst (λ (z : _). P a′ z c d) (sym eb) (subst (λ (z : _). P a′ b′ z d) (sym ec) (subst (λ (z : _). P a′ b′ c′ z) (sym ed) x)))

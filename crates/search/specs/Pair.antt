@@ -2,7 +2,7 @@
 -- of some values of the next variable. No reader has to believe this: it stands between proved functions.
 use mathlib.Core.Path.{_≡_}
 use mathlib.Core.List.{List}
-use Prim.Native.Nat.{ℕ, suc, _+_, _-_, _*_, _≤_, _<_}
+use Prim.Native.Nat.{ℕ, suc, _+_, _-_, _*_, _^_, _≤_, _<_}
 use lib.Dec.{T}
 use lib.ListN.{length}
 use Rattle.model.specs.Lists.{at, tabulate}
@@ -35,6 +35,7 @@ pub record AtPrefix (p : Problem) (stack work supports images numbers list : Lis
   pub live : T (isLive p (prefixOf work k))
   pub held : Holds p stack k (setsAt p (prefixOf work k))
   pub going : r .stop ≡ 0
+  pub limited : at numbers 68 < 2 ^ 32
   pub allowed : r .nodes ≤ at numbers 68
   pub room : Room (p .variables) (at numbers 69) list r
 
