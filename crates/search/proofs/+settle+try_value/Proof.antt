@@ -191,9 +191,9 @@ try-value-returns-2 t c =
     let a = c .before .before .before .before in λ p h.
     turn-spent p _ _ _ _ _ _ _ _ _ h (pos-of-ne-zero (c .before .before .if1 .left)) (a .fits .m .fits) (c .if2 .taken)
 
-try-value-add-put : (t : ℕ) → try-value-lts.Need-add-put (called t) (try-value-at t) try-value.Post
+try-value-add-made : (t : ℕ) → try-value-lts.Need-add-made (called t) (try-value-at t) try-value.Post
 unfolding at
-try-value-add-put t c =
+try-value-add-made t c =
     let a = c .before .before .before .before in
     omega (arith, a .pre .1 .1 .prefix .allowed, a .pre .1 .1 .prefix .limited)
 
@@ -337,7 +337,7 @@ pub +settle+try-value-spec : {M : Type 1} → statement M
     (try-value-returns t)
     (try-value-element-copy-out-if2 t)
     (try-value-returns-2 t)
-    (try-value-add-put t)
+    (try-value-add-made t)
     (try-value-sub-more t)
     (try-value-cast-put t)
     (try-value-put-requires t)

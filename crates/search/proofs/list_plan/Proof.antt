@@ -37,9 +37,9 @@ keep-requires c κs =
       a .pre .1 .1,
     )
 
-add-t9 : tie.Need-add-t9
+add-more : tie.Need-add-more
 unfolding at
-add-t9 c =
+add-more c =
     let a = c .before .before .before .before .before .before .before .before .before in
     let l = fits-counted (at (now (a .args .numbers)) 64) (at (now (a .args .numbers)) 69) (now (a .args .list)) (a .args .r) (a .pre .0) (c .before .before .before .before .before .before .if1 .left) in
     omega (arith, a .good .1 .1 .0 .0)
@@ -63,6 +63,6 @@ list-plan-spec =
     element-copy-out-n
     mul-keep
     keep-requires
-    add-t9
+    add-more
     same-length
     returns-2)
