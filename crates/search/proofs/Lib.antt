@@ -5,3 +5,4 @@ pub mod Steps
 pub mod Prefix
 pub mod Listing
 pub mod Turns
+pub mod Whole

@@ -33,6 +33,17 @@ use Rattle.search.proofs.Prefix.{length-prefix, prefix-at, prefix-ext, 
 abbrev pub madeOne : Progress → Progress
 madeOne r = record { plans = r .plans; nodes = r .nodes + 1; stop = 0 }
 
+ready-on : {p : Problem} {stack work supports images numbers stack′ work′ : List ℕ} → Ready p stack work supports images numbers → length stack′ ≡ length stack → length work′ ≡ length work →
+    Ready p stack′ work′ supports images numbers
+ready-on h s w = record {
+  compiled = h .compiled;
+  wellFormed = h .wellFormed;
+  constraints = h .constraints;
+  symmetries = h .symmetries;
+  stack-length = s ∙ h .stack-length;
+  work-length = w ∙ h .work-length;
+}
+
 -- sets that are unchanged are still held
 held-on : (p : Problem) (stack stack′ : List ℕ) (k : ℕ) (ds : List ℕ) → WellFormed p → ((i : ℕ) → i < 16 * suc k → at stack′ i ≡ at stack i) → Holds p stack k ds → Holds p stack′ k ds
 held-on p stack stack′ k ds w e h = record {
@@ -55,6 +66,8 @@ module _ (p : Problem) (stack work supports images numbers list : List ℕ) (k m
     state = sym (ap (λ (s : ℕ). walk p limit (nodesFor p left pre s) (stateOf r list)) e ∙ step-none p limit left pre (stateOf r list));
     sets = λ i l. refl;
     values = λ i l. refl;
+    stack-length = refl;
+    work-length = refl;
   }
 
   module _ (some : 0 < m) (small : m < 2 ^ 16) where
@@ -65,13 +78,21 @@ module _ (p : Problem) (stack work supports images numbers list : List ℕ) (k m
     more = bitAnd m (m - 1)
 
     pub turn-spent : r .nodes ≡ limit → Walked p (tried p work k m) stack work numbers list k r stack work list (record { plans = r .plans; nodes = r .nodes; stop = 1 })
-    turn-spent e = record { state = sym (step-spent p limit left pre m some small (stateOf r list) (h .prefix .going) e); sets = λ i l. refl; values = λ i l. refl }
+    turn-spent e = record {
+      state = sym (step-spent p limit left pre m some small (stateOf r list) (h .prefix .going) e);
+      sets = λ i l. refl;
+      values = λ i l. refl;
+      stack-length = refl;
+      work-length = refl;
+    }
 
     -- what stands after the first value
     pub record Passed (stack′ work′ list′ : List ℕ) (r′ : Progress) : Type 0 where
       pub state : stateOf r′ list′ ≡ walk p limit (nodesBelow p left node) (visit p limit node (stateOf r list))
       pub sets : (i : ℕ) → i < 16 * suc k → at stack′ i ≡ at stack i
       pub values : (i : ℕ) → i < k → at work′ i ≡ at work i
+      pub stack-length : length stack′ ≡ length stack
+      pub work-length : length work′ ≡ length work
 
     module _ (stack′ work′ list′ : List ℕ) (r′ : Progress) (d : Passed stack′ work′ list′ r′) where
       same : prefixOf work′ k ≡ pre
@@ -80,10 +101,12 @@ module _ (p : Problem) (stack work supports images numbers list : List ℕ) (k m
       pub turn-stops : (r′ .stop ≡ 0 → ⊥) → Walked p (tried p work k m) stack work numbers list k r stack′ work′ list′ r′
       turn-stops n = record {
         state = sym (step p limit left pre m some small (stateOf r list) (h .prefix .going)
-        ∙ ap (walk p limit (nodesFor p left pre more)) (sym (d .state))
-        ∙ walk-stopped p limit (nodesFor p left pre more) (stateOf r′ list′) n);
+            ∙ ap (walk p limit (nodesFor p left pre more)) (sym (d .state))
+            ∙ walk-stopped p limit (nodesFor p left pre more) (stateOf r′ list′) n);
         sets = d .sets;
         values = d .values;
+        stack-length = d .stack-length;
+        work-length = d .work-length;
       }
 
       fits : Fits p limit (length list) (stateOf r′ list′)
@@ -98,7 +121,7 @@ module _ (p : Problem) (stack work supports images numbers list : List ℕ) (k m
       pub turn-asks : r′ .stop ≡ 0 → AtValues p stack′ work′ supports images numbers list′ k more r′
       turn-asks g = record {
         prefix = record {
-          ready = h .prefix .ready;
+          ready = ready-on (h .prefix .ready) (d .stack-length) (d .work-length);
           inner = h .prefix .inner;
           live = subst (λ (q : List ℕ). T (isLive p q)) (sym same) (h .prefix .live);
           held = held-on p stack stack′ k (setsAt p (prefixOf work′ k)) (h .prefix .ready .wellFormed) (d .sets) (subst (λ (q : List ℕ). Holds p stack k (setsAt p q)) (sym same) (h .prefix .held));
@@ -121,120 +144,133 @@ module _ (p : Problem) (stack work supports images numbers list : List ℕ) (k m
           Walked p (tried p work k m) stack work numbers list k r stack″ work″ list″ r″
       turn-goes stack″ work″ list″ r″ w = record {
         state = w .state ∙ ap₂ (λ (q : List ℕ) (s : State). walk p limit (nodesFor p left q more) s) same (d .state)
-        ∙ sym (step p limit left pre m some small (stateOf r list) (h .prefix .going));
+            ∙ sym (step p limit left pre m some small (stateOf r list) (h .prefix .going));
         sets = λ i l. w .sets i l ∙ d .sets i l;
         values = λ i l. w .values i l ∙ d .values i l;
+        stack-length = w .stack-length ∙ d .stack-length;
+        work-length = w .work-length ∙ d .work-length;
       }
 
     -- ---- the lowest value stands in `work`
-    module _ (long : length work ≡ 256) (put : List ℕ) (stored : put ≡ set work k (trailingZeros 16 m)) where
-      pub within : k < length work
-      within = let f = h .prefix .ready .wellFormed .few in let g = h .prefix .inner in omega arith
+    abbrev put : List ℕ
+    put = set work k (trailingZeros 16 m)
 
-      kept : (i : ℕ) → i < k → at put i ≡ at work i
-      kept i l = ap (λ (w : List ℕ). at w i) stored ∙ at-other work k i (trailingZeros 16 m) (λ e. omega arith)
+    within : k < length work
+    within = let f = h .prefix .ready .wellFormed .few in let g = h .prefix .inner in let w = h .prefix .ready .work-length in omega arith
 
-      value : at put k ≡ lowestOf m
-      value = ap (λ (w : List ℕ). at w k) stored ∙ at-set work k (trailingZeros 16 m) within ∙ lowest-op 16 m
+    kept : (i : ℕ) → i < k → at put i ≡ at work i
+    kept i l = at-other work k i (trailingZeros 16 m) (λ e. omega arith)
 
-      taken : take k put ≡ pre
-      taken = prefix-take put k (let e = ap length stored ∙ length-set work k (trailingZeros 16 m) in let w = within in omega arith) ∙ prefix-ext put work k kept
+    value : at put k ≡ lowestOf m
+    value = at-set work k (trailingZeros 16 m) within ∙ lowest-op 16 m
 
-      longer-is : longer put k ≡ node
-      longer-is = ap₂ (λ (q : List ℕ) (v : ℕ). q ++ (v ∷ [])) taken value
+    taken : take k put ≡ pre
+    taken = prefix-take put k (let e = length-set work k (trailingZeros 16 m) in let w = within in omega arith) ∙ prefix-ext put work k kept
 
-      pub child-asks : AtNode p stack put supports images numbers k
-      child-asks = record {
-        ready = h .prefix .ready;
-        room = h .prefix .inner;
-        live = subst (λ (q : List ℕ). T (isLive p q)) (sym taken) (h .prefix .live);
-        held = subst (λ (q : List ℕ). Holds p stack k (setsAt p q)) (sym taken) (h .prefix .held);
-        member = subst (λ (v : ℕ). T (has (at (setsAt p (take k put)) k) v)) (sym value)
-        (subst (λ (q : List ℕ). T (has (at (setsAt p q) k) (lowestOf m))) (sym taken) (h .inside (lowestOf m) (T-of (has m (lowestOf m)) (lowest-is m some small))));
+    longer-is : longer put k ≡ node
+    longer-is = ap₂ (λ (q : List ℕ) (v : ℕ). q ++ (v ∷ [])) taken value
+
+    pub child-asks : AtNode p stack put supports images numbers k
+    child-asks = record {
+      ready = ready-on (h .prefix .ready) refl (length-set work k (trailingZeros 16 m));
+      room = h .prefix .inner;
+      live = subst (λ (q : List ℕ). T (isLive p q)) (sym taken) (h .prefix .live);
+      held = subst (λ (q : List ℕ). Holds p stack k (setsAt p q)) (sym taken) (h .prefix .held);
+      member = subst (λ (v : ℕ). T (has (at (setsAt p (take k put)) k) v)) (sym value)
+          (subst (λ (q : List ℕ). T (has (at (setsAt p q) k) (lowestOf m))) (sym taken) (h .inside (lowestOf m) (T-of (has m (lowestOf m)) (lowest-is m some small))));
+    }
+
+    module _ (stack₂ work₂ : List ℕ) (dead : Bool) (q : Reached p (longer put k) (k + 1) stack put stack₂ work₂ dead) (due : r .nodes ≡ limit → ⊥) where
+      first : stateOf (madeOne r) list ≡ counted (stateOf r list)
+      first = ap (λ (n : ℕ). record { made = n; plans = r .plans; stop = 0; list = list }) (add-one (r .nodes))
+
+      sets₂ : (i : ℕ) → i < 16 * suc k → at stack₂ i ≡ at stack i
+      sets₂ i l = q .before i (omega arith)
+
+      values₂ : (i : ℕ) → i < k → at work₂ i ≡ at work i
+      values₂ i l = q .kept i (let f = h .prefix .ready .wellFormed .few in let g = h .prefix .inner in omega arith) ∙ kept i l
+
+      work-length₂ : length work₂ ≡ length work
+      work-length₂ = q .work-length ∙ length-set work k (trailingZeros 16 m)
+
+      node₂ : prefixOf work₂ (k + 1) ≡ node
+      node₂ =
+          ap (prefixOf work₂) (add-one k)
+          ∙ prefix-ext work₂ put (suc k) (λ i l. q .kept i (let f = h .prefix .ready .wellFormed .few in let g = h .prefix .inner in omega arith))
+          ∙ sym (prefix-snoc put k)
+          ∙ ap₂ (λ (t : List ℕ) (v : ℕ). t ++ (v ∷ [])) (prefix-ext put work k kept) value
+
+      length-node : length node ≡ k + 1
+      length-node = ap length (sym node₂) ∙ length-prefix work₂ (k + 1)
+
+      live₂ : dead ≡ false → isLive p node ≡ true
+      live₂ e = subst (λ (t : List ℕ). isLive p t ≡ true) longer-is (flip (isLive p (longer put k)) (sym (q .answers) ∙ e))
+        where
+          flip : (b : Bool) → not b ≡ false → b ≡ true
+          flip true e = refl
+          flip false e = sym e
+
+      dead₂ : dead ≡ true → isLive p node ≡ false
+      dead₂ e = subst (λ (t : List ℕ). isLive p t ≡ false) longer-is (flip (isLive p (longer put k)) (sym (q .answers) ∙ e))
+        where
+          flip : (b : Bool) → not b ≡ true → b ≡ false
+          flip true e = sym e
+          flip false e = refl
+
+      pub passed-dead : dead ≡ true → Passed stack₂ work₂ list (madeOne r)
+      passed-dead e = record {
+        state = first ∙ sym (node-dead p limit left pre node (stateOf r list) (h .prefix .going) due (dead₂ e));
+        sets = sets₂;
+        values = values₂;
+        stack-length = q .stack-length;
+        work-length = work-length₂;
       }
 
-      module _ (stack₂ work₂ : List ℕ) (dead : Bool) (q : Reached p (longer put k) (k + 1) stack put stack₂ work₂ dead) (due : r .nodes ≡ limit → ⊥) where
-        first : stateOf (madeOne r) list ≡ counted (stateOf r list)
-        first = ap (λ (n : ℕ). record { made = n; plans = r .plans; stop = 0; list = list }) (add-one (r .nodes))
+      -- a plan
+      pub plan-asks : Room (p .variables) (at numbers 69) list (madeOne r)
+      plan-asks = record { some = h .prefix .room .some; fits = h .prefix .room .fits; most = h .prefix .room .most; listed = h .prefix .room .listed }
 
-        sets₂ : (i : ℕ) → i < 16 * suc k → at stack₂ i ≡ at stack i
-        sets₂ i l = q .before i (omega arith)
+      pub plan-bytes : dead ≡ false → k + 1 ≡ p .variables → (i : ℕ) → i < p .variables → at work₂ i < 256
+      plan-bytes e n i l =
+          let z : i < k + 1 = omega arith in
+          let v = live-values p (h .prefix .ready .wellFormed) node (live₂ e) i (let g = length-node in omega arith) l in
+          let a : at node i ≡ at work₂ i = ap (λ (t : List ℕ). at t i) (sym node₂) ∙ prefix-at work₂ (k + 1) i z in
+          omega arith
 
-        values₂ : (i : ℕ) → i < k → at work₂ i ≡ at work i
-        values₂ i l = q .kept i (let f = h .prefix .ready .wellFormed .few in let g = h .prefix .inner in omega arith) ∙ kept i l
+      pub passed-plan : dead ≡ false → k + 1 ≡ p .variables → (list′ : List ℕ) (r′ : Progress) →
+          stateOf r′ list′ ≡ listed (p .variables) (prefixOf work₂ (p .variables)) (stateOf (madeOne r) list) → Passed stack₂ work₂ list′ r′
+      passed-plan e n list′ r′ w = record {
+        state = w ∙ ap₂ (λ (t : List ℕ) (s : State). listed (p .variables) t s) (ap (prefixOf work₂) (sym n) ∙ node₂) first
+            ∙ sym (node-plan p limit left pre node (stateOf r list) (h .prefix .going) due (live₂ e) (length-node ∙ n) (omega arith));
+        sets = sets₂;
+        values = values₂;
+        stack-length = q .stack-length;
+        work-length = work-length₂;
+      }
 
-        node₂ : prefixOf work₂ (k + 1) ≡ node
-        node₂ =
-            ap (prefixOf work₂) (add-one k)
-            ∙ prefix-ext work₂ put (suc k) (λ i l. q .kept i (let f = h .prefix .ready .wellFormed .few in let g = h .prefix .inner in omega arith))
-            ∙ sym (prefix-snoc put k)
-            ∙ ap₂ (λ (t : List ℕ) (v : ℕ). t ++ (v ∷ [])) (prefix-ext put work k kept) value
+      -- nodes below
+      pub settle-asks : dead ≡ false → (k + 1 ≡ p .variables → ⊥) → AtPrefix p stack₂ work₂ supports images numbers list (k + 1) (madeOne r)
+      settle-asks e n = record {
+        ready = ready-on (h .prefix .ready) (q .stack-length) work-length₂;
+        inner = let g = h .prefix .inner in omega arith;
+        live = T-of (isLive p (prefixOf work₂ (k + 1))) (subst (λ (t : List ℕ). isLive p t ≡ true) (sym node₂) (live₂ e));
+        held = subst (λ (t : List ℕ). Holds p stack₂ (k + 1) (setsAt p t)) (longer-is ∙ sym node₂) (q .holds e);
+        going = refl;
+        limited = h .prefix .limited;
+        allowed = let g = h .prefix .allowed in omega arith;
+        room = plan-asks;
+      }
 
-        length-node : length node ≡ k + 1
-        length-node = ap length (sym node₂) ∙ length-prefix work₂ (k + 1)
-
-        live₂ : dead ≡ false → isLive p node ≡ true
-        live₂ e = subst (λ (t : List ℕ). isLive p t ≡ true) longer-is (flip (isLive p (longer put k)) (sym (q .answers) ∙ e))
-          where
-            flip : (b : Bool) → not b ≡ false → b ≡ true
-            flip true e = refl
-            flip false e = sym e
-
-        dead₂ : dead ≡ true → isLive p node ≡ false
-        dead₂ e = subst (λ (t : List ℕ). isLive p t ≡ false) longer-is (flip (isLive p (longer put k)) (sym (q .answers) ∙ e))
-          where
-            flip : (b : Bool) → not b ≡ true → b ≡ false
-            flip true e = sym e
-            flip false e = refl
-
-        pub passed-dead : dead ≡ true → Passed stack₂ work₂ list (madeOne r)
-        passed-dead e = record {
-          state = first ∙ sym (node-dead p limit left pre node (stateOf r list) (h .prefix .going) due (dead₂ e));
-          sets = sets₂;
-          values = values₂;
-        }
-
-        -- a plan
-        pub plan-asks : Room (p .variables) (at numbers 69) list (madeOne r)
-        plan-asks = record { some = h .prefix .room .some; fits = h .prefix .room .fits; most = h .prefix .room .most; listed = h .prefix .room .listed }
-
-        pub plan-bytes : dead ≡ false → k + 1 ≡ p .variables → (i : ℕ) → i < p .variables → at work₂ i < 256
-        plan-bytes e n i l =
-            let z : i < k + 1 = omega arith in
-            let v = live-values p (h .prefix .ready .wellFormed) node (live₂ e) i (let g = length-node in omega arith) l in
-            let a : at node i ≡ at work₂ i = ap (λ (t : List ℕ). at t i) (sym node₂) ∙ prefix-at work₂ (k + 1) i z in
-            omega arith
-
-        pub passed-plan : dead ≡ false → k + 1 ≡ p .variables → (list′ : List ℕ) (r′ : Progress) →
-            stateOf r′ list′ ≡ listed (p .variables) (prefixOf work₂ (p .variables)) (stateOf (madeOne r) list) → Passed stack₂ work₂ list′ r′
-        passed-plan e n list′ r′ w = record {
-          state = w ∙ ap₂ (λ (t : List ℕ) (s : State). listed (p .variables) t s) (ap (prefixOf work₂) (sym n) ∙ node₂) first
-          ∙ sym (node-plan p limit left pre node (stateOf r list) (h .prefix .going) due (live₂ e) (length-node ∙ n) (omega arith));
-          sets = sets₂;
-          values = values₂;
-        }
-
-        -- nodes below
-        pub settle-asks : dead ≡ false → (k + 1 ≡ p .variables → ⊥) → AtPrefix p stack₂ work₂ supports images numbers list (k + 1) (madeOne r)
-        settle-asks e n = record {
-          ready = h .prefix .ready;
-          inner = let g = h .prefix .inner in omega arith;
-          live = T-of (isLive p (prefixOf work₂ (k + 1))) (subst (λ (t : List ℕ). isLive p t ≡ true) (sym node₂) (live₂ e));
-          held = subst (λ (t : List ℕ). Holds p stack₂ (k + 1) (setsAt p t)) (longer-is ∙ sym node₂) (q .holds e);
-          going = refl;
-          limited = h .prefix .limited;
-          allowed = let g = h .prefix .allowed in omega arith;
-          room = plan-asks;
-        }
-
-        pub passed-inner : dead ≡ false → (k + 1 ≡ p .variables → ⊥) → (stack₃ work₃ list₃ : List ℕ) (r₃ : Progress) →
-            Walked p (below p work₂ (k + 1)) stack₂ work₂ numbers list (k + 1) (madeOne r) stack₃ work₃ list₃ r₃ → Passed stack₃ work₃ list₃ r₃
-        passed-inner e n stack₃ work₃ list₃ r₃ w = record {
-          state = w .state ∙ ap₂ (λ (t : List ℕ) (s : State). walk p limit (nodesBelow p left t) s) node₂ first
-          ∙ sym (node-inner p limit left pre node (stateOf r list) (h .prefix .going) due (λ z. n (sym length-node ∙ z)));
-          sets = λ i l. w .sets i (omega arith) ∙ sets₂ i l;
-          values = λ i l. w .values i (omega arith) ∙ values₂ i l;
-        }
+      pub passed-inner : dead ≡ false → (k + 1 ≡ p .variables → ⊥) → (stack₃ work₃ list₃ : List ℕ) (r₃ : Progress) →
+          Walked p (below p work₂ (k + 1)) stack₂ work₂ numbers list (k + 1) (madeOne r) stack₃ work₃ list₃ r₃ → Passed stack₃ work₃ list₃ r₃
+      passed-inner e n stack₃ work₃ list₃ r₃ w = record {
+        state = w .state ∙ ap₂ (λ (t : List ℕ) (s : State). walk p limit (nodesBelow p left t) s) node₂ first
+            ∙ sym (node-inner p limit left pre node (stateOf r list) (h .prefix .going) due (λ z. n (sym length-node ∙ z)));
+        sets = λ i l. w .sets i (omega arith) ∙ sets₂ i l;
+        values = λ i l. w .values i (omega arith) ∙ values₂ i l;
+        stack-length = w .stack-length ∙ q .stack-length;
+        work-length = w .work-length ∙ work-length₂;
+      }
 
 -- ---- `settle`: all values of the variable's set are to be tried
 module _ (p : Problem) (stack work supports images numbers list : List ℕ) (k : ℕ) (r : Progress) (h : AtPrefix p stack work supports images numbers list k r) where

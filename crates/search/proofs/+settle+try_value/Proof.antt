@@ -5,7 +5,8 @@ use mathlib.Core.List.{List}
 use Prim.Native.Nat.{ℕ, _+_, _-_, _*_, _^_, _<_, _≤_}
 use native.Mathlib.Nat.{pos-of-ne-zero}
 use native.Mathlib.Omega.{arith}
-use lib.ListN.{getD}
+use lib.ListN.{getD, set}
+use lib.Count.{trailingZeros}
 use borrow.Fn.Kinds.{In}
 use borrow.Fn.PlainCycle.{Measures, is, falls, and}
 use borrow.Author.Needs.{needs}
@@ -25,7 +26,6 @@ use Rattle.search.proofs.try_value.Kinds as try-value-kinds
 use Rattle.search.proofs.+settle+try_value.Lts-try_value as try-value-lts
 use Rattle.search.proofs.list_plan.Reads as list-plan-reads
 use Rattle.search.proofs.prune.child.Reads as child-reads
-use Rattle.search.proofs.put.Reads as put-reads
 use Rattle.search.proofs.+settle+try_value.{statement}
 use Rattle.search.proofs.+settle+try_value.Tie.{close}
 
@@ -51,8 +51,6 @@ try-value-below t =
 -- what `try_value` asks and learns of its callees
 abbrev called : ℕ → try-value-lts.Claims
 called t = (
-  put-reads.Asked,
-  put-reads.Learnt,
   child-reads.Asked,
   child-reads.Learnt,
   try-value-below t,
@@ -87,9 +85,9 @@ settle-try-value-requires t c κs =
     let a = c .before .before .before .before .before in
     let h = a .pre .1 .1 in (
       settle-falls (getD (a .args .numbers .now) 64 0) (a .args .k) (getD (a .args .stack .now) (17 * a .args .k) 0) t
-      (let n = h .ready .compiled .numbered .variables in let i = h .inner in omega arith)
-      (values-small (a .pre .1 .0) (now (a .args .stack)) (now (a .args .work)) (now (a .args .supports)) (now (a .args .images)) (now (a .args .numbers)) (now (a .args .list)) (a .args .k) (a .args .r) h)
-      (a .pre .0),
+          (let n = h .ready .compiled .numbered .variables in let i = h .inner in omega arith)
+          (values-small (a .pre .1 .0) (now (a .args .stack)) (now (a .args .work)) (now (a .args .supports)) (now (a .args .images)) (now (a .args .numbers)) (now (a .args .list)) (a .args .k) (a .args .r) h)
+          (a .pre .0),
       (a .pre .1 .0, values-ask (a .pre .1 .0) (now (a .args .stack)) (now (a .args .work)) (now (a .args .supports)) (now (a .args .images)) (now (a .args .numbers)) (now (a .args .list)) (a .args .k) (a .args .r) h),
     )
 
@@ -122,22 +120,22 @@ abbrev Given : (t : ℕ) → Start t → Problem → Type 0
 Given t a p = AtValues p (now (a .args .stack)) (now (a .args .work)) (now (a .args .supports)) (now (a .args .images)) (now (a .args .numbers)) (now (a .args .list)) (a .args .k) (a .args .m) (a .args .r)
 
 abbrev started : (t : ℕ) → try-value-lts.After-child (called t) (try-value-at t) try-value.Post → Start t
-started t c = c .before .before .before .before .before .before .before .before .before
+started t c = c .before .before .before .before .before .before .before
 
 some : (t : ℕ) (c : try-value-lts.After-child (called t) (try-value-at t) try-value.Post) → 0 < started t c .args .m
-some t c = pos-of-ne-zero (c .before .before .before .before .before .before .before .if1 .left)
+some t c = pos-of-ne-zero (c .before .before .before .before .before .if1 .left)
 
 -- `child` was asked as it asks, and has answered
+abbrev valued : (t : ℕ) → Start t → List ℕ
+valued t a = set (now (a .args .work)) (a .args .k) (trailingZeros 16 (a .args .m))
+
 reached : (t : ℕ) (c : try-value-lts.After-child (called t) (try-value-at t) try-value.Post) (p : Problem) → Given t (started t c) p →
-    Reached p (longer (c .before .before .before .put .last .0) (started t c .args .k)) (started t c .args .k + 1) (now (started t c .args .stack)) (c .before .before .before .put .last .0)
-    (c .child .last .0) (c .child .last .1 .0) (c .child .result)
-reached t c p h =
-    c .child .ensures p
-    (child-asks p _ _ _ _ _ _ _ _ _ h (some t c) (started t c .fits .m .fits) (c .before .before .before .before .put-arg .given .0 .1) _ (c .before .before .before .put .ensures))
+    Reached p (longer (valued t (started t c)) (started t c .args .k)) (started t c .args .k + 1) (now (started t c .args .stack)) (valued t (started t c)) (c .child .last .0) (c .child .last .1 .0) (c .child .result)
+reached t c p h = c .child .ensures p (child-asks p _ _ _ _ _ _ _ _ _ h (some t c) (started t c .fits .m .fits))
 
 due : (t : ℕ) (c : try-value-lts.After-child (called t) (try-value-at t) try-value.Post) → started t c .args .r .nodes ≡ at (now (started t c .args .numbers)) 68 → ⊥
 unfolding at
-due t c e = c .before .before .before .before .before .if2 .left e
+due t c e = c .before .before .before .if2 .left e
 
 -- what stands after the lowest value, by the way that it went: dead, ..
 abbrev After : (t : ℕ) (c : try-value-lts.After-child (called t) (try-value-at t) try-value.Post) (p : Problem) → Given t (started t c) p → List ℕ → List ℕ → List ℕ → Progress → Type 0
@@ -149,7 +147,7 @@ After t c p h =
 dead : (t : ℕ) (c : try-value-lts.After-child (called t) (try-value-at t) try-value.Post) → c .child .result ≡ true → (p : Problem) (h : Given t (started t c) p) →
     After t c p h (c .child .last .0) (c .child .last .1 .0) (now (started t c .args .list)) (madeOne (started t c .args .r))
 dead t c e p h =
-    passed-dead p _ _ _ _ _ _ _ _ _ h (some t c) (started t c .fits .m .fits) (c .before .before .before .before .put-arg .given .0 .1) _ (c .before .before .before .put .ensures)
+    passed-dead p _ _ _ _ _ _ _ _ _ h (some t c) (started t c .fits .m .fits)
     _ _ _ (reached t c p h) (due t c) e
 
 -- .. a plan, or nodes below it
@@ -161,7 +159,7 @@ plan : (t : ℕ) (c : try-value-lts.After-child (called t) (try-value-at t) try-
     stateOf r′ list′ ≡ listed (at (now (started t c .args .numbers)) 64) (prefixOf (c .child .last .1 .0) (at (now (started t c .args .numbers)) 64)) (stateOf (madeOne (started t c .args .r)) (now (started t c .args .list))) →
     After t c p h (c .child .last .0) (c .child .last .1 .0) list′ r′
 plan t c e p h n list′ r′ w =
-    passed-plan p _ _ _ _ _ _ _ _ _ h (some t c) (started t c .fits .m .fits) (c .before .before .before .before .put-arg .given .0 .1) _ (c .before .before .before .put .ensures)
+    passed-plan p _ _ _ _ _ _ _ _ _ h (some t c) (started t c .fits .m .fits)
     _ _ _ (reached t c p h) (due t c) e (n ∙ variables-are t c p h) list′ r′
     (w ∙ ap (λ (j : ℕ). listed j (prefixOf (c .child .last .1 .0) j) (stateOf (madeOne (started t c .args .r)) (now (started t c .args .list)))) (variables-are t c p h))
 
@@ -169,7 +167,7 @@ asked : (t : ℕ) (c : try-value-lts.After-child (called t) (try-value-at t) try
     (started t c .args .k + 1 ≡ at (now (started t c .args .numbers)) 64 → ⊥) →
     AtPrefix p (c .child .last .0) (c .child .last .1 .0) (now (started t c .args .supports)) (now (started t c .args .images)) (now (started t c .args .numbers)) (now (started t c .args .list)) (started t c .args .k + 1) (madeOne (started t c .args .r))
 asked t c e p h n =
-    settle-asks p _ _ _ _ _ _ _ _ _ h (some t c) (started t c .fits .m .fits) (c .before .before .before .before .put-arg .given .0 .1) _ (c .before .before .before .put .ensures)
+    settle-asks p _ _ _ _ _ _ _ _ _ h (some t c) (started t c .fits .m .fits)
     _ _ _ (reached t c p h) (due t c) e (λ z. n (z ∙ sym (variables-are t c p h)))
 
 passed : (t : ℕ) (c : try-value-lts.Joined4 (called t) (try-value-at t) try-value.Post) (p : Problem) (h : Given t (started t (c .before .before .before)) p) →
@@ -181,7 +179,7 @@ passed t c p h =
     ⊎-elim
     (λ w. four (After t b p h) (w .6) (w .7) (w .8) (w .9) (plan t b e p h (w .0 .taken) _ _ (w .3 .ensures)))
     (λ w. four (After t b p h) (w .7) (w .8) (w .9) (w .10)
-    (passed-inner p _ _ _ _ _ _ _ _ _ h (some t b) (started t b .fits .m .fits) (b .before .before .before .before .put-arg .given .0 .1) _ (b .before .before .before .put .ensures)
+    (passed-inner p _ _ _ _ _ _ _ _ _ h (some t b) (started t b .fits .m .fits)
     _ _ _ (reached t b p h) (due t b) e (λ z. w .0 .left (z ∙ sym (variables-are t b p h))) _ _ _ _ (w .4 .ensures p (asked t b e p h (w .0 .left)))))
     (c .if4 .came)
 
@@ -200,21 +198,23 @@ try-value-add-made t c =
 try-value-sub-more : (t : ℕ) → try-value-lts.Need-sub-more (called t) (try-value-at t) try-value.Post
 try-value-sub-more t c = pos-of-ne-zero (c .before .before .if1 .left)
 
-try-value-cast-put : (t : ℕ) → try-value-lts.Need-cast-put (called t) (try-value-at t) try-value.Post
-try-value-cast-put t c = record { fits = lowest-fits (c .before .before .before .before .before .args .m) (pos-of-ne-zero (c .before .before .before .if1 .left)) (c .before .before .before .before .before .fits .m .fits) }
+try-value-cast-work : (t : ℕ) → try-value-lts.Need-cast-work (called t) (try-value-at t) try-value.Post
+try-value-cast-work t c = record { fits = lowest-fits (c .before .before .before .before .args .m) (pos-of-ne-zero (c .before .before .if1 .left)) (c .before .before .before .before .fits .m .fits) }
 
-try-value-put-requires : (t : ℕ) → try-value-lts.Need-put-requires (called t) (try-value-at t) try-value.Post
-try-value-put-requires t c κs =
-    let h = c .before .before .before .before .before .pre .1 .1 in
-    omega (arith, c .put-arg .given .0 .1, h .prefix .inner, h .prefix .ready .wellFormed .few)
+try-value-mul-work : (t : ℕ) → try-value-lts.Need-mul-work (called t) (try-value-at t) try-value.Post
+try-value-mul-work t c =
+    let h = c .before .before .before .before .pre .1 .1 in
+    omega (arith, h .prefix .inner, h .prefix .ready .wellFormed .few)
+
+try-value-element-write-work : (t : ℕ) → try-value-lts.Need-element-write-work (called t) (try-value-at t) try-value.Post
+try-value-element-write-work t c =
+    let h = c .before .before .before .before .pre .1 .1 in
+    omega (arith, h .prefix .inner, h .prefix .ready .wellFormed .few)
 
 try-value-child-requires : (t : ℕ) → try-value-lts.Need-child-requires (called t) (try-value-at t) try-value.Post
 try-value-child-requires t c κs =
-    let b = c .before .before in
-    let a = b .before .before .before .before .before .before in (
-      a .pre .1 .0,
-      child-asks (a .pre .1 .0) _ _ _ _ _ _ _ _ _ (a .pre .1 .1) (pos-of-ne-zero (b .before .before .before .before .if1 .left)) (a .fits .m .fits) (b .before .put-arg .given .0 .1) _ (b .put .ensures),
-    )
+    let a = c .before .before .before .before .before .before in
+    (a .pre .1 .0, child-asks (a .pre .1 .0) _ _ _ _ _ _ _ _ _ (a .pre .1 .1) (pos-of-ne-zero (c .before .before .before .before .if1 .left)) (a .fits .m .fits))
 
 try-value-try-value-requires : (t : ℕ) → try-value-lts.Need-try-value-requires (called t) (try-value-at t) try-value.Post
 try-value-try-value-requires t c κs =
@@ -253,11 +253,11 @@ try-value-list-plan-requires t c κs =
     let h = a .pre .1 .1 in
     let v = variables-are t b p h in (
       subst (λ (n : ℕ). Room n (at (now (a .args .numbers)) 69) (now (a .args .list)) (madeOne (a .args .r))) (sym v)
-      (plan-asks p _ _ _ _ _ _ _ _ _ h (some t b) (a .fits .m .fits) (b .before .before .before .before .put-arg .given .0 .1) _ (b .before .before .before .put .ensures) _ _ _ (reached t b p h) (due t b)),
+          (plan-asks p _ _ _ _ _ _ _ _ _ h (some t b) (a .fits .m .fits) _ _ _ (reached t b p h) (due t b)),
       (
         omega (arith, h .prefix .ready .wellFormed .few),
         λ i l.
-            plan-bytes p _ _ _ _ _ _ _ _ _ h (some t b) (a .fits .m .fits) (b .before .before .before .before .put-arg .given .0 .1) _ (b .before .before .before .put .ensures) _ _ _ (reached t b p h) (due t b)
+            plan-bytes p _ _ _ _ _ _ _ _ _ h (some t b) (a .fits .m .fits) _ _ _ (reached t b p h) (due t b)
             (c .before .before .before .before .if3 .left) (c .before .before .if4 .taken ∙ v) i (subst (λ (n : ℕ). i < n) v l),
       ),
     )
@@ -339,8 +339,9 @@ pub +settle+try-value-spec : {M : Type 1} → statement M
     (try-value-returns-2 t)
     (try-value-add-made t)
     (try-value-sub-more t)
-    (try-value-cast-put t)
-    (try-value-put-requires t)
+    (try-value-cast-work t)
+    (try-value-mul-work t)
+    (try-value-element-write-work t)
     (try-value-child-requires t)
     (try-value-try-value-requires t)
     (try-value-same-length t)

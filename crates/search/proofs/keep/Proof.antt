@@ -52,8 +52,8 @@ loop-again c =
     let i = c .before .before .loop .i in (
       omega arith,
       ap (λ (l : List ℕ). set l (a .args .start + i) (getD (a .args .work .now) i 0)) (c .before .before .loop .inv .1)
-      ∙ paste-suc (a .args .list .now) (a .args .start) (a .args .work .now) i 0 (omega arith) (omega arith)
-      ∙ ap (paste (a .args .list .now) (a .args .start) (a .args .work .now)) (sym (add-one i)),
+          ∙ paste-suc (a .args .list .now) (a .args .start) (a .args .work .now) i 0 (omega arith) (omega arith)
+          ∙ ap (paste (a .args .list .now) (a .args .start) (a .args .work .now)) (sym (add-one i)),
     )
 
 same-length : tie.Need-same-length Inv-loop μ-loop

@@ -49,7 +49,7 @@ same-length c = search needs
 
 returns-2 : tie.Need-returns-2
 unfolding at
-returns-2 c = 
+returns-2 c =
     let a = c .before .before .before .before .before .before .before .before .before in
     kept-now (at (now (a .args .numbers)) 64) (at (now (a .args .numbers)) 69) (now (a .args .list)) (a .args .r) (a .pre .0)
     (prefixOf (now (a .args .work)) (at (now (a .args .numbers)) 64)) (c .before .before .keep .last .0) (c .before .before .before .before .before .before .if1 .left) (c .before .before .keep .ensures)
