@@ -6,3 +6,4 @@ pub mod Prefix
 pub mod Listing
 pub mod Turns
 pub mod Whole
+pub mod Sheets

@@ -30,7 +30,7 @@ pub record Room (n room : ℕ) (list : List ℕ) (r : Progress) : Type 0 where
 
 -- the prefix of k values in `work` is live, its sets stand at depth k, and a run goes on that may make as many nodes as at 68 of the numbers
 pub record AtPrefix (p : Problem) (stack work supports images numbers list : List ℕ) (k : ℕ) (r : Progress) : Type 0 where
-  pub ready : Ready p supports images numbers
+  pub ready : Ready p stack work supports images numbers
   pub inner : k < p .variables
   pub live : T (isLive p (prefixOf work k))
   pub held : Holds p stack k (setsAt p (prefixOf work k))
@@ -49,6 +49,8 @@ pub record Walked (p : Problem) (ts : List (List ℕ)) (stack work numbers list 
   pub state : stateOf r′ list′ ≡ walk p (at numbers 68) ts (stateOf r list)
   pub sets : (i : ℕ) → i < 16 * suc k → at stack′ i ≡ at stack i
   pub values : (i : ℕ) → i < k → at work′ i ≡ at work i
+  pub stack-length : length stack′ ≡ length stack
+  pub work-length : length work′ ≡ length work
 
 -- the nodes below the prefix of k values in `work`, and those of the values m
 abbrev pub below : Problem → List ℕ → ℕ → List (List ℕ)
