@@ -15,7 +15,7 @@ use Rattle.model.specs.Lists.{at}
 use Rattle.model.specs.Problem.{Problem}
 use Rattle.search.specs.Node.{AtNode, Reached, longer}
 use Rattle.search.specs.Walk.{listed}
-use Rattle.search.specs.Pair.{prefixOf, stateOf, Room, AtPrefix, AtValues}
+use Rattle.search.specs.Pair.{prefixOf, stateOf, Room, AtPrefix, AtValues, Walked, below}
 use Rattle.search.specs.declared.Progress.{Progress}
 use Rattle.search.proofs.Turns.{values-small, values-ask, settled, settle-falls, inner-falls, values-fall, turn-none, turn-spent, turn-stops, turn-sized, turn-asks, turn-goes, child-asks, madeOne, Passed, passed-dead, plan-asks, plan-bytes, passed-plan, settle-asks, passed-inner, four, lowest-fits}
 use Rattle.search.proofs.settle.Reads as settle
@@ -53,12 +53,12 @@ abbrev called : ℕ → try-value-lts.Claims
 called t = (
   child-reads.Asked,
   child-reads.Learnt,
-  try-value-below t,
-  try-value.Post,
   list-plan-reads.Asked,
   list-plan-reads.Learnt,
   settle-below t,
   settle.Post,
+  try-value-below t,
+  try-value.Post,
 )
 
 settle-mul-m :
@@ -170,18 +170,24 @@ asked t c e p h n =
     settle-asks p _ _ _ _ _ _ _ _ _ h (some t c) (started t c .fits .m .fits)
     _ _ _ (reached t c p h) (due t c) e (λ z. n (z ∙ sym (variables-are t c p h)))
 
-passed : (t : ℕ) (c : try-value-lts.Joined4 (called t) (try-value-at t) try-value.Post) (p : Problem) (h : Given t (started t (c .before .before .before)) p) →
-    After t (c .before .before .before) p h (c .if4 .stack) (c .if4 .work) (c .if4 .list) (c .if4 .next)
+inner : (t : ℕ) (c : try-value-lts.After-child (called t) (try-value-at t) try-value.Post) (e : c .child .result ≡ false) (p : Problem) (h : Given t (started t c) p) →
+    (started t c .args .k + 1 ≡ at (now (started t c .args .numbers)) 64 → ⊥) → (stack′ work′ list′ : List ℕ) (r′ : Progress) →
+    Walked p (below p (c .child .last .1 .0) (started t c .args .k + 1)) (c .child .last .0) (c .child .last .1 .0) (now (started t c .args .numbers)) (now (started t c .args .list)) (started t c .args .k + 1) (madeOne (started t c .args .r)) stack′ work′ list′ r′ →
+    After t c p h stack′ work′ list′ r′
+inner t c e p h n stack′ work′ list′ r′ w =
+    passed-inner p _ _ _ _ _ _ _ _ _ h (some t c) (started t c .fits .m .fits) _ _ _ (reached t c p h) (due t c) e (λ z. n (z ∙ sym (variables-are t c p h))) stack′ work′ list′ r′ w
+
+passed : (t : ℕ) (c : try-value-lts.Joined3 (called t) (try-value-at t) try-value.Post) (p : Problem) (h : Given t (started t (c .before)) p) →
+    After t (c .before) p h (c .if3 .stack) (c .if3 .work) (c .if3 .list) (c .if3 .next)
 unfolding at
 passed t c p h =
-    let b = c .before .before .before in
-    let e = c .before .before .if3 .left in
+    let b = c .before in
     ⊎-elim
-    (λ w. four (After t b p h) (w .6) (w .7) (w .8) (w .9) (plan t b e p h (w .0 .taken) _ _ (w .3 .ensures)))
-    (λ w. four (After t b p h) (w .7) (w .8) (w .9) (w .10)
-    (passed-inner p _ _ _ _ _ _ _ _ _ h (some t b) (started t b .fits .m .fits)
-    _ _ _ (reached t b p h) (due t b) e (λ z. w .0 .left (z ∙ sym (variables-are t b p h))) _ _ _ _ (w .4 .ensures p (asked t b e p h (w .0 .left)))))
-    (c .if4 .came)
+    (λ w. four (After t b p h) (w .1) (w .2) (w .3) (w .4) (dead t b (w .0 .taken) p h))
+    (⊎-elim
+    (λ w. four (After t b p h) (w .8) (w .9) (w .10) (w .11) (plan t b (w .0 .left) p h (w .2 .taken) _ _ (w .5 .ensures)))
+    (λ w. four (After t b p h) (w .9) (w .10) (w .11) (w .12) (inner t b (w .0 .left) p h (w .2 .left) _ _ _ _ (w .6 .ensures p (asked t b (w .0 .left) p h (w .2 .left))))))
+    (c .if3 .came)
 
 try-value-returns-2 : (t : ℕ) → try-value-lts.Need-returns-2 (called t) (try-value-at t) try-value.Post
 unfolding at
@@ -215,26 +221,6 @@ try-value-child-requires : (t : ℕ) → try-value-lts.Need-child-requires (call
 try-value-child-requires t c κs =
     let a = c .before .before .before .before .before .before in
     (a .pre .1 .0, child-asks (a .pre .1 .0) _ _ _ _ _ _ _ _ _ (a .pre .1 .1) (pos-of-ne-zero (c .before .before .before .before .if1 .left)) (a .fits .m .fits))
-
-try-value-try-value-requires : (t : ℕ) → try-value-lts.Need-try-value-requires (called t) (try-value-at t) try-value.Post
-try-value-try-value-requires t c κs =
-    let b = c .before .before .before .before in
-    let a = started t b in
-    let h = a .pre .1 .1 in (
-      values-fall (getD (a .args .numbers .now) 64 0) (a .args .k) (a .args .m) t (some t b) (a .pre .0),
-      (a .pre .1 .0, turn-asks (a .pre .1 .0) _ _ _ _ _ _ _ _ _ h (some t b) (a .fits .m .fits) _ _ _ _ (dead t b (c .before .before .before .if3 .taken) (a .pre .1 .0) h) refl),
-    )
-
-try-value-same-length : (t : ℕ) → try-value-lts.Need-same-length (called t) (try-value-at t) try-value.Post
-try-value-same-length t c = c .before .before .try-value .kept .1 .1 .1 .1 .1 .0
-
-try-value-returns-3 : (t : ℕ) → try-value-lts.Need-returns-3 (called t) (try-value-at t) try-value.Post
-try-value-returns-3 t c =
-    let b = c .before .before .before .before .before .before .before in
-    let a = started t b in λ p h.
-    let d = dead t b (c .before .before .before .before .before .before .if3 .taken) p h in
-    turn-goes p _ _ _ _ _ _ _ _ _ h (some t b) (a .fits .m .fits) _ _ _ _ d _ _ _ _
-    (c .before .before .try-value .ensures p (turn-asks p _ _ _ _ _ _ _ _ _ h (some t b) (a .fits .m .fits) _ _ _ _ d refl))
 
 try-value-add-if4 : (t : ℕ) → try-value-lts.Need-add-if4 (called t) (try-value-at t) try-value.Post
 try-value-add-if4 t c =
@@ -276,24 +262,24 @@ try-value-settle-requires t c κs =
       (a .pre .1 .0, asked t b (c .before .before .before .before .before .if3 .left) (a .pre .1 .0) (a .pre .1 .1) (c .before .before .before .if4 .left)),
     )
 
-try-value-same-length-2 : (t : ℕ) → try-value-lts.Need-same-length-2 (called t) (try-value-at t) try-value.Post
-try-value-same-length-2 t c =
+try-value-same-length : (t : ℕ) → try-value-lts.Need-same-length (called t) (try-value-at t) try-value.Post
+try-value-same-length t c =
     let j = c .before .before in
-    let b = j .before .before .before in
+    let b = j .before in
     let a = started t b in
     turn-sized (a .pre .1 .0) _ _ _ _ _ _ _ _ _ (a .pre .1 .1) (some t b) (a .fits .m .fits) _ _ _ _ (passed t j (a .pre .1 .0) (a .pre .1 .1))
 
-try-value-returns-4 : (t : ℕ) → try-value-lts.Need-returns-4 (called t) (try-value-at t) try-value.Post
-try-value-returns-4 t c =
+try-value-returns-3 : (t : ℕ) → try-value-lts.Need-returns-3 (called t) (try-value-at t) try-value.Post
+try-value-returns-3 t c =
     let j = c .before .before in
-    let b = j .before .before .before in
+    let b = j .before in
     let a = started t b in λ p h.
     turn-stops p _ _ _ _ _ _ _ _ _ h (some t b) (a .fits .m .fits) _ _ _ _ (passed t j p h) (c .if5 .taken)
 
-try-value-try-value-requires-2 : (t : ℕ) → try-value-lts.Need-try-value-requires-2 (called t) (try-value-at t) try-value.Post
-try-value-try-value-requires-2 t c κs =
+try-value-try-value-requires : (t : ℕ) → try-value-lts.Need-try-value-requires (called t) (try-value-at t) try-value.Post
+try-value-try-value-requires t c κs =
     let j = c .before .before .before .before .before in
-    let b = j .before .before .before in
+    let b = j .before in
     let a = started t b in
     let p = a .pre .1 .0 in
     let h = a .pre .1 .1 in (
@@ -301,22 +287,22 @@ try-value-try-value-requires-2 t c κs =
       (p, turn-asks p _ _ _ _ _ _ _ _ _ h (some t b) (a .fits .m .fits) _ _ _ _ (passed t j p h) (c .before .before .before .if5 .left)),
     )
 
-try-value-same-length-3 : (t : ℕ) → try-value-lts.Need-same-length-3 (called t) (try-value-at t) try-value.Post
-try-value-same-length-3 t c =
+try-value-same-length-2 : (t : ℕ) → try-value-lts.Need-same-length-2 (called t) (try-value-at t) try-value.Post
+try-value-same-length-2 t c =
     let j = c .before .before .before .before .before .before .before .before in
-    let b = j .before .before .before in
+    let b = j .before in
     let a = started t b in
-    c .before .before .try-value2 .kept .1 .1 .1 .1 .1 .0
+    c .before .before .try-value .kept .1 .1 .1 .1 .1 .0
     ∙ turn-sized (a .pre .1 .0) _ _ _ _ _ _ _ _ _ (a .pre .1 .1) (some t b) (a .fits .m .fits) _ _ _ _ (passed t j (a .pre .1 .0) (a .pre .1 .1))
 
-try-value-returns-5 : (t : ℕ) → try-value-lts.Need-returns-5 (called t) (try-value-at t) try-value.Post
-try-value-returns-5 t c =
+try-value-returns-4 : (t : ℕ) → try-value-lts.Need-returns-4 (called t) (try-value-at t) try-value.Post
+try-value-returns-4 t c =
     let j = c .before .before .before .before .before .before .before .before in
-    let b = j .before .before .before in
+    let b = j .before in
     let a = started t b in λ p h.
     let d = passed t j p h in
     turn-goes p _ _ _ _ _ _ _ _ _ h (some t b) (a .fits .m .fits) _ _ _ _ d _ _ _ _
-    (c .before .before .try-value2 .ensures p (turn-asks p _ _ _ _ _ _ _ _ _ h (some t b) (a .fits .m .fits) _ _ _ _ d (c .before .before .before .before .before .before .if5 .left)))
+    (c .before .before .try-value .ensures p (turn-asks p _ _ _ _ _ _ _ _ _ h (some t b) (a .fits .m .fits) _ _ _ _ d (c .before .before .before .before .before .before .if5 .left)))
 
 pub +settle+try-value-spec : {M : Type 1} → statement M
 +settle+try-value-spec = close μ-settle μ-try-value (λ t. settle-lts.spec (
@@ -343,16 +329,13 @@ pub +settle+try-value-spec : {M : Type 1} → statement M
     (try-value-mul-work t)
     (try-value-element-write-work t)
     (try-value-child-requires t)
-    (try-value-try-value-requires t)
-    (try-value-same-length t)
-    (try-value-returns-3 t)
     (try-value-add-if4 t)
     (try-value-element-copy-out-if4 t)
     (try-value-list-plan-requires t)
     (try-value-add-settle t)
     (try-value-settle-requires t)
+    (try-value-same-length t)
+    (try-value-returns-3 t)
+    (try-value-try-value-requires t)
     (try-value-same-length-2 t)
     (try-value-returns-4 t)
-    (try-value-try-value-requires-2 t)
-    (try-value-same-length-3 t)
-    (try-value-returns-5 t)
