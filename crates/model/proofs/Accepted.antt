@@ -1,7 +1,7 @@
 -- What the questions show: the problem that an accepted sheet states is well formed. Assumes nothing.
 use mathlib.Core.Path.{_≡_, refl, sym, ap, _∙_, subst}
 use mathlib.Core.Bool.{Bool, true, false, not}
-use mathlib.Core.List.{List, [], _∷_, List·Memᴰ, List·Memᴰ·not-nil, List·Memᴰ·cases-cons}
+use mathlib.Core.List.{List, [], _∷_, List·Memᴰ, List·Memᴰ·not-nil, List·Memᴰ·cases-cons, Memᴰ·of-map}
 use mathlib.Core.Logic.{⊎-elim}
 use Prim.Native.Nat.{ℕ, zero, suc, _+_, _*_, _^_, _≤_, _<_}
 use native.Mathlib.Omega.{arith}
@@ -10,14 +10,13 @@ use lib.ListN.{length}
 use borrow.Author.Tests.{eq-eqb}
 use Rattle.model.specs.Lists.{all, both, below, at, ascending, rowsAscend}
 use Rattle.model.specs.Problem.{Problem, Constraint, respects}
-use Rattle.model.specs.Verdict.{Verdict, refused, ask, isAccepted}
+use Rattle.model.specs.Verdict.{Verdict, ask, isAccepted}
 use Rattle.model.specs.Sheet.{Header, word, words, headerOf, setsVerdict, scopeAt, rowsAt, afterAt, constraintsVerdict, constraintsFrom, tableAt, problemOf, permutesPairs, symmetriesVerdict, verdictOf}
 use Rattle.model.proofs.WellFormed.{WellFormed, GoodConstraint}
-use Rattle.model.proofs.Basics.{both-l, both-r, T-of, all-e, map-e, below-i, length-below, at-below}
+use Rattle.model.proofs.Lists.{both-l, both-r, T-of, all-e, below-i, length-below, at-below}
 
--- a question that was passed, in its two forms
+-- a question that was passed
 pub asked : (c : Bool) (n i : ℕ) (v : Verdict) → T (isAccepted (ask c n i v)) → T c × T (isAccepted v)
-unfolding isAccepted
 asked true n i v h = (tt, h)
 asked false n i v h = absurd h
 
@@ -59,8 +58,8 @@ module _ (p : Problem) (b : List ℕ) (h : Header) (en : h .variables ≡ p .var
       let one = both-l (both (leb 1 a) (leb a 3)) (leb (word b (o + 2)) 256) t in
       let low : 1 ≤ a = leb→le 1 a (both-l (leb 1 a) (leb a 3) one) in
       let high : a ≤ 3 = leb→le a 3 (both-r (leb 1 a) (leb a 3) one) in
-      let sizes : (l : List ℕ) → List·Memᴰ l (rowsAt b o) → length l ≡ length (scopeAt b o) = λ l m. (let q = map-e (λ i. words b (o + 4 + 2 * a + 2 * (i * a)) a) (below (word b (o + 2))) l m in
-      ap length (q .2) ∙ length-words b (o + 4 + 2 * a + 2 * (q .0 * a)) a ∙ sym e) in
+      let sizes : (l : List ℕ) → List·Memᴰ l (rowsAt b o) → length l ≡ length (scopeAt b o) = λ l m. (let q = Memᴰ·of-map (λ i. words b (o + 4 + 2 * a + 2 * (i * a)) a) (below (word b (o + 2))) m in
+      ap length (sym (q .2)) ∙ length-words b (o + 4 + 2 * a + 2 * (q .0 * a)) a ∙ sym e) in
       record {
         some = omega arith;
         few = omega arith;
@@ -161,7 +160,7 @@ passed b t =
         narrow = λ x l. subst (λ (s : ℕ). s < 2 ^ d) (sym (at-words b 16 n x l)) (q8 .0 x (below-i n x l) .0);
         constrained = q9 .0;
         symmetric = λ g m. record {
-          sized = (let r = map-e (tableAt b h) (below (h .symmetries)) g m in ap length (r .2) ∙ length-words b (h .third + 2 * (r .0 * (n * d))) (n * d));
+          sized = (let r = Memᴰ·of-map (tableAt b h) (below (h .symmetries)) m in ap length (sym (r .2)) ∙ length-words b (h .third + 2 * (r .0 * (n * d))) (n * d));
           permutes = q15 g m .0;
           respectful = q15 g m .1;
         };

@@ -1,19 +1,16 @@
--- Laws of the assignments drawn from sets: membership, order. Assumes nothing.
-use mathlib.Core.Path.{_≡_, refl, sym, ap, ap₂, _∙_, subst}
-use mathlib.Core.Bool.{Bool, true, false, not}
-use mathlib.Core.Logic.{_⊎_, inl, inr, ⊎-elim, _↔_}
-use mathlib.Core.List.{List, [], _∷_, _++_, map, List·Memᴰ, List·Memᴰ·head, List·Memᴰ·tail, List·Memᴰ·not-nil, List·Memᴰ·eq-of-singleton, Memᴰ·map, Memᴰ·of-map, Memᴰ·cast}
-use Prim.Native.Nat.{ℕ, zero, suc, _+_, _^_, _≤_, _<_}
+-- Laws of the assignments drawn from sets: membership, order, one through each value. Assumes nothing.
+use mathlib.Core.Path.{_≡_, refl, sym, ap, _∙_, subst}
+use mathlib.Core.List.{List, [], _∷_, map, List·Memᴰ, List·Memᴰ·head, List·Memᴰ·not-nil, List·Memᴰ·eq-of-singleton, Memᴰ·map, Memᴰ·of-map}
+use Prim.Native.Nat.{ℕ, zero, suc, _^_, _<_}
 use native.Mathlib.Nat.{not-suc-le-zero, le-of-suc-le-suc}
 use native.Mathlib.Omega.{arith}
-use lib.Dec.{T, eqb, eqb→eq, eqb-refl}
-use lib.ListN.{length, getD}
-use Rattle.model.specs.Lists.{both, either, all, any, keep, flat, below, at, earlier, rowsAscend, tabulate}
-use Rattle.model.specs.ValueSets.{has, maskOf, members}
+use lib.Dec.{T}
+use lib.ListN.{length}
+use Rattle.model.specs.Lists.{at, earlier}
+use Rattle.model.specs.ValueSets.{has, members}
 use Rattle.model.specs.Problem.{assignments}
-use Rattle.model.specs.Nogood.{Entry, equality, disequality, is, obeysFrom, obeys, obeying, used, filtered}
-use Rattle.model.proofs.Lists.{T-of, both-i, both-l, both-r, keep-i, keep-e, any-i, any-e, flat-i, flat-e, Sorted, sorted-imp, sorted-flat-map, sorted-ext, sorted-of-rowsAscend, earlier-irrefl, rowsAscend-of, earlier-lt, earlier-eq, earlier-asym, at-tabulate, length-tabulate, getD-at, at-ext, at-out}
-use Rattle.model.proofs.Sets.{has-lt, mask-i, mask-e, mask-lt, members-i, members-e, members-sorted, Sets, Inside, inside-antisym, has-at-lt}
+use Rattle.model.proofs.Lists.{of-not, flat-i, flat-e, Sorted, sorted-flat-map, earlier-lt, earlier-eq}
+use Rattle.model.proofs.Sets.{has-none, member, has-lt, members-i, members-e, members-sorted, Inside}
 
 -- ---- membership: one value of each set
 pub assign-i : (ds a : List ℕ) → length a ≡ length ds → ((x : ℕ) → x < length ds → List·Memᴰ (at a x) (members (at ds x))) → List·Memᴰ a (assignments ds)
@@ -47,9 +44,6 @@ assign-e (s ∷ ds) a m =
     front v b i h zero l = i
     front v b i h (suc x) l = h x (le-of-suc-le-suc l)
 
-pub assignments-mem : (ds a : List ℕ) → List·Memᴰ a (assignments ds) ↔ ((length a ≡ length ds) × ((x : ℕ) → x < length ds → List·Memᴰ (at a x) (members (at ds x))))
-assignments-mem ds a = (assign-e ds a, λ h. assign-i ds a (h .0) (h .1))
-
 -- drawn from sets of sixteen bits
 abbrev pub Drawn : List ℕ → List ℕ → Type 0
 Drawn ds a = (length a ≡ length ds) × ((x : ℕ) → x < length ds → T (has (at ds x) (at a x)))
@@ -65,6 +59,38 @@ assign-mono ds es a e h m =
     let r = assign-e ds a m in
     assign-i es a (r .0 ∙ e)
     (λ x l. let q = members-e (at ds x) (at a x) (r .1 x (subst (λ (n : ℕ). x < n) (sym e) l)) in members-i (at es x) (at a x) (q .0) (h x (at a x) (q .1)))
+
+-- through each value of sets of which none is empty goes an assignment
+drawn-cons : (s v : ℕ) (ds a : List ℕ) → T (has s v) → Drawn ds a → Drawn (s ∷ ds) (v ∷ a)
+unfolding at
+drawn-cons s v ds a t d = (ap suc (d .0), elim [ zero ↦ λ l. t | suc x ↦ λ l. d .1 x (le-of-suc-le-suc l) ])
+
+abbrev pub Filled : List ℕ → Type 0
+Filled ds = (x : ℕ) → (at ds x < 2 ^ 16) × (x < length ds → at ds x ≡ 0 → ⊥)
+
+filled-tail : (s : ℕ) (ds : List ℕ) → Filled (s ∷ ds) → Filled ds
+unfolding at
+filled-tail s ds f x = (f (suc x) .0, λ l. f (suc x) .1 (omega arith))
+
+first : (s : ℕ) (ds : List ℕ) → Filled (s ∷ ds) → (v : ℕ) × (v < 16) × T (has s v)
+unfolding at
+first s ds f = member s (f 0 .0) (f 0 .1 (omega arith))
+
+some-drawn : (ds : List ℕ) → Filled ds → (a : List ℕ) × Drawn ds a
+some-drawn [] f = ([], (refl, λ x l. absurd (not-suc-le-zero l)))
+some-drawn (s ∷ ds) f =
+    let m = first s ds f in
+    let r = some-drawn ds (filled-tail s ds f) in
+    (m .0 ∷ r .0, drawn-cons s (m .0) ds (r .0) (m .2) (r .1))
+
+pub drawn-through : (ds : List ℕ) → Filled ds → (x v : ℕ) → T (has (at ds x) v) → (a : List ℕ) × Drawn ds a × (at a x ≡ v)
+unfolding at
+drawn-through [] f x v t = absurd (of-not (has 0 v) (has-none v) t)
+drawn-through (s ∷ ds) f zero v t = let r = some-drawn ds (filled-tail s ds f) in (v ∷ r .0, drawn-cons s v ds (r .0) t (r .1), refl)
+drawn-through (s ∷ ds) f (suc x) v t =
+    let m = first s ds f in
+    let r = drawn-through ds (filled-tail s ds f) x v t in
+    (m .0 ∷ r .0, drawn-cons s (m .0) ds (r .0) (m .2) (r .1), r .2)
 
 -- ---- in reading order, each once
 sorted-cons : (v : ℕ) (l : List (List ℕ)) → Sorted (λ (x y : List ℕ). T (earlier x y)) l → Sorted (λ (x y : List ℕ). T (earlier x y)) (map (λ (b : List ℕ). v ∷ b) l)
@@ -84,16 +110,3 @@ assignments-sorted (s ∷ ds) =
   where
     F : ℕ → List (List ℕ)
     F w = map (λ (b : List ℕ). w ∷ b) (assignments ds)
-
-pub assignments-distinct : (ds : List ℕ) → Sorted (λ (x y : List ℕ). x ≡ y → ⊥) (assignments ds)
-assignments-distinct ds = sorted-imp (λ (x y : List ℕ). T (earlier x y)) (λ (x y : List ℕ). x ≡ y → ⊥) (λ x y t e. earlier-irrefl y (subst (λ (z : List ℕ). T (earlier z y)) e t)) (assignments ds) (assignments-sorted ds)
-
-pub assignments-ascend : (ds : List ℕ) → T (rowsAscend (assignments ds))
-assignments-ascend ds = rowsAscend-of (assignments ds) (assignments-sorted ds)
-
--- two lists that ascend in reading order, with the same members, are equal
-pub reading-ext : (l m : List (List ℕ)) → Sorted (λ (x y : List ℕ). T (earlier x y)) l → Sorted (λ (x y : List ℕ). T (earlier x y)) m → ((a : List ℕ) → List·Memᴰ a l ↔ List·Memᴰ a m) → l ≡ m
-reading-ext l m s t h = sorted-ext (λ (x y : List ℕ). T (earlier x y)) earlier-asym l m s t (λ a. h a .0) (λ a. h a .1)
-
-pub rows-ext : (l m : List (List ℕ)) → T (rowsAscend l) → T (rowsAscend m) → ((a : List ℕ) → List·Memᴰ a l ↔ List·Memᴰ a m) → l ≡ m
-rows-ext l m s t h = reading-ext l m (sorted-of-rowsAscend l s) (sorted-of-rowsAscend m t) h

@@ -1,20 +1,18 @@
--- Laws of obeying and of the exact filter: what it keeps, inside, monotone, idempotent. Assumes nothing.
-use mathlib.Core.Path.{_≡_, refl, sym, ap, ap₂, _∙_, subst}
+-- Laws of obeying and of the exact filter: what it keeps, inside, monotone, idempotent, nothing for empty lists. Assumes nothing.
+use mathlib.Core.Path.{_≡_, refl, sym, _∙_, subst}
 use mathlib.Core.Bool.{Bool, true, false, not}
-use mathlib.Core.Logic.{_⊎_, inl, inr, ⊎-elim, _↔_}
-use mathlib.Core.List.{List, [], _∷_, _++_, map, List·Memᴰ, List·Memᴰ·head, List·Memᴰ·tail, List·Memᴰ·not-nil, List·Memᴰ·eq-of-singleton, Memᴰ·map, Memᴰ·of-map, Memᴰ·cast}
-use Prim.Native.Nat.{ℕ, zero, suc, _+_, _^_, _≤_, _<_}
-use native.Mathlib.Nat.{not-suc-le-zero, le-of-suc-le-suc}
+use mathlib.Core.List.{List, [], _∷_, _++_, List·Memᴰ}
+use Prim.Native.Nat.{ℕ, _^_, _≤_, _<_}
 use native.Mathlib.Omega.{arith}
 use lib.Dec.{T, eqb, eqb→eq, eqb-refl}
 use lib.ListN.{length, getD}
-use Rattle.model.specs.Lists.{both, either, all, any, keep, flat, below, at, earlier, rowsAscend, tabulate}
-use Rattle.model.specs.ValueSets.{has, maskOf, members}
+use Rattle.model.specs.Lists.{both, any, at}
+use Rattle.model.specs.ValueSets.{anyEmpty, has, maskOf}
 use Rattle.model.specs.Problem.{assignments}
 use Rattle.model.specs.Nogood.{Entry, equality, disequality, is, obeysFrom, obeys, obeying, used, filtered}
-use Rattle.model.proofs.Lists.{T-of, both-i, both-l, both-r, keep-i, keep-e, any-i, any-e, flat-i, flat-e, Sorted, sorted-imp, sorted-flat-map, sorted-ext, sorted-of-rowsAscend, earlier-irrefl, rowsAscend-of, earlier-lt, earlier-eq, earlier-asym, at-tabulate, length-tabulate, getD-at, at-ext, at-out}
-use Rattle.model.proofs.Sets.{has-lt, mask-i, mask-e, mask-lt, members-i, members-e, members-sorted, Sets, Inside, inside-antisym, has-at-lt}
-use Rattle.model.proofs.Assignments.{assign-i, assign-e, assignments-mem, Drawn, drawn-i, drawn-e, assign-mono, assignments-sorted, assignments-distinct, assignments-ascend, reading-ext, rows-ext}
+use Rattle.model.proofs.Lists.{of-not, both-i, both-l, both-r, keep-i, keep-e, any-i, any-e, at-tabulate, length-tabulate, getD-at, at-out}
+use Rattle.model.proofs.Sets.{empty-i, mask-i, mask-e, mask-lt, members-e, Sets, Inside, inside-antisym, has-at-lt}
+use Rattle.model.proofs.Assignments.{drawn-through, assign-e, drawn-i, drawn-e, assign-mono}
 
 -- ---- obeying: the entries in front
 pub obeys-front : (h : Bool) (a : List ℕ) (es fs : List Entry) → T (obeysFrom h a (es ++ fs)) → T (obeysFrom h a es)
@@ -54,9 +52,6 @@ filtered-e ds es x v t =
     let n = assign-e ds (r .0) (k .0) in
     (r .0, k .0, k .1, sym (getD-at (r .0) x 16 (subst (λ (j : ℕ). x < j) (sym (n .0)) l)) ∙ eqb→eq (getD (r .0) x 16) v (r .2))
 
-pub filtered-has : (ds : List ℕ) (es : List Entry) (x v : ℕ) → x < length ds → T (has (at (filtered ds es) x) v) ↔ ((a : List ℕ) × List·Memᴰ a (assignments ds) × T (obeys a es) × (at a x ≡ v))
-filtered-has ds es x v l = (filtered-e ds es x v, λ h. filtered-i ds es x v (h .0) l (h .1) (h .2) (h .3))
-
 pub filtered-sets : (ds : List ℕ) (es : List Entry) → Sets (length ds) (filtered ds es)
 filtered-sets ds es = (length-filtered ds es, go)
   where
@@ -91,3 +86,12 @@ filtered-idem ds es =
     (subst (λ (n : ℕ). Sets n (filtered (filtered ds es) es)) (length-filtered ds es) (filtered-sets (filtered ds es) es)) (filtered-sets ds es)
     (filtered-inside (filtered ds es) es)
     (λ x v t. let r = filtered-e ds es x v t in filtered-i (filtered ds es) es x v (r .0) (has-at-lt (filtered ds es) x v t) (filtered-drawn ds es (r .0) (r .1) (r .2)) (r .2) (r .3))
+
+-- empty lists take nothing from non-empty sets
+pub filtered-none : (ds : List ℕ) → ((x : ℕ) → at ds x < 2 ^ 16) → anyEmpty ds ≡ false → filtered ds [] ≡ ds
+unfolding obeysFrom
+filtered-none ds small some =
+    inside-antisym (length ds) (filtered ds []) ds (filtered-sets ds []) (refl, small) (filtered-inside ds [])
+    (λ x v t.
+    let r = drawn-through ds (λ y. (small y, λ l e. of-not (anyEmpty ds) some (empty-i ds y l e))) x v t in
+    filtered-i ds [] x v (r .0) (has-at-lt ds x v t) (drawn-i ds (r .0) small (r .1)) tt (r .2))

@@ -1,17 +1,16 @@
 -- What the code's operations on sixteen bits do to members; the least value. Assumes nothing.
-use mathlib.Core.Path.{_≡_, refl, sym, ap, ap₂, _∙_, subst, fun-ext}
+use mathlib.Core.Path.{_≡_, refl, sym, ap, ap₂, _∙_, fun-ext}
 use mathlib.Core.Bool.{Bool, true, false, not}
-use Prim.Native.Nat.{ℕ, zero, suc, _+_, _-_, _*_, _/_, _%_, _^_, _≤_, _<_, min, max}
-use native.Mathlib.Nat.{not-suc-le-zero, pow-suc, le-of-suc-le-suc, lt-of-lt-of-le, mod-eq-of-lt, lt-of-le-of-lt, add-zero, zero-add}
-use native.Mathlib.Numerals.{add-one, one-add}
+use Prim.Native.Nat.{ℕ, zero, suc, _-_, _*_, _/_, _%_, _^_, _≤_, _<_, min, max}
+use native.Mathlib.Nat.{not-suc-le-zero, le-of-suc-le-suc, mod-eq-of-lt, lt-of-le-of-lt}
 use native.Mathlib.Omega.{arith}
-use lib.Dec.{T, eqb, ltb, leb, lit<, leb·suc-suc, leb·suc-zero, leb·zero, eqb·zero-suc, eqb·suc-zero, eqb·suc-suc}
+use lib.Dec.{eqb, ltb, lit<, leb·suc-suc, eqb·zero-suc, eqb·suc-zero, eqb·suc-suc}
 use lib.Bits.{bitAnd, bitOr, and-step, or-step, and-lt, or-lt, and-mask, and-le-l}
-use lib.Pow.{pow-pos, pow-lt, pow-mono, shr-lt, shr-shr}
+use lib.Pow.{pow-pos, pow-lt}
 use lib.Count.{trailingZeros, under}
-use borrow.Author.Tests.{eq-eqb, ne-eqb, eqb-true, eqb-false, lt-ltb, le-ltb}
+use borrow.Author.Tests.{eq-eqb, ne-eqb, lt-ltb, le-ltb}
 use Rattle.model.specs.Lists.{both, either}
-use Rattle.model.specs.ValueSets.{has, bit, maskBelow, maskOf, fullMask, withoutMask, onlyMask, unionMask, commonMask, lowestOf, least, leastStep}
+use Rattle.model.specs.ValueSets.{has, maskOf, fullMask, withoutMask, onlyMask, unionMask, commonMask, least, leastStep}
 use Rattle.model.proofs.Sets.{has-zero, has-suc, has-none, has-mask, mask-lt, mask-ext, pow2}
 
 -- ---- what the code's operations do to members
@@ -108,14 +107,6 @@ least-below (suc k) f j l = below (least-below k (λ v. f (suc v))) (f 0) refl j
 pub is-mask : (s : ℕ) (f : ℕ → Bool) → s < 2 ^ 16 → ((v : ℕ) → v < 16 → has s v ≡ f v) → s ≡ maskOf f
 is-mask s f h e = mask-ext 16 s (maskOf f) h (mask-lt 16 f) (λ v l. e v l ∙ sym (has-mask 16 f v l))
 
--- a value above the width is no member
-pub has-above : (s v : ℕ) → s < 2 ^ 16 → 16 ≤ v → has s v ≡ false
-unfolding has
-has-above s v h l =
-    let small : s / 2 ^ v < 1 = shr-lt 0 v (lt-of-lt-of-le h (subst (λ (k : ℕ). 2 ^ 16 ≤ 2 ^ k) (omega arith) (pow-mono l))) in
-    let z : s / 2 ^ v % 2 ≡ 0 = omega arith in
-    ap (λ (n : ℕ). eqb n 1) z
-
 one-lt : (v : ℕ) → v < 16 → 2 ^ v < 2 ^ 16
 one-lt v h = pow-lt h
 
@@ -197,10 +188,6 @@ lowest-op (suc k) s =
 pub contains-op : (s v : ℕ) → eqb (bitAnd (s / 2 ^ v) 1) 1 ≡ has s v
 unfolding has
 contains-op s v = ap (λ (n : ℕ). eqb n 1) (and-mask (s / 2 ^ v) 1)
-
-pub contains2-op : (s v : ℕ) → eqb (s / 2 ^ v % 2) 1 ≡ has s v
-unfolding has
-contains2-op s v = refl
 
 pub shl-pos : (v : ℕ) → v < 16 → 1 ≤ 1 * 2 ^ v % 2 ^ 16
 shl-pos v h = rw (shl-one v h) (pow-pos v)

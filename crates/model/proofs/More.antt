@@ -1,43 +1,24 @@
 -- More symmetries: smaller sets, fewer nodes, fewer plans; and a run that finishes still finishes. Assumes nothing.
-use mathlib.Core.Path.{_≡_, refl, sym, ap, ap₂, _∙_, subst}
-use mathlib.Core.Bool.{Bool, true, false, not}
-use mathlib.Core.Logic.{_⊎_, inl, inr, ⊎-elim}
-use mathlib.Core.List.{List, [], _∷_, _++_, map, List·Memᴰ, List·Memᴰ·head, List·Memᴰ·tail, List·Memᴰ·append-cases, Memᴰ·append-left, Memᴰ·append-right, Sublistᴰ, Sublistᴰ·slnil, Sublistᴰ·cons, Sublistᴰ·cons-cons}
-use Prim.Native.Nat.{ℕ, zero, suc, _+_, _*_, _≤_, _<_}
+use mathlib.Core.Path.{_≡_, refl, sym, subst}
+use mathlib.Core.List.{List, [], _∷_, _++_, List·Memᴰ, Sublistᴰ, Sublistᴰ·slnil, Sublistᴰ·cons-cons}
+use Prim.Native.Nat.{ℕ, zero, suc, _≤_}
 use native.Mathlib.Nat.{mul-le-mul-right, le-trans}
-use native.Mathlib.Omega.{arith}
-use lib.Dec.{T, eqb, T-not, not-T}
+use lib.Dec.{T, eqb}
 use lib.ListN.{length}
-use Rattle.model.specs.Lists.{both, keep, flat, at}
-use Rattle.model.specs.ValueSets.{has, members, anyEmpty}
-use Rattle.model.specs.Problem.{Problem, Constraint, pair}
+use Rattle.model.specs.Lists.{keep, at}
+use Rattle.model.specs.ValueSets.{has}
+use Rattle.model.specs.Problem.{Problem, pair}
 use Rattle.model.specs.Nogood.{Entry, filtered}
-use Rattle.model.specs.Search.{entriesAt, nogoodsOf, pruned, narrowed, rounds, setsAt, isLive, nodesBelow, nodes, isPlan}
-use Rattle.model.specs.Run.{Ending, finished, Result, resultOf}
-use Rattle.model.proofs.WellFormed.{WellFormed}
-use Rattle.model.proofs.Lists.{T-of, of-T, of-not, both-i, both-l, both-r, sublist-keep, sublist-length, sublist-mem, sublist-flat-map}
-use Rattle.model.proofs.Sets.{has-none, Sets, Inside, inside-antisym, empty-inside, at-zeros, zeros-empty, members-sub}
-use Rattle.model.proofs.Prune.{Kept, pruned-i, pruned-e, pruned-inside, pruned-sets, Sized, closed, Largest, largest, setsAt-live, setsAt-dead}
+use Rattle.model.specs.Search.{entriesAt, nogoodsOf, pruned, setsAt, isLive, nodesBelow, nodes, isPlan}
+use Rattle.model.specs.Run.{finished, resultOf}
+use Rattle.model.proofs.Lists.{both-i, both-l, both-r, sublist-keep, sublist-length, sublist-flat-map}
+use Rattle.model.proofs.Sets.{Inside, inside-antisym, members-sub}
+use Rattle.model.proofs.Prune.{Kept, pruned-i, pruned-e, pruned-inside, pruned-sets, Sized, closed, largest, setsAt-mono, live-mono}
 use Rattle.model.proofs.Runs.{finished-rows, finished-fits, finishes}
 
--- p′ is p with further symmetries: every other field is the same
-pub record Extends (p p′ : Problem) : Type 0 where
-  pub variables : p′ .variables ≡ p .variables
-  pub values : p′ .values ≡ p .values
-  pub initial : p′ .initial ≡ p .initial
-  pub constraints : p′ .constraints ≡ p .constraints
-  pub among : Sublistᴰ (p .symmetries) (p′ .symmetries)
-
+-- the problem with other symmetries
 abbrev pub withSymmetries : Problem → List (List ℕ) → Problem
 withSymmetries p gs = record { variables = p .variables; values = p .values; initial = p .initial; constraints = p .constraints; symmetries = gs }
-
-pub extends-path : (p p′ : Problem) → Extends p p′ → p′ ≡ withSymmetries p (p′ .symmetries)
-extends-path p p′ e = λ i. record { variables = e .variables i; values = e .values i; initial = e .initial i; constraints = e .constraints i; symmetries = p′ .symmetries }
-
--- one table more, anywhere
-pub one-more : {A : Type 0} (xs ys : List A) (g : A) → Sublistᴰ (xs ++ ys) (xs ++ (g ∷ ys))
-one-more [] ys g = Sublistᴰ·cons (mathlib.Core.List.Sublistᴰ·refl ys)
-one-more (x ∷ xs) ys g = Sublistᴰ·cons-cons refl (one-more xs ys g)
 
 module _ (p : Problem) (gs : List (List ℕ)) (s : Sized p) (h : (g : List ℕ) → List·Memᴰ g (p .symmetries) → List·Memᴰ g gs) where
   nogoods-same : (g prefix : List ℕ) → nogoodsOf (withSymmetries p gs) g prefix ≡ nogoodsOf p g prefix
@@ -63,28 +44,12 @@ module _ (p : Problem) (gs : List (List ℕ)) (s : Sized p) (h : (g : List ℕ) 
       (inside-antisym (p .variables) (pruned p prefix ds) ds (pruned-sets p prefix ds) (k .sets) (pruned-inside p prefix ds)
       (λ x v t. pruned-less prefix ds x v (subst (λ (l : List ℕ). T (has (at l x) v)) (sym (k .fixed)) t)))
 
-  closed-empty : (prefix : List ℕ) → T (anyEmpty (closed p prefix)) → T (anyEmpty (closed (withSymmetries p gs) prefix))
-  closed-empty prefix t = empty-inside (p .variables) (closed (withSymmetries p gs) prefix) (closed p prefix) (largest (withSymmetries p gs) prefix s .sets) (largest p prefix s .sets) (closed-less prefix) t
-
   -- the sets at a prefix
   pub setsAt-less : (prefix : List ℕ) → Inside (setsAt (withSymmetries p gs) prefix) (setsAt p prefix)
-  setsAt-less prefix x v t = go (anyEmpty (closed (withSymmetries p gs) prefix)) refl (anyEmpty (closed p prefix)) refl
-    where
-      go : (b : Bool) → anyEmpty (closed (withSymmetries p gs) prefix) ≡ b → (c : Bool) → anyEmpty (closed p prefix) ≡ c → T (has (at (setsAt p prefix) x) v)
-      go true e c e′ = absurd (of-not (has 0 v) (has-none v) (subst (λ (m : ℕ). T (has m v)) (ap (λ (l : List ℕ). at l x) (setsAt-dead (withSymmetries p gs) prefix e) ∙ at-zeros (closed (withSymmetries p gs) prefix) x) t))
-      go false e true e′ = absurd (of-not (anyEmpty (closed (withSymmetries p gs) prefix)) e (closed-empty prefix (T-of (anyEmpty (closed p prefix)) e′)))
-      go false e false e′ =
-          subst (λ (l : List ℕ). T (has (at l x) v)) (sym (setsAt-live p prefix e′)) (closed-less prefix x v (subst (λ (l : List ℕ). T (has (at l x) v)) (setsAt-live (withSymmetries p gs) prefix e) t))
+  setsAt-less prefix = setsAt-mono (withSymmetries p gs) p prefix prefix s s refl (closed-less prefix)
 
   pub live-less : (prefix : List ℕ) → T (isLive (withSymmetries p gs) prefix) → T (isLive p prefix)
-  unfolding isLive
-  live-less prefix t = not-T (anyEmpty (setsAt p prefix)) (λ u. T-not (anyEmpty (setsAt (withSymmetries p gs) prefix)) t (go (anyEmpty (closed p prefix)) refl u))
-    where
-      go : (b : Bool) → anyEmpty (closed p prefix) ≡ b → T (anyEmpty (setsAt p prefix)) → T (anyEmpty (setsAt (withSymmetries p gs) prefix))
-      go true e u =
-          let d = closed-empty prefix (T-of (anyEmpty (closed p prefix)) e) in
-          subst (λ (l : List ℕ). T (anyEmpty l)) (sym (setsAt-dead (withSymmetries p gs) prefix (of-T (anyEmpty (closed (withSymmetries p gs) prefix)) d))) (zeros-empty (closed (withSymmetries p gs) prefix) d)
-      go false e u = absurd (of-not (anyEmpty (closed p prefix)) e (subst (λ (l : List ℕ). T (anyEmpty l)) (setsAt-live p prefix e) u))
+  live-less prefix = live-mono (withSymmetries p gs) p prefix prefix s s refl (closed-less prefix)
 
   -- the nodes
   nodesBelow-less : (k : ℕ) (prefix : List ℕ) → Sublistᴰ (nodesBelow (withSymmetries p gs) k prefix) (nodesBelow p k prefix)
@@ -109,38 +74,25 @@ module _ (p : Problem) (gs : List (List ℕ)) (s : Sized p) (h : (g : List ℕ) 
   pub plans-less : Sublistᴰ (keep (isPlan (withSymmetries p gs)) (nodes (withSymmetries p gs))) (keep (isPlan p) (nodes p))
   plans-less = sublist-keep (isPlan (withSymmetries p gs)) (isPlan p) nodes-less plan-less
 
--- the claim `Fewer` of the problems: the runs of p′ against a finished run of p
+-- the runs of p′ against a finished run of p: a finished one lists no other plan and makes no more nodes, and under the same limit and room it is finished
 abbrev pub FewerIn : Problem → Problem → Type 0
 FewerIn p p′ =
-    (allowance room plans used : ℕ) → resultOf p allowance room .ending ≡ finished plans used →
-    ((allowance′ room′ plans′ used′ : ℕ) → resultOf p′ allowance′ room′ .ending ≡ finished plans′ used′ →
-    Sublistᴰ (resultOf p′ allowance′ room′ .rows) (resultOf p allowance room .rows) × (used′ ≤ used))
-    × ((plans′ : ℕ) × (used′ : ℕ) × (resultOf p′ allowance room .ending ≡ finished plans′ used′))
+    (limit room plans made : ℕ) → resultOf p limit room .ending ≡ finished plans made →
+    ((limit′ room′ plans′ made′ : ℕ) → resultOf p′ limit′ room′ .ending ≡ finished plans′ made′ →
+    Sublistᴰ (resultOf p′ limit′ room′ .rows) (resultOf p limit room .rows) × (made′ ≤ made))
+    × ((plans′ : ℕ) × (made′ : ℕ) × (resultOf p′ limit room .ending ≡ finished plans′ made′))
 
-fewer-with : (p : Problem) (gs : List (List ℕ)) → Sized p → ((g : List ℕ) → List·Memᴰ g (p .symmetries) → List·Memᴰ g gs) → FewerIn p (withSymmetries p gs)
-fewer-with p gs s h allowance room plans used e =
+pub fewer : (p : Problem) (gs : List (List ℕ)) → Sized p → ((g : List ℕ) → List·Memᴰ g (p .symmetries) → List·Memᴰ g gs) → FewerIn p (withSymmetries p gs)
+fewer p gs s h limit room plans made e =
     let q = withSymmetries p gs in
-    let r = finished-rows p allowance room plans used e in
-    let f = finished-fits p allowance room plans used e in
+    let r = finished-rows p limit room plans made e in
+    let f = finished-fits p limit room plans made e in
     let n = sublist-length (nodes-less p gs s h) in
     let m = sublist-length (plans-less p gs s h) in (
-      λ allowance′ room′ plans′ used′ e′.
-          let r′ = finished-rows q allowance′ room′ plans′ used′ e′ in (
-            subst (λ (l : List (List ℕ)). Sublistᴰ l (resultOf p allowance room .rows)) (sym (r′ .0)) (subst (λ (l : List (List ℕ)). Sublistᴰ (keep (isPlan q) (nodes q)) l) (sym (r .0)) (plans-less p gs s h)),
-            subst (λ (k : ℕ). k ≤ used) (sym (r′ .2)) (subst (λ (k : ℕ). length (nodes q) ≤ k) (sym (r .2)) n),
+      λ limit′ room′ plans′ made′ e′.
+          let r′ = finished-rows q limit′ room′ plans′ made′ e′ in (
+            subst (λ (l : List (List ℕ)). Sublistᴰ l (resultOf p limit room .rows)) (sym (r′ .0)) (subst (λ (l : List (List ℕ)). Sublistᴰ (keep (isPlan q) (nodes q)) l) (sym (r .0)) (plans-less p gs s h)),
+            subst (λ (k : ℕ). k ≤ made) (sym (r′ .2)) (subst (λ (k : ℕ). length (nodes q) ≤ k) (sym (r .2)) n),
           ),
-      (length (keep (isPlan q) (nodes q)), length (nodes q), finishes q allowance room (le-trans n (f .0)) (le-trans (mul-le-mul-right (p .variables) m) (f .1))),
+      (length (keep (isPlan q) (nodes q)), length (nodes q), finishes q limit room (le-trans n (f .0)) (le-trans (mul-le-mul-right (p .variables) m) (f .1))),
     )
-
--- 6. with further symmetries
-pub more-sets : (p p′ : Problem) → Sized p → Extends p p′ → (prefix : List ℕ) → Inside (setsAt p′ prefix) (setsAt p prefix)
-more-sets p p′ s e = subst (λ (q : Problem). (prefix : List ℕ) → Inside (setsAt q prefix) (setsAt p prefix)) (sym (extends-path p p′ e)) (setsAt-less p (p′ .symmetries) s (sublist-mem (e .among)))
-
-pub more-nodes : (p p′ : Problem) → Sized p → Extends p p′ → Sublistᴰ (nodes p′) (nodes p)
-more-nodes p p′ s e = subst (λ (q : Problem). Sublistᴰ (nodes q) (nodes p)) (sym (extends-path p p′ e)) (nodes-less p (p′ .symmetries) s (sublist-mem (e .among)))
-
-pub more-plans : (p p′ : Problem) → Sized p → Extends p p′ → Sublistᴰ (keep (isPlan p′) (nodes p′)) (keep (isPlan p) (nodes p))
-more-plans p p′ s e = subst (λ (q : Problem). Sublistᴰ (keep (isPlan q) (nodes q)) (keep (isPlan p) (nodes p))) (sym (extends-path p p′ e)) (plans-less p (p′ .symmetries) s (sublist-mem (e .among)))
-
-pub fewer : (p p′ : Problem) → Sized p → Extends p p′ → FewerIn p p′
-fewer p p′ s e = subst (λ (q : Problem). FewerIn p q) (sym (extends-path p p′ e)) (fewer-with p (p′ .symmetries) s (sublist-mem (e .among)))

@@ -1,52 +1,47 @@
 -- Reading order, and what obeying the nogoods of a symmetry means entry by entry. Assumes nothing.
 use mathlib.Core.Path.{_≡_, refl, sym, subst}
-use mathlib.Core.Bool.{Bool, true, false, not}
+use mathlib.Core.Bool.{Bool, true, not}
 use mathlib.Core.List.{List, [], _∷_, _++_, map, List·Memᴰ, List·Memᴰ·head, List·Memᴰ·tail, List·Memᴰ·not-nil, List·Memᴰ·cases-cons}
 use mathlib.Core.Logic.{_⊎_, inl, inr, ⊎-elim}
 use Prim.Native.Nat.{ℕ, zero, suc, _+_, _≤_, _<_, _/_, _%_}
 use native.Mathlib.Nat.{not-suc-le-zero, le-of-suc-le-suc, zero-lt-suc, le-refl}
 use native.Mathlib.Decide.{ℕ-discrete}
 use native.Mathlib.Omega.{arith}
-use lib.Dec.{T, T-not, not-T, eqb, ltb, ltb→lt, lt→ltb}
+use lib.Dec.{T, T-not, not-T, ltb}
 use lib.ListN.{length}
 use lib.Seq.{append-snoc}
-use borrow.Author.Tests.{eq-eqb, eqb-true}
 use Rattle.model.specs.Lists.{both, flat, upFrom, below, at, keep, earlier}
 use Rattle.model.specs.ValueSets.{members}
 use Rattle.model.specs.Problem.{Problem, pair}
 use Rattle.model.specs.Nogood.{Entry, equality, disequality, is, obeysFrom, obeys}
 use Rattle.model.specs.Search.{entriesAt, nogoodsOf}
-use Rattle.model.proofs.Basics.{both-i, both-l, both-r, T-dec}
+use Rattle.model.proofs.Lists.{both-i, both-l, both-r, T-dec, earlier-e, earlier-lt, earlier-eq}
 
 -- ---- the first difference
 abbrev pub First : List ℕ → List ℕ → ℕ → Type 0
 First t s j = (j < length t) × (j < length s) × ((i : ℕ) → i < j → at t i ≡ at s i) × (at t j < at s j)
 
-pub earlier-e : (t s : List ℕ) → T (earlier t s) → (j : ℕ) × First t s j
+pub first-e : (t s : List ℕ) → T (earlier t s) → (j : ℕ) × First t s j
 unfolding earlier at
-earlier-e [] s h = absurd h
-earlier-e (x ∷ t) [] h = absurd h
-earlier-e (x ∷ t) (y ∷ s) h = go (earlier-e t s) (eqb x y) refl h
+first-e [] s h = absurd h
+first-e (x ∷ t) [] h = absurd h
+first-e (x ∷ t) (y ∷ s) h = go (first-e t s) (earlier-e x y t s h)
   where
-    go : (T (earlier t s) → (j : ℕ) × First t s j) → (b : Bool) → eqb x y ≡ b → T (elim b [ true ↦ earlier t s | false ↦ ltb x y ]) → (j : ℕ) × First (x ∷ t) (y ∷ s) j
-    go ih true e k =
-        let r = ih k in
-        let f : (i : ℕ) → i < suc (r .0) → at (x ∷ t) i ≡ at (y ∷ s) i = elim [ zero ↦ λ l. eqb-true x y e | suc i ↦ λ l. r .1 .2 i (le-of-suc-le-suc l) ] in
+    go : (T (earlier t s) → (j : ℕ) × First t s j) → (x < y) ⊎ ((x ≡ y) × T (earlier t s)) → (j : ℕ) × First (x ∷ t) (y ∷ s) j
+    go ih (inl l) = (0, (zero-lt-suc (length t), zero-lt-suc (length s), λ i l. absurd (not-suc-le-zero l), l))
+    go ih (inr k) =
+        let r = ih (k .1) in
+        let f : (i : ℕ) → i < suc (r .0) → at (x ∷ t) i ≡ at (y ∷ s) i = elim [ zero ↦ λ l. k .0 | suc i ↦ λ l. r .1 .2 i (le-of-suc-le-suc l) ] in
         (suc (r .0), (omega (arith, r .1 .0), omega (arith, r .1 .1), f, r .1 .3))
-    go ih false e k = (0, (zero-lt-suc (length t), zero-lt-suc (length s), λ i l. absurd (not-suc-le-zero l), ltb→lt x y k))
 
-pub earlier-i : (t s : List ℕ) (j : ℕ) → First t s j → T (earlier t s)
-unfolding earlier at
-earlier-i [] s j f = absurd (not-suc-le-zero (f .0))
-earlier-i (x ∷ t) [] j f = absurd (not-suc-le-zero (f .1))
-earlier-i (x ∷ t) (y ∷ s) zero f = go (eqb x y) refl
-  where
-    go : (b : Bool) → eqb x y ≡ b → T (elim b [ true ↦ earlier t s | false ↦ ltb x y ])
-    go true e = absurd (let q : x ≡ y = eqb-true x y e in let l : x < y = f .3 in omega arith)
-    go false e = lt→ltb x y (f .3)
-earlier-i (x ∷ t) (y ∷ s) (suc j) f =
-    subst (λ (b : Bool). T (elim b [ true ↦ earlier t s | false ↦ ltb x y ])) (sym (eq-eqb x y (f .2 0 (zero-lt-suc j))))
-    (earlier-i t s j (le-of-suc-le-suc (f .0), le-of-suc-le-suc (f .1), λ i l. f .2 (suc i) (omega arith), f .3))
+pub first-i : (t s : List ℕ) (j : ℕ) → First t s j → T (earlier t s)
+unfolding at
+first-i [] s j f = absurd (not-suc-le-zero (f .0))
+first-i (x ∷ t) [] j f = absurd (not-suc-le-zero (f .1))
+first-i (x ∷ t) (y ∷ s) zero f = earlier-lt x y t s (f .3)
+first-i (x ∷ t) (y ∷ s) (suc j) f =
+    subst (λ (z : ℕ). T (earlier (x ∷ t) (z ∷ s))) (f .2 0 (zero-lt-suc j))
+    (earlier-eq x t s (first-i t s j (le-of-suc-le-suc (f .0), le-of-suc-le-suc (f .1), λ i l. f .2 (suc i) (omega arith), f .3)))
 
 -- ---- a list that puts, for each j, nogoods and then one equality
 module _ (s : List ℕ) (var val : ℕ → ℕ → ℕ) (others : ℕ → List ℕ) (own : ℕ → ℕ) where
@@ -75,10 +70,10 @@ module _ (s : List ℕ) (var val : ℕ → ℕ → ℕ) (others : ℕ → List �
   broken-dis held j [] es h = inr h
   broken-dis held j (u ∷ vs) es h = go (T-dec (both held (hit j u))) (broken-dis held j vs es)
     where
-      go : Dec (T (both held (hit j u))) → ((T (obeysFrom held s (map (dis j) vs ++ es)) → ⊥) → ((v : ℕ) × List·Memᴰ v vs × T held × T (hit j v)) ⊎ (T (obeysFrom held s es) → ⊥))
+      go : T (both held (hit j u)) ⊎ (T (both held (hit j u)) → ⊥) → ((T (obeysFrom held s (map (dis j) vs ++ es)) → ⊥) → ((v : ℕ) × List·Memᴰ v vs × T held × T (hit j v)) ⊎ (T (obeysFrom held s es) → ⊥))
           → ((v : ℕ) × List·Memᴰ v (u ∷ vs) × T held × T (hit j v)) ⊎ (T (obeysFrom held s es) → ⊥)
-      go (yes t) ih = inl (u, List·Memᴰ·head refl, both-l held (hit j u) t, both-r held (hit j u) t)
-      go (no t) ih =
+      go (inl t) ih = inl (u, List·Memᴰ·head refl, both-l held (hit j u) t, both-r held (hit j u) t)
+      go (inr t) ih =
           ⊎-elim {C = ((v : ℕ) × List·Memᴰ v (u ∷ vs) × T held × T (hit j v)) ⊎ (T (obeysFrom held s es) → ⊥)} (λ r. inl (r .0, List·Memᴰ·tail (r .1), r .2, r .3)) inr
           (ih (λ k. h (both-i (not (both held (hit j u))) _ (not-T (both held (hit j u)) t) k)))
 

@@ -1,20 +1,20 @@
 -- The laws of pairs and of solutions in a well-formed problem. Assumes nothing.
 use mathlib.Core.Path.{_≡_, refl, sym, ap, ap₂, _∙_, subst}
 use mathlib.Core.Bool.{not}
-use mathlib.Core.List.{List, [], _∷_, map, List·Memᴰ, List·Memᴰ·head, List·Memᴰ·tail, List·Memᴰ·append-cases, Memᴰ·append-left, Memᴰ·append-right, Memᴰ·cast}
+use mathlib.Core.List.{List, [], _∷_, map, List·Memᴰ, List·Memᴰ·head, List·Memᴰ·tail, List·Memᴰ·append-cases, Memᴰ·append-left, Memᴰ·append-right, Memᴰ·cast, Memᴰ·map, Memᴰ·of-map}
 use mathlib.Core.Logic.{_⊎_, inl, inr, ⊎-elim}
-use Prim.Native.Nat.{ℕ, _+_, _<_, _/_, _%_, _*_}
+use Prim.Native.Nat.{ℕ, suc, _+_, _<_, _/_, _%_, _*_}
 use native.Mathlib.Nat.{mul-add-div-right, mul-add-mod-self-right, mod-eq-of-lt, div-eq-of-lt, div-add-mod', div-lt-iff-lt-mul, mod-lt, mul-le-mul-right, add-zero}
 use native.Mathlib.Omega.{arith}
 use lib.Dec.{T, T-not, not-T, eqb, ltb, eqb→eq, eqb-refl, ltb→lt, lt→ltb}
-use lib.ListN.{length}
-use borrow.Author.Tests.{eq-eqb}
-use Rattle.model.specs.Lists.{all, any, keep, flat, below, at, same}
+use Rattle.model.specs.Lists.{any, keep, flat, below, at, same}
 use Rattle.model.specs.ValueSets.{has, members}
 use Rattle.model.specs.Problem.{pairsAt, Problem, Constraint, pair, isPair, pairsOf, within, assignments, excluded, doubled, forbidden, valuesAt, satisfies, isSolution}
 use Rattle.model.proofs.WellFormed.{WellFormed}
-use Rattle.model.proofs.Basics.{both-i, both-l, both-r, T-of, all-e, all-i, any-e, any-i, keep-e, keep-i, flat-i, flat-e, map-i, map-e, below-i, below-e}
-use Rattle.model.proofs.Draws.{has-lt, members-i, members-e, Drawn, drawn-i, drawn-e, excluded-is}
+use Rattle.model.proofs.Lists.{both-i, both-l, both-r, all-e, all-i, any-e, any-i, keep-e, keep-i, flat-i, flat-e, below-i, below-e}
+use Rattle.model.proofs.Sets.{has-lt, members-i, members-e}
+use Rattle.model.proofs.Assignments.{Drawn, drawn-e}
+use Rattle.model.proofs.Tree.{solution-e}
 
 pub within-i : (xs ys : List ℕ) → ((x : ℕ) → List·Memᴰ x xs → List·Memᴰ x ys) → T (within xs ys)
 unfolding within
@@ -27,36 +27,11 @@ within-e xs ys h x m = let r = any-e (eqb x) ys (all-e (λ z. any (eqb z) ys) xs
 module _ (p : Problem) where
   pub pairs-i : (a : List ℕ) (x : ℕ) → x < p .variables → List·Memᴰ (pair p x (at a x)) (pairsOf p a)
   unfolding pairsOf
-  pairs-i a x h = map-i (λ y. pair p y (at a y)) (below (p .variables)) x (below-i (p .variables) x h)
+  pairs-i a x h = Memᴰ·map (λ y. pair p y (at a y)) (below-i (p .variables) x h)
 
   pub pairs-e : (a : List ℕ) (q : ℕ) → List·Memᴰ q (pairsOf p a) → (x : ℕ) × (x < p .variables) × (q ≡ pair p x (at a x))
   unfolding pairsOf
-  pairs-e a q m = let r = map-e (λ y. pair p y (at a y)) (below (p .variables)) q m in (r .0, below-e (p .variables) (r .0) (r .1), r .2)
-
-  -- what a solution is
-  pub sol-length : (a : List ℕ) → T (isSolution p a) → length a ≡ p .variables
-  unfolding isSolution
-  sol-length a h = eqb→eq (length a) (p .variables) (both-l (eqb (length a) (p .variables)) _ h)
-
-  pub sol-has : (a : List ℕ) → T (isSolution p a) → (x : ℕ) → x < p .variables → T (has (at (p .initial) x) (at a x))
-  unfolding isSolution
-  sol-has a h x l =
-      all-e (λ x. has (at (p .initial) x) (at a x)) (below (p .variables))
-      (both-l (all (λ x. has (at (p .initial) x) (at a x)) (below (p .variables))) (all (satisfies a) (p .constraints)) (both-r (eqb (length a) (p .variables)) _ h)) x (below-i (p .variables) x l)
-
-  pub sol-row : (a : List ℕ) → T (isSolution p a) → (c : Constraint) → List·Memᴰ c (p .constraints) → T (satisfies a c)
-  unfolding isSolution
-  sol-row a h c m =
-      all-e (satisfies a) (p .constraints)
-      (both-r (all (λ x. has (at (p .initial) x) (at a x)) (below (p .variables))) (all (satisfies a) (p .constraints)) (both-r (eqb (length a) (p .variables)) _ h)) c m
-
-  pub sol-i : (a : List ℕ) → length a ≡ p .variables → ((x : ℕ) → x < p .variables → T (has (at (p .initial) x) (at a x))) → ((c : Constraint) → List·Memᴰ c (p .constraints) → T (satisfies a c)) → T (isSolution p a)
-  unfolding isSolution
-  sol-i a e h r =
-      both-i (eqb (length a) (p .variables)) _ (T-of (eqb (length a) (p .variables)) (eq-eqb (length a) (p .variables) e))
-      (both-i (all (λ x. has (at (p .initial) x) (at a x)) (below (p .variables))) (all (satisfies a) (p .constraints))
-      (all-i (λ x. has (at (p .initial) x) (at a x)) (below (p .variables)) (λ x m. h x (below-e (p .variables) x m)))
-      (all-i (satisfies a) (p .constraints) r))
+  pairs-e a q m = let r = Memᴰ·of-map (λ y. pair p y (at a y)) (below (p .variables)) m in (r .0, below-e (p .variables) (r .0) (r .1), sym (r .2))
 
   -- the forbidden sets
   pub doubled-e : (x : ℕ) (h : List ℕ) → List·Memᴰ h (doubled p x) → (v : ℕ) × (u : ℕ) × T (has (at (p .initial) x) v) × T (has (at (p .initial) x) u) × (v < u) × (h ≡ pair p x v ∷ pair p x u ∷ [])
@@ -65,53 +40,54 @@ module _ (p : Problem) where
       let S = members (at (p .initial) x) in
       let F : ℕ → List (List ℕ) = λ v. map (λ u. pair p x v ∷ pair p x u ∷ []) (keep (ltb v) S) in
       let r = flat-e (map F S) h m in
-      let q = map-e F S (r .0) (r .1) in
+      let q = Memᴰ·of-map F S (r .1) in
       let v = q .0 in
-      let k = map-e (λ u. pair p x v ∷ pair p x u ∷ []) (keep (ltb v) S) h (subst (List·Memᴰ h) (q .2) (r .2)) in
+      let k = Memᴰ·of-map (λ u. pair p x v ∷ pair p x u ∷ []) (keep (ltb v) S) (subst (List·Memᴰ h) (sym (q .2)) (r .2)) in
       let u = k .0 in
       let z = keep-e (ltb v) S u (k .1) in
-      (v, u, members-e (at (p .initial) x) v (q .1) .1, members-e (at (p .initial) x) u (z .0) .1, ltb→lt v u (z .1), k .2)
+      (v, u, members-e (at (p .initial) x) v (q .1) .1, members-e (at (p .initial) x) u (z .0) .1, ltb→lt v u (z .1), sym (k .2))
 
   pub doubled-i : (x v u : ℕ) → v < u → u < 16 → T (has (at (p .initial) x) v) → T (has (at (p .initial) x) u) → List·Memᴰ (pair p x v ∷ pair p x u ∷ []) (doubled p x)
   unfolding doubled
   doubled-i x v u l b s t =
       let S = members (at (p .initial) x) in
       let F : ℕ → List (List ℕ) = λ v. map (λ u. pair p x v ∷ pair p x u ∷ []) (keep (ltb v) S) in
-      flat-i (map F S) (F v) (pair p x v ∷ pair p x u ∷ []) (map-i F S v (members-i (at (p .initial) x) v (omega arith) s))
-      (map-i (λ w. pair p x v ∷ pair p x w ∷ []) (keep (ltb v) S) u (keep-i (ltb v) S u (members-i (at (p .initial) x) u b t) (lt→ltb v u l)))
+      flat-i (map F S) (F v) (pair p x v ∷ pair p x u ∷ []) (Memᴰ·map F (members-i (at (p .initial) x) v (omega arith) s))
+      (Memᴰ·map (λ w. pair p x v ∷ pair p x w ∷ []) (keep-i (ltb v) S u (members-i (at (p .initial) x) u b t) (lt→ltb v u l)))
 
   pub excluded-e : (c : Constraint) (h : List ℕ) → List·Memᴰ h (excluded p c)
-      → (vs : List ℕ) × Drawn (map (at (p .initial)) (c .scope)) vs × (T (any (same vs) (c .rows)) → ⊥) × (h ≡ pairsAt p (c .scope) vs)
+      → (vs : List ℕ) × List·Memᴰ vs (assignments (map (at (p .initial)) (c .scope))) × (T (any (same vs) (c .rows)) → ⊥) × (h ≡ pairsAt p (c .scope) vs)
+  unfolding excluded
   excluded-e c h m =
       let S = assignments (map (at (p .initial)) (c .scope)) in
-      let r = map-e (λ vs. pairsAt p (c .scope) vs) (keep (λ vs. not (any (same vs) (c .rows))) S) h (subst (List·Memᴰ h) (excluded-is p c) m) in
+      let r = Memᴰ·of-map (pairsAt p (c .scope)) (keep (λ vs. not (any (same vs) (c .rows))) S) m in
       let k = keep-e (λ vs. not (any (same vs) (c .rows))) S (r .0) (r .1) in
-      (r .0, drawn-e (map (at (p .initial)) (c .scope)) (r .0) (k .0), T-not (any (same (r .0)) (c .rows)) (k .1), r .2)
+      (r .0, k .0, T-not (any (same (r .0)) (c .rows)) (k .1), sym (r .2))
 
-  pub excluded-i : (c : Constraint) (vs : List ℕ) → Drawn (map (at (p .initial)) (c .scope)) vs → (T (any (same vs) (c .rows)) → ⊥) → List·Memᴰ (pairsAt p (c .scope) vs) (excluded p c)
+  pub excluded-i : (c : Constraint) (vs : List ℕ) → List·Memᴰ vs (assignments (map (at (p .initial)) (c .scope))) → (T (any (same vs) (c .rows)) → ⊥) → List·Memᴰ (pairsAt p (c .scope) vs) (excluded p c)
+  unfolding excluded
   excluded-i c vs d n =
-      subst (List·Memᴰ (pairsAt p (c .scope) vs)) (sym (excluded-is p c))
-      (map-i (λ us. pairsAt p (c .scope) us) (keep (λ us. not (any (same us) (c .rows))) (assignments (map (at (p .initial)) (c .scope)))) vs
-      (keep-i (λ us. not (any (same us) (c .rows))) (assignments (map (at (p .initial)) (c .scope))) vs (drawn-i (map (at (p .initial)) (c .scope)) vs d) (not-T (any (same vs) (c .rows)) n)))
+      Memᴰ·map (pairsAt p (c .scope))
+      (keep-i (λ us. not (any (same us) (c .rows))) (assignments (map (at (p .initial)) (c .scope))) vs d (not-T (any (same vs) (c .rows)) n))
 
   pub forbidden-e : (h : List ℕ) → List·Memᴰ h (forbidden p)
       → ((x : ℕ) × (x < p .variables) × List·Memᴰ h (doubled p x)) ⊎ ((c : Constraint) × List·Memᴰ c (p .constraints) × List·Memᴰ h (excluded p c))
   unfolding forbidden
   forbidden-e h m =
       ⊎-elim {C = ((x : ℕ) × (x < p .variables) × List·Memᴰ h (doubled p x)) ⊎ ((c : Constraint) × List·Memᴰ c (p .constraints) × List·Memᴰ h (excluded p c))}
-      (λ k. let r = flat-e (map (doubled p) (below (p .variables))) h k in let q = map-e (doubled p) (below (p .variables)) (r .0) (r .1) in
-      inl (q .0, below-e (p .variables) (q .0) (q .1), subst (List·Memᴰ h) (q .2) (r .2)))
-      (λ k. let r = flat-e (map (excluded p) (p .constraints)) h k in let q = map-e (excluded p) (p .constraints) (r .0) (r .1) in
-      inr (q .0, q .1, subst (List·Memᴰ h) (q .2) (r .2)))
+      (λ k. let r = flat-e (map (doubled p) (below (p .variables))) h k in let q = Memᴰ·of-map (doubled p) (below (p .variables)) (r .1) in
+      inl (q .0, below-e (p .variables) (q .0) (q .1), subst (List·Memᴰ h) (sym (q .2)) (r .2)))
+      (λ k. let r = flat-e (map (excluded p) (p .constraints)) h k in let q = Memᴰ·of-map (excluded p) (p .constraints) (r .1) in
+      inr (q .0, q .1, subst (List·Memᴰ h) (sym (q .2)) (r .2)))
       (List·Memᴰ·append-cases (flat (map (doubled p) (below (p .variables)))) m)
 
   pub forbidden-doubled : (x : ℕ) (h : List ℕ) → x < p .variables → List·Memᴰ h (doubled p x) → List·Memᴰ h (forbidden p)
   unfolding forbidden
-  forbidden-doubled x h l m = Memᴰ·append-left (flat (map (excluded p) (p .constraints))) (flat-i (map (doubled p) (below (p .variables))) (doubled p x) h (map-i (doubled p) (below (p .variables)) x (below-i (p .variables) x l)) m)
+  forbidden-doubled x h l m = Memᴰ·append-left (flat (map (excluded p) (p .constraints))) (flat-i (map (doubled p) (below (p .variables))) (doubled p x) h (Memᴰ·map (doubled p) (below-i (p .variables) x l)) m)
 
   pub forbidden-excluded : (c : Constraint) (h : List ℕ) → List·Memᴰ c (p .constraints) → List·Memᴰ h (excluded p c) → List·Memᴰ h (forbidden p)
   unfolding forbidden
-  forbidden-excluded c h l m = Memᴰ·append-right (flat (map (doubled p) (below (p .variables)))) (flat-i (map (excluded p) (p .constraints)) (excluded p c) h (map-i (excluded p) (p .constraints) c l) m)
+  forbidden-excluded c h l m = Memᴰ·append-right (flat (map (doubled p) (below (p .variables)))) (flat-i (map (excluded p) (p .constraints)) (excluded p c) h (Memᴰ·map (excluded p) l) m)
 
   module _ (w : WellFormed p) where
     pub init-lt : (x v : ℕ) → x < p .variables → T (has (at (p .initial) x) v) → v < p .values
@@ -163,10 +139,10 @@ module _ (p : Problem) where
     -- a solution's pairs
     module _ (a : List ℕ) (s : T (isSolution p a)) where
       pub sol-lt : (x : ℕ) → x < p .variables → at a x < p .values
-      sol-lt x h = init-lt x (at a x) h (sol-has a s x h)
+      sol-lt x h = init-lt x (at a x) h (solution-e p a s .drawn x h)
 
       pub sol-pair : (q : ℕ) → List·Memᴰ q (pairsOf p a) → T (isPair p q)
-      sol-pair q m = let r = pairs-e a q m in subst (λ (k : ℕ). T (isPair p k)) (sym (r .2)) (isPair-i (r .0) (at a (r .0)) (r .1) (sol-has a s (r .0) (r .1)))
+      sol-pair q m = let r = pairs-e a q m in subst (λ (k : ℕ). T (isPair p k)) (sym (r .2)) (isPair-i (r .0) (at a (r .0)) (r .1) (solution-e p a s .drawn (r .0) (r .1)))
 
       pub sol-at : (x v : ℕ) → v < p .values → List·Memᴰ (pair p x v) (pairsOf p a) → at a x ≡ v
       sol-at x v l m =
@@ -185,20 +161,20 @@ module _ (p : Problem) where
 
       scope-values : (xs vs : List ℕ) → ((x : ℕ) → List·Memᴰ x xs → x < p .variables) → Drawn (map (at (p .initial)) xs) vs
           → ((q : ℕ) → List·Memᴰ q (pairsAt p xs vs) → List·Memᴰ q (pairsOf p a)) → valuesAt a xs ≡ vs
-      unfolding valuesAt pairsAt
+      unfolding valuesAt pairsAt at
       scope-values [] [] l d i = refl
-      scope-values [] (v ∷ vs) l d i = absurd d
-      scope-values (x ∷ xs) [] l d i = absurd d
+      scope-values [] (v ∷ vs) l d i = absurd (omega (arith, d .0))
+      scope-values (x ∷ xs) [] l d i = absurd (omega (arith, d .0))
       scope-values (x ∷ xs) (v ∷ vs) l d i =
-          ap₂ (λ (y : ℕ) (r : List ℕ). y ∷ r) (sol-at x v (init-lt x v (l x (List·Memᴰ·head refl)) (d .1)) (i (pair p x v) (List·Memᴰ·head refl)))
-          (scope-values xs vs (λ y m. l y (List·Memᴰ·tail m)) (d .2) (λ q m. i q (List·Memᴰ·tail m)))
+          ap₂ (λ (y : ℕ) (r : List ℕ). y ∷ r) (sol-at x v (init-lt x v (l x (List·Memᴰ·head refl)) (d .1 0 (omega arith))) (i (pair p x v) (List·Memᴰ·head refl)))
+          (scope-values xs vs (λ y m. l y (List·Memᴰ·tail m)) (omega (arith, d .0), λ j h. d .1 (suc j) (omega arith)) (λ q m. i q (List·Memᴰ·tail m)))
 
       no-excluded : (c : Constraint) (h : List ℕ) → List·Memᴰ c (p .constraints) → List·Memᴰ h (excluded p c) → ((q : ℕ) → List·Memᴰ q h → List·Memᴰ q (pairsOf p a)) → ⊥
       unfolding satisfies
       no-excluded c h l m i =
           let r = excluded-e c h m in
-          let e = scope-values (c .scope) (r .0) (w .constrained c l .inside) (r .1) (λ q k. i q (subst (List·Memᴰ q) (sym (r .3)) k)) in
-          r .2 (subst (λ (us : List ℕ). T (any (same us) (c .rows))) e (sol-row a s c l))
+          let e = scope-values (c .scope) (r .0) (w .constrained c l .inside) (drawn-e (map (at (p .initial)) (c .scope)) (r .0) (r .1)) (λ q k. i q (subst (List·Memᴰ q) (sym (r .3)) k)) in
+          r .2 (subst (λ (us : List ℕ). T (any (same us) (c .rows))) e (solution-e p a s .satisfied c l))
 
       pub no-forbidden : (h : List ℕ) → List·Memᴰ h (forbidden p) → ((q : ℕ) → List·Memᴰ q h → List·Memᴰ q (pairsOf p a)) → ⊥
       no-forbidden h m i =

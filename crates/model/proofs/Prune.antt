@@ -1,24 +1,23 @@
 -- One round of pruning: what it keeps; rounds end in the largest sets that a round leaves as they are. Assumes nothing.
-use mathlib.Core.Path.{_≡_, refl, sym, ap, ap₂, _∙_, subst}
+use mathlib.Core.Path.{_≡_, refl, sym, ap, _∙_, subst}
 use mathlib.Core.Bool.{Bool, true, false, not}
-use mathlib.Core.Logic.{_⊎_, inl, inr, ⊎-elim, _↔_}
-use mathlib.Core.List.{List, [], _∷_, _++_, map, List·Memᴰ, List·Memᴰ·head, List·Memᴰ·tail, List·Memᴰ·not-nil, Memᴰ·map, Memᴰ·of-map}
-use Prim.Native.Nat.{ℕ, zero, suc, _+_, _*_, _/_, _%_, _^_, _≤_, _<_}
+use mathlib.Core.List.{List, [], _∷_, map, List·Memᴰ, Memᴰ·map, Memᴰ·of-map, Memᴰ·cast}
+use Prim.Native.Nat.{ℕ, zero, suc, _*_, _^_, _≤_, _<_}
 use native.Mathlib.Nat.{not-suc-le-zero, le-of-suc-le-suc}
 use native.Mathlib.Omega.{arith}
-use lib.Dec.{T, eqb, ltb, eqb→eq, eqb-refl}
+use lib.Dec.{T, eqb, ltb, eqb→eq, eqb-refl, T-not}
 use native.Mathlib.Decide.{ℕ-discrete}
-use lib.ListN.{length, getD, set, replicate, length-append, length-set}
+use lib.ListN.{length, set, replicate, length-set}
 use lib.Seq.{getD-set-same, getD-set-other}
-use borrow.Author.Tests.{ltb-true, ltb-false, eqb-true}
-use Rattle.model.specs.Lists.{both, either, all, any, keep, flat, below, upFrom, at, same, tabulate}
-use Rattle.model.specs.ValueSets.{has, maskOf, members, anyEmpty}
-use Rattle.model.specs.Problem.{Problem, Constraint, pair, assignments}
-use Rattle.model.specs.Nogood.{Entry, equality, disequality, obeys, filtered}
-use Rattle.model.specs.Search.{nogoodsOf, rowWith, supported, pruned, narrowed, rounds, setsAt}
-use Rattle.model.proofs.Lists.{T-of, of-T, not-of, of-not, both-i, both-l, both-r, all-i, all-e, any-i, any-e, at-tabulate, length-tabulate, at-out, same-eq, same-refl, upFrom-add, flat-append, map-append, map-ext, upFrom-e}
-use Rattle.model.proofs.Sets.{has-lt, mask-i, mask-e, mask-lt, Sets, Inside, inside-refl, inside-trans, inside-antisym, has-at-lt, size, size-le, size-inside, size-strict, empty-i, empty-e, empty-inside, at-zeros, zeros-empty, zeros-replicate}
-use Rattle.model.proofs.Filter.{length-filtered, filtered-mono, filtered-sets, filtered-inside}
+use borrow.Author.Tests.{ltb-true, ltb-false}
+use Rattle.model.specs.Lists.{both, all, any, at, same}
+use Rattle.model.specs.ValueSets.{has, maskOf, anyEmpty}
+use Rattle.model.specs.Problem.{Problem, Constraint}
+use Rattle.model.specs.Nogood.{filtered}
+use Rattle.model.specs.Search.{nogoodsOf, rowWith, supported, pruned, narrowed, rounds, setsAt, isLive}
+use Rattle.model.proofs.Lists.{T-of, of-T, not-of, of-not, both-i, both-l, both-r, all-i, all-e, any-i, any-e, at-tabulate, length-tabulate, at-out, same-eq, same-refl}
+use Rattle.model.proofs.Sets.{has-lt, has-none, mask-i, mask-e, mask-lt, Sets, Inside, inside-refl, inside-antisym, has-at-lt, size, size-le, size-strict, empty-inside, at-zeros, zeros-empty, zeros-replicate}
+use Rattle.model.proofs.Filter.{filtered-mono, filtered-sets, filtered-inside}
 
 -- ---- a row inside the sets
 pub row-mono : (ds es : List ℕ) → Inside ds es → (x v : ℕ) (ys ws : List ℕ) → T (rowWith ds x v ys ws) → T (rowWith es x v ys ws)
@@ -39,6 +38,23 @@ supported-mono ds es h x v c t = go (any (eqb x) (c .scope)) t
     go : (b : Bool) → T (elim b [ true ↦ any (rowWith ds x v (c .scope)) (c .rows) | false ↦ true ]) → T (elim b [ true ↦ any (rowWith es x v (c .scope)) (c .rows) | false ↦ true ])
     go true t = let r = any-e (rowWith ds x v (c .scope)) (c .rows) t in any-i (rowWith es x v (c .scope)) (c .rows) (r .0) (r .1) (row-mono ds es h x v (c .scope) (r .0) (r .2))
     go false t = tt
+
+-- supported means: a row, where x is one of the constraint's variables
+pub supported-e : (ds : List ℕ) (x v : ℕ) (c : Constraint) → List·Memᴰ x (c .scope) → T (supported ds x v c) → T (any (rowWith ds x v (c .scope)) (c .rows))
+unfolding supported
+supported-e ds x v c m t = go (any (eqb x) (c .scope)) (any-i (eqb x) (c .scope) x m (eqb-refl x)) t
+  where
+    go : (b : Bool) → T b → T (elim b [ true ↦ any (rowWith ds x v (c .scope)) (c .rows) | false ↦ true ]) → T (any (rowWith ds x v (c .scope)) (c .rows))
+    go true b t = t
+    go false b t = absurd b
+
+pub supported-i : (ds : List ℕ) (x v : ℕ) (c : Constraint) → (List·Memᴰ x (c .scope) → T (any (rowWith ds x v (c .scope)) (c .rows))) → T (supported ds x v c)
+unfolding supported
+supported-i ds x v c h = go (any (eqb x) (c .scope)) refl
+  where
+    go : (b : Bool) → any (eqb x) (c .scope) ≡ b → T (elim b [ true ↦ any (rowWith ds x v (c .scope)) (c .rows) | false ↦ true ])
+    go true e = let r = any-e (eqb x) (c .scope) (T-of (any (eqb x) (c .scope)) e) in h (Memᴰ·cast (eqb→eq x (r .0) (r .2)) (r .1))
+    go false e = tt
 
 -- ---- what one round keeps
 pub record Kept (p : Problem) (prefix ds : List ℕ) (x v : ℕ) : Type 0 where
@@ -174,7 +190,7 @@ narrowed-i (v ∷ vs) (s ∷ ds) (suc x) w b t h = narrowed-i vs ds x w b t (λ 
 pub narrowed-e : (vs ds : List ℕ) (x w : ℕ) → T (has (at (narrowed vs ds) x) w) → T (has (at ds x) w) × (x < length vs → w ≡ at vs x)
 unfolding narrowed at
 narrowed-e [] ds x w t = (t, λ l. absurd (not-suc-le-zero l))
-narrowed-e (v ∷ vs) [] x w t = (t, λ l. absurd (subst T (Rattle.model.proofs.Sets.has-none w) t))
+narrowed-e (v ∷ vs) [] x w t = (t, λ l. absurd (subst T (has-none w) t))
 narrowed-e (v ∷ vs) (s ∷ ds) zero w t =
     let r = mask-e (λ u. both (eqb u v) (has s u)) w t in
     (both-r (eqb w v) (has s w) (r .1), λ l. eqb→eq w v (both-l (eqb w v) (has s w) (r .1)))
@@ -276,10 +292,11 @@ pub record Way (p : Problem) (prefix es : List ℕ) : Type 0 where
   pub inside : Inside es (narrowed prefix (p .initial))
   pub over : Inside (closed p prefix) es
 
-pub way : (p : Problem) (prefix : List ℕ) → Sized p → {es : List ℕ} → Removals p prefix (narrowed prefix (p .initial)) es → Way p prefix es
-way p prefix s none = record { sets = start-sets p prefix s; inside = inside-refl (narrowed prefix (p .initial)); over = largest p prefix s .inside }
-way p prefix s (more {es = es} {fs = fs} r q) =
-    let w = way p prefix s r in
+pub way-start : (p : Problem) (prefix : List ℕ) → Sized p → Way p prefix (narrowed prefix (p .initial))
+way-start p prefix s = record { sets = start-sets p prefix s; inside = inside-refl (narrowed prefix (p .initial)); over = largest p prefix s .inside }
+
+pub way-removal : (p : Problem) (prefix : List ℕ) → Sized p → (es fs : List ℕ) → Way p prefix es → Removal p prefix es fs → Way p prefix fs
+way-removal p prefix s es fs w q =
     let l = largest p prefix s in
     record {
       sets = q .sets;
@@ -287,12 +304,18 @@ way p prefix s (more {es = es} {fs = fs} r q) =
       over = λ x v t. q .spared x v (w .over x v t) (kept-mono p prefix (closed p prefix) es (l .sets .0 ∙ sym (w .sets .0)) (w .over) x v (fixed-e p prefix (closed p prefix) (l .fixed) x v t));
     }
 
+pub way : (p : Problem) (prefix : List ℕ) → Sized p → {es : List ℕ} → Removals p prefix (narrowed prefix (p .initial)) es → Way p prefix es
+way p prefix s none = way-start p prefix s
+way p prefix s (more {es = es} {fs = fs} r q) = way-removal p prefix s es fs (way p prefix s r) q
+
 -- a program that stops where a round takes nothing away has the largest sets
-pub removals-end : (p : Problem) (prefix : List ℕ) → Sized p → (es : List ℕ) → Removals p prefix (narrowed prefix (p .initial)) es → pruned p prefix es ≡ es → es ≡ closed p prefix
-removals-end p prefix s es r e =
-    let w = way p prefix s r in
+pub way-end : (p : Problem) (prefix : List ℕ) → Sized p → (es : List ℕ) → Way p prefix es → pruned p prefix es ≡ es → es ≡ closed p prefix
+way-end p prefix s es w e =
     let l = largest p prefix s in
     inside-antisym (p .variables) es (closed p prefix) (w .sets) (l .sets) (l .above es (w .sets .0) (w .inside) e) (w .over)
+
+pub removals-end : (p : Problem) (prefix : List ℕ) → Sized p → (es : List ℕ) → Removals p prefix (narrowed prefix (p .initial)) es → pruned p prefix es ≡ es → es ≡ closed p prefix
+removals-end p prefix s es r e = way-end p prefix s es (way p prefix s r) e
 
 -- ---- the sets at a prefix
 pub setsAt-live : (p : Problem) (prefix : List ℕ) → anyEmpty (closed p prefix) ≡ false → setsAt p prefix ≡ closed p prefix
@@ -324,8 +347,48 @@ setsAt-sets p prefix s = go (anyEmpty (closed p prefix)) refl
     go true e = subst (Sets (p .variables)) (sym (setsAt-dead p prefix e)) (lib.ListN.length-map (closed p prefix) (λ z. 0) ∙ k .sets .0, λ x. subst (λ (z : ℕ). z < 2 ^ 16) (sym (at-zeros (closed p prefix) x)) (omega arith))
     go false e = subst (Sets (p .variables)) (sym (setsAt-live p prefix e)) (k .sets)
 
--- a program may stop as soon as a set is empty
-pub removals-dead : (p : Problem) (prefix : List ℕ) → Sized p → (es : List ℕ) → Removals p prefix (narrowed prefix (p .initial)) es → T (anyEmpty es) → setsAt p prefix ≡ replicate (p .variables) 0
-removals-dead p prefix s es r t =
-    let w = way p prefix s r in
+-- a prefix is live exactly if no largest set is empty
+pub live-is : (p : Problem) (prefix : List ℕ) → isLive p prefix ≡ not (anyEmpty (closed p prefix))
+unfolding isLive
+live-is p prefix = ap not (go (anyEmpty (closed p prefix)) refl)
+  where
+    go : (b : Bool) → anyEmpty (closed p prefix) ≡ b → anyEmpty (setsAt p prefix) ≡ anyEmpty (closed p prefix)
+    go true e = ap anyEmpty (setsAt-dead p prefix e) ∙ of-T (anyEmpty (map (λ s. 0) (closed p prefix))) (zeros-empty (closed p prefix) (T-of (anyEmpty (closed p prefix)) e)) ∙ sym e
+    go false e = ap anyEmpty (setsAt-live p prefix e)
+
+pub live-closed : (p : Problem) (prefix : List ℕ) → T (isLive p prefix) → anyEmpty (closed p prefix) ≡ false
+live-closed p prefix t = not-of (anyEmpty (closed p prefix)) (T-not (anyEmpty (closed p prefix)) (subst T (live-is p prefix) t))
+
+-- where the sets at a prefix have a value at all, it is live
+pub value-live : (p : Problem) (prefix : List ℕ) (x v : ℕ) → T (has (at (setsAt p prefix) x) v) → anyEmpty (closed p prefix) ≡ false
+value-live p prefix x v t =
+    not-of (anyEmpty (closed p prefix))
+    (λ q. let e = of-T (anyEmpty (closed p prefix)) q in
+    of-not (has 0 v) (has-none v) (subst (λ (m : ℕ). T (has m v)) (ap (λ (l : List ℕ). at l x) (setsAt-dead p prefix e) ∙ at-zeros (closed p prefix) x) t))
+
+-- largest sets inside others: so are the sets at the prefixes
+module _ (p q : Problem) (a b : List ℕ) (s : Sized p) (t : Sized q) (e : p .variables ≡ q .variables) (h : Inside (closed p a) (closed q b)) where
+  still-live : anyEmpty (closed p a) ≡ false → anyEmpty (closed q b) ≡ false
+  still-live n =
+      not-of (anyEmpty (closed q b))
+      (λ u. of-not (anyEmpty (closed p a)) n (empty-inside (q .variables) (closed p a) (closed q b) (subst (λ (k : ℕ). Sets k (closed p a)) e (largest p a s .sets)) (largest q b t .sets) h u))
+
+  pub live-mono : T (isLive p a) → T (isLive q b)
+  live-mono u = T-of (isLive q b) (live-is q b ∙ ap not (still-live (live-closed p a u)))
+
+  pub setsAt-mono : Inside (setsAt p a) (setsAt q b)
+  setsAt-mono x v u =
+      let n = value-live p a x v u in
+      subst (λ (l : List ℕ). T (has (at l x) v)) (sym (setsAt-live q b (still-live n))) (h x v (subst (λ (l : List ℕ). T (has (at l x) v)) (setsAt-live p a n) u))
+
+-- a program that stops where a round takes nothing away has the sets at the prefix, if none is empty
+pub way-live : (p : Problem) (prefix : List ℕ) → Sized p → (es : List ℕ) → Way p prefix es → pruned p prefix es ≡ es → anyEmpty es ≡ false → setsAt p prefix ≡ es
+way-live p prefix s es w e n = let q = way-end p prefix s es w e in setsAt-live p prefix (ap anyEmpty (sym q) ∙ n) ∙ sym q
+
+-- it may stop as soon as a set is empty: the prefix is dead
+pub way-dead : (p : Problem) (prefix : List ℕ) → Sized p → (es : List ℕ) → Way p prefix es → T (anyEmpty es) → setsAt p prefix ≡ replicate (p .variables) 0
+way-dead p prefix s es w t =
     setsAt-none p prefix s (of-T (anyEmpty (closed p prefix)) (empty-inside (p .variables) (closed p prefix) es (largest p prefix s .sets) (w .sets) (w .over) t))
+
+pub removals-dead : (p : Problem) (prefix : List ℕ) → Sized p → (es : List ℕ) → Removals p prefix (narrowed prefix (p .initial)) es → T (anyEmpty es) → setsAt p prefix ≡ replicate (p .variables) 0
+removals-dead p prefix s es r t = way-dead p prefix s es (way p prefix s r) t

@@ -1,19 +1,18 @@
 -- Laws of sets of values and of lists of them: members, comprehension, extensionality, size. Assumes nothing.
-use mathlib.Core.Path.{_≡_, refl, sym, ap, ap₂, _∙_, subst}
-use mathlib.Core.Bool.{Bool, true, false, not}
-use mathlib.Core.Logic.{_⊎_, inl, inr, ⊎-elim, _↔_}
-use mathlib.Core.List.{List, [], _∷_, _++_, map, List·Memᴰ, List·Memᴰ·head, List·Memᴰ·tail, List·Memᴰ·not-nil, Sublistᴰ, Sublistᴰ·refl}
-use Prim.Native.Nat.{ℕ, zero, suc, _+_, _-_, _*_, _/_, _%_, _^_, _≤_, _<_}
+use mathlib.Core.Path.{_≡_, refl, sym, ap, _∙_, subst}
+use mathlib.Core.Bool.{Bool, true, false}
+use mathlib.Core.List.{List, [], _∷_, map, List·Memᴰ, List·Memᴰ·head, List·Memᴰ·tail, List·Memᴰ·not-nil, Sublistᴰ, Sublistᴰ·refl}
+use Prim.Native.Nat.{ℕ, zero, suc, _+_, _*_, _/_, _%_, _^_, _≤_, _<_}
 use native.Mathlib.Nat.{not-suc-le-zero, pow-suc, le-of-suc-le-suc}
-use native.Mathlib.Numerals.{add-one, one-add}
+use native.Mathlib.Numerals.{one-add}
 use native.Mathlib.Omega.{arith}
-use lib.Dec.{T, eqb, ltb, leb, eqb→eq, eqb-refl}
+use lib.Dec.{T, eqb, ltb, eqb→eq}
 use lib.Pow.{shr-shr}
-use lib.ListN.{length, getD}
-use borrow.Author.Tests.{eq-eqb, ne-eqb, eqb-true, eqb-false}
-use Rattle.model.specs.Lists.{both, either, all, any, keep, below, at, ascending}
+use lib.ListN.{length}
+use borrow.Author.Tests.{eq-eqb, ne-eqb}
+use Rattle.model.specs.Lists.{keep, below, at}
 use Rattle.model.specs.ValueSets.{bit, has, maskBelow, maskOf, members, anyEmpty}
-use Rattle.model.proofs.Lists.{T-of, of-T, not-of, of-not, T-ext, keep-i, keep-e, keep-none, keep-yes, keep-no, below-i, below-e, Sorted, sorted-keep, sorted-below, sorted-ext, ascending-of, at-out, at-ext, mem-at, at-mem, any-i, any-e, sublist-keep}
+use Rattle.model.proofs.Lists.{T-of, not-of, of-not, T-ext, keep-i, keep-e, keep-none, below-i, below-e, Sorted, sorted-keep, sorted-below, at-out, at-ext, mem-at, at-mem, any-i, any-e, sublist-keep}
 
 -- ---- the member test, bit by bit
 pub has-zero : (s : ℕ) → has s 0 ≡ eqb (s % 2) 1
@@ -74,7 +73,7 @@ mask-ext (suc k) s t hs ht e =
     omega arith
 
 -- a set of k bits has no member from k on
-has-out : (k s v : ℕ) → s < 2 ^ k → k ≤ v → has s v ≡ false
+pub has-out : (k s v : ℕ) → s < 2 ^ k → k ≤ v → has s v ≡ false
 has-out zero s v h l = let e : s ≡ 0 = omega arith in ap (λ (n : ℕ). has n v) e ∙ has-none v
 has-out (suc k) s zero h l = absurd (not-suc-le-zero l)
 has-out (suc k) s (suc v) h l = has-suc s v ∙ has-out k (s / 2) v (omega (arith, pow2 k)) (le-of-suc-le-suc l)
@@ -101,15 +100,9 @@ pub members-e : (s v : ℕ) → List·Memᴰ v (members s) → (v < 16) × T (ha
 unfolding members
 members-e s v m = let r = keep-e (has s) (below 16) v m in (below-e 16 v (r .0), r .1)
 
-pub members-mem : (s v : ℕ) → List·Memᴰ v (members s) ↔ ((v < 16) × T (has s v))
-members-mem s v = (members-e s v, λ h. members-i s v (h .0) (h .1))
-
 pub members-sorted : (s : ℕ) → Sorted (λ (x y : ℕ). x < y) (members s)
 unfolding members
 members-sorted s = sorted-keep (λ (x y : ℕ). x < y) (has s) (below 16) (sorted-below 16)
-
-pub members-ascend : (s : ℕ) → T (ascending (members s))
-members-ascend s = ascending-of (members s) (members-sorted s)
 
 pub members-sub : (s t : ℕ) → ((v : ℕ) → T (has s v) → T (has t v)) → Sublistᴰ (members s) (members t)
 unfolding members
@@ -244,10 +237,6 @@ tails d e ds es h x v t = h (suc x) v t
 heads : (d e : ℕ) (ds es : List ℕ) → Inside (d ∷ ds) (e ∷ es) → (v : ℕ) → T (has d v) → T (has e v)
 unfolding at
 heads d e ds es h v t = h 0 v t
-
-small-tail : (d : ℕ) (ds : List ℕ) → ((x : ℕ) → at (d ∷ ds) x < 2 ^ 16) → (d < 2 ^ 16) × ((x : ℕ) → at ds x < 2 ^ 16)
-unfolding at
-small-tail d ds h = (h 0, λ x. h (suc x))
 
 pub size-inside : (ds es : List ℕ) → length ds ≡ length es → Inside ds es → size ds ≤ size es
 unfolding size count members

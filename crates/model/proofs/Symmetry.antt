@@ -1,21 +1,24 @@
 -- The laws of a symmetry that respects a well-formed problem: it permutes the pairs, and the preimage of a solution is a solution. Assumes nothing.
-use mathlib.Core.Path.{_≡_, refl, sym, ap, ap₂, _∙_, subst}
+use mathlib.Core.Path.{_≡_, refl, sym, ap, ap₂, _∙_, subst, subst₂}
 use mathlib.Core.Bool.{Bool, true, false}
-use mathlib.Core.List.{List, [], _∷_, map, List·Memᴰ, List·Memᴰ·head, List·Memᴰ·tail, List·Memᴰ·not-nil, List·Memᴰ·cases-cons, Memᴰ·cast, List·Memᴰ·eq-of-singleton}
-use mathlib.Core.Logic.{⊎-elim}
+use mathlib.Core.List.{List, [], _∷_, map, List·Memᴰ, List·Memᴰ·head, List·Memᴰ·tail, List·Memᴰ·not-nil, List·Memᴰ·cases-cons, Memᴰ·cast, Memᴰ·map, Memᴰ·of-map, List·Memᴰ·eq-of-singleton}
+use mathlib.Core.Logic.{_⊎_, inl, inr, ⊎-elim}
 use Prim.Native.Nat.{ℕ, _<_, _/_, _%_, _*_}
 use native.Mathlib.Nat.{lt-of-lt-of-le, div-add-mod'}
 use native.Mathlib.Decide.{ℕ-discrete, decLt}
 use native.Mathlib.Omega.{arith}
 use lib.Dec.{T, eqb, eqb→eq}
-use lib.ListN.{length}
+use lib.ListN.{length, length-map}
 use Rattle.model.specs.Lists.{all, any, below, at, same}
-use Rattle.model.specs.ValueSets.{has}
-use Rattle.model.specs.Problem.{pairsAt, Problem, Constraint, pair, isPair, pairsOf, within, takes, forbidden, respects, valuesAt, satisfies, isSolution}
+use Rattle.model.specs.ValueSets.{has, members}
+use Rattle.model.specs.Problem.{pairsAt, assignments, Problem, Constraint, pair, isPair, pairsOf, within, takes, forbidden, respects, valuesAt, satisfies, isSolution}
 use Rattle.model.specs.Sheet.{permutesPairs, distinct}
 use Rattle.model.proofs.WellFormed.{WellFormed, GoodSymmetry}
-use Rattle.model.proofs.Basics.{both-i, both-l, both-r, stable, T-dec, all-e, any-e, map-i, map-e, below-i, below-e, length-below, at-below, idx, idx-spec, distinct-at, distinct-below, onto}
-use Rattle.model.proofs.Draws.{Drawn}
+use Rattle.model.proofs.Lists.{both-i, both-l, both-r, stable, T-dec, all-e, any-e, below-i, below-e, length-below, at-below, at-map, mem-at}
+use Rattle.model.proofs.Counting.{idx, idx-spec, distinct-at, distinct-below, onto}
+use Rattle.model.proofs.Sets.{members-i}
+use Rattle.model.proofs.Assignments.{assign-i}
+use Rattle.model.proofs.Tree.{solution-i}
 use Rattle.model.proofs.Pairs as P
 
 pick-true : (b c d : Bool) → T (elim b [ true ↦ c | false ↦ d ]) → T b → T c
@@ -27,10 +30,14 @@ pick-false true c d h t = absurd (t tt)
 pick-false false c d h t = h
 
 module _ (p : Problem) where
-  scope-drawn : (a xs : List ℕ) → ((x : ℕ) → List·Memᴰ x xs → (at a x < 16) × T (has (at (p .initial) x) (at a x))) → Drawn (map (at (p .initial)) xs) (valuesAt a xs)
+  scope-drawn : (a xs : List ℕ) → ((x : ℕ) → List·Memᴰ x xs → (at a x < 16) × T (has (at (p .initial) x) (at a x))) → List·Memᴰ (valuesAt a xs) (assignments (map (at (p .initial)) xs))
   unfolding valuesAt
-  scope-drawn a [] h = tt
-  scope-drawn a (x ∷ xs) h = let r = h x (List·Memᴰ·head refl) in (r .0, r .1, scope-drawn a xs (λ y m. h y (List·Memᴰ·tail m)))
+  scope-drawn a xs h =
+      assign-i (map (at (p .initial)) xs) (map (at a) xs) (length-map xs (at a) ∙ sym (length-map xs (at (p .initial))))
+      (λ i l.
+      let k : i < length xs = subst (λ (n : ℕ). i < n) (length-map xs (at (p .initial))) l in
+      let r = h (at xs i) (mem-at xs i k) in
+      subst₂ (λ (v s : ℕ). List·Memᴰ v (members s)) (sym (at-map (at a) xs i k)) (sym (at-map (at (p .initial)) xs i k)) (members-i (at (p .initial) (at xs i)) (at a (at xs i)) (r .0) (r .1)))
 
   scope-pairs : (a xs : List ℕ) → ((x : ℕ) → List·Memᴰ x xs → x < p .variables) → (q : ℕ) → List·Memᴰ q (pairsAt p xs (valuesAt a xs)) → List·Memᴰ q (pairsOf p a)
   unfolding valuesAt pairsAt
@@ -65,9 +72,9 @@ module _ (p : Problem) where
     image-lt : (q : ℕ) → q < size → at g q < size
     image-lt q h = go (T-dec (isPair p q))
       where
-        go : Dec (T (isPair p q)) → at g q < size
-        go (yes t) = P.isPair-lt p w (at g q) (to-pair q t)
-        go (no t) = subst (λ (k : ℕ). k < size) (sym (to-self q h t)) h
+        go : T (isPair p q) ⊎ (T (isPair p q) → ⊥) → at g q < size
+        go (inl t) = P.isPair-lt p w (at g q) (to-pair q t)
+        go (inr t) = subst (λ (k : ℕ). k < size) (sym (to-self q h t)) h
 
     -- every number below the size has a preimage, and a pair's is a pair
     in-table : (q : ℕ) → q < size → List·Memᴰ q g
@@ -100,7 +107,7 @@ module _ (p : Problem) where
     never : (s : List ℕ) → T (isSolution p s) → (f : List ℕ) → List·Memᴰ f (forbidden p) → ((q : ℕ) → List·Memᴰ q f → List·Memᴰ (at g q) (pairsOf p s)) → ⊥
     never s sol f m i =
         let r = respected f m in
-        P.no-forbidden p w s sol (r .0) (r .1) (λ q k. let z = map-e (at g) f q (r .2 q k) in Memᴰ·cast (z .2) (i (z .0) (z .1)))
+        P.no-forbidden p w s sol (r .0) (r .1) (λ q k. let z = Memᴰ·of-map (at g) f (r .2 q k) in Memᴰ·cast (sym (z .2)) (i (z .0) (z .1)))
 
     module _ (s : List ℕ) (sol : T (isSolution p s)) where
       abbrev n : ℕ
@@ -161,7 +168,7 @@ module _ (p : Problem) where
       unfolding vars
       in-vars z h =
           onto vars n (length-below var n) (distinct-below var n var-inj)
-          (λ x m. let c = map-e var (below n) x m in let l = below-e n (c .0) (c .1) in subst (λ (j : ℕ). j < n) (sym (c .2)) (P.isPair-var p w (r (c .0)) (r-pair (c .0) l))) z h
+          (λ x m. let c = Memᴰ·of-map var (below n) m in let l = below-e n (c .0) (c .1) in subst (λ (j : ℕ). j < n) (c .2) (P.isPair-var p w (r (c .0)) (r-pair (c .0) l))) z h
 
       who : ℕ → ℕ
       who z = idx z vars
@@ -205,7 +212,7 @@ module _ (p : Problem) where
           let l : z < n = P.isPair-var p w (r x) (r-pair x (c .1)) in
           let e : who z ≡ x = var-inj (who z) x (who-lt z l) (c .1) (who-var z l) in
           Memᴰ·cast (c .2 ∙ ap (λ (j : ℕ). pair p j (at s j)) (sym e) ∙ sym (source-image z l))
-          (map-i (at g) (pairsOf p source) (pair p z (at source z)) (P.pairs-i p source z l))
+          (Memᴰ·map (at g) (P.pairs-i p source z l))
 
       source-has : (z : ℕ) → z < n → T (has (at (p .initial) z) (at source z))
       source-has z h =
@@ -223,13 +230,13 @@ module _ (p : Problem) where
           (λ q k. image-in q (scope-pairs source (c .scope) l q k)))
 
       pub source-solution : T (isSolution p source)
-      source-solution = P.sol-i p source source-length source-has source-row
+      source-solution = solution-i p source record { sized = source-length; drawn = source-has; satisfied = source-row }
 
       pub source-takes : T (takes p g source s)
       unfolding takes
       source-takes =
           both-i (within (map (at g) (pairsOf p source)) (pairsOf p s)) (within (pairsOf p s) (map (at g) (pairsOf p source)))
-          (P.within-i (map (at g) (pairsOf p source)) (pairsOf p s) (λ q m. let c = map-e (at g) (pairsOf p source) q m in Memᴰ·cast (c .2) (image-in (c .0) (c .1))))
+          (P.within-i (map (at g) (pairsOf p source)) (pairsOf p s) (λ q m. let c = Memᴰ·of-map (at g) (pairsOf p source) m in Memᴰ·cast (sym (c .2)) (image-in (c .0) (c .1))))
           (P.within-i (pairsOf p s) (map (at g) (pairsOf p source)) image-on)
 
 pub preimage : (p : Problem) → WellFormed p → (g : List ℕ) → List·Memᴰ g (p .symmetries) → (s : List ℕ) → T (isSolution p s) → (t : List ℕ) × T (isSolution p t) × T (takes p g t s)

@@ -1,44 +1,42 @@
 -- Plans: the live full prefixes are the solutions that obey every symmetry's list, and the tree meets each of them in reading order. Assumes nothing.
 use mathlib.Core.Path.{_≡_, refl, sym, ap, ap₂, _∙_, subst}
-use mathlib.Core.Bool.{Bool, true, false, not}
-use mathlib.Core.Logic.{_⊎_, inl, inr, ⊎-elim, _↔_}
-use mathlib.Core.List.{List, [], _∷_, _++_, map, List·Memᴰ, List·Memᴰ·head, List·Memᴰ·tail, List·Memᴰ·not-nil, List·Memᴰ·eq-of-singleton, Memᴰ·map, Memᴰ·of-map, Memᴰ·cast, append-nil, append-assoc}
-use Prim.Native.Nat.{ℕ, zero, suc, _+_, _*_, _/_, _%_, _^_, _≤_, _<_}
-use native.Mathlib.Nat.{not-suc-le-zero, le-of-suc-le-suc}
+use mathlib.Core.Bool.{Bool, true, false}
+use mathlib.Core.List.{List, [], _∷_, _++_, map, List·Memᴰ, List·Memᴰ·head, List·Memᴰ·tail, List·Memᴰ·eq-of-singleton, Memᴰ·of-map, append-nil, map-map, map-id}
+use Prim.Native.Nat.{ℕ, zero, suc, _+_, _*_, _^_, _≤_, _<_}
+use native.Mathlib.Nat.{not-suc-le-zero}
 use native.Mathlib.Omega.{arith}
-use lib.Dec.{T, eqb, ltb, eqb→eq, eqb-refl, T-not, not-T}
-use lib.ListN.{length, getD, drop, length-append, length-drop, List·getD-append, drop-of-length-le}
+use lib.Dec.{T, eqb, ltb, eqb→eq, eqb-refl, not-T}
+use lib.ListN.{length, drop, length-append, drop-of-length-le}
 use lib.Pow.{pow-mono}
-use lib.Seq.{getD-append-seam, append-snoc, drop-cons}
-use borrow.Author.Tests.{ltb-true, ltb-false, eqb-true, eq-eqb, ne-eqb}
-use Rattle.model.specs.Lists.{both, either, all, any, keep, flat, below, upFrom, at, same, tabulate}
-use Rattle.model.specs.ValueSets.{has, maskOf, members, anyEmpty}
-use Rattle.model.specs.Problem.{Problem, Constraint, pair, assignments, valuesAt, satisfies, isSolution}
-use Rattle.model.specs.Nogood.{Entry, equality, disequality, obeys, filtered}
-use Rattle.model.specs.Search.{entriesAt, nogoodsOf, rowWith, supported, pruned, narrowed, rounds, setsAt, isLive, nodesBelow, nodes, isPlan}
+use lib.Seq.{append-snoc}
+use borrow.Author.Tests.{ltb-true, ltb-false, eqb-true, ne-eqb}
+use Rattle.model.specs.Lists.{both, all, any, keep, flat, below, upFrom, at, same}
+use Rattle.model.specs.ValueSets.{has, members, anyEmpty}
+use Rattle.model.specs.Problem.{Problem, Constraint, assignments, valuesAt, satisfies, isSolution}
+use Rattle.model.specs.Nogood.{Entry, obeys}
+use Rattle.model.specs.Search.{entriesAt, nogoodsOf, rowWith, supported, pruned, narrowed, setsAt, isLive, nodesBelow, nodes, isPlan}
 use Rattle.model.proofs.WellFormed.{WellFormed, GoodConstraint}
-use Rattle.model.proofs.Lists.{T-of, of-T, not-of, of-not, T-ext, T-dec, both-i, both-l, both-r, all-i, all-e, any-i, any-e, keep-yes, keep-no, keep-none, keep-ext, keep-flat-map, flat-pick, flat-i, below-i, below-e, upFrom-add, upFrom-e, flat-append, map-append, map-ext, at-ext, at-out, mem-at, same-eq, same-refl}
-use Rattle.model.proofs.Sets.{has-lt, has-none, Sets, Inside, has-at-lt, member, empty-i, empty-e, zeros-empty, at-zeros, members-i, members-e}
-use Rattle.model.proofs.Assignments.{Drawn, assign-i, assign-e, drawn-i, drawn-e, assign-mono}
-use Rattle.model.proofs.Filter.{filtered-i, filtered-e, filtered-drawn, obeys-front}
-use Rattle.model.proofs.Prune.{Kept, pruned-i, pruned-e, pruned-sets, rounds-ind, narrowed-i, narrowed-e, Sized, closed, Largest, largest, start-sets, fixed-e, setsAt-live, setsAt-dead, setsAt-sets}
+use Rattle.model.proofs.Lists.{map-flat-map, drop-at, not-of, of-not, T-ext, both-i, both-l, both-r, all-i, all-e, any-i, any-e, keep-no, keep-none, keep-ext, keep-flat-map, flat-pick, below-i, below-e, upFrom-add, flat-append, map-append, map-ext, at-ext, at-out, at-append, at-seam, same-eq, same-refl}
+use Rattle.model.proofs.Sets.{has-lt, has-none, Sets, Inside, has-at-lt, member, empty-i, empty-e}
+use Rattle.model.proofs.Assignments.{Drawn, drawn-i, drawn-e}
+use Rattle.model.proofs.Filter.{filtered-i, filtered-e, obeys-front}
+use Rattle.model.proofs.Prune.{supported-e, Kept, pruned-i, pruned-sets, rounds-ind, narrowed-i, narrowed-e, Sized, closed, Largest, largest, start-sets, fixed-e, setsAt-live, live-closed, value-live}
 
 -- ---- the nogoods of a longer prefix begin with those of the shorter
-at-append : (a b : List ℕ) (j : ℕ) → j < length a → at (a ++ b) j ≡ at a j
-unfolding at
-at-append a b j h = List·getD-append a b 0 j h
+same-entries : (p : Problem) (g a b : List ℕ) (j : ℕ) → j < length a → entriesAt p g (a ++ b) j ≡ entriesAt p g a j
+unfolding entriesAt
+same-entries p g a b j h = let e = at-append a b j h in rw e
 
 pub nogoods-append : (p : Problem) (g a b : List ℕ) → nogoodsOf p g (a ++ b) ≡ nogoodsOf p g a ++ flat (map (entriesAt p g (a ++ b)) (upFrom (length a) (length b)))
-unfolding nogoodsOf entriesAt below
+unfolding nogoodsOf below
 nogoods-append p g a b =
-    ap (λ (l : List ℕ). flat (map (entriesAt p g (a ++ b)) l)) (ap (upFrom 0) (length-append a b) ∙ upFrom-add 0 (length a) (length b) ∙ ap (λ (n : ℕ). upFrom 0 (length a) ++ upFrom n (length b)) (let e : 0 + length a ≡ length a = omega arith in e))
-    ∙ ap flat (map-append (entriesAt p g (a ++ b)) (below (length a)) (upFrom (length a) (length b)))
-    ∙ flat-append (map (entriesAt p g (a ++ b)) (below (length a))) (map (entriesAt p g (a ++ b)) (upFrom (length a) (length b)))
-    ∙ ap (λ (l : List (List Entry)). flat l ++ flat (map (entriesAt p g (a ++ b)) (upFrom (length a) (length b)))) (map-ext (entriesAt p g (a ++ b)) (entriesAt p g a) (below (length a)) (λ j m. ap (F j) (at-append a b j (below-e (length a) j m))))
-  where
-    F : ℕ → ℕ → List Entry
-    F j u = map (λ v. disequality (at g (pair p j v) / p .values) (at g (pair p j v) % p .values)) (keep (λ v. ltb v u) (members (at (p .initial) j)))
-        ++ (equality (at g (pair p j u) / p .values) (at g (pair p j u) % p .values) ∷ [])
+    let E = entriesAt p g (a ++ b) in
+    let later = upFrom (length a) (length b) in
+    let z : 0 + length a ≡ length a = omega arith in
+    ap (λ (l : List ℕ). flat (map E l)) (ap (upFrom 0) (length-append a b) ∙ upFrom-add 0 (length a) (length b) ∙ ap (λ (n : ℕ). upFrom 0 (length a) ++ upFrom n (length b)) z)
+    ∙ ap flat (map-append E (below (length a)) later)
+    ∙ flat-append (map E (below (length a))) (map E later)
+    ∙ ap (λ (l : List (List Entry)). flat l ++ flat (map E later)) (map-ext E (entriesAt p g a) (below (length a)) (λ j m. same-entries p g a b j (below-e (length a) j m)))
 
 -- ---- what every plan is: a solution that obeys the list of each symmetry
 abbrev pub unbroken : Problem → List ℕ → Bool
@@ -104,27 +102,6 @@ supported-own ds a x c h t = go (any (eqb x) (c .scope))
         any-i (rowWith ds x (at a x) (c .scope)) (c .rows) (r .0) (r .1) (subst (λ (l : List ℕ). T (rowWith ds x (at a x) (c .scope) l)) (same-eq (valuesAt a (c .scope)) (r .0) (r .2)) (row-own ds a x (c .scope) h))
     go false = tt
 
-map-map : {A B C : Type 0} (f : B → C) (g : A → B) (l : List A) → map f (map g l) ≡ map (λ x. f (g x)) l
-map-map f g [] = refl
-map-map {C} f g (x ∷ l) = ap (λ (r : List C). f (g x) ∷ r) (map-map f g l)
-
-map-same : (l : List (List ℕ)) → map (λ (a : List ℕ). a) l ≡ l
-map-same [] = refl
-map-same (x ∷ l) = ap (λ (r : List (List ℕ)). x ∷ r) (map-same l)
-
-map-flat-map : {A B C : Type 0} (f : B → C) (F : A → List B) (l : List A) → map f (flat (map F l)) ≡ flat (map (λ x. map f (F x)) l)
-unfolding flat
-map-flat-map f F [] = refl
-map-flat-map {C} f F (x ∷ l) = map-append f (F x) (flat (map F l)) ∙ ap (λ (r : List C). map f (F x) ++ r) (map-flat-map f F l)
-
-at-seam : (a : List ℕ) (v : ℕ) (b : List ℕ) → at (a ++ (v ∷ b)) (length a) ≡ v
-unfolding at
-at-seam a v b = getD-append-seam a v b 0
-
-drop-at : (l : List ℕ) (j : ℕ) → j < length l → drop j l ≡ at l j ∷ drop (suc j) l
-unfolding at
-drop-at l j h = drop-cons l j 0 h
-
 module _ (p : Problem) (w : WellFormed p) where
   -- s is a solution, and obeys the lists at a prefix
   pub pruned-drawn : (prefix s : List ℕ) → Solution p s → ((g : List ℕ) → List·Memᴰ g (p .symmetries) → T (obeys s (nogoodsOf p g prefix))) → (ds : List ℕ) → Sets (p .variables) ds → Drawn ds s → Drawn (pruned p prefix ds) s
@@ -185,22 +162,6 @@ module _ (p : Problem) (w : WellFormed p) where
       go [] h = absurd (not-suc-le-zero h)
       go (y ∷ l) h = (y, List·Memᴰ·head refl)
 
-  supported-e : (ds : List ℕ) (x v : ℕ) (c : Constraint) → List·Memᴰ x (c .scope) → T (supported ds x v c) → T (any (rowWith ds x v (c .scope)) (c .rows))
-  unfolding supported
-  supported-e ds x v c m t = go (any (eqb x) (c .scope)) (any-i (eqb x) (c .scope) x m (eqb-refl x)) t
-    where
-      go : (b : Bool) → T b → T (elim b [ true ↦ any (rowWith ds x v (c .scope)) (c .rows) | false ↦ true ]) → T (any (rowWith ds x v (c .scope)) (c .rows))
-      go true b t = t
-      go false b t = absurd b
-
-  live-closed : (s : List ℕ) → T (isLive p s) → anyEmpty (closed p s) ≡ false
-  unfolding isLive
-  live-closed s t = go (anyEmpty (closed p s)) refl
-    where
-      go : (b : Bool) → anyEmpty (closed p s) ≡ b → b ≡ false
-      go true e = absurd (T-not (anyEmpty (setsAt p s)) t (subst (λ (ds : List ℕ). T (anyEmpty ds)) (sym (setsAt-dead p s e)) (zeros-empty (closed p s) (T-of (anyEmpty (closed p s)) e))))
-      go false e = refl
-
   pub plan-sound : (s : List ℕ) → length s ≡ p .variables → T (isLive p s) → T (planTest p s)
   unfolding satisfies
   plan-sound s e t =
@@ -219,7 +180,7 @@ module _ (p : Problem) (w : WellFormed p) where
 
       own : (x : ℕ) → x < p .variables → T (has (at ds x) (at s x))
       own x l =
-          let m = member (at ds x) (k .sets .1 x) (λ q. of-not (anyEmpty ds) (live-closed s t) (empty-i ds x (subst (λ (n : ℕ). x < n) (sym (k .sets .0)) l) q)) in
+          let m = member (at ds x) (k .sets .1 x) (λ q. of-not (anyEmpty ds) (live-closed p s t) (empty-i ds x (subst (λ (n : ℕ). x < n) (sym (k .sets .0)) l) q)) in
           subst (λ (u : ℕ). T (has (at ds x) u)) (lone x (m .0) (m .2)) (m .2)
 
       kept : (x : ℕ) → x < p .variables → Kept p s ds x (at s x)
@@ -248,7 +209,7 @@ module _ (p : Problem) (w : WellFormed p) where
       let d : Drawn (setsAt p s) s = subst (λ (a : List ℕ). Drawn (setsAt p s) a) e (setsAt-drawn s [] (subst (Solution p) (sym e) h) (subst (λ (a : List ℕ). T (unbroken p a)) (sym e) u)) in
       not-T (anyEmpty (setsAt p s)) (of-not (anyEmpty (setsAt p s)) (not-empty (setsAt p s) s d))
 
-  -- 3. a full prefix is a plan exactly if it is a solution that obeys the list of each symmetry
+  -- a full prefix is a plan exactly if it is a solution that obeys the list of each symmetry
   pub plan-test : (s : List ℕ) → length s ≡ p .variables → isPlan p s ≡ planTest p s
   unfolding isPlan
   plan-test s e =
@@ -261,11 +222,8 @@ module _ (p : Problem) (w : WellFormed p) where
   not-plan s h = ap (λ (b : Bool). both b (isLive p s)) (ne-eqb (length s) (p .variables) h)
 
   setsAt-inside : (prefix : List ℕ) → Inside (setsAt p prefix) (p .initial)
-  setsAt-inside prefix x v t = go (anyEmpty (closed p prefix)) refl
-    where
-      go : (b : Bool) → anyEmpty (closed p prefix) ≡ b → T (has (at (p .initial) x) v)
-      go true e = absurd (of-not (has 0 v) (has-none v) (subst (λ (m : ℕ). T (has m v)) (ap (λ (l : List ℕ). at l x) (setsAt-dead p prefix e) ∙ at-zeros (closed p prefix) x) t))
-      go false e = narrowed-e prefix (p .initial) x v (largest p prefix (well-sized p w) .inside x v (subst (λ (l : List ℕ). T (has (at l x) v)) (setsAt-live p prefix e) t)) .0
+  setsAt-inside prefix x v t =
+      narrowed-e prefix (p .initial) x v (largest p prefix (well-sized p w) .inside x v (subst (λ (l : List ℕ). T (has (at l x) v)) (setsAt-live p prefix (value-live p prefix x v t)) t)) .0
 
   -- ---- the tree
   -- the nodes from a prefix on, itself the first
@@ -327,45 +285,10 @@ module _ (p : Problem) (w : WellFormed p) where
           let d = setsAt-drawn prefix (v ∷ r′ .0) (solution-e p u (both-l (isSolution p u) (unbroken p u) q′)) (both-r (isSolution p u) (unbroken p u) q′) in
           n (subst (λ (z : ℕ). T (has s′ z)) (at-seam prefix v (r′ .0)) (d .1 j (let i = d .0 in let i′ = length-append prefix (v ∷ r′ .0) in omega arith))))
 
-  -- 4. the plans of the tree, in its order, are the solutions that obey, in reading order
+  -- the plans of the tree, in its order, are the solutions that obey, in reading order
   pub plans-of-tree : keep (isPlan p) (nodes p) ≡ keep (planTest p) (assignments (p .initial))
   unfolding nodes
   plans-of-tree =
       sym (keep-no (isPlan p) [] (nodesBelow p (p .variables) []) (not-plan [] (λ q. let o = w .some in omega arith)))
       ∙ tree (p .variables) [] (omega arith)
-      ∙ ap (keep (planTest p)) (map-same (assignments (p .initial)))
-
-  -- each prefix of a plan is a node, except the empty one
-  node-below : (k : ℕ) (a : List ℕ) (v : ℕ) (b c : List ℕ) → length b < k → Solution p (a ++ (v ∷ b) ++ c) → T (unbroken p (a ++ (v ∷ b) ++ c)) → List·Memᴰ (a ++ (v ∷ b)) (nodesBelow p k a)
-  unfolding nodesBelow
-  node-below zero a v b c l h u = absurd (not-suc-le-zero l)
-  node-below (suc k) a v b c l h u = flat-i (map F (members s)) (F v) (a ++ (v ∷ b)) (Memᴰ·map F own) (go (node-below k (a ++ (v ∷ []))) b l h u)
-    where
-      s : ℕ
-      s = at (setsAt p a) (length a)
-
-      F : ℕ → List (List ℕ)
-      F w = (a ++ (w ∷ [])) ∷ nodesBelow p k (a ++ (w ∷ []))
-
-      own : List·Memᴰ v (members s)
-      own =
-          let e : a ++ (v ∷ b) ++ c ≡ a ++ (v ∷ (b ++ c)) = append-assoc a (v ∷ b) c in
-          let d = setsAt-drawn a (v ∷ (b ++ c)) (subst (Solution p) e h) (subst (λ (z : List ℕ). T (unbroken p z)) e u) in
-          let t = subst (λ (z : ℕ). T (has s z)) (at-seam a v (b ++ c)) (d .1 (length a) (let i = d .0 in let i′ = length-append a (v ∷ (b ++ c)) in omega arith)) in
-          members-i s v (has-lt 16 s v (setsAt-sets p a (well-sized p w) .1 (length a)) t) t
-
-      go : ((v′ : ℕ) (b′ c′ : List ℕ) → length b′ < k → Solution p (a ++ (v ∷ []) ++ (v′ ∷ b′) ++ c′) → T (unbroken p (a ++ (v ∷ []) ++ (v′ ∷ b′) ++ c′)) → List·Memᴰ (a ++ (v ∷ []) ++ (v′ ∷ b′)) (nodesBelow p k (a ++ (v ∷ [])))) →
-          (b : List ℕ) → length b < suc k → Solution p (a ++ (v ∷ b) ++ c) → T (unbroken p (a ++ (v ∷ b) ++ c)) → List·Memᴰ (a ++ (v ∷ b)) (F v)
-      go ih [] l h u = List·Memᴰ·head refl
-      go ih (v′ ∷ b) l h u =
-          let e : a ++ (v ∷ []) ++ (v′ ∷ b) ≡ a ++ (v ∷ v′ ∷ b) = append-snoc a v (v′ ∷ b) in
-          List·Memᴰ·tail (Memᴰ·cast (sym e) (ih v′ b c (le-of-suc-le-suc l)
-          (subst (λ (z : List ℕ). Solution p (z ++ c)) (sym e) h) (subst (λ (z : List ℕ). T (unbroken p (z ++ c))) (sym e) u)))
-
-  pub prefix-node : (a : List ℕ) (v : ℕ) (c : List ℕ) → T (planTest p (a ++ (v ∷ []) ++ c)) → List·Memᴰ (a ++ (v ∷ [])) (nodes p)
-  unfolding nodes
-  prefix-node [] v c t = node-below (p .variables) [] v [] c (w .some) (solution-e p (v ∷ c) (both-l (isSolution p (v ∷ c)) (unbroken p (v ∷ c)) t)) (both-r (isSolution p (v ∷ c)) (unbroken p (v ∷ c)) t)
-  prefix-node (x ∷ a) v c t =
-      let s = x ∷ (a ++ (v ∷ []) ++ c) in
-      let h = solution-e p s (both-l (isSolution p s) (unbroken p s) t) in
-      node-below (p .variables) [] x (a ++ (v ∷ [])) c (let z = h .sized in let z′ = length-append (a ++ (v ∷ [])) c in omega arith) h (both-r (isSolution p s) (unbroken p s) t)
+      ∙ ap (keep (planTest p)) (map-id (assignments (p .initial)))

@@ -1,24 +1,52 @@
--- The second and the third demand, as statements about what a caller holds after a run: the answer, and the listed plans.
+-- What the sets at a prefix are, in the paper's words; and the second and the third demand, as statements about what a caller holds after a run:
+-- the answer, and the listed plans.
 -- The proofs are in proofs/Demands.antt.
 use mathlib.Core.Path.{_≡_}
 use mathlib.Core.Logic.{_↔_}
-use mathlib.Core.Bool.{Bool, true, false, not}
+use mathlib.Core.Bool.{Bool, false, not}
 use mathlib.Core.List.{List, [], _∷_, _++_, List·Memᴰ, Sublistᴰ}
-use Prim.Native.Nat.{ℕ, zero, suc, _+_, _-_, _*_, _/_, _%_, _≤_, _<_}
-use lib.ListN.{length, take, drop}
+use Prim.Native.Nat.{ℕ, suc, _+_, _-_, _*_, _/_, _%_, _^_, _≤_, _<_}
+use lib.ListN.{length, take, drop, replicate}
 use lib.Dec.{T}
-use Rattle.model.specs.Lists.{any, keep, both, earlier, rowsAscend}
-use Rattle.model.specs.Problem.{Problem, isSolution, assignments, takes}
-use Rattle.model.specs.Sheet.{problemOf, headerOf}
-use Rattle.model.specs.Search.{nodes, isPlan}
+use Rattle.model.specs.Lists.{any, at, keep, both, earlier, rowsAscend}
+use Rattle.model.specs.ValueSets.{has, anyEmpty}
+use Rattle.model.specs.Problem.{Problem, Constraint, isSolution, assignments, takes}
+use Rattle.model.specs.Verdict.{accepted}
+use Rattle.model.specs.Sheet.{problemOf, headerOf, verdictOf}
+use Rattle.model.specs.Nogood.{filtered}
+use Rattle.model.specs.Search.{nogoodsOf, rowWith, setsAt, isLive, nodes, isPlan}
 use Rattle.model.specs.Run.{Ending, finished, spent, full, plansIn, nodesIn, answerOf, ended, listOf, listedPlans}
 
 -- the plans that a caller finds in its list after a run that ended so
 abbrev pub plansHeld : List ℕ → ℕ → List ℕ → Ending → List (List ℕ)
 plansHeld b limit out e = listedPlans (problemOf b .variables) (plansIn e) (listOf b limit out)
 
+-- ---- the sets at a prefix
+-- sets inside the initial ones, given the prefix's variables fixed, in which every value of each constraint's variable has a row of that constraint
+-- inside the sets, and the filter for each symmetry's list takes nothing away
+pub record Consistent (p : Problem) (prefix ds : List ℕ) : Type 0 where
+  pub sized : length ds ≡ p .variables
+  pub sixteen : (x : ℕ) → at ds x < 2 ^ 16
+  pub inside : (x v : ℕ) → T (has (at ds x) v) → T (has (at (p .initial) x) v)
+  pub given : (x v : ℕ) → x < length prefix → T (has (at ds x) v) → v ≡ at prefix x
+  pub rows : (c : Constraint) → List·Memᴰ c (p .constraints) → (x v : ℕ) → List·Memᴰ x (c .scope) → T (has (at ds x) v) → T (any (rowWith ds x v (c .scope)) (c .rows))
+  pub filters : (g : List ℕ) → List·Memᴰ g (p .symmetries) → filtered ds (nogoodsOf p g prefix) ≡ ds
+
+-- the sets at a live prefix are the largest such sets; at a dead one all are empty, and there are no such sets without an empty one
+abbrev pub Sets-largest : Type 0
+Sets-largest =
+    (b : List ℕ) (prefix : List ℕ) → verdictOf b ≡ accepted →
+    (T (isLive (problemOf b) prefix) → Consistent (problemOf b) prefix (setsAt (problemOf b) prefix))
+    × ((es : List ℕ) → Consistent (problemOf b) prefix es → anyEmpty es ≡ false → T (isLive (problemOf b) prefix) × ((x v : ℕ) → T (has (at es x) v) → T (has (at (setsAt (problemOf b) prefix) x) v)))
+    × (isLive (problemOf b) prefix ≡ false → setsAt (problemOf b) prefix ≡ replicate (problemOf b .variables) 0)
+
 -- ---- demand 2
--- s is a solution, and no symmetry takes a solution that reads earlier to it
+-- s is a leader: a solution onto which no symmetry takes a solution that reads earlier
+pub record Leader (p : Problem) (s : List ℕ) : Type 0 where
+  pub solves : T (isSolution p s)
+  pub unbeaten : (g t : List ℕ) → List·Memᴰ g (p .symmetries) → T (isSolution p t) → T (earlier t s) → T (takes p g t s) → ⊥
+
+-- the same as a test: every solution is one of the assignments
 abbrev pub isLeader : Problem → List ℕ → Bool
 isLeader p s =
     both (isSolution p s)
@@ -28,16 +56,17 @@ isLeader p s =
 abbrev pub leaders : Problem → List (List ℕ)
 leaders p = keep (isLeader p) (assignments (p .initial))
 
+-- `leaders` says what it should: it ascends strictly, and holds exactly the leaders
+abbrev pub Leaders-ascend : Type 0
+Leaders-ascend =
+    (b : List ℕ) → verdictOf b ≡ accepted →
+    T (rowsAscend (leaders (problemOf b))) × ((s : List ℕ) → List·Memᴰ s (leaders (problemOf b)) ↔ Leader (problemOf b) s)
+
 -- a finished run lists exactly the leaders
 abbrev pub Lists-leaders : Type 0
 Lists-leaders =
     (b : List ℕ) (limit : ℕ) (out : List ℕ) (plans made : ℕ) → answerOf b limit out ≡ ended (finished plans made) →
     plansHeld b limit out (finished plans made) ≡ leaders (problemOf b)
-
--- `leaders` says what it should: it holds exactly the solutions that are leaders, strictly ascending
-abbrev pub Leaders-ascend : Type 0
-Leaders-ascend = (b : List ℕ) (limit : ℕ) (out : List ℕ) (e : Ending) → answerOf b limit out ≡ ended e →
-    T (rowsAscend (leaders (problemOf b))) × ((s : List ℕ) → List·Memᴰ s (leaders (problemOf b)) ↔ T (isLeader (problemOf b) s))
 
 -- any run holds a first part of that list
 abbrev pub First-part : Type 0
@@ -45,14 +74,17 @@ First-part =
     (b : List ℕ) (limit : ℕ) (out : List ℕ) (e : Ending) → answerOf b limit out ≡ ended e →
     plansHeld b limit out e ≡ take (plansIn e) (leaders (problemOf b))
 
+-- how many of the tree's first k nodes are plans
+abbrev pub plansAmong : Problem → ℕ → ℕ
+plansAmong p k = length (keep (isPlan p) (take k (nodes p)))
+
 -- the counts are those of the tree up to where the run ended:
 -- a finished run made every node; a spent one as many as the limit, and a further node is due; a full one ended on a plan that found no room
 abbrev pub CountsAt : List ℕ → ℕ → List ℕ → Ending → Type 0
-CountsAt b limit out (finished plans made) = made ≡ length (nodes (problemOf b))
-CountsAt b limit out (spent plans made) = (made ≡ limit) × (made < length (nodes (problemOf b)))
+CountsAt b limit out (finished plans made) = (made ≡ length (nodes (problemOf b))) × (plansAmong (problemOf b) made ≡ plans)
+CountsAt b limit out (spent plans made) = (made ≡ limit) × (made < length (nodes (problemOf b))) × (plansAmong (problemOf b) made ≡ plans)
 CountsAt b limit out (full plans made) =
-    (length out < suc plans * problemOf b .variables) × (length (keep (isPlan (problemOf b)) (take made (nodes (problemOf b)))) ≡ suc plans)
-    × (length (keep (isPlan (problemOf b)) (take (made - 1) (nodes (problemOf b)))) ≡ plans)
+    (length out < suc plans * problemOf b .variables) × (plansAmong (problemOf b) made ≡ suc plans) × (plansAmong (problemOf b) (made - 1) ≡ plans)
 
 abbrev pub Counts : Type 0
 Counts =
@@ -60,6 +92,10 @@ Counts =
     (nodesIn e ≤ limit) × CountsAt b limit out e
 
 -- ---- demand 3
+-- on an accepted sheet every run ends, whatever limit and list it is given
+abbrev pub Ends : Type 0
+Ends = (b : List ℕ) (limit : ℕ) (out : List ℕ) → verdictOf b ≡ accepted → (e : Ending) × (answerOf b limit out ≡ ended e)
+
 -- from a to c by symmetries, one after another, each step giving a solution that reads later than the one before
 pub data Chain (p : Problem) (a : List ℕ) : List ℕ → Type 0 where
   here : Chain p a a
@@ -75,8 +111,8 @@ Chains =
 -- so a finished run lists nothing exactly when there is no solution
 abbrev pub Nothing-listed : Type 0
 Nothing-listed =
-    (b : List ℕ) (limit : ℕ) (out : List ℕ) (plans made : ℕ) → answerOf b limit out ≡ ended (finished plans made) →
-    (plans ≡ 0) ↔ ((s : List ℕ) → T (isSolution (problemOf b) s) → ⊥)
+    (b : List ℕ) (limit : ℕ) (out : List ℕ) (plans made : ℕ) →
+    answerOf b limit out ≡ ended (finished plans made) → (plans ≡ 0) ↔ ((s : List ℕ) → T (isSolution (problemOf b) s) → ⊥)
 
 abbrev pub put16 : ℕ → List ℕ
 put16 w = w % 256 ∷ w / 256 ∷ []

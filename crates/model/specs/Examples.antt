@@ -1,97 +1,121 @@
-use mathlib.Core.Path.{_≡_, refl}
-use mathlib.Core.Bool.{Bool, true, false}
+-- The starred examples of paper 01, all of them, as one list of statements about the definitions.
+-- One theorem says that each holds (proofs/Examples).
+use mathlib.Core.Path.{_≡_}
+use mathlib.Core.Bool.{true, false}
 use mathlib.Core.List.{List, [], _∷_, _++_, map}
-use Prim.Native.Nat.{ℕ, _+_, _*_, _/_, _%_}
-use lib.ListN.{length, take, drop, replicate}
-use Rattle.model.specs.Lists.{flat, keep, all}
-use Rattle.model.specs.Problem.{Problem, assignments}
-use Rattle.model.specs.Nogood.{Entry, equality, disequality, filtered}
-use Rattle.model.specs.Verdict.{accepted, refused}
+use Prim.Native.Nat.{ℕ, _/_, _%_, _^_, _≤_, _<_}
+use lib.ListN.{length, replicate}
+use Rattle.model.specs.Lists.{flat, at}
+use Rattle.model.specs.ValueSets.{anyEmpty}
+use Rattle.model.specs.Verdict.{Verdict, accepted}
+use Rattle.model.specs.Nogood.{entries, filterVerdict, setsAfter}
 use Rattle.model.specs.Sheet.{verdictOf, problemOf}
-use Rattle.model.specs.Search.{nodes}
-use Rattle.model.specs.Run.{answerOf, listOf, ended, refusal, finished, spent, full, Answer}
+use Rattle.model.specs.Search.{nodes, isLive}
+use Rattle.model.specs.Run.{Answer, refusal, ended, finished, spent, full, answerOf, listOf}
+use Rattle.model.specs.Report.{reportOf}
+use Rattle.model.specs.Claims.{plansHeld}
 
-opened : ℕ
-unfolding Rattle.model.specs.Lists.all Rattle.model.specs.Lists.any Rattle.model.specs.Lists.keep Rattle.model.specs.Lists.flat Rattle.model.specs.Lists.tabulate Rattle.model.specs.Lists.upFrom Rattle.model.specs.Lists.below Rattle.model.specs.Lists.at Rattle.model.specs.Lists.same Rattle.model.specs.Lists.earlier Rattle.model.specs.Lists.ascending Rattle.model.specs.Lists.rowsAscend Rattle.model.specs.ValueSets.has Rattle.model.specs.ValueSets.maskBelow Rattle.model.specs.ValueSets.least Rattle.model.specs.ValueSets.members Rattle.model.specs.ValueSets.anyEmpty Rattle.model.specs.Problem.valuesAt Rattle.model.specs.Problem.satisfies Rattle.model.specs.Problem.isSolution Rattle.model.specs.Problem.assignments Rattle.model.specs.Problem.pair Rattle.model.specs.Problem.isPair Rattle.model.specs.Problem.pairsOf Rattle.model.specs.Problem.within Rattle.model.specs.Problem.takes Rattle.model.specs.Problem.doubled Rattle.model.specs.Problem.excluded Rattle.model.specs.Problem.forbidden Rattle.model.specs.Problem.respects Rattle.model.specs.Nogood.obeysFrom Rattle.model.specs.Nogood.obeying Rattle.model.specs.Nogood.used Rattle.model.specs.Nogood.filtered Rattle.model.specs.Search.entriesAt Rattle.model.specs.Search.nogoodsOf Rattle.model.specs.Problem.pairsAt Rattle.model.specs.Nogood.entries Rattle.model.specs.Search.rowWith Rattle.model.specs.Search.supported Rattle.model.specs.Search.pruned Rattle.model.specs.Search.narrowed Rattle.model.specs.Search.rounds Rattle.model.specs.Search.setsAt Rattle.model.specs.Search.isLive Rattle.model.specs.Search.nodesBelow Rattle.model.specs.Search.nodes Rattle.model.specs.Search.isPlan Rattle.model.specs.Sheet.word Rattle.model.specs.Sheet.words Rattle.model.specs.Sheet.headerOf Rattle.model.specs.Sheet.setsVerdict Rattle.model.specs.Sheet.scopeAt Rattle.model.specs.Sheet.rowsAt Rattle.model.specs.Sheet.afterAt Rattle.model.specs.Sheet.constraintsVerdict Rattle.model.specs.Sheet.constraintsFrom Rattle.model.specs.Sheet.tableAt Rattle.model.specs.Sheet.problemOf Rattle.model.specs.Sheet.distinct Rattle.model.specs.Sheet.permutesPairs Rattle.model.specs.Sheet.symmetriesVerdict Rattle.model.specs.Sheet.verdictOf Rattle.model.specs.Run.search Rattle.model.specs.Run.resultOf Rattle.model.specs.Run.answerFor Rattle.model.specs.Run.answerOf Rattle.model.specs.Run.written Rattle.model.specs.Run.listFor Rattle.model.specs.Run.listOf
-opened = 0
+-- each of the statements holds
+abbrev pub Each : List (Type 0) → Type 0
+Each [] = Unit {0}
+Each (t ∷ ts) = t × Each ts
 
+-- ---- the filter: what it answers and leaves of the sets, given the three lists index, equal, not-equal
+abbrev pub filterOf : List ℕ → List ℕ → List ℕ → List ℕ → Verdict × List ℕ
+filterOf ds xs es us = (filterVerdict ds xs es us, setsAfter (filterVerdict ds xs es us) ds (entries xs es us))
+
+-- 001's four nogoods: x1 ≠ 2; x2 = 1 ⇒ x3 ≠ 1; x2 = x4 = x5 = 1 ⇒ x3 ≠ 2; those and x6 = 2 ⇒ x1 ≠ 1
+abbrev index4 : List ℕ
+index4 = 0 ∷ 1 ∷ 2 ∷ 3 ∷ 4 ∷ 2 ∷ 5 ∷ 0 ∷ []
+
+abbrev equal4 : List ℕ
+equal4 = 255 ∷ 1 ∷ 255 ∷ 1 ∷ 1 ∷ 255 ∷ 2 ∷ 255 ∷ []
+
+abbrev unequal4 : List ℕ
+unequal4 = 2 ∷ 255 ∷ 1 ∷ 255 ∷ 255 ∷ 2 ∷ 255 ∷ 1 ∷ []
+
+-- ---- sheets, from their 16-bit numbers
 abbrev bytes : List ℕ → List ℕ
 bytes ws = flat (map (λ w. w % 256 ∷ w / 256 ∷ []) ws)
 
-abbrev ruleA : List ℕ
-ruleA = 2 ∷ 6 ∷ 0 ∷ 1 ∷ 0 ∷ 1 ∷ 0 ∷ 2 ∷ 1 ∷ 0 ∷ 1 ∷ 2 ∷ 2 ∷ 0 ∷ 2 ∷ 1 ∷ []
+-- x and y differ, both below 3
+abbrev differ : ℕ → ℕ → List ℕ
+differ x y = 2 ∷ 6 ∷ x ∷ y ∷ 0 ∷ 1 ∷ 0 ∷ 2 ∷ 1 ∷ 0 ∷ 1 ∷ 2 ∷ 2 ∷ 0 ∷ 2 ∷ 1 ∷ []
 
-abbrev sheetA : List ℕ
-sheetA = bytes ((2 ∷ 3 ∷ 1 ∷ 1 ∷ 16 ∷ 20 ∷ 52 ∷ 64 ∷ 7 ∷ 7 ∷ []) ++ ruleA ++ (3 ∷ 4 ∷ 5 ∷ 0 ∷ 1 ∷ 2 ∷ []))
+abbrev pub sheetA : List ℕ
+sheetA = bytes ((2 ∷ 3 ∷ 1 ∷ 1 ∷ 16 ∷ 20 ∷ 52 ∷ 64 ∷ 7 ∷ 7 ∷ []) ++ differ 0 1 ++ (3 ∷ 4 ∷ 5 ∷ 0 ∷ 1 ∷ 2 ∷ []))
 
-abbrev sheetA0 : List ℕ
-sheetA0 = bytes ((2 ∷ 3 ∷ 1 ∷ 0 ∷ 16 ∷ 20 ∷ 52 ∷ 52 ∷ 7 ∷ 7 ∷ []) ++ ruleA)
+-- A with g = 0
+abbrev pub sheetA0 : List ℕ
+sheetA0 = bytes ((2 ∷ 3 ∷ 1 ∷ 0 ∷ 16 ∷ 20 ∷ 52 ∷ 52 ∷ 7 ∷ 7 ∷ []) ++ differ 0 1)
 
-abbrev sheetBad : List ℕ
-sheetBad = bytes ((2 ∷ 3 ∷ 1 ∷ 1 ∷ 16 ∷ 20 ∷ 52 ∷ 64 ∷ 7 ∷ 7 ∷ []) ++ ruleA ++ (1 ∷ 0 ∷ 2 ∷ 3 ∷ 4 ∷ 5 ∷ []))
+-- three places, three values, every two places different; the exchange takes (i, v) to (i + 1, v), place 2 to place 0
+abbrev pub sheetR : List ℕ
+sheetR =
+    bytes ((3 ∷ 3 ∷ 3 ∷ 1 ∷ 16 ∷ 22 ∷ 118 ∷ 136 ∷ 7 ∷ 7 ∷ 7 ∷ []) ++ differ 0 1 ++ differ 0 2 ++ differ 1 2 ++ (3 ∷ 4 ∷ 5 ∷ 6 ∷ 7 ∷ 8 ∷ 0 ∷ 1 ∷ 2 ∷ []))
 
-a1 : verdictOf sheetA ≡ accepted
-unfolding opened
-a1 = refl
+-- not in the paper: three places, two values, no rule, and the same exchange; here nogoods wait for an equality that can hold
+abbrev pub sheetF : List ℕ
+sheetF = bytes (3 ∷ 2 ∷ 0 ∷ 1 ∷ 16 ∷ 22 ∷ 22 ∷ 34 ∷ 3 ∷ 3 ∷ 3 ∷ 2 ∷ 3 ∷ 4 ∷ 5 ∷ 0 ∷ 1 ∷ [])
 
-a2 : answerOf sheetA 1000000 (replicate 20 9) ≡ ended (finished 3 6)
-unfolding opened
-a2 = refl
+-- n = 1, d = 1, no rule
+abbrev pub sheet1 : List ℕ
+sheet1 = bytes (1 ∷ 1 ∷ 0 ∷ 0 ∷ 16 ∷ 18 ∷ 18 ∷ 18 ∷ 1 ∷ [])
 
-a3 : listOf sheetA 1000000 (replicate 8 9) ≡ 0 ∷ 1 ∷ 0 ∷ 2 ∷ 1 ∷ 2 ∷ 9 ∷ 9 ∷ []
-unfolding opened
-a3 = refl
+-- one rule without rows on it
+abbrev pub sheet1None : List ℕ
+sheet1None = bytes (1 ∷ 1 ∷ 1 ∷ 0 ∷ 16 ∷ 18 ∷ 24 ∷ 24 ∷ 1 ∷ 1 ∷ 0 ∷ 0 ∷ [])
 
-a4 : answerOf sheetA0 1000000 (replicate 20 9) ≡ ended (finished 6 9)
-unfolding opened
-a4 = refl
+-- ---- runs: the answer, and the plans listed, given an allowance and room for so many bytes
+abbrev room : ℕ → List ℕ
+room k = replicate k 9
 
-a5 : answerOf sheetA 2 (replicate 20 9) ≡ ended (spent 1 2)
-unfolding opened
-a5 = refl
+abbrev heldAfter : Answer → List ℕ → ℕ → List ℕ → List (List ℕ)
+heldAfter (refusal number item) b limit out = []
+heldAfter (ended e) b limit out = plansHeld b limit out e
 
-a6 : answerOf sheetA 5 (replicate 20 9) ≡ ended (spent 3 5)
-unfolding opened
-a6 = refl
+abbrev pub run : List ℕ → ℕ → ℕ → Answer × List (List ℕ)
+run b limit k = (answerOf b limit (room k), heldAfter (answerOf b limit (room k)) b limit (room k))
 
-a7 : answerOf sheetA 6 (replicate 20 9) ≡ ended (finished 3 6)
-unfolding opened
-a7 = refl
-
-a8 : answerOf sheetA 1000 (replicate 3 9) ≡ ended (full 1 3)
-unfolding opened
-a8 = refl
-
-a9 : answerOf sheetBad 1000 (replicate 3 9) ≡ refusal 16 0
-unfolding opened
-a9 = refl
-
-ruleB : ℕ → ℕ → List ℕ
-ruleB x y = 2 ∷ 6 ∷ x ∷ y ∷ 0 ∷ 1 ∷ 0 ∷ 2 ∷ 1 ∷ 0 ∷ 1 ∷ 2 ∷ 2 ∷ 0 ∷ 2 ∷ 1 ∷ []
-
-abbrev sheetR : List ℕ
-unfolding ruleB
-sheetR = bytes ((3 ∷ 3 ∷ 3 ∷ 1 ∷ 16 ∷ 22 ∷ 118 ∷ 136 ∷ 7 ∷ 7 ∷ 7 ∷ []) ++ ruleB 0 1 ++ ruleB 0 2 ++ ruleB 1 2 ++ (3 ∷ 4 ∷ 5 ∷ 6 ∷ 7 ∷ 8 ∷ 0 ∷ 1 ∷ 2 ∷ []))
-
-r1 : take 9 (listOf sheetR 100000 (replicate 30 9)) ≡ 0 ∷ 1 ∷ 2 ∷ 0 ∷ 2 ∷ 1 ∷ 1 ∷ 2 ∷ 0 ∷ []
-unfolding ruleB opened
-r1 = refl
-
-n1 : answerOf (bytes (1 ∷ 1 ∷ 0 ∷ 0 ∷ 16 ∷ 18 ∷ 18 ∷ 18 ∷ 1 ∷ [])) 10 (9 ∷ []) ≡ ended (finished 1 1)
-unfolding opened
-n1 = refl
-
-n2 : answerOf (bytes (1 ∷ 1 ∷ 1 ∷ 0 ∷ 16 ∷ 18 ∷ 24 ∷ 24 ∷ 1 ∷ 1 ∷ 0 ∷ 0 ∷ [])) 10 (9 ∷ []) ≡ ended (finished 0 0)
-unfolding opened
-n2 = refl
-
-abbrev nogoods4 : List Entry
-nogoods4 = disequality 0 2 ∷ equality 1 1 ∷ disequality 2 1 ∷ equality 3 1 ∷ equality 4 1 ∷ disequality 2 2 ∷ equality 5 2 ∷ disequality 0 1 ∷ []
-
-f1 : filtered (6 ∷ 6 ∷ 6 ∷ 2 ∷ 2 ∷ 6 ∷ []) nogoods4 ≡ 2 ∷ 4 ∷ 6 ∷ 2 ∷ 2 ∷ 6 ∷ []
-unfolding opened
-f1 = refl
-
-f2 : filtered (6 ∷ 6 ∷ 6 ∷ 2 ∷ 6 ∷ 6 ∷ []) nogoods4 ≡ 2 ∷ 6 ∷ 6 ∷ 2 ∷ 6 ∷ 6 ∷ []
-unfolding opened
-f2 = refl
+-- the starred examples
+abbrev pub tests : List (Type 0)
+tests =
+    -- 001's four nogoods. Sets x1, x2, x3, x6 {1,2}, x4, x5 {1}. Left: x1 {1}, x2 {2}, the others as lent
+    (filterOf (6 ∷ 6 ∷ 6 ∷ 2 ∷ 2 ∷ 6 ∷ []) index4 equal4 unequal4 ≡ (accepted, 2 ∷ 4 ∷ 6 ∷ 2 ∷ 2 ∷ 6 ∷ []))
+    -- the same with x5 {1,2}: only 2 goes, from x1
+    ∷ (filterOf (6 ∷ 6 ∷ 6 ∷ 2 ∷ 6 ∷ 6 ∷ []) index4 equal4 unequal4 ≡ (accepted, 2 ∷ 6 ∷ 6 ∷ 2 ∷ 6 ∷ 6 ∷ []))
+    -- empty lists take nothing from non-empty sets
+    ∷ ((ds : List ℕ) → 1 ≤ length ds → length ds ≤ 12 → ((x : ℕ) → at ds x < 2 ^ 16) → anyEmpty ds ≡ false → filterOf ds [] [] [] ≡ (accepted, ds))
+    -- set {0} and nogood "not 0": empty
+    ∷ (filterOf (1 ∷ []) (0 ∷ []) (255 ∷ []) (0 ∷ []) ≡ (accepted, 0 ∷ []))
+    -- A: accepted, the trials 0, 01, 02, 1, 12, 2, the last dead, the plans 01, 02, 12 and the ending
+    ∷ (verdictOf sheetA ≡ accepted)
+    ∷ (nodes (problemOf sheetA) ≡ (0 ∷ []) ∷ (0 ∷ 1 ∷ []) ∷ (0 ∷ 2 ∷ []) ∷ (1 ∷ []) ∷ (1 ∷ 2 ∷ []) ∷ (2 ∷ []) ∷ [])
+    ∷ (map (isLive (problemOf sheetA)) (nodes (problemOf sheetA)) ≡ true ∷ true ∷ true ∷ true ∷ true ∷ false ∷ [])
+    ∷ (run sheetA 1000000 8 ≡ (ended (finished 3 6), (0 ∷ 1 ∷ []) ∷ (0 ∷ 2 ∷ []) ∷ (1 ∷ 2 ∷ []) ∷ []))
+    -- the list's bytes, those after the plans unchanged
+    ∷ (listOf sheetA 1000000 (room 8) ≡ 0 ∷ 1 ∷ 0 ∷ 2 ∷ 1 ∷ 2 ∷ 9 ∷ 9 ∷ [])
+    -- the whole output: plan 0 1, plan 0 2, plan 1 2, finished 3 6 3
+    ∷ (reportOf sheetA ≡ 112 ∷ 108 ∷ 97 ∷ 110 ∷ 32 ∷ 48 ∷ 32 ∷ 49 ∷ 10
+    ∷ 112 ∷ 108 ∷ 97 ∷ 110 ∷ 32 ∷ 48 ∷ 32 ∷ 50 ∷ 10
+    ∷ 112 ∷ 108 ∷ 97 ∷ 110 ∷ 32 ∷ 49 ∷ 32 ∷ 50 ∷ 10
+    ∷ 102 ∷ 105 ∷ 110 ∷ 105 ∷ 115 ∷ 104 ∷ 101 ∷ 100 ∷ 32 ∷ 51 ∷ 32 ∷ 54 ∷ 32 ∷ 51 ∷ 10 ∷ [])
+    -- A with g = 0: 6 plans, 9 trials
+    ∷ (answerOf sheetA0 1000000 (room 12) ≡ ended (finished 6 9))
+    -- A, allowance 2: 01, spent, 1 plan, 2 trials
+    ∷ (run sheetA 2 8 ≡ (ended (spent 1 2), (0 ∷ 1 ∷ []) ∷ []))
+    -- allowance 5: 3 plans, spent
+    ∷ (answerOf sheetA 5 (room 8) ≡ ended (spent 3 5))
+    -- allowance 6: finished
+    ∷ (answerOf sheetA 6 (room 8) ≡ ended (finished 3 6))
+    -- A, room for one plan: full, 1 plan, 3 trials
+    ∷ (answerOf sheetA 1000000 (room 2) ≡ ended (full 1 3))
+    -- room 0, allowance 2: full, 0 plans, 2 trials
+    ∷ (answerOf sheetA 2 [] ≡ ended (full 0 2))
+    -- the rotation of three places. Listed: 012, 021, 120
+    ∷ (run sheetR 1000000 18 .1 ≡ (0 ∷ 1 ∷ 2 ∷ []) ∷ (0 ∷ 2 ∷ 1 ∷ []) ∷ (1 ∷ 2 ∷ 0 ∷ []) ∷ [])
+    -- n = 1, d = 1, no rule: one plan, one trial
+    ∷ (answerOf sheet1 1000000 (room 1) ≡ ended (finished 1 1))
+    -- one rule without rows on it: finished, 0 plans, 0 trials
+    ∷ (answerOf sheet1None 1000000 (room 1) ≡ ended (finished 0 0))
+    ∷ []

@@ -1,11 +1,10 @@
 -- The text of the report, as bytes (paper 01, "The report").
-use mathlib.Core.Bool.{Bool, true, false}
+use mathlib.Core.Bool.{true, false}
 use mathlib.Core.List.{List, [], _∷_, _++_, map}
 use Prim.Native.Nat.{ℕ, zero, suc, _+_, _*_, _/_, _%_}
 use lib.ListN.{take}
 use lib.Dec.{ltb}
 use Rattle.model.specs.Lists.{flat}
-use Rattle.model.specs.Problem.{Problem}
 use Rattle.model.specs.Verdict.{Verdict, accepted, refused}
 use Rattle.model.specs.Sheet.{verdictOf, problemOf}
 use Rattle.model.specs.Run.{Ending, finished, spent, full, Result, resultOf}

@@ -7,7 +7,7 @@ use lib.ListN.{length}
 use lib.Dec.{leb, ltb, eqb}
 use Rattle.model.specs.Lists.{all, any, below, at, both, ascending, rowsAscend}
 use Rattle.model.specs.Problem.{Problem, Constraint, isPair, respects}
-use Rattle.model.specs.Verdict.{Verdict, accepted, refused, ask}
+use Rattle.model.specs.Verdict.{Verdict, accepted, ask}
 
 -- ---- the format
 -- an unsigned 16-bit number, low byte first

@@ -1,9 +1,8 @@
+-- `ValueSet::common` meets its contract. Assumes nothing.
 use borrow.Author.Needs.{needs}
 use Rattle.model.proofs.Masks.{common-op}
 use Rattle.model.proofs.ValueSet.common.Statement.{statement}
 use Rattle.model.proofs.ValueSet.common.Tie as tie
-use Rattle.model.proofs.ValueSet.common.Reads as reads
-use Rattle.model.proofs.ValueSet.common.Lts as lts
 
 returns : tie.Need-returns
 returns c = common-op _ _ (search needs) (search needs)

@@ -1,9 +1,8 @@
+-- `ValueSet::full` meets its contract. Assumes nothing.
 use borrow.Author.Needs.{needs}
 use Rattle.model.proofs.Masks.{full-op, full-all, shl-pos}
 use Rattle.model.proofs.ValueSet.full.Statement.{statement}
 use Rattle.model.proofs.ValueSet.full.Tie as tie
-use Rattle.model.proofs.ValueSet.full.Reads as reads
-use Rattle.model.proofs.ValueSet.full.Lts as lts
 
 shl-t4 : tie.Need-shl-t4
 shl-t4 c = search needs

@@ -1,9 +1,7 @@
-use borrow.Author.Needs.{needs}
+-- `ValueSet::lowest` meets its contract. Assumes nothing.
 use Rattle.model.proofs.Masks.{lowest-op}
 use Rattle.model.proofs.ValueSet.lowest.Statement.{statement}
 use Rattle.model.proofs.ValueSet.lowest.Tie as tie
-use Rattle.model.proofs.ValueSet.lowest.Reads as reads
-use Rattle.model.proofs.ValueSet.lowest.Lts as lts
 
 returns : tie.Need-returns
 returns c = lowest-op 16 _

@@ -1,9 +1,8 @@
+-- `ValueSet::only` meets its contract. Assumes nothing.
 use borrow.Author.Needs.{needs}
 use Rattle.model.proofs.Masks.{only-op, only-none}
 use Rattle.model.proofs.ValueSet.only.Statement.{statement}
 use Rattle.model.proofs.ValueSet.only.Tie as tie
-use Rattle.model.proofs.ValueSet.only.Reads as reads
-use Rattle.model.proofs.ValueSet.only.Lts as lts
 
 shl-t5 : tie.Need-shl-t5
 shl-t5 c = search needs

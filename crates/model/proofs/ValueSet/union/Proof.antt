@@ -1,9 +1,8 @@
+-- `ValueSet::union` meets its contract. Assumes nothing.
 use borrow.Author.Needs.{needs}
 use Rattle.model.proofs.Masks.{union-op}
 use Rattle.model.proofs.ValueSet.union.Statement.{statement}
 use Rattle.model.proofs.ValueSet.union.Tie as tie
-use Rattle.model.proofs.ValueSet.union.Reads as reads
-use Rattle.model.proofs.ValueSet.union.Lts as lts
 
 returns : tie.Need-returns
 returns c = union-op _ _ (search needs) (search needs)

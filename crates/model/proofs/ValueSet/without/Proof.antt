@@ -1,9 +1,8 @@
+-- `ValueSet::without` meets its contract. Assumes nothing.
 use borrow.Author.Needs.{needs}
 use Rattle.model.proofs.Masks.{without-op, without-none}
 use Rattle.model.proofs.ValueSet.without.Statement.{statement}
 use Rattle.model.proofs.ValueSet.without.Tie as tie
-use Rattle.model.proofs.ValueSet.without.Reads as reads
-use Rattle.model.proofs.ValueSet.without.Lts as lts
 
 shl-t5 : tie.Need-shl-t5
 shl-t5 c = search needs

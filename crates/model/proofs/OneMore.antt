@@ -1,67 +1,58 @@
 -- A sheet with one exchange more states the same problem with one symmetry more. Assumes nothing.
 use mathlib.Core.Path.{_≡_, refl, ap, ap₂, _∙_, subst}
-use mathlib.Core.List.{List, _∷_, _++_, map, append-assoc}
+use mathlib.Core.List.{List, _∷_, _++_, map, append-assoc, List·Memᴰ, List·Memᴰ·tail, List·Memᴰ·append-cases, Memᴰ·append-left, Memᴰ·append-right}
+use mathlib.Core.Logic.{⊎-elim}
 use Prim.Native.Nat.{ℕ, zero, suc, _+_, _-_, _*_, _/_, _%_, _≤_, _<_}
-use native.Mathlib.Nat.{mul-le-mul-right, suc-add}
+use native.Mathlib.Nat.{mul-le-mul-right}
 use native.Mathlib.Omega.{arith}
 use lib.Dec.{T, leb, ltb, leb→le}
-use lib.ListN.{length, getD, take, drop, length-take, length-drop, List·getD-append}
-use lib.Seq.{getD-take, getD-drop, getD-append-add}
+use lib.ListN.{length, take, drop, length-take, length-drop}
+use lib.Seq.{getD-take, getD-drop}
 use Rattle.model.specs.Lists.{below, upFrom, at, all, both, ascending, rowsAscend}
-use Rattle.model.specs.Problem.{Problem, Constraint}
+use Rattle.model.specs.Problem.{Constraint}
 use Rattle.model.specs.Verdict.{Verdict, isAccepted}
 use Rattle.model.specs.Sheet.{Header, word, words, headerOf, scopeAt, rowsAt, afterAt, constraintsVerdict, constraintsFrom, tableAt, problemOf, verdictOf}
 use Rattle.model.specs.Claims.{OneMore, put16}
+use Rattle.model.proofs.Lists.{map-shift, at-skip, at-append, below-e, upFrom-e, upFrom-add, map-append, map-ext}
 use Rattle.model.proofs.Accepted.{Passed, passed, asked}
+use Rattle.model.proofs.More.{withSymmetries}
 
 -- ---- elements of joined lists
 at-left : (xs ys : List ℕ) (n i : ℕ) → length xs ≡ n → i < n → at (xs ++ ys) i ≡ at xs i
-unfolding at
-at-left xs ys n i e h = List·getD-append xs ys 0 i (omega arith)
-
-at-skip : (xs ys : List ℕ) (n i : ℕ) → length xs ≡ n → n ≤ i → at (xs ++ ys) i ≡ at ys (i - n)
-unfolding at
-at-skip xs ys n i e h = ap (λ (j : ℕ). getD (xs ++ ys) j 0) (omega arith) ∙ getD-append-add xs ys (i - n) 0
-
--- ---- lists of the first numbers
-map-up : {A : Type 0} (f h : ℕ → A) (j a k : ℕ) → ((i : ℕ) → a ≤ i → i < a + k → f (j + i) ≡ h i) → map f (upFrom (j + a) k) ≡ map h (upFrom a k)
-unfolding upFrom
-map-up f h j a zero e = refl
-map-up {A} f h j a (suc k) e =
-    ap₂ (λ (x : A) (r : List A). x ∷ r) (e a (omega arith) (omega arith))
-    (ap (λ (m : ℕ). map f (upFrom m k)) (omega arith) ∙ map-up f h j (suc a) k (λ i p q. e i (omega arith) (omega arith)))
-
-pub map-below : {A : Type 0} (f h : ℕ → A) (k : ℕ) → ((i : ℕ) → i < k → f i ≡ h i) → map f (below k) ≡ map h (below k)
-unfolding below
-map-below {A} f h k e = map-up f h 0 0 k (λ i p q. ap f (omega arith) ∙ e i (omega arith))
-
-up-split : {A : Type 0} (f : ℕ → A) (a m n : ℕ) → map f (upFrom a (m + n)) ≡ map f (upFrom a m) ++ map f (upFrom (a + m) n)
-unfolding upFrom
-up-split f a zero n = let z : 0 + n ≡ n = omega arith in let y : a ≡ a + 0 = omega arith in ap₂ (λ (x k : ℕ). map f (upFrom x k)) y z
-up-split {A} f a (suc m) n =
-    ap (λ (k : ℕ). map f (upFrom a k)) (suc-add m n)
-    ∙ ap (λ (r : List A). f a ∷ r) (up-split f (suc a) m n ∙ ap (λ (x : ℕ). map f (upFrom (suc a) m) ++ map f (upFrom x n)) (omega arith))
+at-left xs ys n i e h = at-append xs ys i (omega arith)
 
 after-low : (b : List ℕ) (o : ℕ) → 16 ≤ o → 16 ≤ afterAt b o
 unfolding afterAt
 after-low b o h = omega arith
 
--- ---- two sheets that agree on the bytes from 16 up to an end
-module _ (b c : List ℕ) (end : ℕ) (agree : (i : ℕ) → 16 ≤ i → i < end → at c i ≡ at b i) where
-  word-agree : (o : ℕ) → 16 ≤ o → o + 2 ≤ end → word c o ≡ word b o
-  unfolding word
-  word-agree o h l = ap₂ (λ (x y : ℕ). x + 256 * y) (agree o h (omega arith)) (agree (o + 1) (omega arith) (omega arith))
+-- ---- the same bytes give the same numbers
+-- two sheets agree on the bytes from lo up to hi
+abbrev Agree : List ℕ → List ℕ → ℕ → ℕ → Type 0
+Agree b c lo hi = (i : ℕ) → lo ≤ i → i < hi → at c i ≡ at b i
 
-  pub words-agree : (o k : ℕ) → 16 ≤ o → o + 2 * k ≤ end → words c o k ≡ words b o k
-  unfolding words
-  words-agree o k h l = map-below (λ i. word c (o + 2 * i)) (λ i. word b (o + 2 * i)) k (λ i m. word-agree (o + 2 * i) (omega arith) (omega arith))
+word-same : (b c : List ℕ) (o o′ : ℕ) → at c o ≡ at b o′ → at c (o + 1) ≡ at b (o′ + 1) → word c o ≡ word b o′
+unfolding word
+word-same b c o o′ e f = ap₂ (λ (x y : ℕ). x + 256 * y) e f
 
+words-same : (b c : List ℕ) (o o′ k : ℕ) → ((i : ℕ) → i < k → word c (o + 2 * i) ≡ word b (o′ + 2 * i)) → words c o k ≡ words b o′ k
+unfolding words
+words-same b c o o′ k h = map-ext (λ i. word c (o + 2 * i)) (λ i. word b (o′ + 2 * i)) (below k) (λ i m. h i (below-e k i m))
+
+module _ (b c : List ℕ) (lo hi : ℕ) (agree : Agree b c lo hi) where
+  word-agree : (o : ℕ) → lo ≤ o → o + 2 ≤ hi → word c o ≡ word b o
+  word-agree o h l = word-same b c o o (agree o h (omega arith)) (agree (o + 1) (omega arith) (omega arith))
+
+  words-agree : (o k : ℕ) → lo ≤ o → o + 2 * k ≤ hi → words c o k ≡ words b o k
+  words-agree o k h l = words-same b c o o k (λ i m. word-agree (o + 2 * i) (omega arith) (omega arith))
+
+-- the constraints up to an end
+module _ (b c : List ℕ) (end : ℕ) (agree : Agree b c 16 end) where
   module _ (o : ℕ) (low : 16 ≤ o) (head : o + 4 ≤ end) (tail : afterAt b o ≤ end) where
     arity : word c o ≡ word b o
-    arity = word-agree o low (omega arith)
+    arity = word-agree b c 16 end agree o low (omega arith)
 
     count : word c (o + 2) ≡ word b (o + 2)
-    count = word-agree (o + 2) (omega arith) (omega arith)
+    count = word-agree b c 16 end agree (o + 2) (omega arith) (omega arith)
 
     after-agree : afterAt c o ≡ afterAt b o
     unfolding afterAt
@@ -69,7 +60,7 @@ module _ (b c : List ℕ) (end : ℕ) (agree : (i : ℕ) → 16 ≤ i → i < en
 
     scope-agree : scopeAt c o ≡ scopeAt b o
     unfolding scopeAt afterAt
-    scope-agree = ap (words c (o + 4)) arity ∙ words-agree (o + 4) (word b o) (omega arith) (omega arith)
+    scope-agree = ap (words c (o + 4)) arity ∙ words-agree b c 16 end agree (o + 4) (word b o) (omega arith) (omega arith)
 
     rows-agree : rowsAt c o ≡ rowsAt b o
     unfolding rowsAt afterAt
@@ -77,8 +68,8 @@ module _ (b c : List ℕ) (end : ℕ) (agree : (i : ℕ) → 16 ≤ i → i < en
         let a = word b o in
         let r = word b (o + 2) in
         ap₂ (λ (x y : ℕ). map (λ i. words c (o + 4 + 2 * x + 2 * (i * x)) x) (below y)) arity count
-        ∙ map-below (λ i. words c (o + 4 + 2 * a + 2 * (i * a)) a) (λ i. words b (o + 4 + 2 * a + 2 * (i * a)) a) r
-        (λ i m. words-agree (o + 4 + 2 * a + 2 * (i * a)) a (omega arith) (omega (arith, mul-le-mul-right a m)))
+        ∙ map-ext (λ i. words c (o + 4 + 2 * a + 2 * (i * a)) a) (λ i. words b (o + 4 + 2 * a + 2 * (i * a)) a) (below r)
+        (λ i m. words-agree b c 16 end agree (o + 4 + 2 * a + 2 * (i * a)) a (omega arith) (omega (arith, mul-le-mul-right a (below-e r i m))))
 
   constraints-agree : (h : Header) → h .third ≡ end → (k i o : ℕ) (v : Verdict) → 16 ≤ o → T (isAccepted (constraintsVerdict b h k i o v)) → constraintsFrom c k o ≡ constraintsFrom b k o
   unfolding constraintsVerdict constraintsFrom
@@ -95,10 +86,6 @@ module _ (b c : List ℕ) (end : ℕ) (agree : (i : ℕ) → 16 ≤ i → i < en
       ap₂ (λ (x : Constraint) (r : List Constraint). x ∷ r)
       (ap₂ (λ (x : List ℕ) (r : List (List ℕ)). record { scope = x; rows = r }) (scope-agree o low head tail) (rows-agree o low head tail))
       (ap (constraintsFrom c k) (after-agree o low head tail) ∙ constraints-agree h e k (suc i) (afterAt b o) v (after-low b o low) (q6 .1))
-
--- the problem with other symmetries
-abbrev pub withSymmetries : Problem → List (List ℕ) → Problem
-withSymmetries p gs = record { variables = p .variables; values = p .values; initial = p .initial; constraints = p .constraints; symmetries = gs }
 
 -- ---- the bytes of the longer sheet
 word-of : (l : List ℕ) (o v : ℕ) → at l o ≡ v % 256 → at l (o + 1) ≡ v / 256 → word l o ≡ v
@@ -190,20 +177,20 @@ module _ (b c t : List ℕ) (k : ℕ) (more : OneMore b c k t) (ok : Passed b) w
       at5 i (omega arith) ∙ at-skip (take (cut - 16) (drop 16 b)) e6 (cut - 16) (i - 16) l5 (omega arith) ∙ ap (at e6) (omega arith)
 
   -- the bytes, part by part
-  front : (i : ℕ) → i < 6 → at c i ≡ at b i
+  front : Agree b c 0 6
   unfolding at
-  front i h = ap (λ (l : List ℕ). at l i) whole ∙ at-left (take 6 b) e2 6 i l1 h ∙ getD-take 6 b i 0 h
+  front i h l = ap (λ (l : List ℕ). at l i) whole ∙ at-left (take 6 b) e2 6 i l1 l ∙ getD-take 6 b i 0 l
 
   raised : word c 6 ≡ up
   unfolding e2 at
   raised = word-of c 6 up (at2 6 (omega arith)) (at2 7 (omega arith))
 
-  middle : (i : ℕ) → 8 ≤ i → i < 14 → at c i ≡ at b i
+  middle : Agree b c 8 14
   unfolding e3 at
   middle i h l =
       at3 i h ∙ at-left (take 6 (drop 8 b)) e4 6 (i - 8) l3 (omega arith) ∙ getD-take 6 (drop 8 b) (i - 8) 0 (omega arith) ∙ getD-drop 8 b (i - 8) 0 ∙ ap (at b) (omega arith)
 
-  body : (i : ℕ) → 16 ≤ i → i < cut → at c i ≡ at b i
+  body : Agree b c 16 cut
   unfolding e5 at
   body i h l =
       at5 i h ∙ at-left (take (cut - 16) (drop 16 b)) e6 (cut - 16) (i - 16) l5 (omega arith) ∙ getD-take (cut - 16) (drop 16 b) (i - 16) 0 (omega arith)
@@ -219,25 +206,17 @@ module _ (b c t : List ℕ) (k : ℕ) (more : OneMore b c k t) (ok : Passed b) w
       at6 (cut + length t + i) (omega arith) ∙ at-skip t (drop cut b) (length t) (cut + length t + i - cut) refl (omega arith) ∙ getD-drop cut b (cut + length t + i - cut - length t) 0 ∙ ap (at b) (omega arith)
 
   -- the header
-  word-front : (o : ℕ) → o + 1 < 6 → word c o ≡ word b o
-  unfolding word
-  word-front o h = ap₂ (λ (x y : ℕ). x + 256 * y) (front o (omega arith)) (front (o + 1) (omega arith))
-
-  word-middle : (o : ℕ) → 8 ≤ o → o + 1 < 14 → word c o ≡ word b o
-  unfolding word
-  word-middle o h l = ap₂ (λ (x y : ℕ). x + 256 * y) (middle o h (omega arith)) (middle (o + 1) (omega arith) l)
-
   pub same-variables : headerOf c .variables ≡ headerOf b .variables
   unfolding headerOf
-  same-variables = word-front 0 (omega arith)
+  same-variables = word-agree b c 0 6 front 0 (omega arith) (omega arith)
 
   pub same-values : headerOf c .values ≡ headerOf b .values
   unfolding headerOf
-  same-values = word-front 2 (omega arith)
+  same-values = word-agree b c 0 6 front 2 (omega arith) (omega arith)
 
   same-constraints : headerOf c .constraints ≡ headerOf b .constraints
   unfolding headerOf
-  same-constraints = word-front 4 (omega arith)
+  same-constraints = word-agree b c 0 6 front 4 (omega arith) (omega arith)
 
   more-symmetries : headerOf c .symmetries ≡ up
   unfolding headerOf
@@ -245,18 +224,18 @@ module _ (b c t : List ℕ) (k : ℕ) (more : OneMore b c k t) (ok : Passed b) w
 
   same-second : headerOf c .second ≡ headerOf b .second
   unfolding headerOf
-  same-second = word-middle 10 (omega arith) (omega arith)
+  same-second = word-agree b c 8 14 middle 10 (omega arith) (omega arith)
 
   same-third : headerOf c .third ≡ headerOf b .third
   unfolding headerOf
-  same-third = word-middle 12 (omega arith) (omega arith)
+  same-third = word-agree b c 8 14 middle 12 (omega arith) (omega arith)
 
   -- sets and constraints
-  below-third : (i : ℕ) → 16 ≤ i → i < third → at c i ≡ at b i
+  below-third : Agree b c 16 third
   below-third i h l = body i h (omega (arith, third-cut))
 
   pub same-initial : words c 16 (headerOf c .variables) ≡ words b 16 (headerOf b .variables)
-  same-initial = ap (words c 16) same-variables ∙ words-agree b c third below-third 16 (headerOf b .variables) (omega arith) (omega (arith, ok .second, ok .ordered))
+  same-initial = ap (words c 16) same-variables ∙ words-agree b c 16 third below-third 16 (headerOf b .variables) (omega arith) (omega (arith, ok .second, ok .ordered))
 
   pub same-rules : constraintsFrom c (headerOf c .constraints) (headerOf c .second) ≡ constraintsFrom b (headerOf b .constraints) (headerOf b .second)
   same-rules =
@@ -279,10 +258,9 @@ module _ (b c t : List ℕ) (k : ℕ) (more : OneMore b c k t) (ok : Passed b) w
   unfolding tableAt
   table-before i h =
       let l : suc i * n ≤ k * n = mul-le-mul-right n h in
-      table-c i ∙ words-agree b c cut body (third + 2 * (i * n)) n (omega (arith, ok .second, ok .ordered)) (omega (arith, cut-is 0))
+      table-c i ∙ words-agree b c 16 cut body (third + 2 * (i * n)) n (omega (arith, ok .second, ok .ordered)) (omega (arith, cut-is 0))
 
   word-inserted : (j : ℕ) → j < n → word c (third + 2 * (k * n) + 2 * j) ≡ word t (0 + 2 * j)
-  unfolding word
   word-inserted j h =
       let e = cut-is 0 in
       let q = table in
@@ -290,33 +268,33 @@ module _ (b c t : List ℕ) (k : ℕ) (more : OneMore b c k t) (ok : Passed b) w
       let e2 : third + 2 * (k * n) + 2 * j + 1 ≡ cut + (2 * j + 1) = omega arith in
       let z1 : 2 * j ≡ 0 + 2 * j = omega arith in
       let z2 : 2 * j + 1 ≡ 0 + 2 * j + 1 = omega arith in
-      ap₂ (λ (x y : ℕ). x + 256 * y)
+      word-same t c (third + 2 * (k * n) + 2 * j) (0 + 2 * j)
       (ap (at c) e1 ∙ inserted (2 * j) (omega arith) ∙ ap (at t) z1)
       (ap (at c) e2 ∙ inserted (2 * j + 1) (omega arith) ∙ ap (at t) z2)
 
   table-at : tableAt c (headerOf c) k ≡ added
-  unfolding added words
-  table-at = table-c k ∙ map-below (λ i. word c (third + 2 * (k * n) + 2 * i)) (λ i. word t (0 + 2 * i)) n word-inserted
+  unfolding added
+  table-at = table-c k ∙ words-same t c (third + 2 * (k * n)) 0 n word-inserted
 
-  word-behind : (m j : ℕ) → word c (third + 2 * ((1 + (k + m)) * n) + 2 * j) ≡ word b (third + 2 * ((k + m) * n) + 2 * j)
-  unfolding word
+  word-behind : (m j : ℕ) → word c (third + 2 * (suc (k + m) * n) + 2 * j) ≡ word b (third + 2 * ((k + m) * n) + 2 * j)
   word-behind m j =
       let e = cut-is m in
       let q = table in
       let x = 2 * (m * n) + 2 * j in
-      let e1 : third + 2 * ((1 + (k + m)) * n) + 2 * j ≡ cut + length t + x = omega arith in
-      let e2 : third + 2 * ((1 + (k + m)) * n) + 2 * j + 1 ≡ cut + length t + (x + 1) = omega arith in
+      let e1 : third + 2 * (suc (k + m) * n) + 2 * j ≡ cut + length t + x = omega arith in
+      let e2 : third + 2 * (suc (k + m) * n) + 2 * j + 1 ≡ cut + length t + (x + 1) = omega arith in
       let z1 : cut + x ≡ third + 2 * ((k + m) * n) + 2 * j = omega arith in
       let z2 : cut + (x + 1) ≡ third + 2 * ((k + m) * n) + 2 * j + 1 = omega arith in
-      ap₂ (λ (x y : ℕ). x + 256 * y) (ap (at c) e1 ∙ behind x ∙ ap (at b) z1) (ap (at c) e2 ∙ behind (x + 1) ∙ ap (at b) z2)
+      word-same b c (third + 2 * (suc (k + m) * n) + 2 * j) (third + 2 * ((k + m) * n) + 2 * j)
+      (ap (at c) e1 ∙ behind x ∙ ap (at b) z1) (ap (at c) e2 ∙ behind (x + 1) ∙ ap (at b) z2)
 
-  table-after : (i : ℕ) → k ≤ i → tableAt c (headerOf c) (1 + i) ≡ tableAt b (headerOf b) i
-  unfolding tableAt words
+  table-after : (i : ℕ) → k ≤ i → tableAt c (headerOf c) (suc i) ≡ tableAt b (headerOf b) i
+  unfolding tableAt
   table-after i h =
       let e : k + (i - k) ≡ i = omega arith in
-      table-c (1 + i)
-      ∙ subst (λ (x : ℕ). map (λ j. word c (third + 2 * ((1 + x) * n) + 2 * j)) (below n) ≡ map (λ j. word b (third + 2 * (x * n) + 2 * j)) (below n)) e
-      (map-below (λ j. word c (third + 2 * ((1 + (k + (i - k))) * n) + 2 * j)) (λ j. word b (third + 2 * ((k + (i - k)) * n) + 2 * j)) n (λ j l. word-behind (i - k) j))
+      table-c (suc i)
+      ∙ subst (λ (x : ℕ). words c (third + 2 * (suc x * n)) n ≡ words b (third + 2 * (x * n)) n) e
+      (words-same b c (third + 2 * (suc (k + (i - k)) * n)) (third + 2 * ((k + (i - k)) * n)) n (λ j l. word-behind (i - k) j))
 
   -- the symmetries before the inserted one, and those behind it
   pub before : List (List ℕ)
@@ -325,18 +303,22 @@ module _ (b c t : List ℕ) (k : ℕ) (more : OneMore b c k t) (ok : Passed b) w
   pub after : List (List ℕ)
   after = map (tableAt b (headerOf b)) (upFrom k (headerOf b .symmetries - k))
 
-  pub old-tables : map (tableAt b (headerOf b)) (below (headerOf b .symmetries)) ≡ before ++ after
-  unfolding below before after
-  old-tables =
-      let f = tableAt b (headerOf b) in
-      let m = headerOf b .symmetries - k in
-      let h = more .0 in
-      let e : headerOf b .symmetries ≡ k + m = omega arith in
+  -- the tables of k + m symmetries, in two parts
+  parted : {A : Type 0} (f : ℕ → A) (m : ℕ) → map f (below (k + m)) ≡ map f (below k) ++ map f (upFrom k m)
+  unfolding below
+  parted {A} f m =
       let z : 0 + k ≡ k = omega arith in
-      ap (λ (x : ℕ). map f (upFrom 0 x)) e ∙ up-split f 0 k m ∙ ap (λ (x : ℕ). map f (upFrom 0 k) ++ map f (upFrom x m)) z
+      ap (map f) (upFrom-add 0 k m) ∙ map-append f (upFrom 0 k) (upFrom (0 + k) m) ∙ ap (λ (x : ℕ). map f (upFrom 0 k) ++ map f (upFrom x m)) z
+
+  pub old-tables : map (tableAt b (headerOf b)) (below (headerOf b .symmetries)) ≡ before ++ after
+  unfolding before after
+  old-tables =
+      let h = more .0 in
+      let e : headerOf b .symmetries ≡ k + (headerOf b .symmetries - k) = omega arith in
+      ap (λ (x : ℕ). map (tableAt b (headerOf b)) (below x)) e ∙ parted (tableAt b (headerOf b)) (headerOf b .symmetries - k)
 
   pub new-tables : map (tableAt c (headerOf c)) (below (headerOf c .symmetries)) ≡ before ++ (added ∷ after)
-  unfolding below before after upFrom
+  unfolding before after upFrom
   new-tables =
       let f = tableAt b (headerOf b) in
       let f′ = tableAt c (headerOf c) in
@@ -344,11 +326,9 @@ module _ (b c t : List ℕ) (k : ℕ) (more : OneMore b c k t) (ok : Passed b) w
       let h = more .0 in
       let q = more-symmetries in
       let e : headerOf c .symmetries ≡ k + suc m = omega arith in
-      let z : 0 + k ≡ k = omega arith in
-      let y : suc (0 + k) ≡ 1 + k = omega arith in
-      ap (λ (x : ℕ). map f′ (upFrom 0 x)) e ∙ up-split f′ 0 k (suc m)
-      ∙ ap₂ (λ (xs ys : List (List ℕ)). xs ++ ys) (map-below f′ f k table-before)
-      (ap₂ (λ (x : List ℕ) (r : List (List ℕ)). x ∷ r) (ap f′ z ∙ table-at) (ap (λ (x : ℕ). map f′ (upFrom x m)) y ∙ map-up f′ f 1 k m (λ i l r. table-after i l)))
+      ap (λ (x : ℕ). map f′ (below x)) e ∙ parted f′ (suc m)
+      ∙ ap₂ (λ (xs ys : List (List ℕ)). xs ++ ys) (map-ext f′ f (below k) (λ i l. table-before i (below-e k i l)))
+      (ap₂ (λ (x : List ℕ) (r : List (List ℕ)). x ∷ r) table-at (map-shift f′ k m ∙ map-ext (λ i. f′ (suc i)) f (upFrom k m) (λ i l. table-after i (upFrom-e k m i l .0))))
 
   longer : problemOf c ≡ withSymmetries (problemOf b) (before ++ (added ∷ after))
   unfolding problemOf
@@ -358,8 +338,16 @@ module _ (b c t : List ℕ) (k : ℕ) (more : OneMore b c k t) (ok : Passed b) w
   unfolding problemOf
   old = old-tables
 
+-- one table more, anywhere
+kept-among : (xs ys : List (List ℕ)) (g h : List ℕ) → List·Memᴰ h (xs ++ ys) → List·Memᴰ h (xs ++ (g ∷ ys))
+kept-among xs ys g h m = ⊎-elim {C = List·Memᴰ h (xs ++ (g ∷ ys))} (λ k. Memᴰ·append-left (g ∷ ys) k) (λ k. Memᴰ·append-right xs (List·Memᴰ·tail k)) (List·Memᴰ·append-cases xs m)
+
+-- the longer sheet states the same problem with further symmetries
 pub one-more : (b c t : List ℕ) (k : ℕ) → OneMore b c k t → T (isAccepted (verdictOf b))
-    → (xs : List (List ℕ)) × (g : List ℕ) × (ys : List (List ℕ)) × (problemOf b .symmetries ≡ xs ++ ys) × (problemOf c ≡ withSymmetries (problemOf b) (xs ++ (g ∷ ys)))
+    → (gs : List (List ℕ)) × ((g : List ℕ) → List·Memᴰ g (problemOf b .symmetries) → List·Memᴰ g gs) × (problemOf c ≡ withSymmetries (problemOf b) gs)
 one-more b c t k more acc =
     let ok = passed b acc in
-    (before b c t k more ok, added b c t k more ok, after b c t k more ok, old b c t k more ok, longer b c t k more ok)
+    let xs = before b c t k more ok in
+    let ys = after b c t k more ok in
+    let h = added b c t k more ok in
+    (xs ++ (h ∷ ys), λ g m. kept-among xs ys h g (subst (List·Memᴰ g) (old b c t k more ok) m), longer b c t k more ok)

@@ -1,12 +1,12 @@
 -- A solution obeys the nogoods of a symmetry exactly if the symmetry takes no solution that reads earlier to it. Assumes nothing.
 use mathlib.Core.Path.{_≡_, refl, sym, ap, ap₂, _∙_, subst}
 use mathlib.Core.Bool.{Bool, true, false, not}
-use mathlib.Core.List.{List, [], _∷_, map, List·Memᴰ, List·Memᴰ·head, List·Memᴰ·tail, Memᴰ·cast}
-use Prim.Native.Nat.{ℕ, zero, suc, _<_, _/_, _%_}
-use native.Mathlib.Nat.{not-suc-le-zero, le-of-suc-le-suc, lt-of-lt-of-le}
+use mathlib.Core.List.{List, map, List·Memᴰ, Memᴰ·cast, Memᴰ·map, Memᴰ·of-map}
+use Prim.Native.Nat.{ℕ, _<_, _/_, _%_}
+use native.Mathlib.Nat.{lt-of-lt-of-le}
 use native.Mathlib.Omega.{arith}
 use lib.Dec.{T, T-not, not-T, ltb, eqb→eq, ltb→lt, lt→ltb}
-use lib.ListN.{length, getD}
+use lib.ListN.{getD}
 use borrow.Author.Tests.{eq-eqb}
 use Rattle.model.specs.Lists.{both, all, any, at, earlier}
 use Rattle.model.specs.ValueSets.{has, members}
@@ -14,35 +14,14 @@ use Rattle.model.specs.Problem.{Problem, pair, isPair, pairsOf, within, 
 use Rattle.model.specs.Nogood.{is, obeys}
 use Rattle.model.specs.Search.{nogoodsOf}
 use Rattle.model.proofs.WellFormed.{WellFormed, GoodSymmetry}
-use Rattle.model.specs.Claims.{isLeader}
-use Rattle.model.proofs.Basics.{both-i, both-l, both-r, T-ext, T-of, stable, any-i, any-e, map-i, map-e, keep-i, keep-e}
-use Rattle.model.proofs.Draws.{members-i, members-e, Drawn, drawn-i}
+use Rattle.model.specs.Claims.{Leader, isLeader}
+use Rattle.model.proofs.Lists.{not-any, both-i, both-l, both-r, T-ext, T-of, stable, all-i, all-e, any-i, any-e, keep-i, keep-e, getD-at}
+use Rattle.model.proofs.Sets.{members-i, members-e}
+use Rattle.model.proofs.Assignments.{drawn-i}
+use Rattle.model.proofs.Tree.{solution-e, well-sized}
 use Rattle.model.proofs.Pairs as P
 use Rattle.model.proofs.Symmetry as S
 use Rattle.model.proofs.Obey as O
-
-any-default : (l : List ℕ) (i d e : ℕ) → i < length l → getD l i d ≡ getD l i e
-any-default [] i d e h = absurd (not-suc-le-zero h)
-any-default (x ∷ l) zero d e h = refl
-any-default (x ∷ l) (suc i) d e h = any-default l i d e (le-of-suc-le-suc h)
-
-drawn-of : (ss a : List ℕ) → length a ≡ length ss → ((x : ℕ) → x < length ss → (at a x < 16) × T (has (at ss x) (at a x))) → Drawn ss a
-unfolding at
-drawn-of [] [] e h = tt
-drawn-of [] (v ∷ a) e h = absurd (omega arith)
-drawn-of (s ∷ ss) [] e h = absurd (omega arith)
-drawn-of (s ∷ ss) (v ∷ a) e h = let r = h 0 (omega arith) in (r .0, r .1, drawn-of ss a (omega arith) (λ x l. h (suc x) (omega arith)))
-
-not-any : {A : Type 0} (f h : A → Bool) (xs : List A) → ((x : A) → List·Memᴰ x xs → h x ≡ not (f x)) → not (any f xs) ≡ all h xs
-unfolding any all
-not-any f h [] e = refl
-not-any {A} f h (x ∷ xs) e = go (f x) (h x) (e x (List·Memᴰ·head refl)) (not-any f h xs (λ y m. e y (List·Memᴰ·tail m)))
-  where
-    go : (b c : Bool) → c ≡ not b → not (any f xs) ≡ all h xs → not (elim b [ true ↦ true | false ↦ any f xs ]) ≡ elim c [ true ↦ all h xs | false ↦ false ]
-    go true true q r = absurd (subst T q tt)
-    go true false q r = refl
-    go false true q r = r
-    go false false q r = absurd (subst T (sym q) tt)
 
 guarded : (b c d : Bool) → (T b → c ≡ d) → both b c ≡ both b d
 guarded true c d h = h tt
@@ -53,28 +32,27 @@ module _ (p : Problem) (g t s : List ℕ) where
   unfolding takes
   takes-in h q m =
       P.within-e (map (at g) (pairsOf p t)) (pairsOf p s) (both-l (within (map (at g) (pairsOf p t)) (pairsOf p s)) (within (pairsOf p s) (map (at g) (pairsOf p t))) h)
-      (at g q) (map-i (at g) (pairsOf p t) q m)
+      (at g q) (Memᴰ·map (at g) m)
 
-  pub takes-on : T (takes p g t s) → (q : ℕ) → List·Memᴰ q (pairsOf p s) → (r : ℕ) × List·Memᴰ r (pairsOf p t) × (q ≡ at g r)
+  pub takes-on : T (takes p g t s) → (q : ℕ) → List·Memᴰ q (pairsOf p s) → (r : ℕ) × List·Memᴰ r (pairsOf p t) × (at g r ≡ q)
   unfolding takes
   takes-on h q m =
-      map-e (at g) (pairsOf p t) q
+      Memᴰ·of-map (at g) (pairsOf p t)
       (P.within-e (pairsOf p s) (map (at g) (pairsOf p t)) (both-r (within (map (at g) (pairsOf p t)) (pairsOf p s)) (within (pairsOf p s) (map (at g) (pairsOf p t))) h) q m)
 
 module _ (p : Problem) (w : WellFormed p) where
   pub sol-small : (a : List ℕ) → T (isSolution p a) → (x : ℕ) → x < p .variables → at a x < 16
   sol-small a s x h = lt-of-lt-of-le (P.sol-lt p w a s x h) (w .sixteen)
 
+  -- a solution is one of the assignments
   pub sol-drawn : (a : List ℕ) → T (isSolution p a) → List·Memᴰ a (assignments (p .initial))
   sol-drawn a s =
-      drawn-i (p .initial) a
-      (drawn-of (p .initial) a (P.sol-length p a s ∙ sym (w .sized))
-      (λ x l. let h : x < p .variables = subst (λ (k : ℕ). x < k) (w .sized) l in (sol-small a s x h, P.sol-has p a s x h)))
+      let h = solution-e p a s in
+      drawn-i (p .initial) a (well-sized p w .1) (h .sized ∙ sym (w .sized), λ x l. h .drawn x (subst (λ (k : ℕ). x < k) (w .sized) l))
 
-  -- a number that stands for a pair of the solution s
+  -- an entry of the list holds of s exactly if its number is one of the pairs of s
   module _ (s : List ℕ) (sol : T (isSolution p s)) where
     meets-i : (q : ℕ) → List·Memᴰ q (pairsOf p s) → T (is s (q / p .values) (q % p .values))
-    unfolding at
     meets-i q m =
         let r = P.pairs-e p s q m in
         let x = r .0 in
@@ -82,14 +60,13 @@ module _ (p : Problem) (w : WellFormed p) where
         let ex : q / p .values ≡ x = ap (λ (k : ℕ). k / p .values) (r .2) ∙ P.pair-div p w x (at s x) l in
         let ev : q % p .values ≡ at s x = ap (λ (k : ℕ). k % p .values) (r .2) ∙ P.pair-mod p w x (at s x) l in
         T-of (is s (q / p .values) (q % p .values))
-        (ap₂ (λ (y v : ℕ). is s y v) ex ev ∙ eq-eqb (getD s x 16) (at s x) (any-default s x 16 0 (subst (λ (k : ℕ). x < k) (sym (P.sol-length p s sol)) (r .1))))
+        (ap₂ (λ (y v : ℕ). is s y v) ex ev ∙ eq-eqb (getD s x 16) (at s x) (getD-at s x 16 (subst (λ (k : ℕ). x < k) (sym (solution-e p s sol .sized)) (r .1))))
 
     meets-e : (q : ℕ) → T (isPair p q) → T (is s (q / p .values) (q % p .values)) → List·Memᴰ q (pairsOf p s)
-    unfolding at
     meets-e q t h =
         let x = q / p .values in
         let l : x < p .variables = P.isPair-var p w q t in
-        let e : at s x ≡ q % p .values = any-default s x 0 16 (subst (λ (k : ℕ). x < k) (sym (P.sol-length p s sol)) l) ∙ eqb→eq (getD s x 16) (q % p .values) h in
+        let e : at s x ≡ q % p .values = sym (getD-at s x 16 (subst (λ (k : ℕ). x < k) (sym (solution-e p s sol .sized)) l)) ∙ eqb→eq (getD s x 16) (q % p .values) h in
         Memᴰ·cast (sym (P.pair-of p w q) ∙ ap (pair p x) (sym e)) (P.pairs-i p s x l)
 
     module _ (g : List ℕ) (m : List·Memᴰ g (p .symmetries)) where
@@ -102,45 +79,48 @@ module _ (p : Problem) (w : WellFormed p) where
           let q = pair p x v in
           let tq : T (isPair p q) = P.isPair-i p w x v l hv in
           let k = takes-on p g t s h (at g q) (meets-e (at g q) (S.to-pair p w g good q tq) mt) in
-          let e : q ≡ k .0 = S.injective p w g good q (k .0) (P.isPair-lt p w q tq) (P.isPair-lt p w (k .0) (P.sol-pair p w t st (k .0) (k .1))) (k .2) in
+          let e : q ≡ k .0 = S.injective p w g good q (k .0) (P.isPair-lt p w q tq) (P.isPair-lt p w (k .0) (P.sol-pair p w t st (k .0) (k .1))) (sym (k .2)) in
           P.sol-at p w t st x v (P.init-lt p w x v l hv) (Memᴰ·cast e (k .1))
 
       abbrev pub beaten : List ℕ → Bool
       beaten t = both (isSolution p t) (both (earlier t s) (takes p g t s))
 
+      -- who obeys is beaten by no solution: the first difference would break a nogood
       obeys-none : T (obeys s (nogoodsOf p g s)) → (t : List ℕ) → T (isSolution p t) → T (earlier t s) → T (takes p g t s) → ⊥
       obeys-none h t st e tk =
-          let f = O.earlier-e t s e in
+          let f = O.first-e t s e in
           let j = f .0 in
-          let lj : j < p .variables = subst (λ (k : ℕ). j < k) (P.sol-length p s sol) (f .1 .1) in
+          let lj : j < p .variables = subst (λ (k : ℕ). j < k) (solution-e p s sol .sized) (f .1 .1) in
           let met : (x : ℕ) → x < p .variables → T (O.meets p g s x (at t x)) = λ x l. meets-i (at g (pair p x (at t x))) (takes-in p g t s tk (pair p x (at t x)) (P.pairs-i p t x l)) in
           O.obeys-e p g s h j (at t j) (f .1 .1) (λ i l. subst (λ (v : ℕ). T (O.meets p g s i v)) (f .1 .2 i l) (met i (omega arith)))
-          (keep-i (λ v. ltb v (at s j)) (members (at (p .initial) j)) (at t j) (members-i (at (p .initial) j) (at t j) (sol-small t st j lj) (P.sol-has p t st j lj)) (lt→ltb (at t j) (at s j) (f .1 .3)))
+          (keep-i (λ v. ltb v (at s j)) (members (at (p .initial) j)) (at t j) (members-i (at (p .initial) j) (at t j) (sol-small t st j lj) (solution-e p t st .drawn j lj)) (lt→ltb (at t j) (at s j) (f .1 .3)))
           (met j lj)
 
+      -- and a broken nogood gives one: the preimage of s reads earlier
       none-obeys : ((t : List ℕ) → T (isSolution p t) → T (earlier t s) → T (takes p g t s) → ⊥) → T (obeys s (nogoodsOf p g s))
       none-obeys h =
           stable (obeys s (nogoodsOf p g s))
           (λ bad. let r = O.obeys-not p g s bad in
           let j = r .0 in
           let v = r .1 in
-          let n = P.sol-length p s sol in
+          let n = solution-e p s sol .sized in
           let lj : j < p .variables = subst (λ (k : ℕ). j < k) n (r .2) in
           let k = keep-e (λ u. ltb u (at s j)) (members (at (p .initial) j)) v (r .4) in
           let pre = S.preimage p w g m s sol in
           let t = pre .0 in
-          let nt = P.sol-length p t (pre .1) in
+          let nt = solution-e p t (pre .1) .sized in
           let ej : at t j ≡ v = sent t (pre .1) (pre .2) j v lj (members-e (at (p .initial) j) v (k .0) .1) (r .5) in
           let less : v < at s j = ltb→lt v (at s j) (k .1) in
-          h t (pre .1) (O.earlier-i t s j (
+          h t (pre .1) (O.first-i t s j (
             subst (λ (z : ℕ). j < z) (sym nt) lj,
             r .2,
-            λ i l. (let li : i < p .variables = omega arith in sent t (pre .1) (pre .2) i (at s i) li (P.sol-has p s sol i li) (r .3 i l)),
+            λ i l. (let li : i < p .variables = omega arith in sent t (pre .1) (pre .2) i (at s i) li (solution-e p s sol .drawn i li) (r .3 i l)),
             subst (λ (z : ℕ). z < at s j) (sym ej) less,
           )) (pre .2))
 
-      pub heart : obeys s (nogoodsOf p g s) ≡ not (any (λ t. both (isSolution p t) (both (earlier t s) (takes p g t s))) (assignments (p .initial)))
-      heart =
+      -- s obeys g's list exactly if g takes no solution that reads earlier to it
+      pub obeys-is : obeys s (nogoodsOf p g s) ≡ not (any (λ t. both (isSolution p t) (both (earlier t s) (takes p g t s))) (assignments (p .initial)))
+      obeys-is =
           T-ext (obeys s (nogoodsOf p g s)) (not (any beaten (assignments (p .initial))))
           (λ h. not-T (any beaten (assignments (p .initial)))
           (λ a. let r = any-e beaten (assignments (p .initial)) a in
@@ -153,4 +133,20 @@ module _ (p : Problem) (w : WellFormed p) where
   pub leader-is : (s : List ℕ) → isLeader p s ≡ both (isSolution p s) (all (λ g. obeys s (nogoodsOf p g s)) (p .symmetries))
   leader-is s =
       guarded (isSolution p s) (not (any (λ g. any (λ t. both (isSolution p t) (both (earlier t s) (takes p g t s))) (assignments (p .initial))) (p .symmetries))) (all (λ g. obeys s (nogoodsOf p g s)) (p .symmetries))
-      (λ sol. not-any (λ g. any (λ t. both (isSolution p t) (both (earlier t s) (takes p g t s))) (assignments (p .initial))) (λ g. obeys s (nogoodsOf p g s)) (p .symmetries) (λ g m. heart s sol g m))
+      (λ sol. not-any (λ g. any (λ t. both (isSolution p t) (both (earlier t s) (takes p g t s))) (assignments (p .initial))) (λ g. obeys s (nogoodsOf p g s)) (p .symmetries) (λ g m. obeys-is s sol g m))
+
+  -- the test says what it should
+  pub leader-e : (s : List ℕ) → T (isLeader p s) → Leader p s
+  leader-e s h = record {
+    solves = sol;
+    unbeaten = λ g t m st e tk. obeys-none s sol g m (all-e (λ k. obeys s (nogoodsOf p k s)) (p .symmetries) (both-r (isSolution p s) (all (λ k. obeys s (nogoodsOf p k s)) (p .symmetries)) (subst T (leader-is s) h)) g m) t st e tk;
+  }
+    where
+      sol : T (isSolution p s)
+      sol = both-l (isSolution p s) _ h
+
+  pub leader-i : (s : List ℕ) → Leader p s → T (isLeader p s)
+  leader-i s l =
+      subst T (sym (leader-is s))
+      (both-i (isSolution p s) (all (λ k. obeys s (nogoodsOf p k s)) (p .symmetries)) (l .solves)
+      (all-i (λ k. obeys s (nogoodsOf p k s)) (p .symmetries) (λ g m. none-obeys s (l .solves) g m (λ t st e tk. l .unbeaten g t m st e tk))))

@@ -1,0 +1,41 @@
+/* Lists the paper's sheet A by planner_run and prints its plans. */
+#include <stdio.h>
+
+#include "planner.h"
+
+/* Two windows, three duties, one rule (the windows differ), one exchange (the windows change places). */
+static const uint8_t sheet_a[64] = {
+    2, 0, 3, 0, 1, 0, 1, 0, 16, 0, 20, 0, 52, 0, 64, 0,                             /* header */
+    7, 0, 7, 0,                                                                     /* initial sets */
+    2, 0, 6, 0, 0, 0, 1, 0,                                                         /* rule: counts, windows */
+    0, 0, 1, 0, 0, 0, 2, 0, 1, 0, 0, 0, 1, 0, 2, 0, 2, 0, 0, 0, 2, 0, 1, 0,         /* its rows */
+    3, 0, 4, 0, 5, 0, 0, 0, 1, 0, 2, 0,                                             /* exchange */
+};
+
+static uint32_t number(const uint8_t *bytes) {
+    return bytes[0] | (uint32_t)bytes[1] << 8 | (uint32_t)bytes[2] << 16 | (uint32_t)bytes[3] << 24;
+}
+
+static void list_plans(uint32_t node_limit) {
+    static const char *const kinds[] = {"refused", "finished", "spent", "full"};
+    uint8_t list[16], answer[PLANNER_ANSWER_BYTES];
+    uint32_t status = planner_run(sheet_a, sizeof sheet_a, node_limit, list, sizeof list, answer, sizeof answer);
+    if (status != 0) {
+        printf("no run: %u\n", status);
+        return;
+    }
+    uint32_t kind = number(answer), plans = number(answer + 4), trials = number(answer + 8);
+    if (kind == PLANNER_REFUSED)
+        plans = 0;
+    for (uint32_t i = 0; i < plans; i++)
+        printf("plan %d %d\n", list[2 * i], list[2 * i + 1]);
+    printf("%s %u %u\n", kinds[kind], number(answer + 4), trials);
+}
+
+int main(void) {
+    list_plans(1000000);
+    list_plans(2);
+    uint32_t answer = planner_question(sheet_a, 63);
+    printf("a byte short: refused %u %u\n", PLANNER_NUMBER(answer), PLANNER_ITEM(answer));
+    return 0;
+}

@@ -1,0 +1,62 @@
+/* planner.h - the proved hall planner for C. Link libplanner.a (rt staticlib planner writes it to
+ * target/staticlib). Each lent buffer is a pointer and its length in bytes; a length of 0 still needs
+ * a pointer that isn't NULL. Nothing is kept between calls, and nothing is allocated. */
+#ifndef PLANNER_H
+#define PLANNER_H
+
+#include <stddef.h>
+#include <stdint.h>
+
+#ifdef __cplusplus
+extern "C" {
+#endif
+
+/* An answer other than 0 of planner_question and planner_filter holds a refusal: the paper's number and
+ * the item (window, rule, exchange or entry) that it speaks of. */
+#define PLANNER_NUMBER(answer) ((answer) >> 8)
+#define PLANNER_ITEM(answer) ((answer) & 255)
+
+/* planner_filter: the sets' length is odd. */
+#define PLANNER_HALF_SET (255u * 256u)
+/* planner_run: the answer's length isn't PLANNER_ANSWER_BYTES. */
+#define PLANNER_ANSWER_ROOM (255u * 256u)
+
+/* The answer of planner_run: three 32-bit numbers, low byte first. */
+#define PLANNER_ANSWER_BYTES 12
+/* The first of them, the kind. With PLANNER_REFUSED the other two are number and item, else the plans
+ * listed and the trials made. */
+#define PLANNER_REFUSED 0  /* a question was answered "no" */
+#define PLANNER_FINISHED 1 /* nothing is left to try */
+#define PLANNER_SPENT 2    /* a further trial is due, and the node limit is reached */
+#define PLANNER_FULL 3     /* the last trial found a plan that the list has no room for */
+
+/* The least room that planner_report takes. No report is longer. */
+#define PLANNER_REPORT_ROOM 168000
+
+/* Puts questions 1 to 16 to a sheet: 0 if it is accepted, else number * 256 + item. */
+uint32_t planner_question(const uint8_t *sheet, size_t sheet_len);
+
+/* Filters lent sets of values by a list of nogoods. Each set is a 16-bit number, low byte first, bit v for
+ * value v; the three lists hold bytes. A value stays exactly if some assignment from the sets uses it
+ * and obeys every nogood; with no such assignment every set becomes empty. 0 if filtered, else
+ * number * 256 + item (17 to 19) or, asked first, PLANNER_HALF_SET; the sets are then as they came. */
+uint32_t planner_filter(uint8_t *sets, size_t sets_len, const uint8_t *index, size_t index_len,
+                        const uint8_t *equal, size_t equal_len, const uint8_t *not_equal,
+                        size_t not_equal_len);
+
+/* Lists a sheet's plans, n bytes each, at the front of the list, with at most node_limit trials. The bytes
+ * after the listed plans are unchanged; on a refusal all are. 0, with the answer written, or
+ * PLANNER_ANSWER_ROOM, with nothing written and no trial made. */
+uint32_t planner_run(const uint8_t *sheet, size_t sheet_len, uint32_t node_limit, uint8_t *list,
+                     size_t list_len, uint8_t *answer, size_t answer_len);
+
+/* Writes what the lister prints for this standard input (node limit 1,000,000, room for 4,096 plans) to
+ * the front of out and returns its length; the bytes after it are unchanged. With less room than
+ * PLANNER_REPORT_ROOM it returns 0 and writes nothing. */
+size_t planner_report(const uint8_t *input, size_t input_len, uint8_t *out, size_t out_len);
+
+#ifdef __cplusplus
+}
+#endif
+
+#endif

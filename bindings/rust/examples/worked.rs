@@ -1,0 +1,30 @@
+//! The paper's sheet A and its worked filter, through the safe functions.
+
+use planner::{filter, question, report, run, ABSENT};
+
+/// Two windows, three duties, one rule (the windows differ), one exchange (the windows change places).
+const SHEET_A: [u16; 32] = [
+    2, 3, 1, 1, 16, 20, 52, 64, // header
+    7, 7, // initial sets
+    2, 6, 0, 1, 0, 1, 0, 2, 1, 0, 1, 2, 2, 0, 2, 1, // rule
+    3, 4, 5, 0, 1, 2, // exchange
+];
+
+fn main() {
+    let sheet: Vec<u8> = SHEET_A.iter().flat_map(|word| word.to_le_bytes()).collect();
+    println!("{:?}", question(&sheet));
+    println!("{:?}", question(&sheet[..63]));
+    print!("{}", report(&sheet));
+
+    let mut list = [0; 4];
+    let answer = run(&sheet, 1_000_000, &mut list).expect("an accepted sheet");
+    println!("{:?} {} {}: {:?}", answer.ending, answer.plans, answer.nodes, list);
+
+    let mut sets = [6, 6, 6, 2, 2, 6];
+    let index = [0, 1, 2, 3, 4, 2, 5, 0];
+    let equal = [ABSENT, 1, ABSENT, 1, 1, ABSENT, 2, ABSENT];
+    let not_equal = [2, ABSENT, 1, ABSENT, ABSENT, 2, ABSENT, 1];
+    let filtered = filter(&mut sets, &index, &equal, &not_equal);
+    println!("{filtered:?} {sets:?}");
+    println!("{:?}", filter(&mut [], &[], &[], &[]));
+}

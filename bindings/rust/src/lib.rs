@@ -1,0 +1,140 @@
+//! Safe functions over the proved hall planner, libplanner.a. Every function takes any slices: what a
+//! caller can get wrong comes back as a [`Refusal`] with the paper's number.
+
+use std::fmt;
+
+mod exported {
+    extern "C" {
+        pub fn planner_question(sheet: *const u8, sheet_len: usize) -> u32;
+        pub fn planner_filter(
+            sets: *mut u8,
+            sets_len: usize,
+            index: *const u8,
+            index_len: usize,
+            equal: *const u8,
+            equal_len: usize,
+            not_equal: *const u8,
+            not_equal_len: usize,
+        ) -> u32;
+        pub fn planner_run(
+            sheet: *const u8,
+            sheet_len: usize,
+            node_limit: u32,
+            list: *mut u8,
+            list_len: usize,
+            answer: *mut u8,
+            answer_len: usize,
+        ) -> u32;
+        pub fn planner_report(input: *const u8, input_len: usize, out: *mut u8, out_len: usize) -> usize;
+    }
+}
+
+/// The mark for an absent value in a nogood list.
+pub const ABSENT: u8 = 255;
+
+/// The least room for a report. No report is longer.
+const REPORT_ROOM: usize = 168_000;
+
+/// The first question answered "no", and the window, rule, exchange or entry that it speaks of.
+#[derive(Clone, Copy, Debug, PartialEq, Eq)]
+pub struct Refusal {
+    pub number: u32,
+    pub item: u32,
+}
+
+impl Refusal {
+    /// A refusal as the exported functions give it, number * 256 + item.
+    fn from_code(code: u32) -> Result<(), Refusal> {
+        match code {
+            0 => Ok(()),
+            _ => Err(Refusal { number: code / 256, item: code % 256 }),
+        }
+    }
+}
+
+impl fmt::Display for Refusal {
+    fn fmt(&self, f: &mut fmt::Formatter) -> fmt::Result {
+        write!(f, "refused {} {}", self.number, self.item)
+    }
+}
+
+impl std::error::Error for Refusal {}
+
+/// How a run ended.
+#[derive(Clone, Copy, Debug, PartialEq, Eq)]
+pub enum Ending {
+    /// Nothing is left to try: the list is complete.
+    Finished,
+    /// A further trial is due, and the node limit is reached.
+    Spent,
+    /// The last trial found a plan that the list has no room for.
+    Full,
+}
+
+/// What a run answers: its ending, the plans listed and the trials made.
+#[derive(Clone, Copy, Debug, PartialEq, Eq)]
+pub struct Answer {
+    pub ending: Ending,
+    pub plans: u32,
+    pub nodes: u32,
+}
+
+/// Puts questions 1 to 16 to a sheet.
+pub fn question(sheet: &[u8]) -> Result<(), Refusal> {
+    Refusal::from_code(unsafe { exported::planner_question(sheet.as_ptr(), sheet.len()) })
+}
+
+/// Filters sets of values by a nogood list. After a refusal the sets are as they came.
+pub fn filter(sets: &mut [u16], index: &[u8], equal: &[u8], not_equal: &[u8]) -> Result<(), Refusal> {
+    let mut bytes: Vec<u8> = sets.iter().flat_map(|set| set.to_le_bytes()).collect();
+    Refusal::from_code(unsafe {
+        exported::planner_filter(
+            bytes.as_mut_ptr(),
+            bytes.len(),
+            index.as_ptr(),
+            index.len(),
+            equal.as_ptr(),
+            equal.len(),
+            not_equal.as_ptr(),
+            not_equal.len(),
+        )
+    })?;
+    for (set, two) in sets.iter_mut().zip(bytes.chunks(2)) {
+        *set = u16::from_le_bytes([two[0], two[1]]);
+    }
+    Ok(())
+}
+
+/// Lists the sheet's plans, n bytes each, at the front of the list, with at most `node_limit` trials.
+/// The bytes after the listed plans are unchanged; after a refusal all are.
+pub fn run(sheet: &[u8], node_limit: u32, list: &mut [u8]) -> Result<Answer, Refusal> {
+    let mut answer = [0; 12];
+    unsafe {
+        exported::planner_run(
+            sheet.as_ptr(),
+            sheet.len(),
+            node_limit,
+            list.as_mut_ptr(),
+            list.len(),
+            answer.as_mut_ptr(),
+            answer.len(),
+        );
+    }
+    let word = |i: usize| u32::from_le_bytes(answer[4 * i..4 * i + 4].try_into().unwrap());
+    let ending = match word(0) {
+        0 => return Err(Refusal { number: word(1), item: word(2) }),
+        1 => Ending::Finished,
+        2 => Ending::Spent,
+        _ => Ending::Full,
+    };
+    Ok(Answer { ending, plans: word(1), nodes: word(2) })
+}
+
+/// What the lister prints for this standard input.
+pub fn report(input: &[u8]) -> String {
+    let mut out = vec![0; REPORT_ROOM];
+    let length =
+        unsafe { exported::planner_report(input.as_ptr(), input.len(), out.as_mut_ptr(), out.len()) };
+    out.truncate(length);
+    String::from_utf8(out).expect("a report is plain text")
+}

@@ -1,0 +1,84 @@
+//! The proved planner beside the oracle: `differential [question] [filter] [run] [report]`, with no word all
+//! four parts. SEED and CASES are read from the environment, and SHARED_BENCH for another folder of sheets
+//! with reports than ../shared/bench beside the repository. Case i of a part draws from SEED + i, so that
+//! a difference comes back with that seed and one case. Every refusal number must be reached.
+
+mod filter;
+mod planner;
+mod question;
+mod report;
+mod run;
+mod tally;
+
+use sheets::Rng;
+use std::path::{Path, PathBuf};
+use std::time::Instant;
+use tally::Tally;
+
+const PARTS: [&str; 4] = ["question", "filter", "run", "report"];
+const CASES: usize = 2000;
+/// With fewer cases, numbers that nothing reached are no failure.
+const ENOUGH_CASES: usize = 1000;
+
+fn environment(name: &str, otherwise: usize) -> usize {
+    std::env::var(name)
+        .map_or(otherwise, |word| word.parse().unwrap_or_else(|_| panic!("{name} is a number")))
+}
+
+fn main() {
+    let mut parts: Vec<String> = std::env::args().skip(1).collect();
+    if parts.iter().any(|part| !PARTS.contains(&part.as_str())) {
+        eprintln!("differential [question] [filter] [run] [report]");
+        std::process::exit(2);
+    }
+    if parts.is_empty() {
+        parts = PARTS.map(String::from).to_vec();
+    }
+    let (seed, cases) = (environment("SEED", 1), environment("CASES", CASES));
+    println!("differential: SEED={seed} CASES={cases}");
+    let mut tally = Tally::default();
+    for part in &parts {
+        test(part, seed, cases, &mut tally);
+    }
+    reached(&parts, cases, &mut tally);
+    println!("differential: {} passed, {} failed", tally.passed, tally.failed);
+    std::process::exit(if tally.failed == 0 { 0 } else { 1 });
+}
+
+fn test(part: &str, seed: usize, cases: usize, tally: &mut Tally) {
+    let start = Instant::now();
+    let before = tally.passed + tally.failed;
+    for number in 0..cases {
+        let mut rng = Rng::new((seed + number) as u64);
+        tally.case = format!("part {part}, SEED={} CASES=1", seed + number);
+        match part {
+            "question" => question::case(seed + number, &mut rng, tally),
+            "filter" => filter::case(&mut rng, tally),
+            "run" => run::case(&mut rng, tally),
+            _ => report::case(seed + number, &mut rng, tally),
+        }
+    }
+    if part == "report" {
+        report::many_plans(tally);
+        let root = Path::new(env!("CARGO_MANIFEST_DIR")).join("../..");
+        report::folder(&root.join("examples"), tally);
+        let shared = std::env::var("SHARED_BENCH").map_or(root.join("../shared/bench"), PathBuf::from);
+        report::folder(&shared, tally);
+    }
+    let comparisons = tally.passed + tally.failed - before;
+    println!("{part}: {comparisons} comparisons, {:.1} s", start.elapsed().as_secs_f64());
+}
+
+/// How many cases got each number, and a failure for each number that none got.
+fn reached(parts: &[String], cases: usize, tally: &mut Tally) {
+    println!("accepted {}", tally.accepted);
+    let tested = |part: &str| parts.iter().any(|word| word == part);
+    for number in 1..20 {
+        println!("refused {number}: {}", tally.refused[number]);
+        let part = if number < 17 { "question" } else { "filter" };
+        if tally.refused[number] == 0 && tested(part) && cases >= ENOUGH_CASES {
+            println!("refusal {number} was never reached");
+            tally.failed += 1;
+        }
+    }
+}

@@ -1,0 +1,82 @@
+//! Part `run`: sheets right and damaged, with node limits and rooms around the ends of the search.
+
+use crate::planner;
+use crate::tally::{Guarded, Tally};
+use oracle::{Ending, Outcome, Refusal};
+use sheets::{damaged, encode, problem, Rng};
+
+/// The answer to a wrong room for the answer.
+const ANSWER_ROOM: u32 = 255 * 256;
+
+pub fn case(rng: &mut Rng, tally: &mut Tally) {
+    let problem = problem(rng);
+    let sheet = if rng.chance(20) { damaged(rng, &problem) } else { encode(&problem) };
+    let mut plenty = vec![0; 12 * 4096];
+    let whole = oracle::run(&sheet, u32::MAX, &mut plenty);
+    tally.answer(&whole);
+    let (plans, nodes) = whole.map_or((1, 1), |outcome| (outcome.plans as usize, outcome.nodes));
+    for _ in 0..4 {
+        let limit = match rng.below(6) {
+            0 => rng.below(nodes as usize + 1) as u32,
+            1 => nodes.saturating_sub(1),
+            2 => nodes,
+            3 => rng.below(4) as u32,
+            _ => rng.pick(&[nodes + 1, 1_000_000, u32::MAX]),
+        };
+        let full = plans * problem.variables;
+        let room = match rng.below(6) {
+            0 => rng.below(full + 1),
+            1 => full.saturating_sub(1),
+            2 => rng.below(3),
+            3 => full,
+            _ => full + rng.below(40),
+        };
+        run(&sheet, limit, room, rng, tally);
+    }
+    if rng.chance(10) {
+        wrong_answer_room(&sheet, rng, tally);
+    }
+}
+
+fn run(sheet: &[u8], limit: u32, room: usize, rng: &mut Rng, tally: &mut Tally) {
+    let mut list = Guarded::new(room, rng.word() as u8);
+    let mut expected_list = list.clone();
+    let expected = words(oracle::run(sheet, limit, expected_list.lent()));
+    let mut answer = Guarded::new(12, rng.word() as u8);
+    let mut expected_answer = answer.clone();
+    for (i, word) in expected.iter().enumerate() {
+        expected_answer.lent()[4 * i..4 * i + 4].copy_from_slice(&word.to_le_bytes());
+    }
+    let lent = sheet.to_vec();
+    let status = planner::run(&lent, limit, list.lent(), answer.lent());
+    tally.same("status", status, 0, sheet);
+    tally.same("answer", &answer.bytes, &expected_answer.bytes, sheet);
+    tally.same("list after", &list.bytes, &expected_list.bytes, sheet);
+    tally.same("sheet after", &lent[..], sheet, sheet);
+}
+
+/// Kind, then number or plans, then item or trials.
+fn words(answer: Result<Outcome, Refusal>) -> [u32; 3] {
+    match answer {
+        Err(refusal) => [0, refusal.number, refusal.item],
+        Ok(Outcome { ending, plans, nodes }) => {
+            let kind = match ending {
+                Ending::Finished => 1,
+                Ending::Spent => 2,
+                Ending::Full => 3,
+            };
+            [kind, plans, nodes]
+        }
+    }
+}
+
+/// With a room for the answer that isn't 12 bytes nothing is written.
+fn wrong_answer_room(sheet: &[u8], rng: &mut Rng, tally: &mut Tally) {
+    let mut list = Guarded::new(100, rng.word() as u8);
+    let mut answer = Guarded::new(rng.pick(&[0, 1, 11, 13, 24]), rng.word() as u8);
+    let (list_before, answer_before) = (list.clone(), answer.clone());
+    let status = planner::run(sheet, 100, list.lent(), answer.lent());
+    tally.same("status", status, ANSWER_ROOM, sheet);
+    tally.same("list untouched", &list.bytes, &list_before.bytes, sheet);
+    tally.same("answer untouched", &answer.bytes, &answer_before.bytes, sheet);
+}

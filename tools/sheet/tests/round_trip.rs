@@ -1,0 +1,101 @@
+//! Text to sheet to text to the same sheet; refusals of any damaged sheet explained.
+
+use sheet::{explain, make, show, Problem};
+use sheets::{damaged, encode, large_problem, problem, Rng};
+use std::path::Path;
+
+/// The sheet's text gives the sheet again, and the text again.
+fn round_trip(bytes: &[u8]) {
+    let text = show(&Problem::decode(bytes));
+    let again = make(&text).unwrap_or_else(|fault| panic!("line {}: {}\n{text}", fault.line, fault.text));
+    assert_eq!(again, bytes, "{text}");
+    assert_eq!(show(&Problem::decode(&again)), text);
+}
+
+#[test]
+fn random_sheets() {
+    let mut rng = Rng::new(1);
+    for number in 0..1000 {
+        let problem = if number % 20 == 0 { large_problem(&mut rng) } else { problem(&mut rng) };
+        round_trip(&encode(&problem));
+    }
+}
+
+#[test]
+fn stored_sheets() {
+    let root = Path::new(env!("CARGO_MANIFEST_DIR")).join("../..");
+    let shared = std::env::var("SHARED_BENCH").map_or(root.join("../shared/bench"), |folder| folder.into());
+    for folder in [root.join("examples"), shared] {
+        let Ok(entries) = std::fs::read_dir(&folder) else {
+            println!("no folder {}, skipped", folder.display());
+            continue;
+        };
+        for entry in entries.flatten() {
+            if entry.path().extension().is_some_and(|word| word == "sheet") {
+                round_trip(&std::fs::read(entry.path()).unwrap());
+            }
+        }
+    }
+}
+
+/// The repository's texts give the sheets beside them.
+#[test]
+fn examples() {
+    let folder = Path::new(env!("CARGO_MANIFEST_DIR")).join("../../examples");
+    for entry in std::fs::read_dir(folder).unwrap().flatten() {
+        if entry.path().extension().is_some_and(|word| word == "txt") {
+            let text = std::fs::read_to_string(entry.path()).unwrap();
+            let sheet = std::fs::read(entry.path().with_extension("sheet")).unwrap();
+            assert_eq!(make(&text), Ok(sheet), "{}", entry.path().display());
+        }
+    }
+}
+
+/// Every refusal from 1 to 16 is explained, and the explanation names it.
+#[test]
+fn refusals() {
+    let mut rng = Rng::new(1);
+    let mut seen = [0; 17];
+    for _ in 0..4000 {
+        let problem = problem(&mut rng);
+        let sheet = damaged(&mut rng, &problem);
+        let words = explain(&sheet);
+        match planner::question(&sheet) {
+            Ok(()) => assert!(words.starts_with("accepted")),
+            Err(refusal) => {
+                assert!(words.starts_with(&refusal.to_string()), "{words}");
+                seen[refusal.number as usize] += 1;
+            }
+        }
+    }
+    assert!(seen[1..].iter().all(|&count| count > 0), "{seen:?}");
+}
+
+fn fault(text: &str) -> (usize, String) {
+    let fault = make(text).expect_err("a text with a fault");
+    (fault.line, fault.text)
+}
+
+#[test]
+fn faults_carry_their_line() {
+    let start = "# two windows\nwindows a b\nduties x y\n";
+    let line = |text: &str| fault(&format!("{start}{text}"));
+    assert_eq!(line("different a c").0, 4);
+    assert_eq!(line("\nrule a b\nrows x z").1, "no duty is called `z`");
+    assert_eq!(line("rule a b\nrows x y, x y"), (5, "a row stands twice".to_string()));
+    assert_eq!(line("rows x y").0, 4);
+    assert_eq!(line("may a x\nmay b y\nexchange windows a b").1, "`a.x` goes to `b.x`, which is no pair");
+    let refused = line("different a b\nexchange pairs a.x a.y\nexchange nothing");
+    assert_eq!(refused.0, 5);
+    assert!(
+        refused.1.contains("a.x b.x is forbidden, and its image a.y b.x is not (refused 16 0)"),
+        "{}",
+        refused.1
+    );
+    assert_eq!(line("exchange nothing\nmay b x").0, 5);
+    assert_eq!(
+        line("may b\nexchange nothing"),
+        (4, "offset 18: window 1 (b) may have no duty (refused 8 1)".to_string())
+    );
+    assert_eq!(fault("duties x").0, 1);
+}
