@@ -7,3 +7,4 @@ pub mod Listing
 pub mod Turns
 pub mod Whole
 pub mod Sheets
+pub mod Demands

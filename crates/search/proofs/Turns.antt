@@ -18,7 +18,7 @@ use Rattle.model.specs.Search.{setsAt, isLive, nodesBelow}
 use Rattle.model.proofs.Lists.{T-of, of-T, both-l}
 use Rattle.model.proofs.Masks.{lowest-op}
 use Rattle.model.proofs.WellFormed.{WellFormed}
-use Rattle.search.specs.Node.{Ready, Holds, AtNode, Reached, longer}
+use Rattle.prune.specs.Node.{Ready, Holds, AtNode, Reached, longer}
 use Rattle.search.specs.Walk.{State, listed, counted, exhausted, visit, walk, nodesFor}
 use Rattle.search.specs.Pair.{prefixOf, stateOf, Room, AtPrefix, AtValues, Walked, below, tried}
 use Rattle.search.specs.declared.Progress.{Progress}

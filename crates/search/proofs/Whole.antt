@@ -15,7 +15,7 @@ use Rattle.model.specs.Run.{finished, spent, full, resultOf, written}
 use Rattle.model.specs.Run as Run
 use Rattle.model.proofs.Lists.{T-of}
 use Rattle.layout.specs.Layout.{Numbers, Compiled}
-use Rattle.search.specs.Node.{Ready, Holds, Reached}
+use Rattle.prune.specs.Node.{Ready, Holds, Reached}
 use Rattle.search.specs.Walk.{State, walk, stateAt}
 use Rattle.search.specs.Pair.{prefixOf, stateOf, Room, AtPrefix, Walked, below}
 use Rattle.search.specs.Meaning.{endingOf, Held, Ran}

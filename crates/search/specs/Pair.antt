@@ -9,7 +9,7 @@ use Rattle.model.specs.Lists.{at, tabulate}
 use Rattle.model.specs.ValueSets.{has}
 use Rattle.model.specs.Problem.{Problem}
 use Rattle.model.specs.Search.{setsAt, isLive, nodesBelow}
-use Rattle.search.specs.Node.{Ready, Holds}
+use Rattle.prune.specs.Node.{Ready, Holds}
 use Rattle.search.specs.Walk.{State, walk, nodesFor}
 use Rattle.search.specs.declared.Progress.{Progress}
 

@@ -13,7 +13,7 @@ use borrow.Author.Needs.{needs}
 use denote.Ref.{now}
 use Rattle.model.specs.Lists.{at}
 use Rattle.model.specs.Problem.{Problem}
-use Rattle.search.specs.Node.{AtNode, Reached, longer}
+use Rattle.prune.specs.Node.{AtNode, Reached, longer}
 use Rattle.search.specs.Walk.{listed}
 use Rattle.search.specs.Pair.{prefixOf, stateOf, Room, AtPrefix, AtValues, Walked, below}
 use Rattle.search.specs.declared.Progress.{Progress}
@@ -25,7 +25,7 @@ use Rattle.search.proofs.try_value.Reads as try-value
 use Rattle.search.proofs.try_value.Kinds as try-value-kinds
 use Rattle.search.proofs.+settle+try_value.Lts-try_value as try-value-lts
 use Rattle.search.proofs.list_plan.Reads as list-plan-reads
-use Rattle.search.proofs.prune.child.Reads as child-reads
+use Rattle.prune.proofs.child.Reads as child-reads
 use Rattle.search.proofs.+settle+try_value.{statement}
 use Rattle.search.proofs.+settle+try_value.Tie.{close}
 

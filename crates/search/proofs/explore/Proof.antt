@@ -7,7 +7,7 @@ use lib.ListN.{length, getD, replicate}
 use denote.Ref.{now}
 use Rattle.model.specs.Lists.{at}
 use Rattle.model.specs.Problem.{Problem}
-use Rattle.search.specs.Node.{Ready, Reached}
+use Rattle.prune.specs.Node.{Ready, Reached}
 use Rattle.search.specs.Pair.{AtPrefix}
 use Rattle.search.specs.Meaning.{Held}
 use Rattle.search.proofs.Whole.{ready, start-asks, root-dead, stop-known, ran}
@@ -17,7 +17,7 @@ use Rattle.search.proofs.explore.Tie as tie
 use Rattle.search.proofs.explore.Reads as reads
 use Rattle.search.proofs.explore.Lts as lts
 use Rattle.search.proofs.ended.Reads as ended-reads
-use Rattle.search.proofs.prune.root.Reads as root-reads
+use Rattle.prune.proofs.root.Reads as root-reads
 use Rattle.search.proofs.put_bounds.Reads as put-bounds-reads
 use Rattle.search.proofs.settle.Reads as settle-reads
 

@@ -2,7 +2,7 @@
 use mathlib.Core.Path.{_≡_, sym, ap, _∙_}
 use denote.Ref.{now}
 use Rattle.model.specs.Sheet.{problemOf}
-use Rattle.search.specs.Answers.{means}
+use Rattle.sheet.specs.Meaning.{means}
 use Rattle.search.proofs.Sheets.{held, answer-ended, list-ended, answer-refused, list-refused}
 use borrow.Author.Needs.{needs}
 use Rattle.search.proofs.run.Statement.{statement}
@@ -10,7 +10,7 @@ use Rattle.search.proofs.run.Tie as tie
 use Rattle.search.proofs.run.Reads as reads
 use Rattle.search.proofs.run.Lts as lts
 use Rattle.search.proofs.explore.Reads as explore-reads
-use Rattle.search.proofs.sheet.compile.Reads as compile-reads
+use Rattle.sheet.proofs.compile.Reads as compile-reads
 
 compile-requires : tie.Need-compile-requires
 compile-requires c κs = search needs
