@@ -1,16 +1,15 @@
 -- The demands, of what `run` answers and writes: from its contract and model's theorems about the definitions. Assumes nothing.
 use mathlib.Core.Path.{_≡_, refl, sym, ap, ap₂, _∙_, subst, subst₂}
 use mathlib.Core.Logic.{_↔_}
-use mathlib.Core.List.{List, [], _∷_, _++_, List·Memᴰ, List·Memᴰ·head, List·Memᴰ·tail, Sublistᴰ}
-use Prim.Native.Nat.{ℕ, zero, suc, _+_, _*_, _≤_}
+use mathlib.Core.List.{List, [], _∷_, List·Memᴰ, List·Memᴰ·head, List·Memᴰ·tail, Sublistᴰ}
+use Prim.Native.Nat.{ℕ, suc, _+_, _*_}
 use native.Mathlib.Omega.{arith}
 use lib.Dec.{T}
-use lib.ListN.{length, take, drop, length-append}
+use lib.ListN.{length, drop, length-append}
 use lib.Seq.{drop-append-seam}
 use Rattle.model.specs.Lists.{flat}
-use Rattle.model.specs.Problem.{Problem, isSolution}
-use Rattle.model.specs.Verdict.{Verdict, accepted, refused}
-use Rattle.model.specs.Sheet.{verdictOf, problemOf}
+use Rattle.model.specs.Problem.{isSolution}
+use Rattle.model.specs.Sheet.{problemOf}
 use Rattle.model.specs.Run.{ended, refusal, answerOf, listOf, resultOf, written, plansIn}
 use Rattle.model.specs.Run as Run
 use Rattle.model.specs.Claims.{Chain}

@@ -2,22 +2,21 @@
 use mathlib.Core.Path.{_≡_, refl, sym, ap, ap₂, _∙_, subst, fun-ext}
 use mathlib.Core.Bool.{Bool, true, false, not}
 use mathlib.Core.List.{List, [], _∷_, _++_, map}
-use Prim.Native.Nat.{ℕ, zero, suc, _+_, _-_, _*_, _/_, _%_, _^_, _≤_, _<_, min}
+use Prim.Native.Nat.{ℕ, zero, suc, _+_, _-_, _/_, _%_, _^_, _≤_, _<_}
 use native.Mathlib.Omega.{arith}
 use native.Mathlib.Nat.{not-suc-le-zero, le-of-suc-le-suc}
 use native.Mathlib.Decide.{decLt}
 use lib.Dec.{T, eqb, eqb·suc-zero, eqb·suc-suc}
 use lib.ListN.{length}
-use lib.Bits.{bitAnd, and-step}
-use lib.Count.{trailingZeros}
-use borrow.Author.Tests.{eq-eqb, ne-eqb, eqb-true, eqb-false}
+use lib.Bits.{bitAnd}
+use borrow.Author.Tests.{not-true, not-false, ne-eqb, eqb-true, eqb-false}
 use Rattle.model.specs.Lists.{both, keep, below, upFrom, at, flat}
 use Rattle.model.specs.ValueSets.{has, members, least, leastStep, lowestOf, anyEmpty}
 use Rattle.model.specs.Problem.{Problem}
 use Rattle.model.specs.Search.{setsAt, isLive, nodesBelow}
-use Rattle.model.proofs.Lists.{keep-yes, keep-no, keep-ext, upFrom-e, T-of, of-T, not-of, of-not}
-use Rattle.model.proofs.Sets.{has-zero, has-suc, has-none, members-of-none, member, at-zeros, empty-i, pow2}
-use Rattle.model.proofs.Masks.{lowest-op, least-below, least-at, has-and}
+use Rattle.model.proofs.Lists.{keep-yes, keep-no, keep-ext, upFrom-e, of-not}
+use Rattle.model.proofs.Sets.{has-zero, has-suc, members-of-none, member, at-zeros, empty-i, pow2}
+use Rattle.model.proofs.Masks.{least-below, has-and}
 use Rattle.model.proofs.Prune.{closed, setsAt-live, setsAt-dead, setsAt-sets, largest, narrowed-e}
 use Rattle.model.proofs.WellFormed.{WellFormed}
 use Rattle.model.proofs.Tree.{well-sized}
@@ -31,7 +30,7 @@ both-all : (b : Bool) → both b true ≡ b
 both-all true = refl
 both-all false = refl
 
-both-none : (b : Bool) → both b false ≡ false
+pub both-none : (b : Bool) → both b false ≡ false
 both-none true = refl
 both-none false = refl
 
@@ -114,14 +113,10 @@ pub dead-sets : (p : Problem) (prefix : List ℕ) (x : ℕ) → isLive p prefix 
 unfolding isLive
 dead-sets p prefix x d = go (anyEmpty (closed p prefix)) refl
   where
-    empty : (b : Bool) → not b ≡ false → b ≡ true
-    empty true e = refl
-    empty false e = sym e
-
     go : (b : Bool) → anyEmpty (closed p prefix) ≡ b → at (setsAt p prefix) x ≡ 0
     go true e = ap (λ (l : List ℕ). at l x) (setsAt-dead p prefix e) ∙ at-zeros (closed p prefix) x
     go false e =
-        let t : anyEmpty (setsAt p prefix) ≡ true = empty (anyEmpty (setsAt p prefix)) d in
+        let t : anyEmpty (setsAt p prefix) ≡ true = not-false (anyEmpty (setsAt p prefix)) d in
         let f : anyEmpty (setsAt p prefix) ≡ false = ap anyEmpty (setsAt-live p prefix e) ∙ e in
         let z : true ≡ false = sym t ∙ f in absurd (subst T z tt)
 
@@ -130,14 +125,10 @@ pub live-values : (p : Problem) → WellFormed p → (t : List ℕ) → isLive p
 unfolding isLive
 live-values p w t l i h x = go (anyEmpty (closed p t)) refl
   where
-    some : (b : Bool) → not b ≡ true → b ≡ false
-    some true e = sym e
-    some false e = refl
-
     go : (b : Bool) → anyEmpty (closed p t) ≡ b → at t i < 16
     go true e =
         let z : at (setsAt p t) i ≡ 0 = ap (λ (d : List ℕ). at d i) (setsAt-dead p t e) ∙ at-zeros (closed p t) i in
-        absurd (of-not (anyEmpty (setsAt p t)) (some (anyEmpty (setsAt p t)) l) (empty-i (setsAt p t) i (let q = setsAt-sets p t (well-sized p w) .0 in omega arith) z))
+        absurd (of-not (anyEmpty (setsAt p t)) (not-true (anyEmpty (setsAt p t)) l) (empty-i (setsAt p t) i (let q = setsAt-sets p t (well-sized p w) .0 in omega arith) z))
     go false e =
         let k = largest p t (well-sized p w) in
         let u = member (at (closed p t) i) (k .sets .1 i) (λ z. of-not (anyEmpty (closed p t)) e (empty-i (closed p t) i (let q = k .sets .0 in omega arith) z)) in

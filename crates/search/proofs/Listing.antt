@@ -1,13 +1,13 @@
 -- A plan that was found has room unless as many are listed as the list has room for. Assumes nothing.
-use mathlib.Core.Path.{_≡_, refl, sym, ap, ap₂, _∙_, subst}
+use mathlib.Core.Path.{_≡_, sym, ap₂, _∙_, subst}
 use mathlib.Core.List.{List}
-use Prim.Native.Nat.{ℕ, zero, suc, _+_, _*_, _≤_, _<_}
+use Prim.Native.Nat.{ℕ, suc, _+_, _*_, _≤_, _<_}
 use native.Mathlib.Nat.{mul-le-mul-right, mul-le-mul-left}
 use native.Mathlib.Decide.{decLe}
 use native.Mathlib.Numerals.{add-one}
 use native.Mathlib.Omega.{arith}
 use lib.ListN.{length}
-use Rattle.search.specs.Walk.{State, overwritten, listed}
+use Rattle.search.specs.Walk.{overwritten, listed}
 use Rattle.search.specs.Pair.{Room, stateOf}
 use Rattle.search.specs.declared.Progress.{Progress}
 use Rattle.search.proofs.Walk.{listed-full, listed-kept}

@@ -2,17 +2,17 @@
 -- list then holds the run's rows at its front and all bytes after them as they came. Assumes nothing.
 use mathlib.Core.Path.{_≡_, refl, sym, ap, ap₂, _∙_, subst}
 use mathlib.Core.Bool.{Bool, true, false}
-use mathlib.Core.List.{List, [], _∷_, _++_, append-nil, append-assoc}
-use Prim.Native.Nat.{ℕ, zero, suc, _+_, _*_, _≤_, _<_}
+use mathlib.Core.List.{List, [], _∷_, _++_, append-nil}
+use Prim.Native.Nat.{ℕ, suc, _+_, _*_, _≤_}
 use native.Mathlib.Omega.{arith}
-use lib.Dec.{T, eqb, leb}
-use lib.ListN.{length, take, drop, length-append, length-take, length-drop}
+use lib.Dec.{eqb, leb}
+use lib.ListN.{length, drop, length-append, length-drop}
 use lib.Seq.{take-at, drop-append-add, drop-drop}
 use borrow.Author.Tests.{leb-true, leb-false, eqb-true, eqb-false}
 use Rattle.model.specs.Lists.{flat}
 use Rattle.model.specs.Problem.{Problem}
 use Rattle.model.specs.Search.{isPlan, nodes}
-use Rattle.model.specs.Run.{Ending, finished, spent, full, Result, search, resultOf, written}
+use Rattle.model.specs.Run.{spent, full, Result, search, resultOf, written}
 use Rattle.model.proofs.Lists.{flat-append}
 use Rattle.search.specs.Walk.{State, overwritten, visit, walk, stateAt}
 use Rattle.search.proofs.Walk.{listed-full, listed-kept, visit-spent, visit-other, visit-plan, walk-stopped, plan-sized}

@@ -1,12 +1,12 @@
 -- Laws of the prefix in `work`: it has k values, goes by them alone, and grows by the next. Assumes nothing.
 use mathlib.Core.Path.{_≡_, refl, sym, ap, ap₂, _∙_, subst}
 use mathlib.Core.List.{List, [], _∷_, _++_}
-use Prim.Native.Nat.{ℕ, zero, suc, _+_, _≤_, _<_}
+use Prim.Native.Nat.{ℕ, suc, _+_, _≤_, _<_}
 use native.Mathlib.Numerals.{add-one}
 use native.Mathlib.Decide.{decLt}
 use native.Mathlib.Omega.{arith}
 use lib.ListN.{length, take, drop, getD, set, length-append, List·getD-append}
-use lib.Seq.{length-take-le, take-suc, getD-take, getD-set-same, getD-set-other, getD-at, paste}
+use lib.Seq.{length-take-le, getD-take, getD-set-same, getD-set-other, getD-at, paste}
 use Rattle.model.specs.Lists.{at, tabulate}
 use Rattle.model.proofs.Lists.{length-tabulate, at-tabulate, at-ext}
 use Rattle.search.specs.Walk.{overwritten}

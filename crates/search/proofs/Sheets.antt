@@ -1,19 +1,19 @@
 -- What a run makes of the sheet's verdict: an accepted sheet states a problem that the arrays have room for, and the run's answer and list go by
 -- the verdict. Assumes nothing.
-use mathlib.Core.Path.{_≡_, refl, sym, ap, ap₂, _∙_, subst}
-use mathlib.Core.List.{List, [], _∷_, map}
-use Prim.Native.Nat.{ℕ, zero, suc, _≤_}
+use mathlib.Core.Path.{_≡_, refl, sym, ap, _∙_, subst}
+use mathlib.Core.List.{List}
+use Prim.Native.Nat.{ℕ, zero, suc}
 use native.Mathlib.Omega.{arith}
 use lib.Dec.{T}
-use lib.ListN.{length, length-map}
-use Rattle.model.specs.Lists.{upFrom, below}
-use Rattle.model.specs.Problem.{Problem}
+use lib.ListN.{length, replicate, length-map, length-replicate}
+use Rattle.model.specs.Lists.{at, upFrom, below}
+use Rattle.sheet.specs.Form.{Zeros}
 use Rattle.model.specs.Verdict.{Verdict, accepted, refused, isAccepted}
 use Rattle.model.specs.Sheet.{verdictOf, problemOf, headerOf, constraintsFrom, afterAt, tableAt}
 use Rattle.model.specs.Run.{ended, refusal, answerFor, answerOf, listFor, listOf}
 use Rattle.model.proofs.Accepted.{passed}
 use Rattle.layout.specs.Layout.{Compiled}
-use Rattle.search.specs.Meaning.{endingOf, means, Held, Ran}
+use Rattle.search.specs.Meaning.{endingOf, Held, Ran}
 use Rattle.search.specs.declared.Ending.{Ending}
 
 length-constraints : (b : List ℕ) (k o : ℕ) → length (constraintsFrom b k o) ≡ k
@@ -33,6 +33,16 @@ constraints-are b = length-constraints b (headerOf b .constraints) (headerOf b .
 symmetries-are : (b : List ℕ) → length (problemOf b .symmetries) ≡ headerOf b .symmetries
 unfolding problemOf below
 symmetries-are b = length-map (below (headerOf b .symmetries)) (tableAt b (headerOf b)) ∙ length-upFrom 0 (headerOf b .symmetries)
+
+-- a new array is full of zeros
+at-replicate : (n i : ℕ) → at (replicate n 0) i ≡ 0
+unfolding at
+at-replicate zero i = refl
+at-replicate (suc n) zero = refl
+at-replicate (suc n) (suc i) = at-replicate n i
+
+pub zeros : (n : ℕ) → Zeros n (replicate n 0)
+zeros n = record { sized = length-replicate n 0; blank = at-replicate n }
 
 module _ (b : List ℕ) (e : verdictOf b ≡ accepted) where
   pub held : (numbers supports images : List ℕ) → Compiled (problemOf b) numbers supports images → Held (problemOf b) numbers supports images

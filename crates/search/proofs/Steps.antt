@@ -1,20 +1,20 @@
 -- What one value does: the walk along the nodes of a set of values, by its lowest member. Assumes nothing.
-use mathlib.Core.Path.{_≡_, refl, sym, ap, ap₂, _∙_, subst}
+use mathlib.Core.Path.{_≡_, refl, ap, ap₂, _∙_}
 use mathlib.Core.Bool.{Bool, true, false}
 use mathlib.Core.List.{List, [], _∷_, _++_, map}
-use Prim.Native.Nat.{ℕ, zero, suc, _+_, _-_, _*_, _^_, _≤_, _<_}
+use Prim.Native.Nat.{ℕ, suc, _+_, _-_, _^_, _<_}
 use native.Mathlib.Omega.{arith}
-use lib.Dec.{T, eqb}
+use lib.Dec.{eqb}
 use lib.ListN.{length}
 use lib.Bits.{bitAnd}
 use borrow.Author.Tests.{eq-eqb, ne-eqb}
 use Rattle.model.specs.Lists.{both, at, flat}
-use Rattle.model.specs.ValueSets.{members, lowestOf}
+use Rattle.model.specs.ValueSets.{lowestOf}
 use Rattle.model.specs.Problem.{Problem}
 use Rattle.model.specs.Search.{setsAt, isLive, isPlan, nodesBelow}
 use Rattle.model.proofs.Sets.{members-of-none}
-use Rattle.search.specs.Walk.{State, listed, counted, exhausted, visit, walk, nodesFor}
-use Rattle.search.proofs.Laws.{members-first, dead-below}
+use Rattle.search.specs.Walk.{State, listed, counted, exhausted, walk, nodesFor}
+use Rattle.search.proofs.Laws.{both-none, members-first, dead-below}
 use Rattle.search.proofs.Walk.{visit-spent, visit-other, visit-plan, walk-append, walk-stopped}
 
 is-plan : (p : Problem) (t : List ℕ) → length t ≡ p .variables → isLive p t ≡ true → isPlan p t ≡ true
@@ -23,11 +23,7 @@ is-plan p t e l = ap₂ both (eq-eqb (length t) (p .variables) e) l
 
 dead-no-plan : (p : Problem) (t : List ℕ) → isLive p t ≡ false → isPlan p t ≡ false
 unfolding isPlan
-dead-no-plan p t l = ap (both (eqb (length t) (p .variables))) l ∙ none (eqb (length t) (p .variables))
-  where
-    none : (b : Bool) → both b false ≡ false
-    none true = refl
-    none false = refl
+dead-no-plan p t l = ap (both (eqb (length t) (p .variables))) l ∙ both-none (eqb (length t) (p .variables))
 
 short-no-plan : (p : Problem) (t : List ℕ) → (length t ≡ p .variables → ⊥) → isPlan p t ≡ false
 unfolding isPlan
@@ -54,9 +50,8 @@ module _ (p : Problem) (limit k : ℕ) (prefix : List ℕ) where
     first = ap (λ (l : List ℕ). flat (map (λ v. (prefix ++ (v ∷ [])) ∷ nodesBelow p k (prefix ++ (v ∷ []))) l)) (members-first m some small)
 
     -- one value: its node, the nodes below, then the other values
-    pub step : walk p limit (nodesFor p k prefix m) s ≡ walk p limit more (walk p limit (nodesBelow p k node) (visit p limit node s))
-    unfolding walk
-    step = ap (λ (l : List (List ℕ)). walk p limit l s) first ∙ walk-append p limit (nodesBelow p k node) more (visit p limit node s)
+    pub step : walk p limit (nodesFor p k prefix m) s ≡ walk p limit more (walk p limit (node ∷ nodesBelow p k node) s)
+    step = ap (λ (l : List (List ℕ)). walk p limit l s) first ∙ walk-append p limit (node ∷ nodesBelow p k node) more s
 
     pub step-spent : s .made ≡ limit → walk p limit (nodesFor p k prefix m) s ≡ exhausted s
     unfolding walk
@@ -66,13 +61,14 @@ module _ (p : Problem) (limit k : ℕ) (prefix : List ℕ) where
 
   -- ---- a node and those below it: dead, a plan, or neither
   module _ (t : List ℕ) (s : State) (going : s .stop ≡ 0) (allowed : s .made ≡ limit → ⊥) where
-    pub node-dead : isLive p t ≡ false → walk p limit (nodesBelow p k t) (visit p limit t s) ≡ counted s
+    pub node-dead : isLive p t ≡ false → walk p limit (t ∷ nodesBelow p k t) s ≡ counted s
     unfolding walk
     node-dead d = ap₂ (walk p limit) (dead-below p k t d) (visit-other p limit t s going allowed (dead-no-plan p t d))
 
-    pub node-plan : isLive p t ≡ true → length t ≡ p .variables → k ≡ 0 → walk p limit (nodesBelow p k t) (visit p limit t s) ≡ listed (p .variables) t (counted s)
+    pub node-plan : isLive p t ≡ true → length t ≡ p .variables → k ≡ 0 → walk p limit (t ∷ nodesBelow p k t) s ≡ listed (p .variables) t (counted s)
     unfolding walk nodesBelow
     node-plan l n z = ap₂ (λ (j : ℕ) (u : State). walk p limit (nodesBelow p j t) u) z (visit-plan p limit t s going allowed (is-plan p t n l))
 
-    pub node-inner : (length t ≡ p .variables → ⊥) → walk p limit (nodesBelow p k t) (visit p limit t s) ≡ walk p limit (nodesBelow p k t) (counted s)
+    pub node-inner : (length t ≡ p .variables → ⊥) → walk p limit (t ∷ nodesBelow p k t) s ≡ walk p limit (nodesBelow p k t) (counted s)
+    unfolding walk
     node-inner n = ap (walk p limit (nodesBelow p k t)) (visit-other p limit t s going allowed (short-no-plan p t n))

@@ -1,31 +1,31 @@
 -- One turn of `try_value`, as statements about what it is given and what it leaves: nothing to try, no node left, and a value whose node is
 -- dead, a plan, or has nodes below it. Assumes nothing.
 use mathlib.Core.Path.{_≡_, refl, sym, ap, ap₂, _∙_, subst}
-use mathlib.Core.Bool.{Bool, true, false, not}
+use mathlib.Core.Bool.{Bool, true, false}
 use mathlib.Core.List.{List, [], _∷_, _++_}
-use Prim.Native.Nat.{ℕ, zero, suc, _+_, _-_, _*_, _^_, _≤_, _<_}
+use Prim.Native.Nat.{ℕ, suc, _+_, _-_, _*_, _^_, _≤_, _<_}
 use native.Mathlib.Numerals.{add-one}
 use native.Mathlib.Omega.{arith}
 use lib.Dec.{T}
-use lib.ListN.{length, take, set, length-set, length-append}
-use lib.Seq.{take-set-le}
+use borrow.Author.Tests.{not-true, not-false}
+use lib.ListN.{length, take, set, length-set}
 use lib.Bits.{bitAnd, and-le-r}
 use lib.Count.{trailingZeros}
-use Rattle.model.specs.Lists.{at, both}
+use Rattle.model.specs.Lists.{at}
 use Rattle.model.specs.ValueSets.{has, lowestOf}
 use Rattle.model.specs.Problem.{Problem}
 use Rattle.model.specs.Search.{setsAt, isLive, nodesBelow}
-use Rattle.model.proofs.Lists.{T-of, of-T, both-l}
+use Rattle.model.proofs.Lists.{T-of, both-l}
 use Rattle.model.proofs.Masks.{lowest-op}
+use Rattle.model.proofs.Prune.{setsAt-sets}
+use Rattle.model.proofs.Tree.{well-sized}
 use Rattle.model.proofs.WellFormed.{WellFormed}
 use Rattle.prune.specs.Node.{Ready, Holds, AtNode, Reached, longer}
-use Rattle.search.specs.Walk.{State, listed, counted, exhausted, visit, walk, nodesFor}
+use Rattle.search.specs.Walk.{State, listed, counted, walk, nodesFor}
 use Rattle.search.specs.Pair.{prefixOf, stateOf, Room, AtPrefix, AtValues, Walked, below, tried}
 use Rattle.search.specs.declared.Progress.{Progress}
 use Rattle.search.proofs.Laws.{lowest-lt, lowest-is, has-more, live-values}
-use Rattle.search.proofs.Walk.{Fits, visit-fits, walk-fits, walk-stopped}
-use Rattle.model.proofs.Prune.{setsAt-sets}
-use Rattle.model.proofs.Tree.{well-sized}
+use Rattle.search.proofs.Walk.{Fits, walk-fits, walk-stopped}
 use Rattle.search.proofs.Steps.{below-is, step-none, step, step-spent, node-dead, node-plan, node-inner}
 use Rattle.search.proofs.Prefix.{length-prefix, prefix-at, prefix-ext, prefix-take, prefix-snoc, at-set, at-other}
 
@@ -33,6 +33,7 @@ use Rattle.search.proofs.Prefix.{length-prefix, prefix-at, prefix-ext, 
 abbrev pub madeOne : Progress → Progress
 madeOne r = record { plans = r .plans; nodes = r .nodes + 1; stop = 0 }
 
+-- the arrays still hold p where what was lent kept its length
 ready-on : {p : Problem} {stack work supports images numbers stack′ work′ : List ℕ} → Ready p stack work supports images numbers → length stack′ ≡ length stack → length work′ ≡ length work →
     Ready p stack′ work′ supports images numbers
 ready-on h s w = record {
@@ -86,13 +87,9 @@ module _ (p : Problem) (stack work supports images numbers list : List ℕ) (k m
       work-length = refl;
     }
 
-    -- what stands after the first value
-    pub record Passed (stack′ work′ list′ : List ℕ) (r′ : Progress) : Type 0 where
-      pub state : stateOf r′ list′ ≡ walk p limit (nodesBelow p left node) (visit p limit node (stateOf r list))
-      pub sets : (i : ℕ) → i < 16 * suc k → at stack′ i ≡ at stack i
-      pub values : (i : ℕ) → i < k → at work′ i ≡ at work i
-      pub stack-length : length stack′ ≡ length stack
-      pub work-length : length work′ ≡ length work
+    -- the walk along the first value's node and those below it
+    abbrev pub Passed : List ℕ → List ℕ → List ℕ → Progress → Type 0
+    Passed stack′ work′ list′ r′ = Walked p (node ∷ nodesBelow p left node) stack work numbers list k r stack′ work′ list′ r′
 
     module _ (stack′ work′ list′ : List ℕ) (r′ : Progress) (d : Passed stack′ work′ list′ r′) where
       same : prefixOf work′ k ≡ pre
@@ -112,8 +109,7 @@ module _ (p : Problem) (stack work supports images numbers list : List ℕ) (k m
       fits : Fits p limit (length list) (stateOf r′ list′)
       fits =
           subst (Fits p limit (length list)) (sym (d .state))
-          (walk-fits p limit (length list) (nodesBelow p left node) (visit p limit node (stateOf r list))
-          (visit-fits p limit (length list) node (stateOf r list) record { allowed = h .prefix .allowed; sized = refl; roomy = h .prefix .room .listed }))
+          (walk-fits p limit (length list) (node ∷ nodesBelow p left node) (stateOf r list) record { allowed = h .prefix .allowed; sized = refl; roomy = h .prefix .room .listed })
 
       pub turn-sized : length list′ ≡ length list
       turn-sized = fits .sized
@@ -204,18 +200,10 @@ module _ (p : Problem) (stack work supports images numbers list : List ℕ) (k m
       length-node = ap length (sym node₂) ∙ length-prefix work₂ (k + 1)
 
       live₂ : dead ≡ false → isLive p node ≡ true
-      live₂ e = subst (λ (t : List ℕ). isLive p t ≡ true) longer-is (flip (isLive p (longer put k)) (sym (q .answers) ∙ e))
-        where
-          flip : (b : Bool) → not b ≡ false → b ≡ true
-          flip true e = refl
-          flip false e = sym e
+      live₂ e = subst (λ (t : List ℕ). isLive p t ≡ true) longer-is (not-false (isLive p (longer put k)) (sym (q .answers) ∙ e))
 
       dead₂ : dead ≡ true → isLive p node ≡ false
-      dead₂ e = subst (λ (t : List ℕ). isLive p t ≡ false) longer-is (flip (isLive p (longer put k)) (sym (q .answers) ∙ e))
-        where
-          flip : (b : Bool) → not b ≡ true → b ≡ false
-          flip true e = sym e
-          flip false e = refl
+      dead₂ e = subst (λ (t : List ℕ). isLive p t ≡ false) longer-is (not-true (isLive p (longer put k)) (sym (q .answers) ∙ e))
 
       pub passed-dead : dead ≡ true → Passed stack₂ work₂ list (madeOne r)
       passed-dead e = record {

@@ -1,16 +1,16 @@
 -- Laws of the walk: it goes on where a first part of it left off, and a stopped run changes nothing. Assumes nothing.
-use mathlib.Core.Path.{_≡_, refl, sym, ap, ap₂, _∙_, subst}
+use mathlib.Core.Path.{_≡_, refl, sym, ap, _∙_, subst}
 use mathlib.Core.Bool.{Bool, true, false}
 use mathlib.Core.List.{List, [], _∷_, _++_}
-use Prim.Native.Nat.{ℕ, zero, suc, _+_, _*_, _≤_, _<_}
+use Prim.Native.Nat.{ℕ, suc, _+_, _*_, _≤_, _<_}
 use native.Mathlib.Omega.{arith}
 use lib.Dec.{T, eqb, leb}
-use lib.ListN.{length, take, drop, length-append, length-take, length-drop}
+use lib.ListN.{length, length-append, length-take, length-drop}
 use borrow.Author.Tests.{leb-true, leb-false, eqb-true, eqb-false, eq-eqb, ne-eqb, le-leb, lt-leb}
 use Rattle.model.specs.Lists.{both}
 use Rattle.model.specs.Problem.{Problem}
 use Rattle.model.specs.Search.{isPlan, isLive}
-use Rattle.search.specs.Walk.{State, pick, overwritten, listed, counted, exhausted, visit, walk}
+use Rattle.search.specs.Walk.{State, overwritten, listed, counted, exhausted, visit, walk}
 
 pub length-overwritten : (i : ℕ) (row list : List ℕ) → i + length row ≤ length list → length (overwritten i row list) ≡ length list
 unfolding overwritten

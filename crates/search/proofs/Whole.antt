@@ -1,11 +1,12 @@
 -- The run of a compiled problem: what `settle` is given at the empty prefix, and that its walk comes to the run's ending and list. Assumes nothing.
 use mathlib.Core.Path.{_≡_, refl, sym, ap, ap₂, _∙_, subst}
-use mathlib.Core.Bool.{Bool, true, false, not}
+use mathlib.Core.Bool.{Bool, true, false}
 use mathlib.Core.List.{List, []}
-use Prim.Native.Nat.{ℕ, zero, suc, _+_, _-_, _*_, _/_, _%_, _^_, _≤_, _<_}
+use Prim.Native.Nat.{ℕ, suc, _+_, _-_, _*_, _/_, _%_, _^_, _≤_, _<_}
 use native.Mathlib.Nat.{div-add-mod', mod-lt, sub-zero}
 use native.Mathlib.Omega.{arith}
-use lib.Dec.{T, eqb}
+use lib.Dec.{eqb}
+use borrow.Author.Tests.{not-true, not-false}
 use lib.ListN.{length, set, length-set}
 use Rattle.model.specs.Lists.{at}
 use Rattle.model.specs.ValueSets.{has}
@@ -14,7 +15,7 @@ use Rattle.model.specs.Search.{isLive, setsAt, nodes, nodesBelow}
 use Rattle.model.specs.Run.{finished, spent, full, resultOf, written}
 use Rattle.model.specs.Run as Run
 use Rattle.model.proofs.Lists.{T-of}
-use Rattle.layout.specs.Layout.{Numbers, Compiled}
+use Rattle.layout.specs.Layout.{Numbers}
 use Rattle.prune.specs.Node.{Ready, Holds, Reached}
 use Rattle.search.specs.Walk.{State, walk, stateAt}
 use Rattle.search.specs.Pair.{prefixOf, stateOf, Room, AtPrefix, Walked, below}
@@ -126,24 +127,16 @@ module _ (p : Problem) (numbers supports images : List ℕ) (h : Held p numbers 
     start-asks e = record {
       ready = ready stack′ work′ (q .stack-length ∙ ls) (q .work-length ∙ lw);
       inner = h .wellFormed .some;
-      live = T-of (isLive p (prefixOf work′ 0)) (ap (isLive p) (prefix-zero work′) ∙ flip (isLive p []) (sym (q .answers) ∙ e));
+      live = T-of (isLive p (prefixOf work′ 0)) (ap (isLive p) (prefix-zero work′) ∙ not-false (isLive p []) (sym (q .answers) ∙ e));
       held = subst (λ (t : List ℕ). Holds p stack′ 0 (setsAt p t)) (sym (prefix-zero work′)) (q .holds e);
       going = refl;
       limited = subst (λ (k : ℕ). k < 2 ^ 32) (sym at-limit) small;
       allowed = omega arith;
       room = subst (λ (k : ℕ). Room (p .variables) k list start) (sym at-room) empty-room;
     }
-      where
-        flip : (b : Bool) → not b ≡ false → b ≡ true
-        flip true e = refl
-        flip false e = sym e
 
     pub root-dead : dead ≡ true → Ran p limit list list (Finished 0 0)
-    root-dead e = ran-dead p limit list (flip (isLive p []) (sym (q .answers) ∙ e))
-      where
-        flip : (b : Bool) → not b ≡ true → b ≡ false
-        flip true e = sym e
-        flip false e = refl
+    root-dead e = ran-dead p limit list (not-true (isLive p []) (sym (q .answers) ∙ e))
 
     module _ (stack″ work″ list′ : List ℕ) (r : Progress) (w : Walked p (below p work′ 0) stack′ work′ bounded list 0 start stack″ work″ list′ r) where
       whole : stateOf r list′ ≡ walk p limit (nodes p) (zeroth p limit list)

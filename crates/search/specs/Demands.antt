@@ -6,7 +6,7 @@ use mathlib.Core.List.{List, List·Memᴰ, Sublistᴰ}
 use Prim.Native.Nat.{ℕ, _*_, _≤_}
 use lib.ListN.{length, take, drop}
 use lib.Dec.{T}
-use Rattle.model.specs.Problem.{Problem, isSolution}
+use Rattle.model.specs.Problem.{isSolution}
 use Rattle.model.specs.Verdict.{accepted, refused}
 use Rattle.model.specs.Sheet.{verdictOf, problemOf}
 use Rattle.model.specs.Run.{answerOf, listOf, listedPlans, plansIn, nodesIn}

@@ -1,8 +1,10 @@
-use mathlib.Core.Path.{_≡_, refl, sym, ap, subst, _∙_}
+-- The proof of the cycle of calls {settle, try_value}: each walks along the nodes that its contract names (proofs/Turns has the turns). The measures:
+-- the variables left, and within them the values left. Assumes nothing.
+use mathlib.Core.Path.{_≡_, sym, ap, subst, _∙_}
 use mathlib.Core.Logic.{⊎-elim}
 use mathlib.Core.Bool.{true, false}
 use mathlib.Core.List.{List}
-use Prim.Native.Nat.{ℕ, _+_, _-_, _*_, _^_, _<_, _≤_}
+use Prim.Native.Nat.{ℕ, _+_, _-_, _*_, _^_, _<_}
 use native.Mathlib.Nat.{pos-of-ne-zero}
 use native.Mathlib.Omega.{arith}
 use lib.ListN.{getD, set}
@@ -13,7 +15,7 @@ use borrow.Author.Needs.{needs}
 use denote.Ref.{now}
 use Rattle.model.specs.Lists.{at}
 use Rattle.model.specs.Problem.{Problem}
-use Rattle.prune.specs.Node.{AtNode, Reached, longer}
+use Rattle.prune.specs.Node.{Reached, longer}
 use Rattle.search.specs.Walk.{listed}
 use Rattle.search.specs.Pair.{prefixOf, stateOf, Room, AtPrefix, AtValues, Walked, below}
 use Rattle.search.specs.declared.Progress.{Progress}
@@ -106,55 +108,57 @@ settle-returns t c =
     (c .before .before .try-value .ensures p
     (values-ask p (now (a .args .stack)) (now (a .args .work)) (now (a .args .supports)) (now (a .args .images)) (now (a .args .numbers)) (now (a .args .list)) (a .args .k) (a .args .r) h))
 
-try-value-returns : (t : ℕ) → try-value-lts.Need-returns (called t) (try-value-at t) try-value.Post
-try-value-returns t c = λ p h. turn-none p _ _ _ _ _ _ _ _ _ h (c .if1 .taken)
-
-try-value-element-copy-out-if2 : (t : ℕ) → try-value-lts.Need-element-copy-out-if2 (called t) (try-value-at t) try-value.Post
-try-value-element-copy-out-if2 t c = search needs
-
 -- ---- what is known on the way through `try_value`
 abbrev Start : ℕ → Type 0
 Start t = try-value-lts.Start (called t) (try-value-at t) try-value.Post
 
+-- where `child` has answered, and where the three ways on meet
+abbrev Answered : ℕ → Type 0
+Answered t = try-value-lts.After-child (called t) (try-value-at t) try-value.Post
+
+abbrev Joined : ℕ → Type 0
+Joined t = try-value-lts.Joined3 (called t) (try-value-at t) try-value.Post
+
+-- what `try_value` was given for p
 abbrev Given : (t : ℕ) → Start t → Problem → Type 0
 Given t a p = AtValues p (now (a .args .stack)) (now (a .args .work)) (now (a .args .supports)) (now (a .args .images)) (now (a .args .numbers)) (now (a .args .list)) (a .args .k) (a .args .m) (a .args .r)
 
-abbrev started : (t : ℕ) → try-value-lts.After-child (called t) (try-value-at t) try-value.Post → Start t
+abbrev started : (t : ℕ) → Answered t → Start t
 started t c = c .before .before .before .before .before .before .before
 
-some : (t : ℕ) (c : try-value-lts.After-child (called t) (try-value-at t) try-value.Post) → 0 < started t c .args .m
+some : (t : ℕ) (c : Answered t) → 0 < started t c .args .m
 some t c = pos-of-ne-zero (c .before .before .before .before .before .if1 .left)
 
 -- `child` was asked as it asks, and has answered
 abbrev valued : (t : ℕ) → Start t → List ℕ
 valued t a = set (now (a .args .work)) (a .args .k) (trailingZeros 16 (a .args .m))
 
-reached : (t : ℕ) (c : try-value-lts.After-child (called t) (try-value-at t) try-value.Post) (p : Problem) → Given t (started t c) p →
+reached : (t : ℕ) (c : Answered t) (p : Problem) → Given t (started t c) p →
     Reached p (longer (valued t (started t c)) (started t c .args .k)) (started t c .args .k + 1) (now (started t c .args .stack)) (valued t (started t c)) (c .child .last .0) (c .child .last .1 .0) (c .child .result)
 reached t c p h = c .child .ensures p (child-asks p _ _ _ _ _ _ _ _ _ h (some t c) (started t c .fits .m .fits))
 
-due : (t : ℕ) (c : try-value-lts.After-child (called t) (try-value-at t) try-value.Post) → started t c .args .r .nodes ≡ at (now (started t c .args .numbers)) 68 → ⊥
+due : (t : ℕ) (c : Answered t) → started t c .args .r .nodes ≡ at (now (started t c .args .numbers)) 68 → ⊥
 unfolding at
 due t c e = c .before .before .before .if2 .left e
 
 -- what stands after the lowest value, by the way that it went: dead, ..
-abbrev After : (t : ℕ) (c : try-value-lts.After-child (called t) (try-value-at t) try-value.Post) (p : Problem) → Given t (started t c) p → List ℕ → List ℕ → List ℕ → Progress → Type 0
+abbrev After : (t : ℕ) (c : Answered t) (p : Problem) → Given t (started t c) p → List ℕ → List ℕ → List ℕ → Progress → Type 0
 After t c p h =
     let a = started t c in
     Passed p (now (a .args .stack)) (now (a .args .work)) (now (a .args .supports)) (now (a .args .images)) (now (a .args .numbers)) (now (a .args .list)) (a .args .k) (a .args .m) (a .args .r) h
     (some t c) (a .fits .m .fits)
 
-dead : (t : ℕ) (c : try-value-lts.After-child (called t) (try-value-at t) try-value.Post) → c .child .result ≡ true → (p : Problem) (h : Given t (started t c) p) →
+dead : (t : ℕ) (c : Answered t) → c .child .result ≡ true → (p : Problem) (h : Given t (started t c) p) →
     After t c p h (c .child .last .0) (c .child .last .1 .0) (now (started t c .args .list)) (madeOne (started t c .args .r))
 dead t c e p h =
     passed-dead p _ _ _ _ _ _ _ _ _ h (some t c) (started t c .fits .m .fits)
     _ _ _ (reached t c p h) (due t c) e
 
 -- .. a plan, or nodes below it
-variables-are : (t : ℕ) (c : try-value-lts.After-child (called t) (try-value-at t) try-value.Post) (p : Problem) → Given t (started t c) p → at (now (started t c .args .numbers)) 64 ≡ p .variables
+variables-are : (t : ℕ) (c : Answered t) (p : Problem) → Given t (started t c) p → at (now (started t c .args .numbers)) 64 ≡ p .variables
 variables-are t c p h = h .prefix .ready .compiled .numbered .variables
 
-plan : (t : ℕ) (c : try-value-lts.After-child (called t) (try-value-at t) try-value.Post) → c .child .result ≡ false → (p : Problem) (h : Given t (started t c) p) →
+plan : (t : ℕ) (c : Answered t) → c .child .result ≡ false → (p : Problem) (h : Given t (started t c) p) →
     started t c .args .k + 1 ≡ at (now (started t c .args .numbers)) 64 → (list′ : List ℕ) (r′ : Progress) →
     stateOf r′ list′ ≡ listed (at (now (started t c .args .numbers)) 64) (prefixOf (c .child .last .1 .0) (at (now (started t c .args .numbers)) 64)) (stateOf (madeOne (started t c .args .r)) (now (started t c .args .list))) →
     After t c p h (c .child .last .0) (c .child .last .1 .0) list′ r′
@@ -163,21 +167,21 @@ plan t c e p h n list′ r′ w =
     _ _ _ (reached t c p h) (due t c) e (n ∙ variables-are t c p h) list′ r′
     (w ∙ ap (λ (j : ℕ). listed j (prefixOf (c .child .last .1 .0) j) (stateOf (madeOne (started t c .args .r)) (now (started t c .args .list)))) (variables-are t c p h))
 
-asked : (t : ℕ) (c : try-value-lts.After-child (called t) (try-value-at t) try-value.Post) → c .child .result ≡ false → (p : Problem) (h : Given t (started t c) p) →
+asked : (t : ℕ) (c : Answered t) → c .child .result ≡ false → (p : Problem) (h : Given t (started t c) p) →
     (started t c .args .k + 1 ≡ at (now (started t c .args .numbers)) 64 → ⊥) →
     AtPrefix p (c .child .last .0) (c .child .last .1 .0) (now (started t c .args .supports)) (now (started t c .args .images)) (now (started t c .args .numbers)) (now (started t c .args .list)) (started t c .args .k + 1) (madeOne (started t c .args .r))
 asked t c e p h n =
     settle-asks p _ _ _ _ _ _ _ _ _ h (some t c) (started t c .fits .m .fits)
     _ _ _ (reached t c p h) (due t c) e (λ z. n (z ∙ sym (variables-are t c p h)))
 
-inner : (t : ℕ) (c : try-value-lts.After-child (called t) (try-value-at t) try-value.Post) (e : c .child .result ≡ false) (p : Problem) (h : Given t (started t c) p) →
+inner : (t : ℕ) (c : Answered t) (e : c .child .result ≡ false) (p : Problem) (h : Given t (started t c) p) →
     (started t c .args .k + 1 ≡ at (now (started t c .args .numbers)) 64 → ⊥) → (stack′ work′ list′ : List ℕ) (r′ : Progress) →
     Walked p (below p (c .child .last .1 .0) (started t c .args .k + 1)) (c .child .last .0) (c .child .last .1 .0) (now (started t c .args .numbers)) (now (started t c .args .list)) (started t c .args .k + 1) (madeOne (started t c .args .r)) stack′ work′ list′ r′ →
     After t c p h stack′ work′ list′ r′
 inner t c e p h n stack′ work′ list′ r′ w =
     passed-inner p _ _ _ _ _ _ _ _ _ h (some t c) (started t c .fits .m .fits) _ _ _ (reached t c p h) (due t c) e (λ z. n (z ∙ sym (variables-are t c p h))) stack′ work′ list′ r′ w
 
-passed : (t : ℕ) (c : try-value-lts.Joined3 (called t) (try-value-at t) try-value.Post) (p : Problem) (h : Given t (started t (c .before)) p) →
+passed : (t : ℕ) (c : Joined t) (p : Problem) (h : Given t (started t (c .before)) p) →
     After t (c .before) p h (c .if3 .stack) (c .if3 .work) (c .if3 .list) (c .if3 .next)
 unfolding at
 passed t c p h =
@@ -188,6 +192,12 @@ passed t c p h =
     (λ w. four (After t b p h) (w .8) (w .9) (w .10) (w .11) (plan t b (w .0 .left) p h (w .2 .taken) _ _ (w .5 .ensures)))
     (λ w. four (After t b p h) (w .9) (w .10) (w .11) (w .12) (inner t b (w .0 .left) p h (w .2 .left) _ _ _ _ (w .6 .ensures p (asked t b (w .0 .left) p h (w .2 .left))))))
     (c .if3 .came)
+
+try-value-returns : (t : ℕ) → try-value-lts.Need-returns (called t) (try-value-at t) try-value.Post
+try-value-returns t c = λ p h. turn-none p _ _ _ _ _ _ _ _ _ h (c .if1 .taken)
+
+try-value-element-copy-out-if2 : (t : ℕ) → try-value-lts.Need-element-copy-out-if2 (called t) (try-value-at t) try-value.Post
+try-value-element-copy-out-if2 t c = search needs
 
 try-value-returns-2 : (t : ℕ) → try-value-lts.Need-returns-2 (called t) (try-value-at t) try-value.Post
 unfolding at

@@ -4,8 +4,6 @@ use Prim.Native.Nat.{ℕ}
 use native.Mathlib.Omega.{arith}
 use Rattle.search.proofs.ended.Statement.{statement}
 use Rattle.search.proofs.ended.Tie as tie
-use Rattle.search.proofs.ended.Reads as reads
-use Rattle.search.proofs.ended.Lts as lts
 
 returns : tie.Need-returns
 returns c = λ list. ap (λ (k : ℕ). record { made = c .before .before .args .r .nodes; plans = c .before .before .args .r .plans; stop = k; list = list }) (sym (c .if1 .taken))

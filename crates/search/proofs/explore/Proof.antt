@@ -1,5 +1,5 @@
 -- `search::explore` meets its contract: proofs/Whole. Assumes nothing.
-use mathlib.Core.Path.{_≡_, refl, sym, ap, _∙_}
+use mathlib.Core.Path.{refl}
 use mathlib.Core.List.{[]}
 use Prim.Native.Nat.{ℕ, _/_}
 use native.Mathlib.Omega.{arith}
@@ -14,12 +14,6 @@ use Rattle.search.proofs.Whole.{ready, start-asks, root-dead, stop-know
 use borrow.Author.Needs.{needs}
 use Rattle.search.proofs.explore.Statement.{statement}
 use Rattle.search.proofs.explore.Tie as tie
-use Rattle.search.proofs.explore.Reads as reads
-use Rattle.search.proofs.explore.Lts as lts
-use Rattle.search.proofs.ended.Reads as ended-reads
-use Rattle.prune.proofs.root.Reads as root-reads
-use Rattle.search.proofs.put_bounds.Reads as put-bounds-reads
-use Rattle.search.proofs.settle.Reads as settle-reads
 
 element-copy-out-n : tie.Need-element-copy-out-n
 element-copy-out-n c = search needs

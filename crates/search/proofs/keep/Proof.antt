@@ -1,6 +1,6 @@
 -- `search::keep` meets its contract: after i turns the list is the list at entry with the first i numbers of `work` over it. Assumes nothing.
-use mathlib.Core.Path.{_≡_, refl, sym, ap, _∙_}
-use Prim.Native.Nat.{ℕ, _+_, _-_, _≤_, _<_}
+use mathlib.Core.Path.{_≡_, sym, ap, _∙_}
+use Prim.Native.Nat.{ℕ, _+_, _-_, _≤_}
 use native.Mathlib.Omega.{arith}
 use native.Mathlib.Numerals.{add-one}
 use mathlib.Core.List.{List}
@@ -9,8 +9,6 @@ use lib.Seq.{paste, paste-zero, paste-suc, length-paste}
 use Rattle.search.proofs.Prefix.{pasted, small}
 use Rattle.search.proofs.keep.Statement.{statement}
 use Rattle.search.proofs.keep.Tie as tie
-use Rattle.search.proofs.keep.Reads as reads
-use Rattle.search.proofs.keep.Lts as lts
 
 abbrev Inv-loop : tie.InvT-loop
 Inv-loop list₀ work n start i₀ list i = (i ≤ n) × (list ≡ paste list₀ start work i)

@@ -7,9 +7,6 @@ use Rattle.search.proofs.Listing.{fits-counted, fits-bytes, full-now, k
 use borrow.Author.Needs.{needs}
 use Rattle.search.proofs.list_plan.Statement.{statement}
 use Rattle.search.proofs.list_plan.Tie as tie
-use Rattle.search.proofs.list_plan.Reads as reads
-use Rattle.search.proofs.list_plan.Lts as lts
-use Rattle.search.proofs.keep.Reads as keep-reads
 
 element-copy-out-if1 : tie.Need-element-copy-out-if1
 element-copy-out-if1 c = search needs

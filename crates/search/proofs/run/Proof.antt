@@ -1,19 +1,15 @@
 -- `search::run` meets its contract: proofs/Sheets. Assumes nothing.
-use mathlib.Core.Path.{_≡_, sym, ap, _∙_}
+use mathlib.Core.Path.{sym, ap, _∙_}
 use denote.Ref.{now}
 use Rattle.model.specs.Sheet.{problemOf}
 use Rattle.sheet.specs.Meaning.{means}
-use Rattle.search.proofs.Sheets.{held, answer-ended, list-ended, answer-refused, list-refused}
+use Rattle.search.proofs.Sheets.{zeros, held, answer-ended, list-ended, answer-refused, list-refused}
 use borrow.Author.Needs.{needs}
 use Rattle.search.proofs.run.Statement.{statement}
 use Rattle.search.proofs.run.Tie as tie
-use Rattle.search.proofs.run.Reads as reads
-use Rattle.search.proofs.run.Lts as lts
-use Rattle.search.proofs.explore.Reads as explore-reads
-use Rattle.sheet.proofs.compile.Reads as compile-reads
 
 compile-requires : tie.Need-compile-requires
-compile-requires c κs = search needs
+compile-requires c κs = (zeros 128, zeros 8192, zeros 26112 .sized)
 
 enum-told : tie.Need-enum-told
 enum-told c = search needs
@@ -21,9 +17,10 @@ enum-told c = search needs
 explore-requires : tie.Need-explore-requires
 explore-requires c κs =
     let d = c .before .before .before .before .before .before in
-    let e = ap means (c .before .before .before .before .enum-told .given .1) in
+    let q = c .before .before .before .before .enum-told .given .1 in
+    let e = ap means q in
     let b = now (d .before .before .before .before .before .before .args .sheet) in
-    (problemOf b, held b (sym (d .compile .ensures .0) ∙ e) _ _ _ (d .compile .ensures .1 e))
+    (problemOf b, held b (sym (d .compile .ensures .answers) ∙ e) _ _ _ (d .compile .ensures .compiled q))
 
 enum-known-verdict : tie.Need-enum-known-verdict
 enum-known-verdict c = search needs
@@ -35,11 +32,12 @@ returns : tie.Need-returns
 returns c =
     let x = c .before .before in
     let d = x .before .before .before .before .before .before .before in
-    let e = ap means (x .before .before .before .before .before .enum-told .given .1) in
+    let q = x .before .before .before .before .before .enum-told .given .1 in
+    let e = ap means q in
     let a = d .before .before .before .before .before .before in
     let b = now (a .args .sheet) in
-    let v = sym (d .compile .ensures .0) ∙ e in
-    let r = x .explore .ensures (problemOf b) (held b v _ _ _ (d .compile .ensures .1 e)) in
+    let v = sym (d .compile .ensures .answers) ∙ e in
+    let r = x .explore .ensures (problemOf b) (held b v _ _ _ (d .compile .ensures .compiled q)) in
     (answer-ended b v (a .args .limit) (now (a .args .list)) _ _ r, list-ended b v (a .args .limit) (now (a .args .list)) _ _ r)
 
 returns-2 : tie.Need-returns-2
@@ -47,7 +45,7 @@ returns-2 c =
     let d = c .before .before .before in
     let a = d .before .before .before .before .before .before in
     let g = c .before .verdict .given in
-    let v = sym (d .compile .ensures .0) ∙ ap means (g .1) in
+    let v = sym (d .compile .ensures .answers) ∙ ap means (g .1) in
     (answer-refused (now (a .args .sheet)) (g .0 .0) (g .0 .1 .0) v (a .args .limit) (now (a .args .list)), list-refused (now (a .args .sheet)) (g .0 .0) (g .0 .1 .0) v (a .args .limit) (now (a .args .list)))
 
 pub run-spec : {M : Type 1} → statement M
