@@ -1,0 +1,5 @@
+-- A run as a walk along the nodes of the tree, what the functions of the search ask and leave, and what a run answers.
+pub mod Walk
+pub mod Pair
+pub mod Meaning
+pub mod Demands
