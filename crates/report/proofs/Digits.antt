@@ -90,4 +90,4 @@ put-one {d} {at} {n} {e} {r} h w = subst (λ (l : List ℕ). Written d at l e r)
 
 pub put-more : {d : List ℕ} {at n : ℕ} {e : List ℕ} {r : ℕ} {f : List ℕ} {s : ℕ} → 10 ≤ n → n < 2 ^ 64 → at + length (decimal n) ≤ length d → Written d at (decimal (n / 10)) e r → Written e r ((48 + n % 10) ∷ []) f s → Written d at (decimal n) f s
 put-more {d} {at} {n} {e} {r} {f} {s} g h fits v w =
-    subst (λ (l : List ℕ). Written d at l f s) (sym (decimal-more n g h)) (written-then (omega (arith, length-more n g h)) v w)
+    subst (λ (l : List ℕ). Written d at l f s) (sym (decimal-more n g h)) (written-then (omega (arith, length-more n g h, v .ends)) v w)

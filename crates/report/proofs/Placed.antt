@@ -50,15 +50,15 @@ pub written-length : {d : List ℕ} {at : ℕ} {t e : List ℕ} {n : ℕ} → at
 written-length {d} {at} {t} fits w = ap length (w .bytes) ∙ length-placed d at t fits
 
 -- one text and then another are one text
-pub written-then : {d : List ℕ} {at : ℕ} {t e : List ℕ} {n : ℕ} {u f : List ℕ} {m : ℕ} → at + length t ≤ length d → Written d at t e n → Written e n u f m → Written d at (t ++ u) f m
+pub written-then : {d : List ℕ} {at : ℕ} {t e : List ℕ} {n : ℕ} {u f : List ℕ} {m : ℕ} → n ≤ length d → Written d at t e n → Written e n u f m → Written d at (t ++ u) f m
 written-then {d} {at} {t} {e} {n} {u} {f} {m} fits v w =
     record {
       bytes =
-          w .bytes
-          ∙ ap (λ (l : List ℕ). placed l n u) (v .bytes)
-          ∙ ap (λ (k : ℕ). placed (placed d at t) k u) (v .ends)
-          ∙ placed-then d at t fits u;
-      ends = omega (arith, length-append t u, w .ends, v .ends);
+        w .bytes
+        ∙ ap (λ (l : List ℕ). placed l n u) (v .bytes)
+        ∙ ap (λ (k : ℕ). placed (placed d at t) k u) (v .ends)
+        ∙ placed-then d at t (omega (arith, v .ends)) u;
+      ends = omega (arith, length-append t u, w .ends, v .ends)
     }
 
 -- one byte stored
