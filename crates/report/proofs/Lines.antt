@@ -1,15 +1,15 @@
 -- Fields, lines and the lines of the listed plans, put one after the other. Assumes nothing.
-use mathlib.Core.Path.{_≡_, refl, sym, ap, _∙_, subst}
+use mathlib.Core.Path.{_≡_, sym, ap, _∙_, subst}
 use mathlib.Core.List.{List, [], _∷_, _++_, map, map-append, append-assoc, append-nil}
 use Prim.Native.Nat.{ℕ, zero, suc, _+_, _*_, _-_, _^_, _≤_, _<_}
 use native.Mathlib.Nat.{zero-mul, suc-mul, mul-le-mul-right, add-comm, add-sub-cancel-left}
 use native.Mathlib.Numerals.{add-one}
 use native.Mathlib.Omega.{arith}
-use lib.ListN.{length, take, drop, getD, length-append}
+use lib.ListN.{length, take, drop, getD}
 use lib.Seq.{take-suc, drop-drop, take-all}
 use Rattle.model.specs.Lists.{flat}
 use Rattle.model.specs.Run.{Ending, plansIn, listedPlans}
-use Rattle.model.specs.Report.{decimal, line, planWord, endingLine, resultText}
+use Rattle.model.specs.Report.{line, planWord, endingLine, resultText}
 use Rattle.model.proofs.Lists.{flat-append}
 use Rattle.report.specs.Text.{Written, Fronted, field, fields, endedText}
 use Rattle.report.proofs.Placed.{written-then, fronted}
@@ -69,7 +69,7 @@ listed-snoc n (suc k) l =
     ap (λ (r : List (List ℕ)). take n l ∷ r)
     (listed-snoc n k (drop n l)
     ∙ ap (λ (r : List ℕ). listedPlans n k (drop n l) ++ (take n r ∷ []))
-        (drop-drop (k * n) n l ∙ ap (λ (j : ℕ). drop j l) (add-comm n (k * n) ∙ sym (suc-mul k n))))
+    (drop-drop (k * n) n l ∙ ap (λ (j : ℕ). drop j l) (add-comm n (k * n) ∙ sym (suc-mul k n))))
 
 -- a row that is one of the plans' lies inside the list
 pub row-inside : (n i plans at len : ℕ) → i < plans → at ≡ i * n → plans * n ≤ len → at + n ≤ len

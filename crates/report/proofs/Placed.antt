@@ -1,8 +1,8 @@
 -- Texts put into a buffer one after the other: the buffer keeps its length, and two texts are one. Assumes nothing.
-use mathlib.Core.Path.{_≡_, refl, sym, ap, _∙_, subst}
+use mathlib.Core.Path.{_≡_, refl, sym, ap, _∙_}
 use mathlib.Core.List.{List, [], _∷_, _++_, append-assoc, append-nil}
-use Prim.Native.Nat.{ℕ, suc, _+_, _≤_, _<_}
-use native.Mathlib.Nat.{add-assoc, add-zero, zero-add, le-trans, le-add-right}
+use Prim.Native.Nat.{ℕ, _+_, _≤_, _<_}
+use native.Mathlib.Nat.{add-zero, zero-add}
 use native.Mathlib.Numerals.{add-one}
 use native.Mathlib.Omega.{arith}
 use lib.ListN.{length, take, drop, set, length-append, length-drop, take-append-drop}
@@ -54,11 +54,11 @@ pub written-then : {d : List ℕ} {at : ℕ} {t e : List ℕ} {n : ℕ} {u f : L
 written-then {d} {at} {t} {e} {n} {u} {f} {m} fits v w =
     record {
       bytes =
-        w .bytes
-        ∙ ap (λ (l : List ℕ). placed l n u) (v .bytes)
-        ∙ ap (λ (k : ℕ). placed (placed d at t) k u) (v .ends)
-        ∙ placed-then d at t (omega (arith, v .ends)) u;
-      ends = omega (arith, length-append t u, w .ends, v .ends)
+          w .bytes
+          ∙ ap (λ (l : List ℕ). placed l n u) (v .bytes)
+          ∙ ap (λ (k : ℕ). placed (placed d at t) k u) (v .ends)
+          ∙ placed-then d at t (omega (arith, v .ends)) u;
+      ends = omega (arith, length-append t u, w .ends, v .ends);
     }
 
 -- one byte stored

@@ -1,11 +1,11 @@
 -- Text in a lent buffer: what a routine wrote, where it ends, and that all other bytes are as they came.
 use mathlib.Core.Path.{_≡_}
-use mathlib.Core.List.{List, [], _∷_, _++_, map}
+use mathlib.Core.List.{List, _∷_, _++_, map}
 use Prim.Native.Nat.{ℕ, _+_}
 use lib.ListN.{length, take, drop}
 use Rattle.model.specs.Lists.{flat}
-use Rattle.model.specs.Run.{Ending, Result, listedPlans, plansIn}
-use Rattle.model.specs.Report.{decimal, line, resultText}
+use Rattle.model.specs.Run.{Ending, listedPlans, plansIn}
+use Rattle.model.specs.Report.{decimal, resultText}
 
 -- a buffer with a text at a place
 unfoldable pub placed : List ℕ → ℕ → List ℕ → List ℕ

@@ -1,7 +1,6 @@
 -- `put_digits`: the digits before the last are those of the tenth part. The measure is the number. Assumes nothing.
 use mathlib.Core.Path.{_∙_}
 use native.Mathlib.Omega.{arith}
-use Rattle.report.proofs.Placed.{written-length}
 use Rattle.report.proofs.Digits.{length-one, length-more, put-one, put-more}
 use Prim.Native.Nat.{ℕ, _<_}
 use borrow.Fn.Kinds.{In}

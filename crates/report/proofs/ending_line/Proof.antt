@@ -1,15 +1,9 @@
 -- `ending_line`: the word, three numbers of at most 20 digits, and the newline. Assumes nothing.
-use mathlib.Core.Path.{_∙_}
 use native.Mathlib.Omega.{arith}
 use Rattle.report.proofs.Lines.{field-most, put-three}
 use borrow.Author.Needs.{needs}
 use Rattle.report.proofs.ending_line.Statement.{statement}
 use Rattle.report.proofs.ending_line.Tie as tie
-use Rattle.report.proofs.ending_line.Reads as reads
-use Rattle.report.proofs.ending_line.Lts as lts
-use Rattle.report.proofs.put.Reads as put-reads
-use Rattle.report.proofs.put_byte.Reads as put-byte-reads
-use Rattle.report.proofs.put_number.Reads as put-number-reads
 
 put-requires : tie.Need-put-requires
 put-requires c κs = search needs

@@ -4,11 +4,6 @@ use Rattle.report.proofs.Lines.{put-line}
 use borrow.Author.Needs.{needs}
 use Rattle.report.proofs.plan_line.Statement.{statement}
 use Rattle.report.proofs.plan_line.Tie as tie
-use Rattle.report.proofs.plan_line.Reads as reads
-use Rattle.report.proofs.plan_line.Lts as lts
-use Rattle.report.proofs.put.Reads as put-reads
-use Rattle.report.proofs.put_byte.Reads as put-byte-reads
-use Rattle.report.proofs.put_row.Reads as put-row-reads
 
 slice-aggregate-put : tie.Need-slice-aggregate-put
 slice-aggregate-put c = search needs
@@ -30,8 +25,7 @@ returns c =
     let v = c .before .before in
     let q = v .before .before .before .before in
     let p = q .before .before .before .before in
-    let s = p .before .before .before .before .before in
-    (
+    let s = p .before .before .before .before .before in (
       put-line (s .args .row .now) (omega (arith, q .put-row .ensures .1, p .put .ensures .ends, s .pre)) (p .put .ensures) (q .put-row .ensures .0) (v .put-byte .ensures),
       omega (arith, v .put-byte .ensures .ends, q .put-row .ensures .1, p .put .ensures .ends),
     )

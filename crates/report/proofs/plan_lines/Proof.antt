@@ -1,12 +1,12 @@
 -- `plan_lines`: after i turns the lines of the first i rows stand at the front, in at most 53 bytes each. Assumes nothing.
 use mathlib.Core.Path.{_≡_, refl, sym, ap, _∙_, subst}
-use mathlib.Core.List.{List, [], map}
-use Prim.Native.Nat.{ℕ, _+_, _*_, _-_, _≤_, _<_}
-use native.Mathlib.Nat.{zero-mul, suc-mul, le-antisymm}
+use mathlib.Core.List.{List, map}
+use Prim.Native.Nat.{ℕ, _+_, _*_, _-_, _≤_}
+use native.Mathlib.Nat.{zero-mul, suc-mul}
 use native.Mathlib.Numerals.{add-one}
 use native.Mathlib.Omega.{arith}
 use borrow.Author.Needs.{needs}
-use lib.ListN.{length, take, drop, length-take}
+use lib.ListN.{length, drop, length-take}
 use Rattle.model.specs.Lists.{flat}
 use Rattle.model.specs.Run.{listedPlans}
 use Rattle.model.specs.Report.{line, planWord}
@@ -15,9 +15,6 @@ use Rattle.report.proofs.Placed.{written-none}
 use Rattle.report.proofs.Lines.{row-inside, plans-turn}
 use Rattle.report.proofs.plan_lines.Statement.{statement}
 use Rattle.report.proofs.plan_lines.Tie as tie
-use Rattle.report.proofs.plan_lines.Reads as reads
-use Rattle.report.proofs.plan_lines.Lts as lts
-use Rattle.report.proofs.plan_line.Reads as plan-line-reads
 
 abbrev Inv-loop : tie.InvT-loop
 Inv-loop out₀ list n plans next₀ at₀ i₀ out next at i = (i ≤ plans) × (length out ≡ length out₀) × (next ≤ 53 * i) × (at ≡ i * n) × Written out₀ 0 (flat (map (line planWord) (listedPlans n i list))) out next
@@ -74,8 +71,7 @@ loop-again c =
     let l = c .before .before .before .before .before .before in
     let s = l .before .before .before in
     let n = s .args .n in
-    let i = l .loop .i in
-    (
+    let i = l .loop .i in (
       omega arith,
       p .plan-line .kept .0 ∙ l .loop .inv .1,
       omega (arith, length-take (l .loop .at + n - l .loop .at) (drop (l .loop .at) (s .args .list .now)), p .plan-line .ensures .1, l .loop .inv .2, s .pre .0),

@@ -3,8 +3,6 @@ use borrow.Author.Needs.{needs}
 use Rattle.report.proofs.Placed.{written-byte}
 use Rattle.report.proofs.put_byte.Statement.{statement}
 use Rattle.report.proofs.put_byte.Tie as tie
-use Rattle.report.proofs.put_byte.Reads as reads
-use Rattle.report.proofs.put_byte.Lts as lts
 
 slice-write-out : tie.Need-slice-write-out
 slice-write-out c = search needs

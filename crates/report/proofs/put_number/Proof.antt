@@ -4,10 +4,6 @@ use borrow.Author.Needs.{needs}
 use Rattle.report.proofs.Placed.{written-then}
 use Rattle.report.proofs.put_number.Statement.{statement}
 use Rattle.report.proofs.put_number.Tie as tie
-use Rattle.report.proofs.put_number.Reads as reads
-use Rattle.report.proofs.put_number.Lts as lts
-use Rattle.report.proofs.put_byte.Reads as put-byte-reads
-use Rattle.report.proofs.put_digits.Reads as put-digits-reads
 
 put-byte-requires : tie.Need-put-byte-requires
 put-byte-requires c κs = search needs

@@ -1,19 +1,16 @@
 -- `put_row`: after i turns the first i values are put, in at most four bytes each. Assumes nothing.
-use mathlib.Core.Path.{_≡_, refl, sym, ap, _∙_}
+use mathlib.Core.Path.{_≡_, refl, _∙_}
 use mathlib.Core.List.{List, []}
-use Prim.Native.Nat.{ℕ, _+_, _*_, _-_, _≤_, _<_}
+use Prim.Native.Nat.{ℕ, _+_, _*_, _-_, _≤_}
 use native.Mathlib.Omega.{arith}
 use borrow.Author.Needs.{needs}
 use lib.ListN.{length, take, getD}
 use Rattle.model.specs.Lists.{flat}
-use Rattle.report.specs.Text.{Written, field, fields}
+use Rattle.report.specs.Text.{Written, fields}
 use Rattle.report.proofs.Placed.{written-none}
 use Rattle.report.proofs.Lines.{field-byte, row-turn, row-whole}
 use Rattle.report.proofs.put_row.Statement.{statement}
 use Rattle.report.proofs.put_row.Tie as tie
-use Rattle.report.proofs.put_row.Reads as reads
-use Rattle.report.proofs.put_row.Lts as lts
-use Rattle.report.proofs.put_number.Reads as put-number-reads
 
 abbrev Inv-loop : tie.InvT-loop
 Inv-loop out₀ at row next₀ i₀ out next i = (i ≤ length row) × (length out ≡ length out₀) × (next ≤ at + 4 * i) × Written out₀ at (fields (take i row)) out next
@@ -54,8 +51,7 @@ loop-again c =
     let p = c .before .before in
     let row = l .before .before .before .args .row .now in
     let x = getD row (l .loop .i) 0 in
-    let small = field-byte x (p .before .shared-slice-known2 .given (l .loop .i) .fits) in
-    (
+    let small = field-byte x (p .before .shared-slice-known2 .given (l .loop .i) .fits) in (
       omega arith,
       p .put-number .kept .0 ∙ l .loop .inv .1,
       omega (arith, small, p .put-number .ensures .ends, l .loop .inv .2),
