@@ -12,7 +12,7 @@ ghost use Rattle.report.specs.Text.{Written, Fronted, field, fields, end
 pub const REPORT_ROOM: usize = 217160;
 
 // Puts text at a place; answers the place after it, as every function here does.
-pub fn put(out: &mut [u8], at: usize, text: &[u8]) -> usize
+fn put(out: &mut [u8], at: usize, text: &[u8]) -> usize
     requires { ⌜ at + length (now text) ≤ length (now out) ⌝ }
     ensures { λ r. ⌜ Written (now (out .entry)) at (now (text .entry)) (now (out .exit)) r ⌝ }
 {
@@ -45,7 +45,7 @@ fn put_digits(out: &mut [u8], at: usize, x: usize) -> usize
 }
 
 // Puts a space and a number in decimal.
-pub fn put_number(out: &mut [u8], at: usize, x: usize) -> usize
+fn put_number(out: &mut [u8], at: usize, x: usize) -> usize
     requires { ⌜ at + length (field x) ≤ length (now out) ⌝ }
     ensures { λ r. ⌜ Written (now (out .entry)) at (field x) (now (out .exit)) r ⌝ }
 {
@@ -69,7 +69,7 @@ fn put_row(out: &mut [u8], at: usize, row: &[u8]) -> usize
 }
 
 // Puts the line of a plan.
-pub fn plan_line(out: &mut [u8], at: usize, row: &[u8]) -> usize
+fn plan_line(out: &mut [u8], at: usize, row: &[u8]) -> usize
     requires { ⌜ at + 4 * length (now row) + 5 ≤ length (now out) ⌝ }
     ensures { λ r. ⌜ Written (now (out .entry)) at (line planWord (now (row .entry))) (now (out .exit)) r ⌝ }
     ensures { λ r. ⌜ r ≤ at + 4 * length (now (row .entry)) + 5 ⌝ }
@@ -80,7 +80,7 @@ pub fn plan_line(out: &mut [u8], at: usize, row: &[u8]) -> usize
 }
 
 // Puts at the front the lines of the plans listed, which are rows of n bytes.
-pub fn plan_lines(out: &mut [u8], list: &[u8], n: usize, plans: usize) -> usize
+fn plan_lines(out: &mut [u8], list: &[u8], n: usize, plans: usize) -> usize
     requires { ⌜ (n ≤ 12) × (plans * n ≤ length (now list)) × (53 * plans ≤ length (now out)) ⌝ }
     ensures { λ r. ⌜ Written (now (out .entry)) 0 (flat (map (line planWord) (listedPlans n plans (now (list .entry))))) (now (out .exit)) r ⌝ }
     ensures { λ r. ⌜ r ≤ 53 * plans ⌝ }
@@ -97,7 +97,7 @@ pub fn plan_lines(out: &mut [u8], list: &[u8], n: usize, plans: usize) -> usize
 }
 
 // Puts the line of an ending: its word, plans, nodes, and plans again, the number of families.
-pub fn ending_line(out: &mut [u8], at: usize, word: &[u8], plans: usize, nodes: usize) -> usize
+fn ending_line(out: &mut [u8], at: usize, word: &[u8], plans: usize, nodes: usize) -> usize
     requires { ⌜ at + length (now word) + 64 ≤ length (now out) ⌝ }
     ensures { λ r. ⌜ Written (now (out .entry)) at (line (now (word .entry)) (plans ∷ nodes ∷ plans ∷ [])) (now (out .exit)) r ⌝ }
 {
