@@ -1,0 +1,86 @@
+-- Texts put into a buffer one after the other: the buffer keeps its length, and two texts are one. Assumes nothing.
+use mathlib.Core.Path.{_≡_, refl, sym, ap, _∙_}
+use mathlib.Core.List.{List, [], _∷_, _++_, append-assoc, append-nil}
+use Prim.Native.Nat.{ℕ, _+_, _≤_, _<_}
+use native.Mathlib.Nat.{add-zero, zero-add}
+use native.Mathlib.Numerals.{add-one}
+use native.Mathlib.Omega.{arith}
+use lib.ListN.{length, take, drop, set, length-append, length-drop, take-append-drop}
+use lib.Seq.{length-take-le, take-at, drop-at, drop-drop, set-split, paste, take-length}
+use Rattle.report.specs.Text.{placed, Written, Fronted}
+
+module _ (d : List ℕ) (at : ℕ) (t : List ℕ) (fits : at + length t ≤ length d) where
+  -- the bytes up to the end of the text
+  length-head : length (take at d ++ t) ≡ at + length t
+  length-head = length-append (take at d) t ∙ ap (λ (k : ℕ). k + length t) (length-take-le at d (omega arith))
+
+  pub length-placed : length (placed d at t) ≡ length d
+  unfolding placed
+  length-placed =
+      let e : length (drop (at + length t) d) + (at + length t) ≡ length d = omega (arith, length-drop (at + length t) d) in
+      omega (arith, length-append (take at d ++ t) (drop (at + length t) d), length-head)
+
+  -- a text put after the text
+  pub placed-then : (u : List ℕ) → placed (placed d at t) (at + length t) u ≡ placed d at (t ++ u)
+  unfolding placed
+  placed-then u =
+      let p : List ℕ = take at d ++ t in
+      let q : List ℕ = drop (at + length t) d in
+      let n : ℕ = at + length t in
+      let e : at + length (t ++ u) ≡ n + length u = omega (arith, length-append t u) in
+      ap (λ (l : List ℕ). l ++ u ++ drop (n + length u) (p ++ q)) (take-at p q n length-head)
+      ∙ ap (λ (l : List ℕ). p ++ u ++ l)
+      (sym (drop-drop (length u) n (p ++ q)) ∙ ap (drop (length u)) (drop-at p q n length-head) ∙ drop-drop (length u) n d)
+      ∙ ap (λ (l : List ℕ). l ++ drop (n + length u) d) (append-assoc (take at d) t u)
+      ∙ ap (λ (k : ℕ). take at d ++ (t ++ u) ++ drop k d) (sym e)
+
+-- the empty text changes nothing
+pub placed-none : (d : List ℕ) (at : ℕ) → placed d at [] ≡ d
+unfolding placed
+placed-none d at =
+    ap (λ (l : List ℕ). l ++ drop (at + 0) d) (append-nil (take at d))
+    ∙ ap (λ (k : ℕ). take at d ++ drop k d) (add-zero at)
+    ∙ take-append-drop at d
+
+-- ---- in the words of the contracts
+pub written-none : (d : List ℕ) (at : ℕ) → Written d at [] d at
+written-none d at = record { bytes = sym (placed-none d at); ends = sym (add-zero at) }
+
+pub written-length : {d : List ℕ} {at : ℕ} {t e : List ℕ} {n : ℕ} → at + length t ≤ length d → Written d at t e n → length e ≡ length d
+written-length {d} {at} {t} fits w = ap length (w .bytes) ∙ length-placed d at t fits
+
+-- one text and then another are one text
+pub written-then : {d : List ℕ} {at : ℕ} {t e : List ℕ} {n : ℕ} {u f : List ℕ} {m : ℕ} → n ≤ length d → Written d at t e n → Written e n u f m → Written d at (t ++ u) f m
+written-then {d} {at} {t} {e} {n} {u} {f} {m} fits v w =
+    record {
+      bytes =
+          w .bytes
+          ∙ ap (λ (l : List ℕ). placed l n u) (v .bytes)
+          ∙ ap (λ (k : ℕ). placed (placed d at t) k u) (v .ends)
+          ∙ placed-then d at t (omega (arith, v .ends)) u;
+      ends = omega (arith, length-append t u, w .ends, v .ends);
+    }
+
+-- one byte stored
+pub written-byte : (d : List ℕ) (at b : ℕ) → at < length d → Written d at (b ∷ []) (set d at b) (at + 1)
+unfolding placed
+written-byte d at b h = record { bytes = bytes; ends = refl }
+  where
+    bytes : set d at b ≡ placed d at (b ∷ [])
+    bytes = set-split d at b h ∙ ap (λ (k : ℕ). take at d ++ b ∷ drop k d) (sym (add-one at)) ∙ sym (append-assoc (take at d) (b ∷ []) (drop (at + 1) d))
+
+-- all bytes of a text copied
+pub written-paste : (d : List ℕ) (at : ℕ) (t : List ℕ) (i : ℕ) → i ≡ length t → Written d at t (paste d at t i) (at + i)
+unfolding placed
+written-paste d at t i e = record { bytes = bytes; ends = ap (λ (k : ℕ). at + k) e }
+  where
+    bytes : paste d at t i ≡ placed d at t
+    bytes = ap (λ (k : ℕ). paste d at t k) e ∙ ap (λ (l : List ℕ). take at d ++ l ++ drop (at + length t) d) (take-length t)
+
+-- a text at the place 0 stands at the front
+pub fronted : {d t e : List ℕ} {n : ℕ} → Written d 0 t e n → Fronted d t e n
+unfolding placed
+fronted {d} {t} w = record { bytes = w .bytes ∙ front; count = w .ends ∙ zero-add (length t) }
+  where
+    front : placed d 0 t ≡ t ++ drop (length t) d
+    front = ap (λ (k : ℕ). t ++ drop k d) (zero-add (length t))

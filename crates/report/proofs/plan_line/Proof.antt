@@ -1,0 +1,42 @@
+-- `plan_line`: the word, the row, and the newline. Assumes nothing.
+use native.Mathlib.Omega.{arith}
+use Rattle.report.proofs.Lines.{put-line}
+use borrow.Author.Needs.{needs}
+use Rattle.report.proofs.plan_line.Statement.{statement}
+use Rattle.report.proofs.plan_line.Tie as tie
+
+slice-aggregate-put : tie.Need-slice-aggregate-put
+slice-aggregate-put c = search needs
+
+put-requires : tie.Need-put-requires
+put-requires c κs = search needs
+
+put-row-requires : tie.Need-put-row-requires
+put-row-requires c κs = search needs
+
+put-byte-requires : tie.Need-put-byte-requires
+put-byte-requires c κs = search needs
+
+same-length : tie.Need-same-length
+same-length c = search needs
+
+returns : tie.Need-returns
+returns c =
+    let v = c .before .before in
+    let q = v .before .before .before .before in
+    let p = q .before .before .before .before in
+    let s = p .before .before .before .before .before in (
+      put-line (s .args .row .now) (omega (arith, q .put-row .ensures .1, p .put .ensures .ends, s .pre)) (p .put .ensures) (q .put-row .ensures .0) (v .put-byte .ensures),
+      omega (arith, v .put-byte .ensures .ends, q .put-row .ensures .1, p .put .ensures .ends),
+    )
+
+pub plan-line-spec : {M : Type 1} → statement M
+plan-line-spec =
+    tie.close
+    (tie.spec
+    slice-aggregate-put
+    put-requires
+    put-row-requires
+    put-byte-requires
+    same-length
+    returns)

@@ -1,0 +1,2 @@
+-- What the contracts of the report's text cite.
+pub mod Text

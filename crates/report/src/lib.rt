@@ -1,0 +1,147 @@
+// The text of the report, made in a lent buffer (paper 01, "The report").
+ghost use mathlib.Core.Path.{_≡_};
+ghost use mathlib.Core.List.{[], _∷_, map};
+ghost use Prim.Native.Nat.{_+_, _*_, _≤_, _<_};
+ghost use lib.ListN.{length};
+ghost use Rattle.model.specs.Lists.{flat};
+ghost use Rattle.model.specs.Run.{finished, spent, full, listedPlans};
+ghost use Rattle.model.specs.Report.{decimal, line, planWord, refusedWord};
+ghost use Rattle.report.specs.Text.{Written, Fronted, field, fields, endedText, room};
+
+// The room that every report fits.
+pub const REPORT_ROOM: usize = 217160;
+
+// Puts text at a place; answers the place after it, as every function here does.
+fn put(out: &mut [u8], at: usize, text: &[u8]) -> usize
+    requires { ⌜ at + length (now text) ≤ length (now out) ⌝ }
+    ensures { λ r. ⌜ Written (now (out .entry)) at (now (text .entry)) (now (out .exit)) r ⌝ }
+{
+    let mut i = 0;
+    while i < text.len() {
+        out[at + i] = text[i];
+        i += 1;
+    }
+    at + i
+}
+
+fn put_byte(out: &mut [u8], at: usize, byte: u8) -> usize
+    requires { ⌜ at < length (now out) ⌝ }
+    ensures { λ r. ⌜ Written (now (out .entry)) at (byte ∷ []) (now (out .exit)) r ⌝ }
+{
+    out[at] = byte;
+    at + 1
+}
+
+// Puts a number in decimal.
+fn put_digits(out: &mut [u8], at: usize, x: usize) -> usize
+    requires { ⌜ at + length (decimal x) ≤ length (now out) ⌝ }
+    ensures { λ r. ⌜ Written (now (out .entry)) at (decimal x) (now (out .exit)) r ⌝ }
+{
+    if x < 10 {
+        return put_byte(out, at, 48 + x as u8);
+    }
+    let next = put_digits(out, at, x / 10);
+    put_byte(out, next, 48 + (x % 10) as u8)
+}
+
+// Puts a space and a number in decimal.
+fn put_number(out: &mut [u8], at: usize, x: usize) -> usize
+    requires { ⌜ at + length (field x) ≤ length (now out) ⌝ }
+    ensures { λ r. ⌜ Written (now (out .entry)) at (field x) (now (out .exit)) r ⌝ }
+{
+    let next = put_byte(out, at, 32);
+    put_digits(out, next, x)
+}
+
+// Puts a row of values, a space before each.
+fn put_row(out: &mut [u8], at: usize, row: &[u8]) -> usize
+    requires { ⌜ at + 4 * length (now row) ≤ length (now out) ⌝ }
+    ensures { λ r. ⌜ Written (now (out .entry)) at (fields (now (row .entry))) (now (out .exit)) r ⌝ }
+    ensures { λ r. ⌜ r ≤ at + 4 * length (now (row .entry)) ⌝ }
+{
+    let mut next = at;
+    let mut i = 0;
+    while i < row.len() {
+        next = put_number(out, next, row[i] as usize);
+        i += 1;
+    }
+    next
+}
+
+// Puts the line of a plan.
+fn plan_line(out: &mut [u8], at: usize, row: &[u8]) -> usize
+    requires { ⌜ at + 4 * length (now row) + 5 ≤ length (now out) ⌝ }
+    ensures { λ r. ⌜ Written (now (out .entry)) at (line planWord (now (row .entry))) (now (out .exit)) r ⌝ }
+    ensures { λ r. ⌜ r ≤ at + 4 * length (now (row .entry)) + 5 ⌝ }
+{
+    let word = put(out, at, b"plan");
+    let values = put_row(out, word, row);
+    put_byte(out, values, 10)
+}
+
+// Puts at the front the lines of the plans listed, which are rows of n bytes.
+fn plan_lines(out: &mut [u8], list: &[u8], n: usize, plans: usize) -> usize
+    requires { ⌜ (n ≤ 12) × (plans * n ≤ length (now list)) × (53 * plans ≤ length (now out)) ⌝ }
+    ensures { λ r. ⌜ Written (now (out .entry)) 0 (flat (map (line planWord) (listedPlans n plans (now (list .entry))))) (now (out .exit)) r ⌝ }
+    ensures { λ r. ⌜ r ≤ 53 * plans ⌝ }
+{
+    let mut next = 0;
+    let mut at = 0;
+    let mut i = 0;
+    while i < plans {
+        next = plan_line(out, next, &list[at..at + n]);
+        at += n;
+        i += 1;
+    }
+    next
+}
+
+// Puts the line of an ending: its word, plans, nodes, and plans again, the number of families.
+fn ending_line(out: &mut [u8], at: usize, word: &[u8], plans: usize, nodes: usize) -> usize
+    requires { ⌜ at + length (now word) + 64 ≤ length (now out) ⌝ }
+    ensures { λ r. ⌜ Written (now (out .entry)) at (line (now (word .entry)) (plans ∷ nodes ∷ plans ∷ [])) (now (out .exit)) r ⌝ }
+{
+    let word_end = put(out, at, word);
+    let listed = put_number(out, word_end, plans);
+    let made = put_number(out, listed, nodes);
+    let families = put_number(out, made, plans);
+    put_byte(out, families, 10)
+}
+
+// The report of a finished run: the plans listed, then its ending. Answers the length.
+pub fn finished(plans: usize, nodes: usize, list: &[u8], n: usize, out: &mut [u8]) -> usize
+    requires { ⌜ (n ≤ 12) × (plans ≤ 4096) × (plans * n ≤ length (now list)) × (room ≤ length (now out)) ⌝ }
+    ensures { λ r. ⌜ Fronted (now (out .entry)) (endedText (finished plans nodes) n (now (list .entry))) (now (out .exit)) r ⌝ }
+{
+    let at = plan_lines(out, list, n, plans);
+    ending_line(out, at, b"finished", plans, nodes)
+}
+
+// The report of a spent run.
+pub fn spent(plans: usize, nodes: usize, list: &[u8], n: usize, out: &mut [u8]) -> usize
+    requires { ⌜ (n ≤ 12) × (plans ≤ 4096) × (plans * n ≤ length (now list)) × (room ≤ length (now out)) ⌝ }
+    ensures { λ r. ⌜ Fronted (now (out .entry)) (endedText (spent plans nodes) n (now (list .entry))) (now (out .exit)) r ⌝ }
+{
+    let at = plan_lines(out, list, n, plans);
+    ending_line(out, at, b"spent", plans, nodes)
+}
+
+// The report of a full run.
+pub fn full(plans: usize, nodes: usize, list: &[u8], n: usize, out: &mut [u8]) -> usize
+    requires { ⌜ (n ≤ 12) × (plans ≤ 4096) × (plans * n ≤ length (now list)) × (room ≤ length (now out)) ⌝ }
+    ensures { λ r. ⌜ Fronted (now (out .entry)) (endedText (full plans nodes) n (now (list .entry))) (now (out .exit)) r ⌝ }
+{
+    let at = plan_lines(out, list, n, plans);
+    ending_line(out, at, b"full", plans, nodes)
+}
+
+// The report of a refusal: its number and item.
+pub fn refused(number: usize, item: usize, out: &mut [u8]) -> usize
+    requires { ⌜ 50 ≤ length (now out) ⌝ }
+    ensures { λ r. ⌜ Fronted (now (out .entry)) (line refusedWord (number ∷ item ∷ [])) (now (out .exit)) r ⌝ }
+{
+    let word = put(out, 0, b"refused");
+    let numbered = put_number(out, word, number);
+    let ended = put_number(out, numbered, item);
+    put_byte(out, ended, 10)
+}
