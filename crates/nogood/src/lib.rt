@@ -1,0 +1,232 @@
+// The exact filter for increasing nogoods (paper 01, "Nogood lists"), for callers with any lists and sets.
+pub mod entry; // entry.rt: one entry at a time, for whoever feeds them
+ghost use mathlib.Core.Path.{_≡_};
+ghost use Prim.Native.Nat.{ℕ, suc, _≤_, _<_, _^_};
+ghost use lib.ListN.{length, take, drop};
+ghost use Rattle.model.specs.Lists.{at};
+ghost use Rattle.model.specs.Nogood.{entries, entryOf, entryOk, firstWrong, filtered, filterVerdict, setsAfter};
+ghost use Rattle.nogood.specs.Scan.{Stepped, Right, Left, Outcome};
+ghost use Rattle.nogood.specs.Lists.{Ready, Came, Fork, Alive, forced, Loaded, Listed, zeros, means};
+use entry::Step;
+
+// The answer of the filter: `means` in specs/Lists.antt gives paper 01's number and item for each case.
+pub enum Answer {
+    Filtered,
+    Refused { number: u8, item: usize },
+}
+
+// How far a pass over the entries came: to an empty set, to the end, or to an equality that some assignments keep and some break.
+pub enum Reached {
+    Dead,
+    End,
+    Split(usize),
+}
+
+// What an entry of the three lists means, by its two marks (source document 001, section 3): without an equal value it is
+// "variable is not not_equal", and with one "variable = equal". Question 19 has shut out the other cases.
+fn read(sets: &mut [u16; 16], x: usize, equal: u8, not_equal: u8) -> Step
+    requires { ⌜ Right 16 (entryOf x equal «not_equal») × (at (now sets) x < 2 ^ 16) ⌝ }
+    ensures { λ r. ⌜ Stepped (now (sets .entry)) (entryOf x equal «not_equal») (now (sets .exit)) r ⌝ }
+{
+    if equal == 255 {
+        return entry::disequality(sets, x, not_equal);
+    }
+    entry::equality(sets, x, equal)
+}
+
+// Question 19 for an entry: its variable is one of the n sets', just one of the two is the mark 255, and the other is below 16.
+fn right(n: usize, x: u8, equal: u8, not_equal: u8) -> bool
+    ensures { λ r. ⌜ r ≡ entryOk n x equal «not_equal» ⌝ }
+{
+    if x as usize >= n {
+        return false;
+    }
+    if equal == 255 {
+        return not_equal < 16;
+    }
+    if not_equal != 255 {
+        return false;
+    }
+    equal < 16
+}
+
+// Passes the entries from a start, until the outcome is settled.
+fn pass(
+    sets: &mut [u16; 16],
+    index: &[u8],
+    equal: &[u8],
+    not_equal: &[u8],
+    start: usize,
+) -> Reached
+    requires { ⌜ ((n : ℕ) × Ready n (now sets) (now index) (now equal) (now «not_equal») start) ⌝ }
+    ensures { λ r. ⌜ ((n : ℕ) → Ready n (now (sets .entry)) (now (index .entry)) (now (equal .entry)) (now («not_equal» .entry)) start → Came n (now (sets .entry)) (now (index .entry)) (now (equal .entry)) (now («not_equal» .entry)) start (now (sets .exit)) r) ⌝ }
+{
+    let mut i = start;
+    while i < index.len() {
+        let x = index[i] as usize;
+        let step = read(sets, x, equal[i], not_equal[i]);
+        match step {
+            Step::Next => {}
+            Step::Dead => return Reached::Dead,
+            Step::Free => return Reached::End,
+            Step::Split => return Reached::Split(i),
+        }
+        i += 1;
+    }
+    Reached::End
+}
+
+// At an equality that some assignments keep and some break: whether an assignment that keeps it obeys the entries after it.
+fn stays(sets: &[u16; 16], index: &[u8], equal: &[u8], not_equal: &[u8], k: usize) -> bool
+    requires { ⌜ ((n : ℕ) × Fork n (now sets) (now index) (now equal) (now «not_equal») k) ⌝ }
+    ensures { λ r. ⌜ ((n : ℕ) → Fork n (now (sets .entry)) (now (index .entry)) (now (equal .entry)) (now («not_equal» .entry)) k → Alive r n (forced (now (sets .entry)) (at (now (index .entry)) k) (at (now (equal .entry)) k)) (drop (suc k) (entries (now (index .entry)) (now (equal .entry)) (now («not_equal» .entry))))) ⌝ }
+{
+    let mut work = *sets;
+    let x = index[k] as usize;
+    entry::force(&mut work, x, equal[k]);
+    let reached = pass(&mut work, index, equal, not_equal, k + 1);
+    match reached {
+        Reached::Dead => false,
+        Reached::End => true,
+        Reached::Split(_) => true,
+    }
+}
+
+// There the value goes where no assignment keeps it, and nothing else does.
+fn settle(sets: &mut [u16; 16], index: &[u8], equal: &[u8], not_equal: &[u8], k: usize)
+    requires { ⌜ ((n : ℕ) × Fork n (now sets) (now index) (now equal) (now «not_equal») k) ⌝ }
+    ensures { λ _. ⌜ ((n : ℕ) → Fork n (now (sets .entry)) (now (index .entry)) (now (equal .entry)) (now («not_equal» .entry)) k → Left n (now (sets .entry)) (drop k (entries (now (index .entry)) (now (equal .entry)) (now («not_equal» .entry)))) (now (sets .exit))) ⌝ }
+{
+    if stays(sets, index, equal, not_equal, k) {
+        return;
+    }
+    let x = index[k] as usize;
+    entry::disequality(sets, x, equal[k]);
+}
+
+// The exact filter on sixteen sets: true where no assignment obeys.
+fn sift(sets: &mut [u16; 16], index: &[u8], equal: &[u8], not_equal: &[u8]) -> bool
+    requires { ⌜ ((n : ℕ) × Ready n (now sets) (now index) (now equal) (now «not_equal») 0) ⌝ }
+    ensures { λ r. ⌜ ((n : ℕ) → Ready n (now (sets .entry)) (now (index .entry)) (now (equal .entry)) (now («not_equal» .entry)) 0 → Outcome r n (now (sets .entry)) (entries (now (index .entry)) (now (equal .entry)) (now («not_equal» .entry))) (now (sets .exit))) ⌝ }
+{
+    let reached = pass(sets, index, equal, not_equal, 0);
+    match reached {
+        Reached::Dead => true,
+        Reached::End => false,
+        Reached::Split(k) => {
+            settle(sets, index, equal, not_equal, k);
+            false
+        }
+    }
+}
+
+// Copies the lent sets to the front of the sixteen; true where one is empty.
+fn load(source: &[u16], target: &mut [u16; 16]) -> bool
+    requires { ⌜ (length (now source) ≤ 16) × (length (now target) ≡ 16) × ((x : ℕ) → at (now target) x < 2 ^ 16) ⌝ }
+    ensures { λ r. ⌜ Loaded r (now (source .entry)) (now (target .exit)) ⌝ }
+{
+    let mut i = 0;
+    while i < source.len() {
+        let s = source[i];
+        if s == 0 {
+            return true;
+        }
+        target[i] = s;
+        i += 1;
+    }
+    false
+}
+
+fn store(source: &[u16; 16], target: &mut [u16])
+    requires { ⌜ (length (now target) ≤ 16) × (length (now source) ≡ 16) ⌝ }
+    ensures { λ _. ⌜ now (target .exit) ≡ take (length (now (target .entry))) (now (source .entry)) ⌝ }
+{
+    let mut i = 0;
+    while i < target.len() {
+        target[i] = source[i];
+        i += 1;
+    }
+}
+
+fn clear(sets: &mut [u16])
+    ensures { λ _. ⌜ now (sets .exit) ≡ zeros (now (sets .entry)) ⌝ }
+{
+    let mut i = 0;
+    while i < sets.len() {
+        sets[i] = 0;
+        i += 1;
+    }
+}
+
+// The exact filter, on lists that passed the questions.
+fn apply(sets: &mut [u16], index: &[u8], equal: &[u8], not_equal: &[u8])
+    requires { ⌜ (length (now sets) ≤ 12) × Listed (length (now sets)) (now index) (now equal) (now «not_equal») ⌝ }
+    ensures { λ _. ⌜ now (sets .exit) ≡ filtered (now (sets .entry)) (entries (now (index .entry)) (now (equal .entry)) (now («not_equal» .entry))) ⌝ }
+{
+    let mut work = [1u16; 16];
+    if load(sets, &mut work) {
+        clear(sets);
+        return;
+    }
+    if sift(&mut work, index, equal, not_equal) {
+        clear(sets);
+        return;
+    }
+    store(&work, sets);
+}
+
+// The first entry that is not right, and the number of entries where there is none.
+fn first_wrong(n: usize, index: &[u8], equal: &[u8], not_equal: &[u8]) -> usize
+    requires { ⌜ (length (now equal) ≡ length (now index)) × (length (now «not_equal») ≡ length (now index)) ⌝ }
+    ensures { λ r. ⌜ r ≡ firstWrong n (now (index .entry)) (now (equal .entry)) (now («not_equal» .entry)) ⌝ }
+{
+    let mut i = 0;
+    while i < index.len() {
+        if !right(n, index[i], equal[i], not_equal[i]) {
+            return i;
+        }
+        i += 1;
+    }
+    i
+}
+
+// The questions 17, 18 and 19.
+fn question(sets: &[u16], index: &[u8], equal: &[u8], not_equal: &[u8]) -> Answer
+    ensures { λ r. ⌜ means r ≡ filterVerdict (now (sets .entry)) (now (index .entry)) (now (equal .entry)) (now («not_equal» .entry)) ⌝ }
+{
+    let n = sets.len();
+    if n < 1 || 12 < n {
+        return Answer::Refused {
+            number: 17,
+            item: 0,
+        };
+    }
+    let m = index.len();
+    if equal.len() != m || not_equal.len() != m || 192 < m {
+        return Answer::Refused {
+            number: 18,
+            item: 0,
+        };
+    }
+    let wrong = first_wrong(n, index, equal, not_equal);
+    if wrong != m {
+        return Answer::Refused {
+            number: 19,
+            item: wrong,
+        };
+    }
+    Answer::Filtered
+}
+
+// Takes from the sets each value that no assignment uses that is drawn from them and obeys every nogood. A refusal leaves them as they came.
+pub fn filter(sets: &mut [u16], index: &[u8], equal: &[u8], not_equal: &[u8]) -> Answer
+    ensures answer { λ r. ⌜ means r ≡ filterVerdict (now (sets .entry)) (now (index .entry)) (now (equal .entry)) (now («not_equal» .entry)) ⌝ }
+    ensures remainder { λ _. ⌜ now (sets .exit) ≡ setsAfter (filterVerdict (now (sets .entry)) (now (index .entry)) (now (equal .entry)) (now («not_equal» .entry))) (now (sets .entry)) (entries (now (index .entry)) (now (equal .entry)) (now («not_equal» .entry))) ⌝ }
+{
+    let answer = question(sets, index, equal, not_equal);
+    match answer {
+        Answer::Filtered => apply(sets, index, equal, not_equal),
+        Answer::Refused { number: _, item: _ } => {}
+    }
+    answer
+}
