@@ -1,0 +1,112 @@
+use Rattle.levels.proofs.pass.Statement.{statement}
+use Rattle.levels.proofs.pass.Tie as tie
+use Rattle.levels.proofs.pass.Reads as reads
+use Rattle.levels.proofs.pass.Lts as lts
+use Rattle.levels.proofs.level.Reads as level-reads
+
+abbrev Inv-loop : tie.InvT-loop
+Inv-loop sets₀ prefix images numbers e k start j₀ sets j = ?
+
+abbrev μ-loop : tie.MeasureT-loop
+μ-loop sets₀ prefix images numbers e k start j₀ sets j = ?
+
+-- src/lib.rt:76:5
+loop-holds : tie.Need-loop-holds Inv-loop μ-loop
+loop-holds c = ?
+
+-- src/lib.rt:82:21
+add-level : tie.Need-add-level Inv-loop μ-loop
+add-level c = ?
+
+-- src/lib.rt:82:13
+mul-level : tie.Need-mul-level Inv-loop μ-loop
+mul-level c = ?
+
+-- src/lib.rt:82:13
+element-copy-out-level : tie.Need-element-copy-out-level Inv-loop μ-loop
+element-copy-out-level c = ?
+
+-- src/lib.rt:82:13
+cast-level : tie.Need-cast-level Inv-loop μ-loop
+cast-level c = ?
+
+-- src/lib.rt:83:13
+mul-level-2 : tie.Need-mul-level-2 Inv-loop μ-loop
+mul-level-2 c = ?
+
+-- src/lib.rt:83:13
+element-copy-out-level-2 : tie.Need-element-copy-out-level-2 Inv-loop μ-loop
+element-copy-out-level-2 c = ?
+
+-- src/lib.rt:77:13
+level-requires : tie.Need-level-requires Inv-loop μ-loop
+level-requires c κs = ?
+
+enum-told : tie.Need-enum-told Inv-loop μ-loop
+enum-told c = ?
+
+-- src/lib.rt:87:27
+enum-told-2 : tie.Need-enum-told-2 Inv-loop μ-loop
+enum-told-2 c = ?
+
+-- src/lib.rt:87:27
+returns : tie.Need-returns Inv-loop μ-loop
+returns c = ?
+
+-- src/lib.rt:88:27
+enum-told-3 : tie.Need-enum-told-3 Inv-loop μ-loop
+enum-told-3 c = ?
+
+-- src/lib.rt:88:27
+returns-2 : tie.Need-returns-2 Inv-loop μ-loop
+returns-2 c = ?
+
+-- src/lib.rt:89:28
+enum-told-4 : tie.Need-enum-told-4 Inv-loop μ-loop
+enum-told-4 c = ?
+
+-- src/lib.rt:89:28
+returns-3 : tie.Need-returns-3 Inv-loop μ-loop
+returns-3 c = ?
+
+-- src/lib.rt:91:9
+add-j : tie.Need-add-j Inv-loop μ-loop
+add-j c = ?
+
+-- src/lib.rt:76:5
+loop-less : tie.Need-loop-less Inv-loop μ-loop
+loop-less c = ?
+
+-- src/lib.rt:76:5
+loop-again : tie.Need-loop-again Inv-loop μ-loop
+loop-again c = ?
+
+-- src/lib.rt:62:1
+returns-4 : tie.Need-returns-4 Inv-loop μ-loop
+returns-4 c = ?
+
+pub pass-spec : {M : Type 1} → statement M
+pass-spec =
+    tie.close
+    (tie.spec
+    Inv-loop
+    μ-loop
+    loop-holds
+    add-level
+    mul-level
+    element-copy-out-level
+    cast-level
+    mul-level-2
+    element-copy-out-level-2
+    level-requires
+    enum-told
+    enum-told-2
+    returns
+    enum-told-3
+    returns-2
+    enum-told-4
+    returns-3
+    add-j
+    loop-less
+    loop-again
+    returns-4)
