@@ -136,14 +136,18 @@ module _ {n : ℕ} {ss images : List ℕ} {e x s : ℕ} (v : ℕ) (w : Pictured 
     own-right : Right n own
     own-right = (w .inside v t, omega arith)
 
-    pub own-asks : (imageAt images e x v / 16 < 16) × (imageAt images e x v % 16 < 16) × (at rs (imageAt images e x v / 16) < 2 ^ 16)
-    own-asks = (let h = w .live .few in let l = own-right .0 in omega arith, omega arith, c [] .live .small (imageAt images e x v / 16))
+    module _ (y : ℕ) (i : y ≡ imageAt images e x v) where
+      pub own-asks : (y / 16 < 16) × (y % 16 < 16) × (at rs (y / 16) < 2 ^ 16)
+      own-asks = (let h = w .live .few in let l : y / 16 < n = subst (λ (u : ℕ). u / 16 < n) (sym i) (own-right .0) in omega arith, omega arith, c [] .live .small (y / 16))
 
-    pub level-met : (r : Step) → Stepped rs (keepOf (imageAt images e x v)) rs r → Met r n ss (levelOf images e x s v) rs (imageAt images e x v)
-    level-met Next st = λ fs. Front.pass-next own fs (to-own fs) own-right (sym (st .step))
-    level-met Dead st = λ fs. Front.pass-dead own fs (to-own fs) own-right (sym (st .step))
-    level-met Free st = λ fs. Front.pass-free own fs (to-own fs) own-right (sym (st .step))
-    level-met Split st = record { split = sym (st .step); passed = to-own }
+      pub level-met : (r : Step) → Stepped rs (keepOf y) rs r → Met r n ss (levelOf images e x s v) rs (imageAt images e x v)
+      level-met r st = go r (subst (λ (u : ℕ). Stepped rs (keepOf u) rs r) i st)
+        where
+          go : (r : Step) → Stepped rs own rs r → Met r n ss (levelOf images e x s v) rs (imageAt images e x v)
+          go Next st = λ fs. Front.pass-next own fs (to-own fs) own-right (sym (st .step))
+          go Dead st = λ fs. Front.pass-dead own fs (to-own fs) own-right (sym (st .step))
+          go Free st = λ fs. Front.pass-free own fs (to-own fs) own-right (sym (st .step))
+          go Split st = record { split = sym (st .step); passed = to-own }
 
 -- ---- the levels of a prefix
 module _ (prefix images numbers : List ℕ) (e k j : ℕ) where

@@ -40,11 +40,11 @@ cast-equality c = search needs
 
 -- src/lib.rt:58:5
 equality-requires : tie.Need-equality-requires
-equality-requires c κs = ?
+equality-requires c κs = let w = c .before .before .before .before .before .pre .0 .1 in own-asks (c .before .before .before .before .before .args .v) w (c .before .before .before .before .before .pre .1) (c .before .before .before .cut .last .0) (c .before .before .before .cut .result) (c .before .before .if1 .left) (c .before .before .before .cut .ensures .1 (c .before .before .before .before .before .pre .0 .0) (smaller-pictured (c .before .before .before .before .before .args .v) w (c .before .before .before .before .before .pre .1))) (c .before .image .result) (c .before .image .ensures)
 
 -- src/lib.rt:42:1
 returns-2 : tie.Need-returns-2
-returns-2 c = ?
+returns-2 c = (c .before .before .before .before .cut .ensures .0, λ n w. level-met (c .before .before .before .before .before .before .args .v) w (c .before .before .before .before .before .before .pre .1) (c .before .before .before .before .cut .last .0) (c .before .before .before .before .cut .result) (c .before .before .before .if1 .left) (c .before .before .before .before .cut .ensures .1 n (smaller-pictured (c .before .before .before .before .before .before .args .v) w (c .before .before .before .before .before .before .pre .1))) (c .before .before .image .result) (c .before .before .image .ensures) (c .equality .result) (c .equality .ensures))
 
 pub level-spec : {M : Type 1} → statement M
 level-spec =

@@ -1,3 +1,12 @@
+use mathlib.Core.Path.{_≡_, refl, _∙_}
+use Prim.Native.Nat.{ℕ, _-_}
+use native.Mathlib.Omega.{arith}
+use lib.ListN.{length}
+use borrow.Author.Needs.{needs}
+use Rattle.model.specs.Lists.{at}
+use Rattle.nogood.specs.Scan.{Passed}
+use Rattle.levels.specs.Levels.{levelsFrom, Ready}
+use Rattle.levels.proofs.Turns.{starts, ends, turn-asks, turn-next, turn-dead, turn-free, turn-split}
 use Rattle.levels.proofs.pass.Statement.{statement}
 use Rattle.levels.proofs.pass.Tie as tie
 use Rattle.levels.proofs.pass.Reads as reads
@@ -5,49 +14,49 @@ use Rattle.levels.proofs.pass.Lts as lts
 use Rattle.levels.proofs.level.Reads as level-reads
 
 abbrev Inv-loop : tie.InvT-loop
-Inv-loop sets₀ prefix images numbers e k start j₀ sets j = ?
+Inv-loop sets₀ prefix images numbers e k start j₀ sets j = (length sets ≡ length sets₀) × ((n : ℕ) → Ready n sets₀ prefix images numbers e k start → Passed n sets₀ (levelsFrom prefix images numbers e k start) sets (levelsFrom prefix images numbers e k j))
 
 abbrev μ-loop : tie.MeasureT-loop
-μ-loop sets₀ prefix images numbers e k start j₀ sets j = ?
+μ-loop sets₀ prefix images numbers e k start j₀ sets j = k - j
 
 -- src/lib.rt:76:5
 loop-holds : tie.Need-loop-holds Inv-loop μ-loop
-loop-holds c = ?
+loop-holds c = (refl, λ n w. starts w)
 
 -- src/lib.rt:82:21
 add-level : tie.Need-add-level Inv-loop μ-loop
-add-level c = ?
+add-level c = search needs
 
 -- src/lib.rt:82:13
 mul-level : tie.Need-mul-level Inv-loop μ-loop
-mul-level c = ?
+mul-level c = search needs
 
 -- src/lib.rt:82:13
 element-copy-out-level : tie.Need-element-copy-out-level Inv-loop μ-loop
-element-copy-out-level c = ?
+element-copy-out-level c = search needs
 
 -- src/lib.rt:82:13
 cast-level : tie.Need-cast-level Inv-loop μ-loop
-cast-level c = ?
+cast-level c = search needs
 
 -- src/lib.rt:83:13
 mul-level-2 : tie.Need-mul-level-2 Inv-loop μ-loop
-mul-level-2 c = ?
+mul-level-2 c = search needs
 
 -- src/lib.rt:83:13
 element-copy-out-level-2 : tie.Need-element-copy-out-level-2 Inv-loop μ-loop
-element-copy-out-level-2 c = ?
+element-copy-out-level-2 c = search needs
 
 -- src/lib.rt:77:13
 level-requires : tie.Need-level-requires Inv-loop μ-loop
 level-requires c κs = ?
 
 enum-told : tie.Need-enum-told Inv-loop μ-loop
-enum-told c = ?
+enum-told c = search needs
 
 -- src/lib.rt:87:27
 enum-told-2 : tie.Need-enum-told-2 Inv-loop μ-loop
-enum-told-2 c = ?
+enum-told-2 c = search needs
 
 -- src/lib.rt:87:27
 returns : tie.Need-returns Inv-loop μ-loop
@@ -55,7 +64,7 @@ returns c = ?
 
 -- src/lib.rt:88:27
 enum-told-3 : tie.Need-enum-told-3 Inv-loop μ-loop
-enum-told-3 c = ?
+enum-told-3 c = search needs
 
 -- src/lib.rt:88:27
 returns-2 : tie.Need-returns-2 Inv-loop μ-loop
@@ -63,7 +72,7 @@ returns-2 c = ?
 
 -- src/lib.rt:89:28
 enum-told-4 : tie.Need-enum-told-4 Inv-loop μ-loop
-enum-told-4 c = ?
+enum-told-4 c = search needs
 
 -- src/lib.rt:89:28
 returns-3 : tie.Need-returns-3 Inv-loop μ-loop
@@ -71,11 +80,11 @@ returns-3 c = ?
 
 -- src/lib.rt:91:9
 add-j : tie.Need-add-j Inv-loop μ-loop
-add-j c = ?
+add-j c = search needs
 
 -- src/lib.rt:76:5
 loop-less : tie.Need-loop-less Inv-loop μ-loop
-loop-less c = ?
+loop-less c = search needs
 
 -- src/lib.rt:76:5
 loop-again : tie.Need-loop-again Inv-loop μ-loop
