@@ -37,7 +37,8 @@ element-copy-out-level c = search needs
 
 -- src/lib.rt:82:13
 cast-level : tie.Need-cast-level Inv-loop μ-loop
-cast-level c = search needs
+unfolding at
+cast-level c = let h = c .before .before .before .before .pre .1 .listed .small (c .before .before .before .loop .j) (c .before .before .loop-test .taken) in omega arith
 
 -- src/lib.rt:83:13
 mul-level-2 : tie.Need-mul-level-2 Inv-loop μ-loop
@@ -49,7 +50,8 @@ element-copy-out-level-2 c = search needs
 
 -- src/lib.rt:77:13
 level-requires : tie.Need-level-requires Inv-loop μ-loop
-level-requires c κs = ?
+unfolding at
+level-requires c κs = let w = c .before .before .before .before .before .pre .1 in ((c .before .before .before .before .before .pre .0, turn-asks w (c .before .before .before .before .loop .inv .1 (c .before .before .before .before .before .pre .0) w) (c .before .before .before .loop-test .taken)), w .listed .drawn (c .before .before .before .before .loop .j) (c .before .before .before .loop-test .taken))
 
 enum-told : tie.Need-enum-told Inv-loop μ-loop
 enum-told c = search needs
@@ -60,7 +62,8 @@ enum-told-2 c = search needs
 
 -- src/lib.rt:87:27
 returns : tie.Need-returns Inv-loop μ-loop
-returns c = ?
+unfolding at
+returns c = (c .before .before .level .ensures .0 ∙ c .before .before .before .before .before .before .before .loop .inv .0, λ n w. turn-dead w (c .before .before .before .before .before .before .before .loop .inv .1 n w) (c .before .before .before .before .before .before .loop-test .taken) (c .before .before .level .last .0) (c .before .before .level .result) (c .before .before .level .ensures .1 n (turn-asks w (c .before .before .before .before .before .before .before .loop .inv .1 n w) (c .before .before .before .before .before .before .loop-test .taken))) (c .enum-told2 .given .1))
 
 -- src/lib.rt:88:27
 enum-told-3 : tie.Need-enum-told-3 Inv-loop μ-loop
@@ -68,7 +71,8 @@ enum-told-3 c = search needs
 
 -- src/lib.rt:88:27
 returns-2 : tie.Need-returns-2 Inv-loop μ-loop
-returns-2 c = ?
+unfolding at
+returns-2 c = (c .before .before .level .ensures .0 ∙ c .before .before .before .before .before .before .before .loop .inv .0, λ n w. turn-free w (c .before .before .before .before .before .before .before .loop .inv .1 n w) (c .before .before .before .before .before .before .loop-test .taken) (c .before .before .level .last .0) (c .before .before .level .result) (c .before .before .level .ensures .1 n (turn-asks w (c .before .before .before .before .before .before .before .loop .inv .1 n w) (c .before .before .before .before .before .before .loop-test .taken))) (c .enum-told3 .given .1))
 
 -- src/lib.rt:89:28
 enum-told-4 : tie.Need-enum-told-4 Inv-loop μ-loop
@@ -76,7 +80,8 @@ enum-told-4 c = search needs
 
 -- src/lib.rt:89:28
 returns-3 : tie.Need-returns-3 Inv-loop μ-loop
-returns-3 c = ?
+unfolding at
+returns-3 c = (c .before .before .level .ensures .0 ∙ c .before .before .before .before .before .before .before .loop .inv .0, λ n w. turn-split w (c .before .before .before .before .before .before .before .loop .inv .1 n w) (c .before .before .before .before .before .before .loop-test .taken) (c .before .before .level .last .0) (c .before .before .level .result) (c .before .before .level .ensures .1 n (turn-asks w (c .before .before .before .before .before .before .before .loop .inv .1 n w) (c .before .before .before .before .before .before .loop-test .taken))) (c .enum-told4 .given .1))
 
 -- src/lib.rt:91:9
 add-j : tie.Need-add-j Inv-loop μ-loop
@@ -88,11 +93,12 @@ loop-less c = search needs
 
 -- src/lib.rt:76:5
 loop-again : tie.Need-loop-again Inv-loop μ-loop
-loop-again c = ?
+unfolding at
+loop-again c = (c .before .before .level .ensures .0 ∙ c .before .before .before .before .before .before .before .loop .inv .0, λ n w. turn-next w (c .before .before .before .before .before .before .before .loop .inv .1 n w) (c .before .before .before .before .before .before .loop-test .taken) (c .before .before .level .last .0) (c .before .before .level .result) (c .before .before .level .ensures .1 n (turn-asks w (c .before .before .before .before .before .before .before .loop .inv .1 n w) (c .before .before .before .before .before .before .loop-test .taken))) (c .enum-told .given .1))
 
 -- src/lib.rt:62:1
 returns-4 : tie.Need-returns-4 Inv-loop μ-loop
-returns-4 c = ?
+returns-4 c = (c .before .loop .inv .0, λ n w. ends w (c .before .loop .inv .1 n w) (c .loop-test .left))
 
 pub pass-spec : {M : Type 1} → statement M
 pass-spec =
