@@ -25,7 +25,7 @@ own-right : {n : ℕ} {prefix images numbers : List ℕ} {e k : ℕ} (j : ℕ) �
 own-right {n} {prefix} j w h = (w .inside j (at prefix j) h (w .drawn j h), omega arith)
 
 -- ---- how a pass that came to its end, or to a split, is answered
-module _ {n : ℕ} {ss prefix images numbers : List ℕ} {e k start : ℕ} (rs : List ℕ) (r : Reached) (c : Came n ss prefix images numbers e k start rs r) where
+module _ {n : ℕ} {ss prefix images numbers : List ℕ} {e k start : ℕ} (w : Ready n ss prefix images numbers e k start) (rs : List ℕ) (r : Reached) (c : Came n ss prefix images numbers e k start rs r) where
   came-as : (t : Reached) → r ≡ t → Came n ss prefix images numbers e k start rs t
   came-as t q = subst (λ (i : Reached). Came n ss prefix images numbers e k start rs i) q c
 
@@ -43,9 +43,6 @@ module _ {n : ℕ} {ss prefix images numbers : List ℕ} {e k start : ℕ} (rs :
 
 -- ---- at the split
 module _ {n : ℕ} {ss prefix images numbers : List ℕ} {e k j : ℕ} (w : Fork n ss prefix images numbers e k j) where
-  own : ℕ
-  own = ownAt prefix images e j
-
   abbrev later : List Entry
   later = levelsFrom prefix images numbers e k (j + 1)
 
@@ -74,6 +71,16 @@ module _ {n : ℕ} {ss prefix images numbers : List ℕ} {e k j : ℕ} (w : Fork
           live = subst (λ (l : List ℕ). Live n l) (sym (forced-as ts q)) (Front.forced-live x v later begun right (w .split));
           bound = omega (arith, w .bound);
         }
+
+    module _ (ts : List ℕ) (q : ts ≡ forced ss y) (rs : List ℕ) (r : Reached) (c : Came n ts prefix images numbers e k (j + 1) rs r) where
+      pub stays-dead : r ≡ Dead → None n (forced ss (ownAt prefix images e j)) (levelsFrom prefix images numbers e k (j + 1))
+      stays-dead z = subst (λ (l : List ℕ). None n l later) (forced-as ts q) (came-dead (forced-ready ts q) rs r c z)
+
+      pub stays-end : r ≡ End → Some n (forced ss (ownAt prefix images e j)) (levelsFrom prefix images numbers e k (j + 1))
+      stays-end z = subst (λ (l : List ℕ). Some n l later) (forced-as ts q) (came-end (forced-ready ts q) rs r c z)
+
+      pub stays-split : (m : ℕ) → r ≡ Split m → Some n (forced ss (ownAt prefix images e j)) (levelsFrom prefix images numbers e k (j + 1))
+      stays-split m z = subst (λ (l : List ℕ). Some n l later) (forced-as ts q) (came-split (forced-ready ts q) rs r c m z)
 
     -- no assignment has it: the value goes
     pub settle-gone : (b : Bool) → b ≡ false → Alive b n (forced ss (ownAt prefix images e j)) (levelsFrom prefix images numbers e k (j + 1)) → {ts : List ℕ} {r : Step} → Stepped ss (cutOf y) ts r → Left n ss (forkEntries prefix images numbers e k j) ts
