@@ -32,12 +32,18 @@ module _ {n : ℕ} {ss prefix images numbers : List ℕ} {e k start : ℕ} (w : 
   pub came-dead : r ≡ Dead → None n ss (levelsFrom prefix images numbers e k start)
   came-dead q = came-as Dead q
 
+  pub came-passed : r ≡ End → Passed n ss (levelsFrom prefix images numbers e k start) rs []
+  came-passed q = came-as End q
+
+  pub came-forked : (j : ℕ) → r ≡ Split j → Forked n ss prefix images numbers e k start rs j
+  came-forked j q = came-as (Split j) q
+
   pub came-end : r ≡ End → Some n ss (levelsFrom prefix images numbers e k start)
-  came-end q = Front.ended-some (came-as End q)
+  came-end q = Front.ended-some (came-passed q)
 
   pub came-split : (j : ℕ) → r ≡ Split j → Some n ss (levelsFrom prefix images numbers e k start)
   came-split j q =
-      let f = came-as (Split j) q in
+      let f = came-forked j q in
       let y = ownAt prefix images e j in
       Front.split-some (y / 16) (y % 16) (levelsFrom prefix images numbers e k (j + 1)) (f .passed) (own-right j (f .fork .listed) (f .fork .bound)) (f .fork .split)
 

@@ -20,9 +20,12 @@ use Rattle.model.proofs.WellFormed.{WellFormed, GoodSymmetry}
 use Rattle.model.proofs.Pairs
 use Rattle.model.proofs.Symmetry
 use Rattle.layout.specs.Layout.{symmetryAt}
+use Rattle.nogood.specs.declared.Reached.{Reached}
+use Rattle.nogood.specs.declared.Reached.the-variants.{Dead, End, Split}
 use Rattle.nogood.specs.Scan.{None, Live, Left}
 use Rattle.nogood.proofs.Front
-use Rattle.levels.specs.Levels.{Levelled, Sifted, leaves, imageAt, cutOf, keepOf, levelAt, levelsFrom, Listed, Ready}
+use Rattle.levels.specs.Levels.{Levelled, Sifted, leaves, imageAt, cutOf, keepOf, levelAt, levelsFrom, Listed, Ready, Fork, forkEntries, Came}
+use Rattle.levels.proofs.Forks.{came-dead, came-passed, came-forked, left-on}
 
 -- an element of a list stands in it
 mem-getD : (ls : List (List ℕ)) (i : ℕ) (d : List ℕ) → i < length ls → List·Memᴰ (getD ls i d) ls
@@ -137,3 +140,17 @@ module _ {p : Problem} {sets prefix images numbers : List ℕ} {e k : ℕ} (w : 
         unused = λ q x h l. z .unused x h ∙ w .unused x h l;
         sixteen = z .live .sixteen;
       }
+
+  -- ---- how the pass ended
+  module _ (rs : List ℕ) (r : Reached) (c : Came (p .variables) sets prefix images numbers e k 0 rs r) where
+    pub at-dead : length rs ≡ length sets → r ≡ Dead → Sifted p sets prefix e k rs true
+    at-dead l q = sifted-dead rs l (came-dead ready rs r c q)
+
+    pub at-end : r ≡ End → Sifted p sets prefix e k rs false
+    at-end q = sifted-live rs (Front.ended (came-passed ready rs r c q) (Front.front-length (w .live)))
+
+    pub at-fork : (j : ℕ) → r ≡ Split j → Fork (p .variables) rs prefix images numbers e k j
+    at-fork j q = came-forked ready rs r c j q .fork
+
+    pub at-split : (j : ℕ) → r ≡ Split j → (ts : List ℕ) → Left (p .variables) rs (forkEntries prefix images numbers e k j) ts → Sifted p sets prefix e k ts false
+    at-split j q ts z = sifted-live ts (left-on (w .live) (came-forked ready rs r c j q .passed) z)

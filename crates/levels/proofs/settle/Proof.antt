@@ -1,3 +1,5 @@
+use Rattle.model.specs.Lists.{at}
+use Rattle.levels.proofs.Forks.{fork-image, fork-asks, settle-kept, settle-gone}
 use borrow.Author.Needs.{needs}
 use Rattle.levels.proofs.settle.Statement.{statement}
 use Rattle.levels.proofs.settle.Tie as tie
@@ -13,7 +15,7 @@ stays-requires c κs = search needs
 
 -- src/lib.rt:134:9
 returns : tie.Need-returns
-returns c = ?
+returns c = λ n w. settle-kept w (c .before .stays .result) (c .if1 .taken) (c .before .stays .ensures n w)
 
 -- src/lib.rt:136:33
 mul-image : tie.Need-mul-image
@@ -25,7 +27,8 @@ element-copy-out-image c = search needs
 
 -- src/lib.rt:136:9
 image-requires : tie.Need-image-requires
-image-requires c κs = ?
+unfolding at
+image-requires c κs = fork-image (c .before .before .before .before .pre .1)
 
 -- src/lib.rt:137:30
 cast-disequality : tie.Need-cast-disequality
@@ -33,11 +36,13 @@ cast-disequality c = search needs
 
 -- src/lib.rt:137:5
 disequality-requires : tie.Need-disequality-requires
-disequality-requires c κs = ?
+unfolding at
+disequality-requires c κs = fork-asks (c .before .before .before .before .before .before .pre .1) (c .before .image .result) (c .before .image .ensures)
 
 -- src/lib.rt:121:1
 returns-2 : tie.Need-returns-2
-returns-2 c = ?
+unfolding at
+returns-2 c = λ n w. settle-gone w (c .before .before .image .result) (c .before .before .image .ensures) (c .before .before .before .before .before .stays .result) (c .before .before .before .before .if1 .left) (c .before .before .before .before .before .stays .ensures n w) (c .disequality .ensures)
 
 pub settle-spec : {M : Type 1} → statement M
 settle-spec =
