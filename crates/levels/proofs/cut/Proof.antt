@@ -1,3 +1,5 @@
+-- The loop's invariant: what the cuts of all values ask of the sets at the start, those of the values left ask of the sets now. The measure is
+-- the set of the values left, as a number. Assumes nothing.
 use mathlib.Core.Path.{_≡_, refl, _∙_}
 use mathlib.Core.List.{[], _∷_}
 use mathlib.Core.Logic.{⊎-elim}
@@ -10,10 +12,6 @@ use Rattle.levels.specs.Levels.{Pictured}
 use Rattle.levels.proofs.Turns.{Cutting, cut-none, rest-less, lowest-value, stepped-length, cut-all, cut-asks, cut-dead, cut-next}
 use Rattle.levels.proofs.cut.Statement.{statement}
 use Rattle.levels.proofs.cut.Tie as tie
-use Rattle.levels.proofs.cut.Reads as reads
-use Rattle.levels.proofs.cut.Lts as lts
-use Rattle.levels.proofs.image.Reads as image-reads
-use Rattle.nogood.proofs.entry.disequality.Reads as disequality-reads
 
 -- 1, the place of Dead among the steps, is none of this arm's
 tag-one : OneOf (0 ∷ 2 ∷ 3 ∷ []) 1 → ⊥
@@ -25,47 +23,36 @@ Inv-loop sets₀ images e x values m₀ sets m = (length sets ≡ length sets₀
 abbrev μ-loop : tie.MeasureT-loop
 μ-loop sets₀ images e x values m₀ sets m = m
 
--- src/lib.rt:30:5
 loop-holds : tie.Need-loop-holds Inv-loop μ-loop
 loop-holds c = (refl, λ n w. cut-none w)
 
--- src/lib.rt:31:37
 cast-image : tie.Need-cast-image Inv-loop μ-loop
 cast-image c = let w = c .before .before .pre .1 in let l = lowest-value (c .before .loop .m) (c .loop-test .taken) (c .before .loop .inv .1 (c .before .before .pre .0) w .small) in omega arith
 
--- src/lib.rt:31:13
 image-requires : tie.Need-image-requires Inv-loop μ-loop
 image-requires c κs = let w = c .before .before .pre .1 in (w .symmetry, w .variable, lowest-value (c .before .loop .m) (c .loop-test .taken) (c .before .loop .inv .1 (c .before .before .pre .0) w .small))
 
--- src/lib.rt:32:45
 cast-disequality : tie.Need-cast-disequality Inv-loop μ-loop
 cast-disequality c = search needs
 
--- src/lib.rt:32:13
 disequality-requires : tie.Need-disequality-requires Inv-loop μ-loop
 disequality-requires c κs = let w = c .before .before .before .before .pre .1 in cut-asks w (c .before .before .before .loop .inv .1 (c .before .before .before .before .pre .0) w) (c .before .before .loop-test .taken) (c .before .image .result) (c .before .image .ensures)
 
--- src/lib.rt:34:13
 enum-told : tie.Need-enum-told Inv-loop μ-loop
 enum-told c = search needs
 
--- src/lib.rt:34:13
 returns : tie.Need-returns Inv-loop μ-loop
 returns c = (stepped-length (c .before .before .before .before .image .result) (c .before .before .disequality .ensures) ∙ c .before .before .before .before .before .before .loop .inv .0, λ n w. cut-dead w (c .before .before .before .before .before .before .loop .inv .1 n w) (c .before .before .before .before .before .loop-test .taken) (c .before .before .before .before .image .result) (c .before .before .before .before .image .ensures) (c .before .before .disequality .ensures) (c .enum-told .given .1))
 
--- src/lib.rt:36:18
 sub-m : tie.Need-sub-m Inv-loop μ-loop
 sub-m c = search needs
 
--- src/lib.rt:30:5
 loop-less : tie.Need-loop-less Inv-loop μ-loop
 loop-less c = rest-less (c .before .before .before .before .before .loop .m) (c .before .before .before .before .loop-test .taken)
 
--- src/lib.rt:30:5
 loop-again : tie.Need-loop-again Inv-loop μ-loop
 loop-again c = (stepped-length (c .before .before .before .image .result) (c .before .disequality .ensures) ∙ c .before .before .before .before .before .loop .inv .0, λ n w. cut-next w (c .before .before .before .before .before .loop .inv .1 n w) (c .before .before .before .before .loop-test .taken) (c .before .before .before .image .result) (c .before .before .before .image .ensures) (c .before .disequality .ensures) (λ q. tag-one (rw q at (c .match .keys2))))
 
--- src/lib.rt:24:1
 returns-2 : tie.Need-returns-2 Inv-loop μ-loop
 returns-2 c = (c .before .loop .inv .0, λ n w. cut-all w (c .before .loop .inv .1 n w) (c .loop-test .left))
 

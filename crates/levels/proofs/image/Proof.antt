@@ -1,3 +1,4 @@
+-- The image of a pair is read where the layout has it. Assumes nothing.
 use mathlib.Core.Path.{refl}
 use Rattle.model.specs.Lists.{at}
 use borrow.Author.Needs.{needs}

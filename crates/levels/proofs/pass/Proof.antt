@@ -1,3 +1,4 @@
+-- The loop's invariant: what the levels from the start ask of the sets at the start, those from j on ask of the sets now. Assumes nothing.
 use mathlib.Core.Path.{_≡_, refl, _∙_}
 use Prim.Native.Nat.{ℕ, _-_}
 use native.Mathlib.Omega.{arith}
@@ -9,9 +10,6 @@ use Rattle.levels.specs.Levels.{levelsFrom, Ready}
 use Rattle.levels.proofs.Turns.{starts, ends, turn-asks, turn-next, turn-dead, turn-free, turn-split}
 use Rattle.levels.proofs.pass.Statement.{statement}
 use Rattle.levels.proofs.pass.Tie as tie
-use Rattle.levels.proofs.pass.Reads as reads
-use Rattle.levels.proofs.pass.Lts as lts
-use Rattle.levels.proofs.level.Reads as level-reads
 
 abbrev Inv-loop : tie.InvT-loop
 Inv-loop sets₀ prefix images numbers e k start j₀ sets j = (length sets ≡ length sets₀) × ((n : ℕ) → Ready n sets₀ prefix images numbers e k start → Passed n sets₀ (levelsFrom prefix images numbers e k start) sets (levelsFrom prefix images numbers e k j))
@@ -19,36 +17,28 @@ Inv-loop sets₀ prefix images numbers e k start j₀ sets j = (length sets ≡ 
 abbrev μ-loop : tie.MeasureT-loop
 μ-loop sets₀ prefix images numbers e k start j₀ sets j = k - j
 
--- src/lib.rt:76:5
 loop-holds : tie.Need-loop-holds Inv-loop μ-loop
 loop-holds c = (refl, λ n w. starts w)
 
--- src/lib.rt:82:21
 add-level : tie.Need-add-level Inv-loop μ-loop
 add-level c = search needs
 
--- src/lib.rt:82:13
 mul-level : tie.Need-mul-level Inv-loop μ-loop
 mul-level c = search needs
 
--- src/lib.rt:82:13
 element-copy-out-level : tie.Need-element-copy-out-level Inv-loop μ-loop
 element-copy-out-level c = search needs
 
--- src/lib.rt:82:13
 cast-level : tie.Need-cast-level Inv-loop μ-loop
 unfolding at
 cast-level c = let h = c .before .before .before .before .pre .1 .listed .small (c .before .before .before .loop .j) (c .before .before .loop-test .taken) in omega arith
 
--- src/lib.rt:83:13
 mul-level-2 : tie.Need-mul-level-2 Inv-loop μ-loop
 mul-level-2 c = search needs
 
--- src/lib.rt:83:13
 element-copy-out-level-2 : tie.Need-element-copy-out-level-2 Inv-loop μ-loop
 element-copy-out-level-2 c = search needs
 
--- src/lib.rt:77:13
 level-requires : tie.Need-level-requires Inv-loop μ-loop
 unfolding at
 level-requires c κs = let w = c .before .before .before .before .before .pre .1 in ((c .before .before .before .before .before .pre .0, turn-asks w (c .before .before .before .before .loop .inv .1 (c .before .before .before .before .before .pre .0) w) (c .before .before .before .loop-test .taken)), w .listed .drawn (c .before .before .before .before .loop .j) (c .before .before .before .loop-test .taken))
@@ -56,47 +46,37 @@ level-requires c κs = let w = c .before .before .before .before .before .pre .1
 enum-told : tie.Need-enum-told Inv-loop μ-loop
 enum-told c = search needs
 
--- src/lib.rt:87:27
 enum-told-2 : tie.Need-enum-told-2 Inv-loop μ-loop
 enum-told-2 c = search needs
 
--- src/lib.rt:87:27
 returns : tie.Need-returns Inv-loop μ-loop
 unfolding at
 returns c = (c .before .before .level .ensures .0 ∙ c .before .before .before .before .before .before .before .loop .inv .0, λ n w. turn-dead w (c .before .before .before .before .before .before .before .loop .inv .1 n w) (c .before .before .before .before .before .before .loop-test .taken) (c .before .before .level .last .0) (c .before .before .level .result) (c .before .before .level .ensures .1 n (turn-asks w (c .before .before .before .before .before .before .before .loop .inv .1 n w) (c .before .before .before .before .before .before .loop-test .taken))) (c .enum-told2 .given .1))
 
--- src/lib.rt:88:27
 enum-told-3 : tie.Need-enum-told-3 Inv-loop μ-loop
 enum-told-3 c = search needs
 
--- src/lib.rt:88:27
 returns-2 : tie.Need-returns-2 Inv-loop μ-loop
 unfolding at
 returns-2 c = (c .before .before .level .ensures .0 ∙ c .before .before .before .before .before .before .before .loop .inv .0, λ n w. turn-free w (c .before .before .before .before .before .before .before .loop .inv .1 n w) (c .before .before .before .before .before .before .loop-test .taken) (c .before .before .level .last .0) (c .before .before .level .result) (c .before .before .level .ensures .1 n (turn-asks w (c .before .before .before .before .before .before .before .loop .inv .1 n w) (c .before .before .before .before .before .before .loop-test .taken))) (c .enum-told3 .given .1))
 
--- src/lib.rt:89:28
 enum-told-4 : tie.Need-enum-told-4 Inv-loop μ-loop
 enum-told-4 c = search needs
 
--- src/lib.rt:89:28
 returns-3 : tie.Need-returns-3 Inv-loop μ-loop
 unfolding at
 returns-3 c = (c .before .before .level .ensures .0 ∙ c .before .before .before .before .before .before .before .loop .inv .0, λ n w. turn-split w (c .before .before .before .before .before .before .before .loop .inv .1 n w) (c .before .before .before .before .before .before .loop-test .taken) (c .before .before .level .last .0) (c .before .before .level .result) (c .before .before .level .ensures .1 n (turn-asks w (c .before .before .before .before .before .before .before .loop .inv .1 n w) (c .before .before .before .before .before .before .loop-test .taken))) (c .enum-told4 .given .1))
 
--- src/lib.rt:91:9
 add-j : tie.Need-add-j Inv-loop μ-loop
 add-j c = search needs
 
--- src/lib.rt:76:5
 loop-less : tie.Need-loop-less Inv-loop μ-loop
 loop-less c = search needs
 
--- src/lib.rt:76:5
 loop-again : tie.Need-loop-again Inv-loop μ-loop
 unfolding at
 loop-again c = (c .before .before .level .ensures .0 ∙ c .before .before .before .before .before .before .before .loop .inv .0, λ n w. turn-next w (c .before .before .before .before .before .before .before .loop .inv .1 n w) (c .before .before .before .before .before .before .loop-test .taken) (c .before .before .level .last .0) (c .before .before .level .result) (c .before .before .level .ensures .1 n (turn-asks w (c .before .before .before .before .before .before .before .loop .inv .1 n w) (c .before .before .before .before .before .before .loop-test .taken))) (c .enum-told .given .1))
 
--- src/lib.rt:62:1
 returns-4 : tie.Need-returns-4 Inv-loop μ-loop
 returns-4 c = (c .before .loop .inv .0, λ n w. ends w (c .before .loop .inv .1 n w) (c .loop-test .left))
 
