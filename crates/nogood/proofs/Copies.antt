@@ -71,7 +71,8 @@ module _ {ss rs : List ℕ} {i : ℕ} (g : Loading ss rs i) (a : length ss ≤ 1
       }
 
   pub loaded : length ss ≤ i → Loaded false ss rs
-  loaded h =
-      (at-ext (take (length ss) rs) ss (length-take-le (length ss) rs (omega (arith, g .sixteen)))
-      (λ k l. let m : k < length ss = subst (λ (n : ℕ). k < n) (length-take-le (length ss) rs (omega (arith, g .sixteen))) l in at-take (length ss) rs k m ∙ g .done k (omega arith)),
-      record { few = a; sixteen = g .sixteen; small = g .small; full = λ x l e. g .full x (omega arith) (sym (g .done x (omega arith)) ∙ e) })
+  loaded h = (
+    at-ext (take (length ss) rs) ss (length-take-le (length ss) rs (omega (arith, g .sixteen)))
+        (λ k l. let m : k < length ss = subst (λ (n : ℕ). k < n) (length-take-le (length ss) rs (omega (arith, g .sixteen))) l in at-take (length ss) rs k m ∙ g .done k (omega arith)),
+    record { few = a; sixteen = g .sixteen; small = g .small; full = λ x l e. g .full x (omega arith) (sym (g .done x (omega arith)) ∙ e) },
+  )

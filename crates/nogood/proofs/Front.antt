@@ -209,6 +209,15 @@ module _ {n : ℕ} {ss : List ℕ} {es : List Entry} {rs : List ℕ} where
               ∙ sym (same-end k);
         }
 
+-- what the filter leaves after the entries that were passed, it leaves of all
+pub left-after : {n : ℕ} {ss : List ℕ} {es : List Entry} {rs : List ℕ} {fs : List Entry} {ts : List ℕ} → Passed n ss es rs fs → Left n rs fs ts → length (take n ss) ≡ n → Left n ss es ts
+left-after {n} {ss} {es} {rs} {fs} p l k =
+    record {
+      live = l .live;
+      unused = λ x h. l .unused x h ∙ p .unused x h;
+      left = l .left ∙ sym (Scan.filtered-same (take n ss) es (take n rs) fs (k ∙ sym (front-length (p .live))) (p .same));
+    }
+
 -- ---- what an outcome says of the sets that the filter leaves
 pub none-empty : (n : ℕ) (ss : List ℕ) (es : List Entry) → 0 < n → n ≤ length ss → None n ss es → T (anyEmpty (filtered (take n ss) es))
 none-empty n ss es h l z =

@@ -32,9 +32,11 @@ ok-right n x e u t = go (eqb e mark) refl (both-r (ltb x n) _ t)
     inside = ltb→lt x n (both-l (ltb x n) _ t)
 
     go : (b : Bool) → eqb e mark ≡ b → T (either (both b (ltb u 16)) (both (eqb u mark) (ltb e 16))) → Right n (entryBy b x e u)
-    go true h s =
-        (inside, ⊎-elim {C = u < 16} (λ l. ltb→lt u 16 l) (λ r. let z : e ≡ 255 = eqb-true e 255 h in let k : e < 16 = ltb→lt e 16 (both-r (eqb u mark) (ltb e 16) r) in absurd (omega arith))
-        (either-e (ltb u 16) (both (eqb u mark) (ltb e 16)) s))
+    go true h s = (
+      inside,
+      ⊎-elim {C = u < 16} (λ l. ltb→lt u 16 l) (λ r. let z : e ≡ 255 = eqb-true e 255 h in let k : e < 16 = ltb→lt e 16 (both-r (eqb u mark) (ltb e 16) r) in absurd (omega arith))
+          (either-e (ltb u 16) (both (eqb u mark) (ltb e 16)) s),
+    )
     go false h s = (inside, ltb→lt e 16 (both-r (eqb u mark) (ltb e 16) s))
 
 -- ---- the test, question by question

@@ -36,3 +36,93 @@ module _ (n : ℕ) (xs es us : List ℕ) where
   all-ok : firstWrong n xs es us ≡ length xs → (j : ℕ) → j < length xs → okAt j ≡ true
   unfolding firstWrong
   all-ok e j l = not-false (okAt j) (least-below (length xs) (λ i. not (okAt i)) j (subst (λ (k : ℕ). j < k) (sym e) l))
+
+-- ---- the verdict, question by question
+both-false : (b : Bool) → both b false ≡ false
+both-false true = refl
+both-false false = refl
+
+module _ (ds xs es us : List ℕ) where
+  pub no-set : length ds < 1 → refused 17 0 ≡ filterVerdict ds xs es us
+  unfolding filterVerdict
+  no-set h = simp (lt-leb 1 (length ds) h)
+
+  pub many-sets : 12 < length ds → refused 17 0 ≡ filterVerdict ds xs es us
+  unfolding filterVerdict
+  many-sets h = simp (lt-leb (length ds) 12 h, both-false)
+
+  module _ (h : 1 ≤ length ds) (m : length ds ≤ 12) where
+    pub other-equals : (length es ≡ length xs → ⊥) → refused 18 0 ≡ filterVerdict ds xs es us
+    unfolding filterVerdict
+    other-equals p = simp (le-leb 1 (length ds) h, le-leb (length ds) 12 m, ne-eqb (length es) (length xs) p)
+
+    pub other-others : (length us ≡ length xs → ⊥) → refused 18 0 ≡ filterVerdict ds xs es us
+    unfolding filterVerdict
+    other-others q = simp (le-leb 1 (length ds) h, le-leb (length ds) 12 m, ne-eqb (length us) (length xs) q, both-false)
+
+    pub long-lists : 192 < length xs → refused 18 0 ≡ filterVerdict ds xs es us
+    unfolding filterVerdict
+    long-lists l = simp (le-leb 1 (length ds) h, le-leb (length ds) 12 m, lt-leb (length xs) 192 l, both-false)
+
+    module _ (p : length es ≡ length xs) (q : length us ≡ length xs) (l : length xs ≤ 192) (r : ℕ) (b : r ≡ firstWrong (length ds) xs es us) where
+      pub wrong-entry : (r ≡ length xs → ⊥) → refused 19 r ≡ filterVerdict ds xs es us
+      unfolding filterVerdict
+      wrong-entry z =
+          simp (
+            le-leb 1 (length ds) h,
+            le-leb (length ds) 12 m,
+            eq-eqb (length es) (length xs) p,
+            eq-eqb (length us) (length xs) q,
+            le-leb (length xs) 192 l,
+            ne-eqb (firstWrong (length ds) xs es us) (length xs) (λ e. z (b ∙ e)),
+            b,
+          )
+
+      pub all-right : r ≡ length xs → accepted ≡ filterVerdict ds xs es us
+      unfolding filterVerdict
+      all-right z =
+          simp (
+            le-leb 1 (length ds) h,
+            le-leb (length ds) 12 m,
+            eq-eqb (length es) (length xs) p,
+            eq-eqb (length us) (length xs) q,
+            le-leb (length xs) 192 l,
+            eq-eqb (firstWrong (length ds) xs es us) (length xs) (sym b ∙ z),
+          )
+
+-- ---- what an accepted call knows
+-- a question that was passed
+passed : (b : Bool) (number item : ℕ) (later : Verdict) → accepted ≡ ask b number item later → (b ≡ true) × (accepted ≡ later)
+passed true number item later e = (refl, e)
+passed false number item later e = absurd (let z : _≡_ {A = ℕ} 0 1 = cc in omega arith)
+
+both-true : (a b : Bool) → both a b ≡ true → (a ≡ true) × (b ≡ true)
+both-true true b e = (refl, e)
+both-true false b e = absurd (subst T (sym e) tt)
+
+module _ (ds xs es us : List ℕ) (a : Answer) (v : means a ≡ filterVerdict ds xs es us) where
+  pub accepted-listed : a ≡ Filtered → (length ds ≤ 12) × Listed (length ds) xs es us
+  unfolding filterVerdict
+  accepted-listed e =
+      let p = passed _ 17 0 _ (ap means (sym e) ∙ v) in
+      let q = passed _ 18 0 _ (p .1) in
+      let r = passed (eqb (firstWrong (length ds) xs es us) (length xs)) 19 (firstWrong (length ds) xs es us) accepted (q .1) in
+      let n = both-true (leb 1 (length ds)) (leb (length ds) 12) (p .0) in
+      let l = both-true (both (eqb (length es) (length xs)) (eqb (length us) (length xs))) (leb (length xs) 192) (q .0) in
+      let k = both-true (eqb (length es) (length xs)) (eqb (length us) (length xs)) (l .0) in (
+        leb-true (length ds) 12 (n .1),
+        record {
+          equals = eqb-true (length es) (length xs) (k .0);
+          others = eqb-true (length us) (length xs) (k .1);
+          right = λ j h. ok-right (length ds) (at xs j) (at es j) (at us j)
+              (T-of _ (all-ok (length ds) xs es us (eqb-true (firstWrong (length ds) xs es us) (length xs) (r .0)) j h));
+        },
+      )
+
+  pub after-accepted : (rs : List ℕ) (l : List Entry) → a ≡ Filtered → rs ≡ filtered ds l → rs ≡ setsAfter (filterVerdict ds xs es us) ds l
+  unfolding setsAfter
+  after-accepted rs l e h = h ∙ ap (λ (w : Verdict). setsAfter w ds l) (ap means (sym e) ∙ v)
+
+  pub after-refused : (l : List Entry) (number item : ℕ) → a ≡ Refused number item → ds ≡ setsAfter (filterVerdict ds xs es us) ds l
+  unfolding setsAfter
+  after-refused l number item e = ap (λ (w : Verdict). setsAfter w ds l) (ap means (sym e) ∙ v)

@@ -75,10 +75,12 @@ abbrev cut : List ℕ → ℕ → (ℕ → Bool) → List ℕ
 cut ss x f = set ss x (narrow f (at ss x))
 
 cut-i : (ss : List ℕ) (x : ℕ) (f : ℕ → Bool) (a : List ℕ) → x < length ss → Draw ss a → T (f (at a x)) → Draw (cut ss x f) a
-cut-i ss x f a h d t =
-    (d .0 ∙ sym (length-set ss x _), λ y l. set-each (λ z s. (at a z < 16) × T (has s (at a z))) ss x _ y h
-    (let r = d .1 x h in (r .0, mask-i (λ v. both (has (at ss x) v) (f v)) (at a x) (r .0) (both-i (has (at ss x) (at a x)) (f (at a x)) (r .1) t)))
-    (λ e. d .1 y (subst (λ (n : ℕ). y < n) (length-set ss x _) l)))
+cut-i ss x f a h d t = (
+  d .0 ∙ sym (length-set ss x _),
+  λ y l. set-each (λ z s. (at a z < 16) × T (has s (at a z))) ss x _ y h
+      (let r = d .1 x h in (r .0, mask-i (λ v. both (has (at ss x) v) (f v)) (at a x) (r .0) (both-i (has (at ss x) (at a x)) (f (at a x)) (r .1) t)))
+      (λ e. d .1 y (subst (λ (n : ℕ). y < n) (length-set ss x _) l)),
+)
 
 cut-e : (ss : List ℕ) (x : ℕ) (f : ℕ → Bool) (a : List ℕ) → x < length ss → Draw (cut ss x f) a → Draw ss a × T (f (at a x))
 cut-e ss x f a h d = ((d .0 ∙ length-set ss x _, λ y l. go y (ℕ-discrete y x) l), both-r (has (at ss x) (at a x)) (f (at a x)) here)
@@ -243,9 +245,11 @@ drawable (s ∷ ss) b f =
 drawable-at : (ss : List ℕ) (i v : ℕ) → Small ss → Full ss → i < length ss → v < 16 → T (has (at ss i) v) → (a : List ℕ) × Draw ss a × T (is a i v)
 drawable-at ss i v b f l h t =
     let r = drawable ss b f in
-    let k : i < length (r .0) = subst (λ (n : ℕ). i < n) (sym (r .1 .0)) l in
-    (set (r .0) i v, (length-set (r .0) i v ∙ r .1 .0, λ y m. set-each (λ z w. (w < 16) × T (has (at ss z) w)) (r .0) i v y k (h, t) (λ e. r .1 .1 y m)),
-    T-of (is (set (r .0) i v) i v) (eq-eqb (getD (set (r .0) i v) i 16) v (getD-set-same (r .0) i v 16 k)))
+    let k : i < length (r .0) = subst (λ (n : ℕ). i < n) (sym (r .1 .0)) l in (
+      set (r .0) i v,
+      (length-set (r .0) i v ∙ r .1 .0, λ y m. set-each (λ z w. (w < 16) × T (has (at ss z) w)) (r .0) i v y k (h, t) (λ e. r .1 .1 y m)),
+      T-of (is (set (r .0) i v) i v) (eq-eqb (getD (set (r .0) i v) i 16) v (getD-set-same (r .0) i v 16 k)),
+    )
 
 uses : (ss a : List ℕ) (i v : ℕ) → i < length ss → Draw ss a → T (is a i v) → T (has (at ss i) v)
 uses ss a i v l d t = subst (λ (w : ℕ). T (has (at ss i) w)) (eqb→eq (at a i) v (subst T (is-at ss a i v l d) t)) (d .1 i l .1)

@@ -1,5 +1,6 @@
 // The exact filter for increasing nogoods (paper 01, "Nogood lists"), for callers with any lists and sets.
 pub mod entry; // entry.rt: one entry at a time, for whoever feeds them
+
 ghost use mathlib.Core.Path.{_≡_};
 ghost use Prim.Native.Nat.{ℕ, suc, _≤_, _<_, _^_};
 ghost use lib.ListN.{length, take, drop};
@@ -51,13 +52,7 @@ fn right(n: usize, x: u8, equal: u8, not_equal: u8) -> bool
 }
 
 // Passes the entries from a start, until the outcome is settled.
-fn pass(
-    sets: &mut [u16; 16],
-    index: &[u8],
-    equal: &[u8],
-    not_equal: &[u8],
-    start: usize,
-) -> Reached
+fn pass(sets: &mut [u16; 16], index: &[u8], equal: &[u8], not_equal: &[u8], start: usize) -> Reached
     requires { ⌜ ((n : ℕ) × Ready n (now sets) (now index) (now equal) (now «not_equal») start) ⌝ }
     ensures { λ r. ⌜ ((n : ℕ) → Ready n (now (sets .entry)) (now (index .entry)) (now (equal .entry)) (now («not_equal» .entry)) start → Came n (now (sets .entry)) (now (index .entry)) (now (equal .entry)) (now («not_equal» .entry)) start (now (sets .exit)) r) ⌝ }
 {

@@ -1,13 +1,11 @@
-use mathlib.Core.Path.{_≡_, refl}
+-- `nogood::clear` meets its contract. The sets before `i` are 0. Assumes nothing.
+use mathlib.Core.Path.{refl}
 use Prim.Native.Nat.{_-_}
 use lib.ListN.{length}
-use native.Mathlib.Omega.{arith}
-use Rattle.nogood.proofs.Copies.{Filling, fill-none, fill-more, filled-zeros}
 use borrow.Author.Needs.{needs}
+use Rattle.nogood.proofs.Copies.{Filling, fill-none, fill-more, filled-zeros}
 use Rattle.nogood.proofs.clear.Statement.{statement}
 use Rattle.nogood.proofs.clear.Tie as tie
-use Rattle.nogood.proofs.clear.Reads as reads
-use Rattle.nogood.proofs.clear.Lts as lts
 
 abbrev Inv-loop : tie.InvT-loop
 Inv-loop sets₀ i₀ sets i = Filling (λ k. 0) sets₀ sets i
@@ -15,35 +13,27 @@ Inv-loop sets₀ i₀ sets i = Filling (λ k. 0) sets₀ sets i
 abbrev μ-loop : tie.MeasureT-loop
 μ-loop sets₀ i₀ sets i = length sets₀ - i
 
--- src/lib.rt:155:5
 loop-holds : tie.Need-loop-holds Inv-loop μ-loop
 loop-holds c = fill-none (λ k. 0) (c .args .sets .now)
 
--- src/lib.rt:156:9
 mul-sets : tie.Need-mul-sets Inv-loop μ-loop
 mul-sets c = search needs
 
--- src/lib.rt:156:9
 slice-write-sets : tie.Need-slice-write-sets Inv-loop μ-loop
 slice-write-sets c = search needs
 
--- src/lib.rt:157:9
 add-i : tie.Need-add-i Inv-loop μ-loop
 add-i c = search needs
 
--- src/lib.rt:155:5
 loop-less : tie.Need-loop-less Inv-loop μ-loop
 loop-less c = search needs
 
--- src/lib.rt:155:5
 loop-again : tie.Need-loop-again Inv-loop μ-loop
 loop-again c = fill-more (c .before .loop .inv) (c .loop-test .taken) 0 refl
 
--- src/lib.rt:151:1
 same-length : tie.Need-same-length Inv-loop μ-loop
 same-length c = c .before .loop .inv .same-length
 
--- src/lib.rt:151:1
 returns : tie.Need-returns Inv-loop μ-loop
 returns c = filled-zeros (c .before .loop .inv) (c .loop-test .left)
 

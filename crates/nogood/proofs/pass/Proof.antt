@@ -1,18 +1,15 @@
-
+-- `nogood::pass` meets its contract. The entries before `i` are passed: what is asked from the start on is what is asked from `i` on of the sets as they are. Assumes nothing.
 use Prim.Native.Nat.{ℕ, _≤_, _-_}
-use lib.ListN.{length, drop}
 use native.Mathlib.Omega.{arith}
+use lib.ListN.{length, drop}
+use borrow.Author.Needs.{needs}
 use Rattle.model.specs.Lists.{at}
 use Rattle.model.specs.Nogood.{entries}
-use Rattle.nogood.specs.Scan.{Passed}
 use Rattle.nogood.specs.Lists.{Ready}
+use Rattle.nogood.specs.Scan.{Passed}
 use Rattle.nogood.proofs.Turns.{starts, ends, turn-right, turn-next, turn-dead, turn-free, turn-split}
-use borrow.Author.Needs.{needs}
 use Rattle.nogood.proofs.pass.Statement.{statement}
 use Rattle.nogood.proofs.pass.Tie as tie
-use Rattle.nogood.proofs.pass.Reads as reads
-use Rattle.nogood.proofs.pass.Lts as lts
-use Rattle.nogood.proofs.read.Reads as read-reads
 
 abbrev Inv-loop : tie.InvT-loop
 Inv-loop sets₀ index equal not-equal start i₀ sets i = (i ≤ length index) × ((n : ℕ) → Ready n sets₀ index equal not-equal start → Passed n sets₀ (drop start (entries index equal not-equal)) sets (drop i (entries index equal not-equal)))
@@ -20,27 +17,21 @@ Inv-loop sets₀ index equal not-equal start i₀ sets i = (i ≤ length index) 
 abbrev μ-loop : tie.MeasureT-loop
 μ-loop sets₀ index equal not-equal start i₀ sets i = length index - i
 
--- src/lib.rt:65:5
 loop-holds : tie.Need-loop-holds Inv-loop μ-loop
 loop-holds c = (c .before .before .before .pre .1 .bound, λ n w. starts w)
 
--- src/lib.rt:66:17
 shared-slice-read-x : tie.Need-shared-slice-read-x Inv-loop μ-loop
 shared-slice-read-x c = search needs
 
--- src/lib.rt:66:17
 cast-x : tie.Need-cast-x Inv-loop μ-loop
 cast-x c = omega (arith, c .shared-slice-known4 .given (c .before .before .loop .i))
 
--- src/lib.rt:67:34
 shared-slice-read-read : tie.Need-shared-slice-read-read Inv-loop μ-loop
 shared-slice-read-read c = search needs
 
--- src/lib.rt:67:44
 shared-slice-read-read-2 : tie.Need-shared-slice-read-read-2 Inv-loop μ-loop
 shared-slice-read-read-2 c = search needs
 
--- src/lib.rt:67:13
 read-requires : tie.Need-read-requires Inv-loop μ-loop
 unfolding at
 read-requires c κs = turn-right (c .before .before .before .before .before .before .before .before .before .pre .1) (c .before .before .before .before .before .loop .inv .1 (c .before .before .before .before .before .before .before .before .before .pre .0) (c .before .before .before .before .before .before .before .before .before .pre .1)) (c .before .before .before .before .loop-test .taken)
@@ -48,47 +39,37 @@ read-requires c κs = turn-right (c .before .before .before .before .before .bef
 enum-told : tie.Need-enum-told Inv-loop μ-loop
 enum-told c = search needs
 
--- src/lib.rt:70:27
 enum-told-2 : tie.Need-enum-told-2 Inv-loop μ-loop
 enum-told-2 c = search needs
 
--- src/lib.rt:70:27
 returns : tie.Need-returns Inv-loop μ-loop
 unfolding at
 returns c = λ n w. turn-dead w (c .before .before .before .before .before .before .before .before .loop .inv .1 n w) (c .before .before .before .before .before .before .before .loop-test .taken) (c .before .before .read .ensures) (c .enum-told2 .given .1)
 
--- src/lib.rt:71:27
 enum-told-3 : tie.Need-enum-told-3 Inv-loop μ-loop
 enum-told-3 c = search needs
 
--- src/lib.rt:71:27
 returns-2 : tie.Need-returns-2 Inv-loop μ-loop
 unfolding at
 returns-2 c = λ n w. turn-free w (c .before .before .before .before .before .before .before .before .loop .inv .1 n w) (c .before .before .before .before .before .before .before .loop-test .taken) (c .before .before .read .ensures) (c .enum-told3 .given .1)
 
--- src/lib.rt:72:28
 enum-told-4 : tie.Need-enum-told-4 Inv-loop μ-loop
 enum-told-4 c = search needs
 
--- src/lib.rt:72:28
 returns-3 : tie.Need-returns-3 Inv-loop μ-loop
 unfolding at
 returns-3 c = λ n w. turn-split w (c .before .before .before .before .before .before .before .before .loop .inv .1 n w) (c .before .before .before .before .before .before .before .loop-test .taken) (c .before .before .read .ensures) (c .enum-told4 .given .1)
 
--- src/lib.rt:74:9
 add-i : tie.Need-add-i Inv-loop μ-loop
 add-i c = search needs
 
--- src/lib.rt:65:5
 loop-less : tie.Need-loop-less Inv-loop μ-loop
 loop-less c = search needs
 
--- src/lib.rt:65:5
 loop-again : tie.Need-loop-again Inv-loop μ-loop
 unfolding at
 loop-again c = (search needs, λ n w. turn-next w (c .before .before .before .before .before .before .before .before .loop .inv .1 n w) (c .before .before .before .before .before .before .before .loop-test .taken) (c .before .before .read .ensures) (c .enum-told .given .1))
 
--- src/lib.rt:54:1
 returns-4 : tie.Need-returns-4 Inv-loop μ-loop
 returns-4 c = λ n w. ends w (c .before .loop .inv .1 n w) (c .loop-test .left)
 

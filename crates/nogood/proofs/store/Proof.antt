@@ -1,14 +1,12 @@
-use mathlib.Core.Path.{_≡_, refl}
+-- `nogood::store` meets its contract. The sets before `i` are copied. Assumes nothing.
+use mathlib.Core.Path.{refl}
 use Prim.Native.Nat.{_-_}
 use lib.ListN.{length}
-use native.Mathlib.Omega.{arith}
+use borrow.Author.Needs.{needs}
 use Rattle.model.specs.Lists.{at}
 use Rattle.nogood.proofs.Copies.{Filling, fill-none, fill-more, filled-front}
-use borrow.Author.Needs.{needs}
 use Rattle.nogood.proofs.store.Statement.{statement}
 use Rattle.nogood.proofs.store.Tie as tie
-use Rattle.nogood.proofs.store.Reads as reads
-use Rattle.nogood.proofs.store.Lts as lts
 
 abbrev Inv-loop : tie.InvT-loop
 Inv-loop source target₀ i₀ target i = Filling (at source) target₀ target i
@@ -16,44 +14,34 @@ Inv-loop source target₀ i₀ target i = Filling (at source) target₀ target i
 abbrev μ-loop : tie.MeasureT-loop
 μ-loop source target₀ i₀ target i = length target₀ - i
 
--- src/lib.rt:145:5
 loop-holds : tie.Need-loop-holds Inv-loop μ-loop
 loop-holds c = fill-none (at (c .args .source .now)) (c .args .target .now)
 
--- src/lib.rt:146:21
 mul-target : tie.Need-mul-target Inv-loop μ-loop
 mul-target c = search needs
 
--- src/lib.rt:146:21
 element-copy-out-target : tie.Need-element-copy-out-target Inv-loop μ-loop
 element-copy-out-target c = search needs
 
--- src/lib.rt:146:9
 mul-target-2 : tie.Need-mul-target-2 Inv-loop μ-loop
 mul-target-2 c = search needs
 
--- src/lib.rt:146:9
 slice-write-target : tie.Need-slice-write-target Inv-loop μ-loop
 slice-write-target c = search needs
 
--- src/lib.rt:147:9
 add-i : tie.Need-add-i Inv-loop μ-loop
 add-i c = search needs
 
--- src/lib.rt:145:5
 loop-less : tie.Need-loop-less Inv-loop μ-loop
 loop-less c = search needs
 
--- src/lib.rt:145:5
 loop-again : tie.Need-loop-again Inv-loop μ-loop
 unfolding at
 loop-again c = fill-more (c .before .before .loop .inv) (c .before .loop-test .taken) _ refl
 
--- src/lib.rt:140:1
 same-length : tie.Need-same-length Inv-loop μ-loop
 same-length c = c .before .loop .inv .same-length
 
--- src/lib.rt:140:1
 returns : tie.Need-returns Inv-loop μ-loop
 returns c = filled-front (c .before .before .args .source .now) (c .before .loop .inv) (c .loop-test .left) (c .before .before .pre .0) (c .before .before .pre .1)
 

@@ -1,9 +1,8 @@
-use Rattle.nogood.proofs.Steps.{cut-dead, cut-next}
+-- `nogood::entry::disequality` meets its contract. Assumes nothing.
 use borrow.Author.Needs.{needs}
+use Rattle.nogood.proofs.Steps.{cut-dead, cut-next}
 use Rattle.nogood.proofs.entry.disequality.Statement.{statement}
 use Rattle.nogood.proofs.entry.disequality.Tie as tie
-use Rattle.nogood.proofs.entry.disequality.Reads as reads
-use Rattle.nogood.proofs.entry.disequality.Lts as lts
 
 mul-t : tie.Need-mul-t
 mul-t c = search needs

@@ -1,9 +1,8 @@
-use Rattle.nogood.proofs.Steps.{keep-next, keep-free, keep-split}
+-- `nogood::entry::equality` meets its contract. Assumes nothing.
 use borrow.Author.Needs.{needs}
+use Rattle.nogood.proofs.Steps.{keep-next, keep-free, keep-split}
 use Rattle.nogood.proofs.entry.equality.Statement.{statement}
 use Rattle.nogood.proofs.entry.equality.Tie as tie
-use Rattle.nogood.proofs.entry.equality.Reads as reads
-use Rattle.nogood.proofs.entry.equality.Lts as lts
 
 mul-s : tie.Need-mul-s
 mul-s c = search needs

@@ -1,11 +1,10 @@
+-- `nogood::entry::force` meets its contract. Assumes nothing.
 use mathlib.Core.Path.{ap}
 use lib.ListN.{set}
-use Rattle.nogood.proofs.Steps.{is-on}
 use borrow.Author.Needs.{needs}
+use Rattle.nogood.proofs.Steps.{is-on}
 use Rattle.nogood.proofs.entry.force.Statement.{statement}
 use Rattle.nogood.proofs.entry.force.Tie as tie
-use Rattle.nogood.proofs.entry.force.Reads as reads
-use Rattle.nogood.proofs.entry.force.Lts as lts
 
 mul-sets : tie.Need-mul-sets
 mul-sets c = search needs

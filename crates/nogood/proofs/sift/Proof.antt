@@ -1,0 +1,42 @@
+-- `nogood::sift` meets its contract. Assumes nothing.
+use borrow.Author.Needs.{needs}
+use Rattle.nogood.proofs.Forks.{sift-dead, sift-end, sift-fork, sift-split}
+use Rattle.nogood.proofs.sift.Statement.{statement}
+use Rattle.nogood.proofs.sift.Tie as tie
+
+pass-requires : tie.Need-pass-requires
+pass-requires c κs = search needs
+
+enum-told : tie.Need-enum-told
+enum-told c = search needs
+
+enum-told-2 : tie.Need-enum-told-2
+enum-told-2 c = search needs
+
+enum-known-reached : tie.Need-enum-known-reached
+enum-known-reached c = search needs
+
+settle-requires : tie.Need-settle-requires
+settle-requires c κs = (c .before .before .before .before .before .before .before .before .before .pre .0, sift-fork (c .before .before .before .before .before .before .before .before .before .pre .1) (c .before .before .before .before .pass .last .0) (c .before .before .before .before .pass .result) (c .before .before .before .before .pass .ensures (c .before .before .before .before .before .before .before .before .before .pre .0) (c .before .before .before .before .before .before .before .before .before .pre .1)) (c .before .before .reached .given .0 .0) (c .before .before .reached .given .1))
+
+returns : tie.Need-returns
+returns c = λ n w. sift-dead w (c .before .before .pass .last .0) (c .before .before .pass .result) (c .before .before .pass .ensures n w) (c .enum-told .given .1)
+
+returns-2 : tie.Need-returns-2
+returns-2 c = λ n w. sift-end w (c .before .before .pass .last .0) (c .before .before .pass .result) (c .before .before .pass .ensures n w) (c .enum-told2 .given .1)
+
+returns-3 : tie.Need-returns-3
+returns-3 c = λ n w. sift-split w (c .before .before .before .before .before .pass .last .0) (c .before .before .before .before .before .pass .result) (c .before .before .before .before .before .pass .ensures n w) (c .before .before .before .reached .given .0 .0) (c .settle .last .0) (c .before .before .before .reached .given .1) (c .settle .ensures n (sift-fork w (c .before .before .before .before .before .pass .last .0) (c .before .before .before .before .before .pass .result) (c .before .before .before .before .before .pass .ensures n w) (c .before .before .before .reached .given .0 .0) (c .before .before .before .reached .given .1)))
+
+pub sift-spec : {M : Type 1} → statement M
+sift-spec =
+    tie.close
+    (tie.spec
+    pass-requires
+    enum-told
+    enum-told-2
+    enum-known-reached
+    settle-requires
+    returns
+    returns-2
+    returns-3)
