@@ -1,0 +1,4 @@
+pub mod Laws
+pub mod Turns
+pub mod Forks
+pub mod Nogoods
