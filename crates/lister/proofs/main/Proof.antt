@@ -1,0 +1,68 @@
+-- `main`: the report lies inside its room. Assumes nothing.
+use mathlib.Core.Path.{sym, subst}
+use Prim.Native.Nat.{ℕ, _≤_}
+use lib.ListN.{length, take}
+use lib.Seq.{length-take-le}
+use Rattle.planner.proofs.Reported.{report-inside}
+use borrow.Author.Needs.{needs}
+use Rattle.lister.proofs.main.Statement.{statement}
+use Rattle.lister.proofs.main.Tie as tie
+
+inside : (c : tie.After-planner-report) → c .planner-report .result ≤ length (c .planner-report .last .1 .0)
+inside c =
+    let r = c .before .before .before .before .before .read-full in
+    let p = c .planner-report in
+    subst (λ (k : ℕ). k ≤ length (p .last .1 .0)) (sym (p .ensures .0)) (report-inside (take (r .result) (r .last .1 .0)) (c .before .before .before .report-room .result) (p .last .1 .0) (p .ensures .1))
+
+large-buffer-requires : tie.Need-large-buffer-requires
+large-buffer-requires c κs = search needs
+
+slice-aggregate-read-full : tie.Need-slice-aggregate-read-full
+slice-aggregate-read-full c = search needs
+
+read-full-requires : tie.Need-read-full-requires
+read-full-requires c κs = search needs
+
+report-room-requires : tie.Need-report-room-requires
+report-room-requires c κs = search needs
+
+array-share-prefix-sheet : tie.Need-array-share-prefix-sheet
+array-share-prefix-sheet c = search needs
+
+slice-aggregate-planner-report : tie.Need-slice-aggregate-planner-report
+slice-aggregate-planner-report c = search needs
+
+slice-aggregate-planner-report-2 : tie.Need-slice-aggregate-planner-report-2
+slice-aggregate-planner-report-2 c = search needs
+
+planner-report-requires : tie.Need-planner-report-requires
+planner-report-requires c κs = search needs
+
+array-share-prefix-out : tie.Need-array-share-prefix-out
+array-share-prefix-out c = inside (c .before)
+
+slice-aggregate-write-all : tie.Need-slice-aggregate-write-all
+slice-aggregate-write-all c = sym (length-take-le (c .before .before .planner-report .result) (c .before .before .planner-report .last .1 .0) (inside (c .before .before)))
+
+write-all-requires : tie.Need-write-all-requires
+write-all-requires c κs = search needs
+
+returns : tie.Need-returns
+returns c = search needs
+
+pub main-spec : {M : Type 1} → statement M
+main-spec =
+    tie.close
+    (tie.spec
+    large-buffer-requires
+    slice-aggregate-read-full
+    read-full-requires
+    report-room-requires
+    array-share-prefix-sheet
+    slice-aggregate-planner-report
+    slice-aggregate-planner-report-2
+    planner-report-requires
+    array-share-prefix-out
+    slice-aggregate-write-all
+    write-all-requires
+    returns)

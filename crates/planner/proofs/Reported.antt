@@ -1,0 +1,175 @@
+-- What a run's answer says of its counts and of the report. Assumes nothing.
+use mathlib.Core.Path.{_≡_, refl, sym, ap, ap₂, _∙_, subst}
+use mathlib.Core.Bool.{Bool, true, false}
+use mathlib.Core.List.{List, [], _∷_, _++_}
+use Prim.Native.Nat.{ℕ, suc, _+_, _*_, _^_, _≤_, _<_}
+use native.Mathlib.Nat.{le-of-mul-le-mul-right}
+use native.Mathlib.Omega.{arith}
+use lib.Dec.{T, leb}
+use lib.ListN.{length, take, drop, length-take, length-append}
+use borrow.Author.Tests.{le-leb, lt-leb, eq-eqb, ne-eqb}
+use Rattle.model.specs.Lists.{keep, at}
+use Rattle.model.specs.Problem.{Problem}
+use Rattle.model.specs.Verdict.{Verdict, accepted, refused, isAccepted}
+use Rattle.model.specs.Sheet.{word, headerOf, problemOf, verdictOf}
+use Rattle.model.specs.Search.{nodes, isPlan}
+use Rattle.model.specs.Run.{Ending, finished, spent, full, plansIn, nodesIn, resultOf, Answer, refusal, ended, answerFor, answerOf, listOf, listedPlans}
+use Rattle.model.specs.Report.{line, refusedWord, resultText, reportFor, reportOf}
+use Rattle.model.specs.Claims.{plansAmong}
+use Rattle.model.proofs.Accepted.{passed}
+use Rattle.model.proofs.Demands.{ran, held}
+use Rattle.model.proofs.Runs.{rows-counted, nodes-allowed, rows-fit, counts, Counted as Tree·counted}
+use Rattle.report.specs.Text.{Fronted, endedText, room}
+use Rattle.planner.specs.Exported.{wrongLength, answerBytes, runCode, runList, runAnswer, reportLength, reportBytes}
+use Rattle.planner.specs.Inner.{Sized, Listed, Counted}
+
+-- ---- refusals
+pub refusal-of : (b : List ℕ) (limit : ℕ) (out : List ℕ) (number item : ℕ) → answerOf b limit out ≡ refusal number item → verdictOf b ≡ refused number item
+unfolding answerOf answerFor
+refusal-of b limit out number item e = go (verdictOf b) e
+  where
+    go : (v : Verdict) → answerFor v b limit (length out) ≡ refusal number item → v ≡ refused number item
+    go accepted h = absurd (let z : _≡_ {A = ℕ} 0 1 = cc in omega arith)
+    go (refused n i) h = cc
+
+pub refused-text : (b : List ℕ) (number item : ℕ) → verdictOf b ≡ refused number item → line refusedWord (number ∷ item ∷ []) ≡ reportFor (verdictOf b) b
+unfolding reportFor
+refused-text b number item e = sym (ap (λ (v : Verdict). reportFor v b) e)
+
+-- ---- counts
+keep-most : {A : Type 0} (p : A → Bool) (l : List A) → length (keep p l) ≤ length l
+unfolding keep
+keep-most p [] = omega arith
+keep-most {A} p (x ∷ l) = go (p x) (keep-most p l)
+  where
+    go : (b : Bool) → length (keep p l) ≤ length l → length {A = A} (elim b [ true ↦ x ∷ keep p l | false ↦ keep p l ]) ≤ suc (length l)
+    go true h = omega arith
+    go false h = omega arith
+
+among-most : (p : Problem) (k : ℕ) → plansAmong p k ≤ k
+among-most p k = omega (arith, keep-most (isPlan p) (take k (nodes p)), length-take k (nodes p))
+
+-- there are no more plans than nodes
+plans-most : (p : Problem) (limit room′ : ℕ) (e : Ending) → resultOf p limit room′ .ending ≡ e → plansIn e ≤ nodesIn e
+plans-most p limit room′ e h = go e (counts p limit room′ e h)
+  where
+    go : (x : Ending) → Tree·counted p limit room′ x → plansIn x ≤ nodesIn x
+    go (finished plans made) k = omega (arith, k .1, among-most p made)
+    go (spent plans made) k = omega (arith, k .2, among-most p made)
+    go (full plans made) k = omega (arith, k .1, among-most p made)
+
+pub counted : (b : List ℕ) (limit : ℕ) (out : List ℕ) (e : Ending) → limit < 2 ^ 32 → answerOf b limit out ≡ ended e → Counted e
+counted b limit out e l h =
+    let r = ran b limit out e h in
+    let made : nodesIn e ≤ limit = subst (λ (x : Ending). nodesIn x ≤ limit) (r .so) (nodes-allowed (problemOf b) limit (length out)) in
+    record { plans = omega (arith, plans-most (problemOf b) limit (length out) e (r .so)); made = omega arith }
+
+-- ---- the number of variables
+accepted-of : (b : List ℕ) → verdictOf b ≡ accepted → T (isAccepted (verdictOf b))
+accepted-of b e = subst (λ (v : Verdict). T (isAccepted v)) (sym e) tt
+
+pub sized-short : (b : List ℕ) → length b < 2 → Sized b 0
+sized-short b h = record { most = omega arith; true-of = λ e. absurd (omega (arith, passed b (accepted-of b e) .long)) }
+
+pub sized-large : (b : List ℕ) → 12 < at b 0 + 256 * at b 1 → Sized b 0
+unfolding headerOf word
+sized-large b h = record { most = omega arith; true-of = λ e. absurd (omega (arith, passed b (accepted-of b e) .few)) }
+
+pub sized : (b : List ℕ) → at b 0 + 256 * at b 1 ≤ 12 → Sized b (at b 0 + 256 * at b 1)
+unfolding problemOf headerOf word
+sized b h = record { most = h; true-of = λ e. refl }
+
+-- ---- the plans and the text of a run that ended
+variables-of : (b : List ℕ) → problemOf b .variables ≡ headerOf b .variables
+unfolding problemOf
+variables-of b = refl
+
+module _ (b : List ℕ) (n : ℕ) (out : List ℕ) (e : Ending) (size : Sized b n) (long : length out ≡ 4096 * n) (h : answerOf b 1000000 out ≡ ended e) where
+  accept : (v : Verdict) → answerFor v b 1000000 (length out) ≡ ended e → v ≡ accepted
+  unfolding answerFor
+  accept accepted q = refl
+  accept (refused number item) q = absurd (let z : _≡_ {A = ℕ} 0 1 = cc in omega arith)
+
+  verdict : verdictOf b ≡ accepted
+  unfolding answerOf
+  verdict = accept (verdictOf b) h
+
+  width : n ≡ problemOf b .variables
+  width = size .true-of verdict
+
+  fitting : plansIn e * n ≤ 4096 * n
+  fitting =
+      let p = problemOf b in
+      let r = ran b 1000000 out e h in
+      let c : plansIn e ≡ length (resultOf p 1000000 (length out) .rows) = sym (ap plansIn (r .so)) ∙ rows-counted p 1000000 (length out) in
+      let f : length (resultOf p 1000000 (length out) .rows) * p .variables ≤ 4096 * n = subst (λ (k : ℕ). length (resultOf p 1000000 (length out) .rows) * p .variables ≤ k) long (rows-fit p 1000000 (length out)) in
+      subst (λ (k : ℕ). k * n ≤ 4096 * n) (sym c) (subst (λ (k : ℕ). length (resultOf p 1000000 (length out) .rows) * k ≤ 4096 * n) (sym width) f)
+
+  pub listed : (list : List ℕ) → length list ≡ length out → Listed e n list
+  listed list same =
+      let some : 0 < n = omega (arith, width, variables-of b, passed b (accepted-of b verdict) .some) in
+      record { few = size .most; most = le-of-mul-le-mul-right fitting some; inside = omega (arith, fitting) }
+
+  pub ended-text : (list : List ℕ) → list ≡ listOf b 1000000 out → endedText e n list ≡ reportFor (verdictOf b) b
+  unfolding endedText reportFor
+  ended-text list l =
+      let p = problemOf b in
+      let rows : listedPlans n (plansIn e) list ≡ resultOf p 1000000 (length out) .rows =
+      ap₂ (λ (k : ℕ) (o : List ℕ). listedPlans k (plansIn e) o) width l ∙ held b 1000000 out e h in
+      let so : resultOf p 1000000 (length out) .ending ≡ e = ran b 1000000 out e h .so in
+      let whole : endedText e n list ≡ resultText (resultOf p 1000000 (length out)) =
+      ap₂ (λ (x : Ending) (y : List (List ℕ)). resultText (record { ending = x; rows = y })) (sym so) rows in
+      whole
+      ∙ ap (λ (k : ℕ). resultText (resultOf p 1000000 k)) (long ∙ ap (λ (k : ℕ). 4096 * k) width)
+      ∙ sym (ap (λ (v : Verdict). reportFor v b) verdict)
+
+-- ---- the exported report
+pub no-room : (input out : List ℕ) → length out < room → (0 ≡ reportLength input out) × (out ≡ reportBytes input out)
+unfolding reportLength reportBytes
+no-room input out h =
+    let e = lt-leb room (length out) h in (
+      sym (ap {B = ℕ} (λ (b : Bool). elim b [ true ↦ length (reportOf input) | false ↦ 0 ]) e),
+      sym (ap {B = List ℕ} (λ (b : Bool). elim b [ true ↦ reportOf input ++ drop (length (reportOf input)) out | false ↦ out ]) e),
+    )
+
+pub reported : (input b out after : List ℕ) (r : ℕ) → room ≤ length out → take 65536 input ≡ b → Fronted out (reportFor (verdictOf b) b) after r → (r ≡ reportLength input out) × (after ≡ reportBytes input out)
+unfolding reportLength reportBytes reportOf
+reported input b out after r h s f =
+    let e = le-leb room (length out) h in
+    let t : reportOf input ≡ reportFor (verdictOf b) b = ap (λ (l : List ℕ). reportFor (verdictOf l) l) s in (
+      f .count ∙ ap length (sym t) ∙ sym (ap {B = ℕ} (λ (b : Bool). elim b [ true ↦ length (reportOf input) | false ↦ 0 ]) e),
+      f .bytes ∙ ap (λ (l : List ℕ). l ++ drop (length l) out) (sym t) ∙ sym (ap {B = List ℕ} (λ (b : Bool). elim b [ true ↦ reportOf input ++ drop (length (reportOf input)) out | false ↦ out ]) e),
+    )
+
+-- ---- the exported run
+module _ (b : List ℕ) (limit : ℕ) (list answer : List ℕ) where
+  pub wrong-answer : (length answer ≡ 12 → ⊥) → (wrongLength ≡ runCode answer) × ((list ≡ runList b limit list answer) × (answer ≡ runAnswer b limit list answer))
+  unfolding runCode runList runAnswer
+  wrong-answer h =
+      let e = ne-eqb (length answer) 12 h in (
+        sym (ap {B = ℕ} (λ (t : Bool). elim t [ true ↦ 0 | false ↦ wrongLength ]) e),
+        (
+          sym (ap {B = List ℕ} (λ (t : Bool). elim t [ true ↦ listOf b limit list | false ↦ list ]) e),
+          sym (ap {B = List ℕ} (λ (t : Bool). elim t [ true ↦ answerBytes (answerOf b limit list) | false ↦ answer ]) e),
+        ),
+      )
+
+  pub right-answer : (after bytes : List ℕ) (a : Answer) → length answer ≡ 12 → answerOf b limit list ≡ a → after ≡ listOf b limit list → bytes ≡ answerBytes a → (0 ≡ runCode answer) × ((after ≡ runList b limit list answer) × (bytes ≡ runAnswer b limit list answer))
+  unfolding runCode runList runAnswer
+  right-answer after bytes a h so l w =
+      let e = eq-eqb (length answer) 12 h in (
+        sym (ap {B = ℕ} (λ (t : Bool). elim t [ true ↦ 0 | false ↦ wrongLength ]) e),
+        (
+          l ∙ sym (ap {B = List ℕ} (λ (t : Bool). elim t [ true ↦ listOf b limit list | false ↦ list ]) e),
+          w ∙ ap answerBytes (sym so) ∙ sym (ap {B = List ℕ} (λ (t : Bool). elim t [ true ↦ answerBytes (answerOf b limit list) | false ↦ answer ]) e),
+        ),
+      )
+
+-- the report lies inside the buffer
+pub report-inside : (input out after : List ℕ) → after ≡ reportBytes input out → reportLength input out ≤ length after
+unfolding reportLength reportBytes
+report-inside input out after h = go (leb room (length out)) h
+  where
+    go : (t : Bool) → after ≡ elim t [ true ↦ reportOf input ++ drop (length (reportOf input)) out | false ↦ out ] → elim t [ true ↦ length (reportOf input) | false ↦ 0 ] ≤ length after
+    go true e = omega (arith, ap length e, length-append (reportOf input) (drop (length (reportOf input)) out))
+    go false e = omega arith

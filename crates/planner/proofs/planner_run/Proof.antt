@@ -1,0 +1,88 @@
+-- `planner_run`: the answer's length is asked first; then the run, and its answer as three numbers. Assumes nothing.
+use mathlib.Core.Path.{sym, ap, _∙_}
+use native.Mathlib.Omega.{arith}
+use Rattle.model.specs.Run.{refusal, ended}
+use Rattle.model.specs.Sheet.{verdictOf}
+use Rattle.search.specs.Meaning.{endingOf, means}
+use Rattle.planner.proofs.Codes.{verdict-small, refused-small}
+use Rattle.planner.proofs.Reported.{refusal-of, counted, wrong-answer, right-answer}
+use borrow.Author.Needs.{needs}
+use Rattle.planner.proofs.planner_run.Statement.{statement}
+use Rattle.planner.proofs.planner_run.Tie as tie
+
+returns : tie.Need-returns
+returns c = let a = c .before .before .before .before .args in wrong-answer (a .sheet .now) (a .limit) (a .list .now) (a .answer .now) (c .if1 .taken)
+
+run-requires : tie.Need-run-requires
+run-requires c κs = search needs
+
+enum-known-r : tie.Need-enum-known-r
+enum-known-r c = search needs
+
+cast-three : tie.Need-cast-three
+cast-three c = search needs
+
+three-requires : tie.Need-three-requires
+three-requires c κs =
+    let s = c .before .before .before .before .before .before .before .before .before .before .before .before in
+    let f = c .before .before .before .before .before .before in
+    let g = c .before .before .r .given in
+    let b = s .args .sheet .now in
+    let v = refusal-of b (s .args .limit) (s .args .list .now) (g .0 .0) (g .0 .1 .0) (sym (f .run .ensures .0) ∙ ap means (g .1)) in
+    (c .before .before .before .before .before .before .before .before .if1 .left, omega arith, omega (arith, c .before .known-told .given), omega (arith, refused-small (verdictOf b) (g .0 .0) (g .0 .1 .0) v (verdict-small b)))
+
+enum-known-r-2 : tie.Need-enum-known-r-2
+enum-known-r-2 c = search needs
+
+ending-requires : tie.Need-ending-requires
+ending-requires c κs =
+    let s = c .before .before .before .before .before .before .before .before .before .before .before .before in
+    let f = c .before .before .before .before .before .before in
+    let g = c .before .before .r2 .given in
+    (c .before .before .before .before .before .before .before .before .if1 .left, counted (s .args .sheet .now) (s .args .limit) (s .args .list .now) (endingOf (g .0 .0)) (s .fits .limit .fits) (sym (f .run .ensures .0) ∙ ap means (g .1)))
+
+same-length : tie.Need-same-length
+same-length c = search needs
+
+same-length-2 : tie.Need-same-length-2
+same-length-2 c = search needs
+
+returns-2 : tie.Need-returns-2
+returns-2 c =
+    let s = c .before .before .before .before .before .before .before .before .before .before .before .before .before .before .before in
+    let f = c .before .before .before .before .before .before .before .before .before in
+    let g = c .before .before .before .before .before .r .given in
+    let t = c .before .before .three in
+    right-answer (s .args .sheet .now) (s .args .limit) (s .args .list .now) (s .args .answer .now) (f .run .last .1 .1 .0) (t .last .0) (refusal (g .0 .0) (g .0 .1 .0)) (c .before .before .before .before .before .before .before .before .before .before .before .if1 .left) (sym (f .run .ensures .0) ∙ ap means (g .1)) (f .run .ensures .1) (t .ensures)
+
+same-length-3 : tie.Need-same-length-3
+same-length-3 c = search needs
+
+same-length-4 : tie.Need-same-length-4
+same-length-4 c = search needs
+
+returns-3 : tie.Need-returns-3
+returns-3 c =
+    let s = c .before .before .before .before .before .before .before .before .before .before .before .before .before .before .before in
+    let f = c .before .before .before .before .before .before .before .before .before in
+    let g = c .before .before .before .before .before .r2 .given in
+    let t = c .before .before .ending in
+    right-answer (s .args .sheet .now) (s .args .limit) (s .args .list .now) (s .args .answer .now) (f .run .last .1 .1 .0) (t .last .0) (ended (endingOf (g .0 .0))) (c .before .before .before .before .before .before .before .before .before .before .before .if1 .left) (sym (f .run .ensures .0) ∙ ap means (g .1)) (f .run .ensures .1) (t .ensures)
+
+pub planner-run-spec : {M : Type 1} → statement M
+planner-run-spec =
+    tie.close
+    (tie.spec
+    returns
+    run-requires
+    enum-known-r
+    cast-three
+    three-requires
+    enum-known-r-2
+    ending-requires
+    same-length
+    same-length-2
+    returns-2
+    same-length-3
+    same-length-4
+    returns-3)

@@ -1,0 +1,66 @@
+-- `stop_report`: a run that was spent or full. Assumes nothing.
+use mathlib.Core.Path.{sym, subst}
+use Rattle.report.specs.Text.{Fronted, endedText}
+use Rattle.search.specs.declared.Ending.{Ending}
+use Rattle.search.specs.Meaning.{endingOf}
+use Rattle.planner.specs.Inner.{Listed, Stop}
+use borrow.Author.Needs.{needs}
+use Rattle.planner.proofs.text.stop_report.Statement.{statement}
+use Rattle.planner.proofs.text.stop_report.Tie as tie
+
+enum-known-e : tie.Need-enum-known-e
+enum-known-e c = search needs
+
+spent-requires : tie.Need-spent-requires
+spent-requires c κs =
+    let g = c .before .before .e .given in
+    let s = c .before .before .before .before .before .before in
+    let k = subst (λ (x : Ending). Listed (endingOf x) (s .args .n) (s .args .list .now)) (g .1) (s .pre .1) in
+    (k .few, k .most, k .inside, s .pre .2)
+
+enum-known-e-2 : tie.Need-enum-known-e-2
+enum-known-e-2 c = search needs
+
+full-requires : tie.Need-full-requires
+full-requires c κs =
+    let g = c .before .before .e2 .given in
+    let s = c .before .before .before .before .before .before in
+    let k = subst (λ (x : Ending). Listed (endingOf x) (s .args .n) (s .args .list .now)) (g .1) (s .pre .1) in
+    (k .few, k .most, k .inside, s .pre .2)
+
+enum-told : tie.Need-enum-told
+enum-told c = search needs
+
+same-length : tie.Need-same-length
+same-length c = search needs
+
+returns : tie.Need-returns
+returns c =
+    let s = c .before .before .before .before .before .before .before .before .before in
+    subst (λ (x : Ending). Fronted (s .args .out .now) (endedText (endingOf x) (s .args .n) (s .args .list .now)) (c .before .before .spent .last .1 .1 .1 .1 .0) (c .before .before .spent .result)) (sym (c .before .before .before .before .before .e .given .1)) (c .before .before .spent .ensures)
+
+same-length-2 : tie.Need-same-length-2
+same-length-2 c = search needs
+
+returns-2 : tie.Need-returns-2
+returns-2 c =
+    let s = c .before .before .before .before .before .before .before .before .before in
+    subst (λ (x : Ending). Fronted (s .args .out .now) (endedText (endingOf x) (s .args .n) (s .args .list .now)) (c .before .before .full .last .1 .1 .1 .1 .0) (c .before .before .full .result)) (sym (c .before .before .before .before .before .e2 .given .1)) (c .before .before .full .ensures)
+
+returns-3 : tie.Need-returns-3
+returns-3 c = absurd (subst (λ (x : Ending). Stop (endingOf x)) (c .enum-told .given .1) (c .before .before .before .before .pre .0))
+
+pub stop-report-spec : {M : Type 1} → statement M
+stop-report-spec =
+    tie.close
+    (tie.spec
+    enum-known-e
+    spent-requires
+    enum-known-e-2
+    full-requires
+    enum-told
+    same-length
+    returns
+    same-length-2
+    returns-2
+    returns-3)

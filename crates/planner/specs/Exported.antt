@@ -1,0 +1,77 @@
+-- What each exported function answers, and the bytes of every lent buffer afterwards.
+use mathlib.Core.Bool.{true, false}
+use mathlib.Core.List.{List, [], _∷_, _++_}
+use Prim.Native.Nat.{ℕ, _+_, _*_, _/_, _%_}
+use lib.Dec.{eqb, leb}
+use lib.ListN.{length, drop}
+use Rattle.model.specs.Verdict.{Verdict, accepted, refused}
+use Rattle.model.specs.Sheet.{verdictOf}
+use Rattle.model.specs.Nogood.{entries, filterVerdict, setsAfter}
+use Rattle.model.specs.Run.{finished, spent, full, Answer, refusal, ended, answerOf, listOf}
+use Rattle.model.specs.Report.{reportOf}
+use Rattle.report.specs.Text.{room}
+
+-- an answer as one number: 0, or the number and the item of the refusal
+abbrev pub codeOf : Verdict → ℕ
+codeOf accepted = 0
+codeOf (refused number item) = number * 256 + item
+
+-- the answer where a lent buffer has not the length that is asked
+abbrev pub wrongLength : ℕ
+wrongLength = 255 * 256
+
+-- ---- planner_question
+unfoldable pub questionCode : List ℕ → ℕ
+questionCode b = codeOf (verdictOf b)
+
+-- ---- planner_filter
+-- sets of values as pairs of bytes, low byte first
+unfoldable pub setsIn : List ℕ → List ℕ
+setsIn [] = []
+setsIn (x ∷ []) = []
+setsIn (x ∷ y ∷ r) = (x + 256 * y) ∷ setsIn r
+
+unfoldable pub bytesOf : List ℕ → List ℕ
+bytesOf [] = []
+bytesOf (s ∷ ss) = s % 256 ∷ s / 256 ∷ bytesOf ss
+
+unfoldable pub filterCode : List ℕ → List ℕ → List ℕ → List ℕ → ℕ
+filterCode sets xs es us = elim (eqb (length sets % 2) 0) [ true ↦ codeOf (filterVerdict (setsIn sets) xs es us) | false ↦ wrongLength ]
+
+-- the bytes of the sets that the filter leaves
+unfoldable pub filteredBytes : List ℕ → List ℕ → List ℕ → List ℕ → List ℕ
+filteredBytes sets xs es us = bytesOf (setsAfter (filterVerdict (setsIn sets) xs es us) (setsIn sets) (entries xs es us))
+
+unfoldable pub filterBytes : List ℕ → List ℕ → List ℕ → List ℕ → List ℕ
+filterBytes sets xs es us = elim (eqb (length sets % 2) 0) [ true ↦ filteredBytes sets xs es us | false ↦ sets ]
+
+-- ---- planner_run
+-- a number in four bytes, low byte first; the last is a byte where the number is below 2 ^ 32
+unfoldable pub fourBytes : ℕ → List ℕ
+fourBytes k = k % 256 ∷ k / 256 % 256 ∷ k / 65536 % 256 ∷ k / 16777216 ∷ []
+
+unfoldable pub threeNumbers : ℕ → ℕ → ℕ → List ℕ
+threeNumbers kind a b = fourBytes kind ++ fourBytes a ++ fourBytes b
+
+-- 0, number, item of a refusal; 1, 2 or 3 for finished, spent or full, then plans and nodes
+abbrev pub answerBytes : Answer → List ℕ
+answerBytes (refusal number item) = threeNumbers 0 number item
+answerBytes (ended (finished plans made)) = threeNumbers 1 plans made
+answerBytes (ended (spent plans made)) = threeNumbers 2 plans made
+answerBytes (ended (full plans made)) = threeNumbers 3 plans made
+
+unfoldable pub runCode : List ℕ → ℕ
+runCode answer = elim (eqb (length answer) 12) [ true ↦ 0 | false ↦ wrongLength ]
+
+unfoldable pub runList : List ℕ → ℕ → List ℕ → List ℕ → List ℕ
+runList b limit list answer = elim (eqb (length answer) 12) [ true ↦ listOf b limit list | false ↦ list ]
+
+unfoldable pub runAnswer : List ℕ → ℕ → List ℕ → List ℕ → List ℕ
+runAnswer b limit list answer = elim (eqb (length answer) 12) [ true ↦ answerBytes (answerOf b limit list) | false ↦ answer ]
+
+-- ---- planner_report
+unfoldable pub reportLength : List ℕ → List ℕ → ℕ
+reportLength input out = elim (leb room (length out)) [ true ↦ length (reportOf input) | false ↦ 0 ]
+
+unfoldable pub reportBytes : List ℕ → List ℕ → List ℕ
+reportBytes input out = elim (leb room (length out)) [ true ↦ reportOf input ++ drop (length (reportOf input)) out | false ↦ out ]

@@ -1,0 +1,3 @@
+-- What the exported functions answer and leave in every lent buffer.
+pub mod Exported
+pub mod Inner
