@@ -22,7 +22,7 @@ use Rattle.layout.specs.Layout.{symmetryAt}
 use Rattle.constraints.specs.Revised.{setsOf}
 use Rattle.constraints.proofs.Scopes.{mem-getD}
 use Rattle.constraints.proofs.Ways.{take-sets, take-e, take-i, full-take}
-use Rattle.prune.specs.Stub.{Levelled, Sifted, leaves}
+use Rattle.levels.specs.Levels.{Levelled, Sifted, leaves}
 use Rattle.prune.specs.Steps.{Ground, Live, AllSifted, AllSiftedOr}
 
 -- a member stands at some place

@@ -6,21 +6,7 @@ ghost use lib.ListN.{length, take};
 ghost use Rattle.model.specs.Lists.{at};
 ghost use Rattle.model.specs.Problem.{Problem};
 ghost use Rattle.prune.specs.Node.{Ready, AtNode, Reached, longer};
-ghost use Rattle.prune.specs.Stub.{Levelled, Sifted};
 ghost use Rattle.prune.specs.Steps.{Ground, Live, AllSiftedOr, Nearing, Arrived, Differ, Loaded, Stored};
-
-extern "C" {
-    fn filter_at(
-        sets: &mut [u16; 16],
-        prefix: &[u64; 256],
-        images: &[u8; 26112],
-        numbers: &[u64; 128],
-        e: usize,
-        k: usize,
-    ) -> bool
-        requires { ⌜ ((p : Problem) × Levelled p (now sets) (now «prefix») (now images) (now numbers) e k) ⌝ }
-        ensures { λ r. ⌜ ((p : Problem) → Levelled p (now (sets .entry)) (now («prefix» .entry)) (now (images .entry)) (now (numbers .entry)) e k → Sifted p (now (sets .entry)) (now («prefix» .entry)) e k (now (sets .exit)) r) ⌝ };
-}
 
 // The filter of every symmetry's nogoods at the prefix of k values, one after another; true where a set is empty.
 fn filters(
@@ -36,7 +22,7 @@ fn filters(
     let g = numbers[67] as usize;
     let mut e = 0;
     while e < g {
-        if filter_at(sets, work, images, numbers, e, k) {
+        if levels::filter_at(sets, work, images, numbers, e, k) {
             return true;
         }
         e += 1;

@@ -4,14 +4,14 @@ use borrow.Author.Needs.{needs}
 use lib.ListN.{take}
 use Rattle.model.specs.Lists.{at}
 use Rattle.model.specs.Problem.{Problem}
-use Rattle.prune.specs.Stub.{Sifted}
+use Rattle.levels.specs.Levels.{Sifted}
 use Rattle.prune.specs.Steps.{Ground, Live}
 use Rattle.prune.proofs.Sifting.{Sifting, sifting-begin, sifting-turn, sifting-dead, sifting-end, levelled}
 use Rattle.prune.proofs.filters.Statement.{statement}
 use Rattle.prune.proofs.filters.Tie as tie
 use Rattle.prune.proofs.filters.Reads as reads
 use Rattle.prune.proofs.filters.Lts as lts
-use Rattle.prune.proofs.filter_at.Reads as filter-at-reads
+use Rattle.levels.proofs.filter_at.Reads as filter-at-reads
 
 abbrev Inv-loop : tie.InvT-loop
 Inv-loop sets₀ work images numbers k g e₀ sets e = (g ≡ at numbers 67) × ((p : Problem) → Ground p work images numbers k → Live p sets₀ → Sifting p (take k work) sets₀ sets e)
