@@ -65,6 +65,11 @@ key-bad b o a d i v l m e =
       bad = λ h t. let q : word b (o + 2 * i) < d = ltb→lt (word b (o + 2 * i)) d (words-all-e (λ w. ltb w d) b o a t i l) in omega arith;
     }
 
+-- ---- the support sets
+pub support-is : (base key : ℕ) (l : List ℕ) → set l (base + key / 16) (bitOr (getD l (base + key / 16) 0) (1 * 2 ^ (key % 16) % 2 ^ 16)) ≡ support base key l
+unfolding support at
+support-is base key l = ap (λ (n : ℕ). set l (base + key / 16) (bitOr (getD l (base + key / 16) 0) n)) (shl-one (key % 16) (omega arith))
+
 -- ---- the rows
 -- i rows were read, and the next stands at an offset
 pub record RowsTo (b : List ℕ) (from a d base : ℕ) (old : List ℕ) (i : ℕ) (new : List ℕ) (refused least next : ℕ) : Type 0 where
@@ -104,10 +109,10 @@ module _ (b : List ℕ) (from a d base : ℕ) (old : List ℕ) (i : ℕ) (new : 
         passed = λ q. absurd (q refl);
       }
 
-  pub rows-more : (key next-refused : ℕ) → key < 4096 → RowRead b next a d key → next-refused ≡ pick (ltb key least) 13 refused →
-      RowsTo b from a d base old (i + 1) (set new (base + key / 16) (bitOr (getD new (base + key / 16) 0) (1 * 2 ^ (key % 16) % 2 ^ 16))) next-refused (key + 1) (next + 2 * a)
-  unfolding leastKey order supported support at
-  rows-more key q l r e =
+  pub rows-more : (key next-refused : ℕ) (stored : List ℕ) → key < 4096 → RowRead b next a d key → next-refused ≡ pick (ltb key least) 13 refused → stored ≡ support base key new →
+      RowsTo b from a d base old (i + 1) stored next-refused (key + 1) (next + 2 * a)
+  unfolding leastKey order supported
+  rows-more key q stored l r e es =
       let k = row-here key l r in
       let z : suc i ≡ i + 1 = omega arith in
       record {
@@ -115,9 +120,7 @@ module _ (b : List ℕ) (from a d base : ℕ) (old : List ℕ) (i : ℕ) (new : 
         floor = ap (λ (n : ℕ). n + 1) (k .0) ∙ ap (leastKey b from a) z;
         ordered = e ∙ ap₂ (λ (x y : ℕ). pick (ltb x y) 13 refused) (k .0) (t .floor) ∙ ap (pick (ltb (rowKey b from a i) (leastKey b from a i)) 13) (t .ordered) ∙ ap (order b from a) z;
         fits = λ j h. below j h (eqb j i) refl (k .1);
-        stored =
-            ap (λ (n : ℕ). set new (base + key / 16) (bitOr (getD new (base + key / 16) 0) n)) (shl-one (key % 16) (omega arith))
-            ∙ ap₂ (λ (n : ℕ) (x : List ℕ). support base n x) (k .0) (t .stored) ∙ ap (λ (n : ℕ). supported b from a base n old) z;
+        stored = es ∙ ap₂ (λ (n : ℕ) (x : List ℕ). support base n x) (k .0) (t .stored) ∙ ap (λ (n : ℕ). supported b from a base n old) z;
       }
     where
       below : (j : ℕ) → j < i + 1 → (t : Bool) → eqb j i ≡ t → T (rowFits b from a d i) → T (rowFits b from a d j)

@@ -18,6 +18,10 @@ use Rattle.sheet.proofs.Arrays.{one-bit}
 use Rattle.sheet.proofs.Words.{words-all-i, words-all-e}
 use Rattle.sheet.proofs.Ascend.{ascending-i, ascending-e}
 
+pub touch-is : (k x : ℕ) (l : List ℕ) → k < 64 → set l x (bitOr (getD l x 0) (1 * 2 ^ k % 2 ^ 64)) ≡ touch k x l
+unfolding touch at
+touch-is k x l h = ap (λ (u : ℕ). set l x (bitOr (getD l x 0) u)) (one-bit k h)
+
 -- the first i variables of the scope were read
 pub record ScopeTo (b : List ℕ) (from a n k : ℕ) (old : List ℕ) (i : ℕ) (new : List ℕ) (pack unit least : ℕ) : Type 0 where
   pub power : unit ≡ 256 ^ suc i
@@ -58,9 +62,9 @@ module _ (b : List ℕ) (from a n k : ℕ) (old : List ℕ) (i : ℕ) (new : Lis
   unfolding leastAt
   after j q = t .floor ∙ ap (leastAt b from) (sym q)
 
-  pub scope-more : least ≤ x → x < n → n ≤ 12 → k < 64 → ScopeTo b from a n k old (i + 1) (set new x (bitOr (getD new x 0) (1 * 2 ^ k % 2 ^ 64))) (pack + x * unit) (256 * unit) (x + 1)
-  unfolding packed leastAt touched touch at
-  scope-more l m f h =
+  pub scope-more : (next : List ℕ) → next ≡ touch k x new → least ≤ x → x < n → n ≤ 12 → ScopeTo b from a n k old (i + 1) next (pack + x * unit) (256 * unit) (x + 1)
+  unfolding packed leastAt touched
+  scope-more next en l m f =
       let z : suc i ≡ i + 1 = omega arith in
       record {
         power = (let p : 256 ^ suc (suc i) ≡ 256 ^ suc i * 256 = pow-suc 256 (suc i) in let q : 256 * unit ≡ 256 ^ suc (suc i) = omega (arith, t .power) in q ∙ ap (λ (j : ℕ). 256 ^ suc j) z);
@@ -69,9 +73,7 @@ module _ (b : List ℕ) (from a n k : ℕ) (old : List ℕ) (i : ℕ) (new : Lis
         floor = ap (λ (v : ℕ). v + 1) e ∙ ap (leastAt b from) z;
         fits = λ j q. below j q (eqb j i) refl;
         rises = λ j q. steps j q (eqb (suc j) i) refl;
-        stored =
-            ap (λ (u : ℕ). set new x (bitOr (getD new x 0) u)) (one-bit k h)
-            ∙ ap₂ (λ (y : ℕ) (v : List ℕ). touch k y v) e (t .stored) ∙ ap (λ (j : ℕ). touched b from k j old) z;
+        stored = en ∙ ap₂ (λ (y : ℕ) (v : List ℕ). touch k y v) e (t .stored) ∙ ap (λ (j : ℕ). touched b from k j old) z;
       }
     where
       below : (j : ℕ) → j < i + 1 → (s : Bool) → eqb j i ≡ s → word b (from + 2 * j) < n

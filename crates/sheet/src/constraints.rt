@@ -9,7 +9,7 @@ ghost use lib.ListN.{length};
 ghost use lib.Dec.{leb};
 ghost use Rattle.model.specs.Lists.{both};
 ghost use Rattle.model.specs.Sheet.{headerOf};
-ghost use Rattle.sheet.specs.Fill.{ScopeAsked};
+ghost use Rattle.sheet.specs.Fill.{touch as touchAt, ScopeAsked};
 ghost use Rattle.sheet.specs.Parts.{Fit};
 ghost use Rattle.sheet.specs.Read.{stated};
 ghost use Rattle.sheet.specs.Steps.{ConstraintAsked, ConstraintsAsked};
@@ -33,6 +33,14 @@ fn counts_fit(a: usize, r: usize) -> bool
     r <= 256
 }
 
+// Constraint k into the set of those that touch a variable.
+fn touch(k: usize, x: usize, numbers: &mut [u64; 128])
+    requires { ⌜ (k < 32) × (x < 16) ⌝ }
+    ensures { λ _. ⌜ now (numbers .exit) ≡ touchAt k x (now (numbers .entry)) ⌝ }
+{
+    numbers[x] = numbers[x] | (1u64 << k);
+}
+
 // Question 11 to the scope of a variables at an offset: below n, strictly ascending.
 fn scope(sheet: &[u8], from: usize, a: usize, n: usize, k: usize, numbers: &mut [u64; 128]) -> bool
     requires { ⌜ (1 ≤ a) × (a ≤ 3) × (n ≤ 12) × (k < 32) × (from + 2 * a ≤ length (now sheet)) ⌝ }
@@ -50,7 +58,7 @@ fn scope(sheet: &[u8], from: usize, a: usize, n: usize, k: usize, numbers: &mut 
         if n <= x {
             return false;
         }
-        numbers[x] = numbers[x] | (1u64 << k);
+        touch(k, x, numbers);
         packed = packed + x * unit;
         unit = 256 * unit;
         least = x + 1;

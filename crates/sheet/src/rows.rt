@@ -4,7 +4,7 @@ ghost use Prim.Native.Nat.{_+_, _*_, _≤_, _<_};
 ghost use mathlib.Core.Path.{_≡_};
 ghost use lib.ListN.{length};
 ghost use lib.Dec.{ltb};
-ghost use Rattle.sheet.specs.Fill.{pick, RowRead, RowsAsked};
+ghost use Rattle.sheet.specs.Fill.{pick, support as supportAt, RowRead, RowsAsked};
 
 // The row of a values at an offset as one number, a hexadecimal digit for each value; 4096 where one is not below d.
 // Rows in their order have keys in theirs.
@@ -32,6 +32,15 @@ fn ordered(key: usize, least: usize, refused: u8) -> u8
     if key < least { 13 } else { refused }
 }
 
+// A row into the support sets from a base on: its last value to the set for the values before it.
+fn support(base: usize, key: usize, supports: &mut [u16; 8192])
+    requires { ⌜ (key < 4096) × (base + 256 ≤ 8192) ⌝ }
+    ensures { λ _. ⌜ now (supports .exit) ≡ supportAt base key (now (supports .entry)) ⌝ }
+{
+    let slot = base + key / 16;
+    supports[slot] = supports[slot] | (1u16 << (key % 16));
+}
+
 // The first "no" of 12 and 13 to the n rows of a values from an offset on, 0 where there is none.
 // A value that is not below d is found first, also after rows that do not ascend.
 pub fn ask(
@@ -57,8 +66,7 @@ pub fn ask(
         }
         refused = ordered(key, least, refused);
         least = key + 1;
-        let slot = base + key / 16;
-        supports[slot] = supports[slot] | (1u16 << (key % 16));
+        support(base, key, supports);
         at = at + 2 * a;
         i += 1;
     }

@@ -5,6 +5,7 @@ use Rattle.sheet.proofs.constraints.scope.Statement.{statement}
 use Rattle.sheet.proofs.constraints.scope.Tie as tie
 use Rattle.sheet.proofs.constraints.scope.Reads as reads
 use Rattle.sheet.proofs.constraints.scope.Lts as lts
+use Rattle.sheet.proofs.constraints.touch.Reads as touch-reads
 use Rattle.sheet.proofs.read.word.Reads as word-reads
 
 abbrev Inv-loop : tie.InvT-loop
@@ -13,91 +14,75 @@ Inv-loop sheet from a n k numbers₀ packed₀ unit₀ least₀ i₀ numbers pac
 abbrev μ-loop : tie.MeasureT-loop
 μ-loop sheet from a n k numbers₀ packed₀ unit₀ least₀ i₀ numbers packed unit least i = a - i
 
--- src/constraints.rt:39:5
+-- src/constraints.rt:53:5
 loop-holds : tie.Need-loop-holds Inv-loop μ-loop
 loop-holds c = (omega arith, scope-none _ _ _ _ _ _ (c .before .pre .1))
 
--- src/constraints.rt:40:36
+-- src/constraints.rt:54:36
 mul-word : tie.Need-mul-word Inv-loop μ-loop
 mul-word c = omega (arith, c .loop-test .taken, c .before .before .before .pre .1)
 
--- src/constraints.rt:40:29
+-- src/constraints.rt:54:29
 add-word : tie.Need-add-word Inv-loop μ-loop
 add-word c = omega (arith, c .loop-test .taken, c .before .before .before .pre .4, c .before .before .before .good)
 
--- src/constraints.rt:40:13
+-- src/constraints.rt:54:13
 word-requires : tie.Need-word-requires Inv-loop μ-loop
 word-requires c κs = omega (arith, c .loop-test .taken, c .before .before .before .pre .4)
 
--- src/constraints.rt:42:13
+-- src/constraints.rt:56:13
 returns : tie.Need-returns Inv-loop μ-loop
 returns c = scope-low _ _ _ _ _ _ _ _ _ _ _ (c .before .before .before .loop .inv .1) _ (c .before .word .ensures .value) (c .before .before .loop-test .taken) (c .if1 .taken)
 
--- src/constraints.rt:45:13
+-- src/constraints.rt:59:13
 returns-2 : tie.Need-returns-2 Inv-loop μ-loop
 returns-2 c = scope-high _ _ _ _ _ _ _ _ _ _ _ (c .before .before .before .before .loop .inv .1) _ (c .before .before .word .ensures .value) (c .before .before .before .loop-test .taken) (c .if2 .taken)
 
--- src/constraints.rt:47:22
-mul-numbers : tie.Need-mul-numbers Inv-loop μ-loop
-mul-numbers c = omega (arith, c .if2 .left, c .before .before .before .before .before .before .pre .2)
+-- src/constraints.rt:61:9
+touch-requires : tie.Need-touch-requires Inv-loop μ-loop
+touch-requires c κs = (c .before .before .before .before .before .before .before .pre .3, omega (arith, c .before .if2 .left, c .before .before .before .before .before .before .before .pre .2))
 
--- src/constraints.rt:47:22
-element-copy-out-numbers : tie.Need-element-copy-out-numbers Inv-loop μ-loop
-element-copy-out-numbers c = omega (arith, c .if2 .left, c .before .before .before .before .before .before .pre .2)
-
--- src/constraints.rt:47:36
-shl-numbers : tie.Need-shl-numbers Inv-loop μ-loop
-shl-numbers c = omega (arith, c .before .before .before .before .before .before .before .pre .3)
-
--- src/constraints.rt:47:9
-mul-numbers-2 : tie.Need-mul-numbers-2 Inv-loop μ-loop
-mul-numbers-2 c = omega (arith, c .before .if2 .left, c .before .before .before .before .before .before .before .pre .2)
-
--- src/constraints.rt:47:9
-element-write-numbers : tie.Need-element-write-numbers Inv-loop μ-loop
-element-write-numbers c = omega (arith, c .before .if2 .left, c .before .before .before .before .before .before .before .pre .2)
-
--- src/constraints.rt:48:27
+-- src/constraints.rt:62:27
 mul-packed : tie.Need-mul-packed Inv-loop μ-loop
-mul-packed c = omega (arith, part (c .before .before .before .word .result) (c .before .before .before .before .before .loop .unit) (omega (arith, c .before .if2 .left, c .before .before .before .before .before .before .before .pre .2)), unit-small (c .before .before .before .before .before .loop .i) (c .before .before .before .before .before .loop .unit) (omega (arith, c .before .before .before .before .loop-test .taken, c .before .before .before .before .before .before .before .pre .1)) (c .before .before .before .before .before .loop .inv .1 .power))
+mul-packed c = omega (arith, part (c .before .before .before .before .word .result) (c .before .before .before .before .before .before .loop .unit) (omega (arith, c .before .before .if2 .left, c .before .before .before .before .before .before .before .before .pre .2)), unit-small (c .before .before .before .before .before .before .loop .i) (c .before .before .before .before .before .before .loop .unit) (omega (arith, c .before .before .before .before .before .loop-test .taken, c .before .before .before .before .before .before .before .before .pre .1)) (c .before .before .before .before .before .before .loop .inv .1 .power))
 
--- src/constraints.rt:48:18
+-- src/constraints.rt:62:18
 add-packed : tie.Need-add-packed Inv-loop μ-loop
-add-packed c = omega (arith, c .before .before .before .before .before .loop .inv .1 .small, part (c .before .before .before .word .result) (c .before .before .before .before .before .loop .unit) (omega (arith, c .before .if2 .left, c .before .before .before .before .before .before .before .pre .2)), unit-small (c .before .before .before .before .before .loop .i) (c .before .before .before .before .before .loop .unit) (omega (arith, c .before .before .before .before .loop-test .taken, c .before .before .before .before .before .before .before .pre .1)) (c .before .before .before .before .before .loop .inv .1 .power))
+add-packed c = omega (arith, c .before .before .before .before .before .before .loop .inv .1 .small, part (c .before .before .before .before .word .result) (c .before .before .before .before .before .before .loop .unit) (omega (arith, c .before .before .if2 .left, c .before .before .before .before .before .before .before .before .pre .2)), unit-small (c .before .before .before .before .before .before .loop .i) (c .before .before .before .before .before .before .loop .unit) (omega (arith, c .before .before .before .before .before .loop-test .taken, c .before .before .before .before .before .before .before .before .pre .1)) (c .before .before .before .before .before .before .loop .inv .1 .power))
 
--- src/constraints.rt:49:16
+-- src/constraints.rt:63:16
 mul-unit : tie.Need-mul-unit Inv-loop μ-loop
-mul-unit c = omega (arith, unit-small (c .before .before .before .before .before .loop .i) (c .before .before .before .before .before .loop .unit) (omega (arith, c .before .before .before .before .loop-test .taken, c .before .before .before .before .before .before .before .pre .1)) (c .before .before .before .before .before .loop .inv .1 .power))
+mul-unit c = omega (arith, unit-small (c .before .before .before .before .before .before .loop .i) (c .before .before .before .before .before .before .loop .unit) (omega (arith, c .before .before .before .before .before .loop-test .taken, c .before .before .before .before .before .before .before .before .pre .1)) (c .before .before .before .before .before .before .loop .inv .1 .power))
 
--- src/constraints.rt:50:17
+-- src/constraints.rt:64:17
 add-least : tie.Need-add-least Inv-loop μ-loop
-add-least c = omega (arith, c .before .before .before .word .ensures .small)
+add-least c = omega (arith, c .before .before .before .before .word .ensures .small)
 
--- src/constraints.rt:51:9
+-- src/constraints.rt:65:9
 add-i : tie.Need-add-i Inv-loop μ-loop
-add-i c = omega (arith, c .before .before .before .before .loop-test .taken, c .before .before .before .before .before .before .before .pre .1)
+add-i c = omega (arith, c .before .before .before .before .before .loop-test .taken, c .before .before .before .before .before .before .before .before .pre .1)
 
--- src/constraints.rt:39:5
+-- src/constraints.rt:53:5
 loop-less : tie.Need-loop-less Inv-loop μ-loop
-loop-less c = omega (arith, c .before .before .before .before .loop-test .taken)
+loop-less c = omega (arith, c .before .before .before .before .before .loop-test .taken)
 
--- src/constraints.rt:39:5
+-- src/constraints.rt:53:5
 loop-again : tie.Need-loop-again Inv-loop μ-loop
-loop-again c = (omega (arith, c .before .before .before .before .loop-test .taken), scope-more _ _ _ _ _ _ _ _ _ _ _ (c .before .before .before .before .before .loop .inv .1) _ (c .before .before .before .word .ensures .value) (c .before .before .if1 .left) (c .before .if2 .left) (c .before .before .before .before .before .before .before .pre .2) (omega (arith, c .before .before .before .before .before .before .before .pre .3)))
+loop-again c = (omega (arith, c .before .before .before .before .before .loop-test .taken), scope-more _ _ _ _ _ _ _ _ _ _ _ (c .before .before .before .before .before .before .loop .inv .1) _ (c .before .before .before .before .word .ensures .value) _ (c .touch .ensures) (c .before .before .before .if1 .left) (c .before .before .if2 .left) (c .before .before .before .before .before .before .before .before .pre .2))
 
--- src/constraints.rt:53:13
+-- src/constraints.rt:67:13
 add-numbers : tie.Need-add-numbers Inv-loop μ-loop
 add-numbers c = omega (arith, c .before .before .before .pre .3)
 
--- src/constraints.rt:53:5
-mul-numbers-3 : tie.Need-mul-numbers-3 Inv-loop μ-loop
-mul-numbers-3 c = omega (arith, c .before .before .before .pre .3)
+-- src/constraints.rt:67:5
+mul-numbers : tie.Need-mul-numbers Inv-loop μ-loop
+mul-numbers c = omega (arith, c .before .before .before .pre .3)
 
--- src/constraints.rt:53:5
-element-write-numbers-2 : tie.Need-element-write-numbers-2 Inv-loop μ-loop
-element-write-numbers-2 c = omega (arith, c .before .before .before .pre .3)
+-- src/constraints.rt:67:5
+element-write-numbers : tie.Need-element-write-numbers Inv-loop μ-loop
+element-write-numbers c = omega (arith, c .before .before .before .pre .3)
 
--- src/constraints.rt:24:1
+-- src/constraints.rt:45:1
 returns-3 : tie.Need-returns-3 Inv-loop μ-loop
 returns-3 c = scope-end _ _ _ _ _ _ _ _ _ _ _ (c .before .loop .inv .1) (c .loop-test .left) (c .before .loop .inv .0)
 
@@ -113,11 +98,7 @@ scope-spec =
     word-requires
     returns
     returns-2
-    mul-numbers
-    element-copy-out-numbers
-    shl-numbers
-    mul-numbers-2
-    element-write-numbers
+    touch-requires
     mul-packed
     add-packed
     mul-unit
@@ -126,6 +107,6 @@ scope-spec =
     loop-less
     loop-again
     add-numbers
-    mul-numbers-3
-    element-write-numbers-2
+    mul-numbers
+    element-write-numbers
     returns-3)

@@ -7,6 +7,7 @@ use Rattle.sheet.proofs.rows.ask.Reads as reads
 use Rattle.sheet.proofs.rows.ask.Lts as lts
 use Rattle.sheet.proofs.rows.key.Reads as key-reads
 use Rattle.sheet.proofs.rows.ordered.Reads as ordered-reads
+use Rattle.sheet.proofs.rows.support.Reads as support-reads
 
 abbrev Inv-loop : tie.InvT-loop
 Inv-loop sheet from a n d base supports₀ refused₀ least₀ at₀ i₀ supports refused least at i = (i ≤ n) × RowsTo sheet from a d base supports₀ i supports refused least at
@@ -14,75 +15,51 @@ Inv-loop sheet from a n d base supports₀ refused₀ least₀ at₀ i₀ suppor
 abbrev μ-loop : tie.MeasureT-loop
 μ-loop sheet from a n d base supports₀ refused₀ least₀ at₀ i₀ supports refused least at i = n - i
 
--- src/rows.rt:53:5
+-- src/rows.rt:62:5
 loop-holds : tie.Need-loop-holds Inv-loop μ-loop
 loop-holds c = (omega arith, rows-none _ _ _ _ _ _)
 
--- src/rows.rt:54:13
+-- src/rows.rt:63:13
 key-requires : tie.Need-key-requires Inv-loop μ-loop
 key-requires c κs = (c .before .before .before .pre .1, c .before .before .before .pre .3, omega (arith, room (c .before .loop .i) (c .before .before .before .args .n) (c .before .before .before .args .a) (c .loop-test .taken), c .before .loop .inv .1 .here, c .before .before .before .pre .4))
 
--- src/rows.rt:56:13
+-- src/rows.rt:65:13
 returns : tie.Need-returns Inv-loop μ-loop
 returns c = row-bad _ _ _ _ _ _ _ _ _ _ _ (c .before .before .before .loop .inv .1) _ _ (c .if1 .taken) (c .before .before .loop-test .taken) (c .before .key .ensures)
 
--- src/rows.rt:58:9
+-- src/rows.rt:67:9
 ordered-requires : tie.Need-ordered-requires Inv-loop μ-loop
 ordered-requires c κs = tt
 
--- src/rows.rt:59:17
+-- src/rows.rt:68:17
 add-least : tie.Need-add-least Inv-loop μ-loop
 add-least c = omega (arith, c .before .if1 .left)
 
--- src/rows.rt:60:20
-add-slot : tie.Need-add-slot Inv-loop μ-loop
-add-slot c = omega (arith, c .before .if1 .left, c .before .before .before .before .before .before .pre .5)
+-- src/rows.rt:69:9
+support-requires : tie.Need-support-requires Inv-loop μ-loop
+support-requires c κs = (c .before .before .if1 .left, c .before .before .before .before .before .before .before .pre .5)
 
--- src/rows.rt:61:26
-mul-supports : tie.Need-mul-supports Inv-loop μ-loop
-mul-supports c = omega (arith, c .before .if1 .left, c .before .before .before .before .before .before .pre .5)
-
--- src/rows.rt:61:26
-element-copy-out-supports : tie.Need-element-copy-out-supports Inv-loop μ-loop
-element-copy-out-supports c = omega (arith, c .before .if1 .left, c .before .before .before .before .before .before .pre .5)
-
--- src/rows.rt:61:53
-cast-supports : tie.Need-cast-supports Inv-loop μ-loop
-cast-supports c = omega arith
-
--- src/rows.rt:61:44
-shl-supports : tie.Need-shl-supports Inv-loop μ-loop
-shl-supports c = omega arith
-
--- src/rows.rt:61:9
-mul-supports-2 : tie.Need-mul-supports-2 Inv-loop μ-loop
-mul-supports-2 c = omega (arith, c .before .before .if1 .left, c .before .before .before .before .before .before .before .pre .5)
-
--- src/rows.rt:61:9
-element-write-supports : tie.Need-element-write-supports Inv-loop μ-loop
-element-write-supports c = omega (arith, c .before .before .if1 .left, c .before .before .before .before .before .before .before .pre .5)
-
--- src/rows.rt:62:19
+-- src/rows.rt:70:19
 mul-at : tie.Need-mul-at Inv-loop μ-loop
-mul-at c = omega (arith, c .before .before .before .before .before .before .before .pre .1)
+mul-at c = omega (arith, c .before .before .before .before .before .before .before .before .pre .1)
 
--- src/rows.rt:62:14
+-- src/rows.rt:70:14
 add-at : tie.Need-add-at Inv-loop μ-loop
-add-at c = omega (arith, room (c .before .before .before .before .before .loop .i) (c .before .before .before .before .before .before .before .args .n) (c .before .before .before .before .before .before .before .args .a) (c .before .before .before .before .loop-test .taken), c .before .before .before .before .before .loop .inv .1 .here, c .before .before .before .before .before .before .before .pre .4, c .before .before .before .before .before .before .before .good)
+add-at c = omega (arith, room (c .before .before .before .before .before .before .loop .i) (c .before .before .before .before .before .before .before .before .args .n) (c .before .before .before .before .before .before .before .before .args .a) (c .before .before .before .before .before .loop-test .taken), c .before .before .before .before .before .before .loop .inv .1 .here, c .before .before .before .before .before .before .before .before .pre .4, c .before .before .before .before .before .before .before .before .good)
 
--- src/rows.rt:63:9
+-- src/rows.rt:71:9
 add-i : tie.Need-add-i Inv-loop μ-loop
-add-i c = omega (arith, c .before .before .before .before .loop-test .taken, c .before .before .before .before .before .before .before .pre .2)
+add-i c = omega (arith, c .before .before .before .before .before .loop-test .taken, c .before .before .before .before .before .before .before .before .pre .2)
 
--- src/rows.rt:53:5
+-- src/rows.rt:62:5
 loop-less : tie.Need-loop-less Inv-loop μ-loop
-loop-less c = omega (arith, c .before .before .before .before .loop-test .taken)
+loop-less c = omega (arith, c .before .before .before .before .before .loop-test .taken)
 
--- src/rows.rt:53:5
+-- src/rows.rt:62:5
 loop-again : tie.Need-loop-again Inv-loop μ-loop
-loop-again c = (omega (arith, c .before .before .before .before .loop-test .taken), rows-more _ _ _ _ _ _ _ _ _ _ _ (c .before .before .before .before .before .loop .inv .1) _ _ (c .before .before .if1 .left) (c .before .before .before .key .ensures) (c .before .ordered .ensures))
+loop-again c = (omega (arith, c .before .before .before .before .before .loop-test .taken), rows-more _ _ _ _ _ _ _ _ _ _ _ (c .before .before .before .before .before .before .loop .inv .1) _ _ _ (c .before .before .before .if1 .left) (c .before .before .before .before .key .ensures) (c .before .before .ordered .ensures) (c .support .ensures))
 
--- src/rows.rt:37:1
+-- src/rows.rt:46:1
 returns-2 : tie.Need-returns-2 Inv-loop μ-loop
 returns-2 c = rows-end _ _ _ _ _ _ _ _ _ _ _ (c .before .loop .inv .1) _ (c .loop-test .left) (c .before .loop .inv .0)
 
@@ -97,13 +74,7 @@ ask-spec =
     returns
     ordered-requires
     add-least
-    add-slot
-    mul-supports
-    element-copy-out-supports
-    cast-supports
-    shl-supports
-    mul-supports-2
-    element-write-supports
+    support-requires
     mul-at
     add-at
     add-i
