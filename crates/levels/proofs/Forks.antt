@@ -5,18 +5,17 @@ use mathlib.Core.List.{List, [], _∷_}
 use Prim.Native.Nat.{ℕ, _+_, _*_, _/_, _%_, _^_, _≤_, _<_}
 use native.Mathlib.Omega.{arith}
 use lib.Dec.{T}
-use lib.ListN.{length, set, take}
 use Rattle.model.specs.Lists.{at}
-use Rattle.model.specs.ValueSets.{has, onlyMask}
-use Rattle.model.specs.Nogood.{Entry, equality, disequality, filtered}
+use Rattle.model.specs.ValueSets.{has}
+use Rattle.model.specs.Nogood.{Entry, equality, disequality}
 use Rattle.model.proofs.Sets.{has-lt}
 use Rattle.nogood.specs.declared.Reached.{Reached}
 use Rattle.nogood.specs.declared.Reached.the-variants.{Dead, End, Split}
 use Rattle.nogood.specs.declared.entry.Step.{Step}
 use Rattle.nogood.specs.Scan.{after, Right, Stepped, None, Some, Live, Passed, Left}
 use Rattle.nogood.proofs.Front
-use Rattle.nogood.proofs.Scan
-use Rattle.levels.specs.Levels.{imageAt, cutOf, keepOf, levelsFrom, ownAt, Listed, Ready, Fork, forkEntries, Forked, Came, forced, Alive}
+use Rattle.levels.specs.Levels.{imageAt, cutOf, keepOf, levelsFrom, ownAt, Listed, Ready, Fork, forkEntries, Forked, Came, forcedBy}
+use Rattle.nogood.specs.Lists.{Alive}
 
 pub value-lt : {n : ℕ} {prefix images numbers : List ℕ} {e k j : ℕ} → Listed n prefix images numbers e k → j < k → at prefix j < 16
 value-lt {n} {prefix} {images} {numbers} {e} {k} {j} w h = has-lt 16 (at numbers (16 + j)) (at prefix j) (w .small j h) (w .drawn j h)
@@ -65,10 +64,10 @@ module _ {n : ℕ} {ss prefix images numbers : List ℕ} {e k j : ℕ} (w : Fork
     pub fork-asks : (y / 16 < 16) × (y % 16 < 16) × (at ss (y / 16) < 2 ^ 16)
     fork-asks = (let h = w .live .few in let l : y / 16 < n = subst (λ (u : ℕ). u / 16 < n) (sym i) (right .0) in omega arith, omega arith, w .live .small (y / 16))
 
-    pub forced-as : (ts : List ℕ) → ts ≡ forced ss y → ts ≡ forced ss (ownAt prefix images e j)
-    forced-as ts q = q ∙ ap (forced ss) i
+    pub forced-as : (ts : List ℕ) → ts ≡ forcedBy ss y → ts ≡ forcedBy ss (ownAt prefix images e j)
+    forced-as ts q = q ∙ ap (forcedBy ss) i
 
-    pub forced-ready : (ts : List ℕ) → ts ≡ forced ss y → Ready n ts prefix images numbers e k (j + 1)
+    pub forced-ready : (ts : List ℕ) → ts ≡ forcedBy ss y → Ready n ts prefix images numbers e k (j + 1)
     forced-ready ts q =
         let x = ownAt prefix images e j / 16 in
         let v = ownAt prefix images e j % 16 in
@@ -78,18 +77,18 @@ module _ {n : ℕ} {ss prefix images numbers : List ℕ} {e k j : ℕ} (w : Fork
           bound = omega (arith, w .bound);
         }
 
-    module _ (ts : List ℕ) (q : ts ≡ forced ss y) (rs : List ℕ) (r : Reached) (c : Came n ts prefix images numbers e k (j + 1) rs r) where
-      pub stays-dead : r ≡ Dead → None n (forced ss (ownAt prefix images e j)) (levelsFrom prefix images numbers e k (j + 1))
+    module _ (ts : List ℕ) (q : ts ≡ forcedBy ss y) (rs : List ℕ) (r : Reached) (c : Came n ts prefix images numbers e k (j + 1) rs r) where
+      pub stays-dead : r ≡ Dead → None n (forcedBy ss (ownAt prefix images e j)) (levelsFrom prefix images numbers e k (j + 1))
       stays-dead z = subst (λ (l : List ℕ). None n l later) (forced-as ts q) (came-dead (forced-ready ts q) rs r c z)
 
-      pub stays-end : r ≡ End → Some n (forced ss (ownAt prefix images e j)) (levelsFrom prefix images numbers e k (j + 1))
+      pub stays-end : r ≡ End → Some n (forcedBy ss (ownAt prefix images e j)) (levelsFrom prefix images numbers e k (j + 1))
       stays-end z = subst (λ (l : List ℕ). Some n l later) (forced-as ts q) (came-end (forced-ready ts q) rs r c z)
 
-      pub stays-split : (m : ℕ) → r ≡ Split m → Some n (forced ss (ownAt prefix images e j)) (levelsFrom prefix images numbers e k (j + 1))
+      pub stays-split : (m : ℕ) → r ≡ Split m → Some n (forcedBy ss (ownAt prefix images e j)) (levelsFrom prefix images numbers e k (j + 1))
       stays-split m z = subst (λ (l : List ℕ). Some n l later) (forced-as ts q) (came-split (forced-ready ts q) rs r c m z)
 
     -- no assignment has it: the value goes
-    pub settle-gone : (b : Bool) → b ≡ false → Alive b n (forced ss (ownAt prefix images e j)) (levelsFrom prefix images numbers e k (j + 1)) → {ts : List ℕ} {r : Step} → Stepped ss (cutOf y) ts r → Left n ss (forkEntries prefix images numbers e k j) ts
+    pub settle-gone : (b : Bool) → b ≡ false → Alive b n (forcedBy ss (ownAt prefix images e j)) (levelsFrom prefix images numbers e k (j + 1)) → {ts : List ℕ} {r : Step} → Stepped ss (cutOf y) ts r → Left n ss (forkEntries prefix images numbers e k j) ts
     settle-gone true q z st = absurd (subst T q tt)
     settle-gone false q z {ts} {r} st =
         let x = ownAt prefix images e j / 16 in
@@ -98,18 +97,9 @@ module _ {n : ℕ} {ss prefix images numbers : List ℕ} {e k j : ℕ} (w : Fork
         (Front.split-gone x v later begun right (w .split) (Front.front-length (w .live)) z)
 
   -- one has it: nothing goes
-  pub settle-kept : (b : Bool) → b ≡ true → Alive b n (forced ss (ownAt prefix images e j)) (levelsFrom prefix images numbers e k (j + 1)) → Left n ss (forkEntries prefix images numbers e k j) ss
+  pub settle-kept : (b : Bool) → b ≡ true → Alive b n (forcedBy ss (ownAt prefix images e j)) (levelsFrom prefix images numbers e k (j + 1)) → Left n ss (forkEntries prefix images numbers e k j) ss
   settle-kept false q z = absurd (subst T (sym q) tt)
   settle-kept true q z =
       let x = ownAt prefix images e j / 16 in
       let v = ownAt prefix images e j % 16 in
       Front.split-kept x v later begun right (w .split) (Front.front-length (w .live)) z
-
--- ---- the same of the sets at the start of the pass
-pub left-on : {n : ℕ} {ss rs ts : List ℕ} {es fs : List Entry} → Live n ss → Passed n ss es rs fs → Left n rs fs ts → Left n ss es ts
-left-on {n} {ss} {rs} {ts} {es} {fs} l p q =
-    record {
-      live = q .live;
-      unused = λ x h. q .unused x h ∙ p .unused x h;
-      left = q .left ∙ sym (Scan.filtered-same (take n ss) es (take n rs) fs (Front.front-length l ∙ sym (Front.front-length (p .live))) (p .same));
-    }

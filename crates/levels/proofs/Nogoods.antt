@@ -25,7 +25,7 @@ use Rattle.nogood.specs.declared.Reached.the-variants.{Dead, End, Split}
 use Rattle.nogood.specs.Scan.{None, Live, Left}
 use Rattle.nogood.proofs.Front
 use Rattle.levels.specs.Levels.{Levelled, Sifted, leaves, imageAt, cutOf, keepOf, levelAt, levelsFrom, Listed, Ready, Fork, forkEntries, Came}
-use Rattle.levels.proofs.Forks.{came-dead, came-passed, came-forked, left-on}
+use Rattle.levels.proofs.Forks.{came-dead, came-passed, came-forked}
 
 -- an element of a list stands in it
 mem-getD : (ls : List (List ℕ)) (i : ℕ) (d : List ℕ) → i < length ls → List·Memᴰ (getD ls i d) ls
@@ -153,4 +153,4 @@ module _ {p : Problem} {sets prefix images numbers : List ℕ} {e k : ℕ} (w : 
     at-fork j q = came-forked ready rs r c j q .fork
 
     pub at-split : (j : ℕ) → r ≡ Split j → (ts : List ℕ) → Left (p .variables) rs (forkEntries prefix images numbers e k j) ts → Sifted p sets prefix e k ts false
-    at-split j q ts z = sifted-live ts (left-on (w .live) (came-forked ready rs r c j q .passed) z)
+    at-split j q ts z = sifted-live ts (Front.left-after (came-forked ready rs r c j q .passed) z (Front.front-length (w .live)))

@@ -5,10 +5,10 @@ use mathlib.Core.Path.{_≡_}
 use mathlib.Core.Bool.{Bool, true, false}
 use mathlib.Core.List.{List, [], _∷_, _++_, map}
 use Prim.Native.Nat.{ℕ, _+_, _-_, _*_, _/_, _%_, _^_, _≤_, _<_}
-use lib.ListN.{length, set, take}
+use lib.ListN.{length, take}
 use lib.Dec.{T, ltb}
 use Rattle.model.specs.Lists.{at, keep, flat, upFrom}
-use Rattle.model.specs.ValueSets.{has, members, anyEmpty, onlyMask}
+use Rattle.model.specs.ValueSets.{has, members, anyEmpty}
 use Rattle.model.specs.Problem.{Problem}
 use Rattle.model.specs.Nogood.{Entry, equality, disequality, filtered}
 use Rattle.model.specs.Search.{nogoodsOf}
@@ -18,7 +18,8 @@ use Rattle.nogood.specs.declared.Reached.{Reached}
 use Rattle.nogood.specs.declared.Reached.the-variants.{Dead, End, Split}
 use Rattle.nogood.specs.declared.entry.Step.{Step}
 use Rattle.nogood.specs.declared.entry.Step.the-variants as step
-use Rattle.nogood.specs.Scan.{stepOf, None, Some, Live, Passed, Left}
+use Rattle.nogood.specs.Scan.{stepOf, None, Live, Passed}
+use Rattle.nogood.specs.Lists.{forced}
 
 -- ---- the contract of the filter
 -- the arrays hold p; the first k numbers of `prefix` are values of the initial sets of variables 0 to k - 1;
@@ -140,11 +141,6 @@ Came n ss prefix images numbers e k start rs Dead = None n ss (levelsFrom prefix
 Came n ss prefix images numbers e k start rs End = Passed n ss (levelsFrom prefix images numbers e k start) rs []
 Came n ss prefix images numbers e k start rs (Split j) = Forked n ss prefix images numbers e k start rs j
 
--- the sets with the own pair of level j forced
-abbrev pub forced : List ℕ → ℕ → List ℕ
-forced ss y = set ss (y / 16) (onlyMask (at ss (y / 16)) (y % 16))
-
--- some assignment from the sets obeys the entries, or none does
-abbrev pub Alive : Bool → ℕ → List ℕ → List Entry → Type 0
-Alive true n ss es = Some n ss es
-Alive false n ss es = None n ss es
+-- the sets with the pair y forced
+abbrev pub forcedBy : List ℕ → ℕ → List ℕ
+forcedBy ss y = forced ss (y / 16) (y % 16)

@@ -6,8 +6,9 @@ ghost use lib.Dec.{T};
 ghost use Rattle.model.specs.Lists.{at};
 ghost use Rattle.model.specs.ValueSets.{has};
 ghost use Rattle.model.specs.Problem.{Problem};
-ghost use Rattle.nogood.specs.Scan.{Left, Outcome};
-ghost use Rattle.levels.specs.Levels.{Levelled, Sifted, imageAt, cuts, levelOf, levelsFrom, ownAt, Pictured, Cut, Met, Ready, Fork, forkEntries, Came, forced, Alive};
+ghost use Rattle.nogood.specs.Scan.{Left};
+ghost use Rattle.nogood.specs.Lists.{Alive};
+ghost use Rattle.levels.specs.Levels.{Levelled, Sifted, imageAt, cuts, levelOf, levelsFrom, ownAt, Pictured, Cut, Met, Ready, Fork, forkEntries, Came, forcedBy};
 use nogood::Reached;
 use nogood::entry;
 use nogood::entry::Step;
@@ -104,7 +105,7 @@ fn stays(
     j: usize,
 ) -> bool
     requires { ⌜ ((n : ℕ) × Fork n (now sets) (now prefix) (now images) (now numbers) e k j) ⌝ }
-    ensures { λ r. ⌜ ((n : ℕ) → Fork n (now (sets .entry)) (now (prefix .entry)) (now (images .entry)) (now (numbers .entry)) e k j → Alive r n (forced (now (sets .entry)) (ownAt (now (prefix .entry)) (now (images .entry)) e j)) (levelsFrom (now (prefix .entry)) (now (images .entry)) (now (numbers .entry)) e k (j + 1))) ⌝ }
+    ensures { λ r. ⌜ ((n : ℕ) → Fork n (now (sets .entry)) (now (prefix .entry)) (now (images .entry)) (now (numbers .entry)) e k j → Alive r n (forcedBy (now (sets .entry)) (ownAt (now (prefix .entry)) (now (images .entry)) e j)) (levelsFrom (now (prefix .entry)) (now (images .entry)) (now (numbers .entry)) e k (j + 1))) ⌝ }
 {
     let mut work = *sets;
     let y = image(images, e, j, prefix[j] as usize);
