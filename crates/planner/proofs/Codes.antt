@@ -2,7 +2,7 @@
 use mathlib.Core.Path.{_≡_, refl, sym, ap, _∙_, subst}
 use mathlib.Core.Bool.{Bool, true, false, not}
 use mathlib.Core.List.{List, [], _∷_}
-use Prim.Native.Nat.{ℕ, zero, suc, _+_, _*_, _^_, _≤_, _<_}
+use Prim.Native.Nat.{ℕ, zero, suc, _+_, _*_, _/_, _%_, _^_, _≤_, _<_}
 use native.Mathlib.Omega.{arith}
 use lib.Dec.{T, leb, ltb, eqb}
 use lib.ListN.{length, length-map}
@@ -141,3 +141,10 @@ filter-small ds xs es us =
     ask-small c17 17 0 (ask c18 18 0 v18) z
     (λ e. ask-small c18 18 0 v18 z
     (λ few. ask-small (eqb wrong m) 19 wrong accepted (omega (arith, most, leb-true m 192 (both-right (both (eqb (length es) m) (eqb (length us) m)) (leb m 192) few))) (λ e. tt)))
+
+-- a caller gets the number and the item of a refusal back from its code
+pub code-number : (number item : ℕ) → item < 256 → (number * 256 + item) / 256 ≡ number
+code-number number item h = omega arith
+
+pub code-item : (number item : ℕ) → item < 256 → (number * 256 + item) % 256 ≡ item
+code-item number item h = omega arith

@@ -16,7 +16,7 @@ put-number-requires : tie.Need-put-number-requires
 put-number-requires c κs =
     let p = c .before .before .before in
     let s = p .before .before .before .before in
-    omega (arith, field-most (s .args .number), p .put .ensures .ends, p .put .kept .0, s .pre)
+    omega (arith, field-most (s .args .number), field-most (s .args .item), p .put .ensures .ends, p .put .kept .0, s .pre)
 
 put-number-requires-2 : tie.Need-put-number-requires-2
 put-number-requires-2 c κs =
