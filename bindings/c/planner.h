@@ -31,7 +31,7 @@ extern "C" {
 #define PLANNER_FULL 3     /* the last trial found a plan that the list has no room for */
 
 /* The least room that planner_report takes. No report is longer. */
-#define PLANNER_REPORT_ROOM 168000
+#define PLANNER_REPORT_ROOM 217160
 
 /* Puts questions 1 to 16 to a sheet: 0 if it is accepted, else number * 256 + item. */
 uint32_t planner_question(const uint8_t *sheet, size_t sheet_len);

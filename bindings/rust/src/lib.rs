@@ -33,7 +33,7 @@ mod exported {
 pub const ABSENT: u8 = 255;
 
 /// The least room for a report. No report is longer.
-const REPORT_ROOM: usize = 168_000;
+const REPORT_ROOM: usize = 217_160;
 
 /// The first question answered "no", and the window, rule, exchange or entry that it speaks of.
 #[derive(Clone, Copy, Debug, PartialEq, Eq)]

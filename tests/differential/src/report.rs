@@ -9,7 +9,7 @@ use std::fs;
 use std::path::Path;
 
 /// The least room for a report.
-const REPORT_ROOM: usize = 168_000;
+const REPORT_ROOM: usize = 217_160;
 
 pub fn case(number: usize, rng: &mut Rng, tally: &mut Tally) {
     if number.is_multiple_of(8) {
