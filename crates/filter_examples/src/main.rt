@@ -56,8 +56,11 @@ fn seventeen() {
         b"",
         &[0],
     );
-    let mut most = [7u16; 12];
-    show(b"twelve sets", &mut most, &[11], &[255], &[0]);
+}
+
+fn twelve() {
+    let mut sets = [7u16; 12];
+    show(b"twelve sets", &mut sets, &[11], &[255], &[0]);
 }
 
 // 18: the lists have one length, at most 192. It is asked before 19.
@@ -67,13 +70,17 @@ fn eighteen() {
     show(b"equal shorter", &mut sets, &[0], b"", &[255]);
     show(b"not-equal shorter", &mut sets, &[0], &[1], b"");
     show(b"not-equal longer", &mut sets, &[99], &[1], &[255, 255]);
-    let long = [0u8; 193];
-    let mark = [255u8; 193];
-    show(b"193 entries", &mut sets, &long, &mark, &long);
 }
 
-// 19: the variable is one of the sets', just one of the two is the mark, and the other is below 16. The item is the first wrong entry.
-fn nineteen() {
+fn too_long() {
+    let mut sets = [7u16, 65535];
+    let value = [0u8; 193];
+    let mark = [255u8; 193];
+    show(b"193 entries", &mut sets, &value, &mark, &value);
+}
+
+// 19: the variable is one of the sets' ..
+fn variables() {
     let mut sets = [7u16, 65535];
     show(
         b"no such variable",
@@ -83,6 +90,11 @@ fn nineteen() {
         &[3, 3],
     );
     show(b"variable 255", &mut sets, &[255], &[255], &[3]);
+}
+
+// .. just one of the two is the mark ..
+fn marks() {
+    let mut sets = [7u16, 65535];
     show(
         b"both absent",
         &mut sets,
@@ -97,9 +109,19 @@ fn nineteen() {
         &[1, 2, 3],
         &[255, 255, 1],
     );
+}
+
+// .. and the other is below 16.
+fn values() {
+    let mut sets = [7u16, 65535];
     show(b"equal is 16", &mut sets, &[0, 1], &[255, 16], &[0, 255]);
     show(b"not-equal is 16", &mut sets, &[0], &[255], &[16]);
     show(b"not-equal is 254", &mut sets, &[0], &[255], &[254]);
+}
+
+// The item is the first wrong entry.
+fn first() {
+    let mut sets = [7u16, 65535];
     show(
         b"two wrong entries",
         &mut sets,
@@ -117,18 +139,21 @@ fn legal() {
     show(b"{0} and not 0", &mut one, &[0], &[255], &[0]);
     let mut hole = [7u16, 0, 7];
     show(b"a lent set is empty", &mut hole, b"", b"", b"");
-    let mut twice = [7u16, 7];
+}
+
+fn repeated() {
+    let mut sets = [7u16, 7];
     show(
         b"repeated entries",
-        &mut twice,
+        &mut sets,
         &[0, 0, 1, 1, 0, 0],
         &[255, 255, 1, 1, 255, 255],
         &[1, 1, 255, 255, 2, 2],
     );
 }
 
-// Equalities that close a list, always hold, never hold, and cannot hold.
-fn equalities() {
+// An equality that closes the list, and one that always holds.
+fn kept() {
     let mut closing = [7u16, 7];
     show(
         b"a closing equality",
@@ -145,10 +170,13 @@ fn equalities() {
         &[15, 255],
         &[255, 15],
     );
-    let mut broken = [7u16, 6];
+}
+
+fn broken() {
+    let mut never = [7u16, 6];
     show(
         b"an equality that never holds",
-        &mut broken,
+        &mut never,
         &[1, 0],
         &[0, 255],
         &[255, 1],
@@ -233,10 +261,10 @@ fn long() {
         &not_equal,
     );
     not_equal[191] = 16;
-    let mut kept = [65535u16; 12];
+    let mut as_lent = [65535u16; 12];
     show_long(
         b"192 entries, the last wrong",
-        &mut kept,
+        &mut as_lent,
         &index,
         &equal,
         &not_equal,
@@ -245,10 +273,17 @@ fn long() {
 
 fn main() {
     seventeen();
+    twelve();
     eighteen();
-    nineteen();
+    too_long();
+    variables();
+    marks();
+    values();
+    first();
     legal();
-    equalities();
+    repeated();
+    kept();
+    broken();
     worked();
     long();
 }
