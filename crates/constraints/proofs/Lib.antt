@@ -1,4 +1,5 @@
 pub mod Bits
+pub mod Lanes
 pub mod Rows
 pub mod Scopes
 pub mod Stores

@@ -1,20 +1,22 @@
 -- A constraint's rows inside the sets: which values they support, what `revised` leaves, and that it leaves no more to do. Assumes nothing.
-use mathlib.Core.Path.{_≡_, refl, sym, ap, _∙_, subst}
+use mathlib.Core.Path.{_≡_, refl, sym, _∙_, subst}
 use mathlib.Core.Bool.{Bool, true, false, not}
-use mathlib.Core.Logic.{_⊎_, inl, inr, ⊎-elim}
+use mathlib.Core.Logic.{_⊎_, inl, inr}
 use mathlib.Core.List.{List, [], _∷_, List·Memᴰ, List·Memᴰ·head, List·Memᴰ·tail, List·Memᴰ·not-nil}
-use Prim.Native.Nat.{ℕ, zero, suc, _+_, _*_, _^_, _≤_, _<_}
+use Prim.Native.Nat.{ℕ, _^_, _≤_, _<_}
 use native.Mathlib.Omega.{arith}
-use lib.Dec.{T, eqb, ltb, eqb→eq, eqb-refl, ltb→lt}
+use lib.Dec.{T, eqb, ltb, eqb→eq, eqb-refl}
 use lib.ListN.{length}
-use borrow.Author.Tests.{eqb-true, eqb-false, ltb-true, ltb-false}
-use Rattle.model.specs.Lists.{both, any, at, ascending, tabulate}
+use borrow.Author.Tests.{eqb-true, ltb-true, ltb-false}
+use Rattle.model.specs.Lists.{both, any, at}
 use Rattle.model.specs.ValueSets.{has, maskOf}
 use Rattle.model.specs.Problem.{Constraint}
 use Rattle.model.specs.Search.{rowWith, supported}
-use Rattle.model.proofs.Lists.{T-of, of-T, not-of, of-not, both-i, both-l, both-r, any-i, any-e, Sorted, at-tabulate, length-tabulate, at-out, at-ext}
-use Rattle.model.proofs.Sets.{has-lt, mask-i, mask-e, mask-lt, mask-ext, Sets, Inside, inside-antisym, has-at-lt}
-use Rattle.constraints.specs.Revised.{revised, Fixed}
+use Rattle.model.proofs.Lists.{T-of, of-T, of-not, both-i, both-l, both-r, any-i, any-e, among-i, among-e, Sorted, at-tabulate, length-tabulate, at-out}
+use Rattle.model.proofs.Sets.{has-none, has-lt, member, mask-i, mask-e, mask-lt, mask-ext, Sets, Inside, inside-antisym, has-at-lt}
+use Rattle.model.proofs.Prune as Prune
+use Rattle.layout.specs.Pruning.{Fixed}
+use Rattle.constraints.specs.Revised.{revised}
 
 -- ---- a row inside the sets, and its pairs of a variable and a value
 abbrev pub RowIn : List ℕ → List ℕ → List ℕ → Type 0
@@ -30,20 +32,6 @@ PairIn x v (y ∷ ys) (w ∷ ws) = ((x ≡ y) × (v ≡ w)) ⊎ PairIn x v ys ws
 
 abbrev Ordered : List ℕ → Type 0
 Ordered l = Sorted (λ (x y : ℕ). x < y) l
-
-pub ascending-sorted : (l : List ℕ) → T (ascending l) → Ordered l
-unfolding ascending
-ascending-sorted [] t = tt
-ascending-sorted (x ∷ []) t = (λ y m. absurd (List·Memᴰ·not-nil m), tt)
-ascending-sorted (x ∷ y ∷ l) t = go (ascending-sorted (y ∷ l)) (ltb x y) refl t
-  where
-    go : (T (ascending (y ∷ l)) → Ordered (y ∷ l)) → (b : Bool) → ltb x y ≡ b → T (elim b [ true ↦ ascending (y ∷ l) | false ↦ false ]) → Ordered (x ∷ y ∷ l)
-    go ih true e t = let s = ih t in (first (ltb-true x y e) (s .0), s)
-      where
-        first : x < y → ((z : ℕ) → List·Memᴰ z l → y < z) → (z : ℕ) → List·Memᴰ z (y ∷ l) → x < z
-        first h k z (List·Memᴰ·head q) = omega arith
-        first h k z (List·Memᴰ·tail m) = omega (arith, k z m)
-    go ih false e t = absurd t
 
 pub rowin-pairs : (ds es ys ws : List ℕ) → RowIn ds ys ws → ((x v : ℕ) → PairIn x v ys ws → T (has (at es x) v)) → RowIn es ys ws
 rowin-pairs ds es [] [] r h = tt
@@ -126,19 +114,13 @@ module _ (ds : List ℕ) (x v : ℕ) where
   row-i (y ∷ ys) (w ∷ ws) s r (inr p) = row-with y w ys ws (r .0) (λ q. absurd (let h = s .0 x (pair-mem ys ws x v p) in omega arith)) (row-i ys ws (s .1) (r .1) p)
 
 -- ---- the values that a constraint supports
-pub in-scope : (x : ℕ) (l : List ℕ) → T (any (eqb x) l) → List·Memᴰ x l
-in-scope x l t = let r = any-e (eqb x) l t in subst (λ (z : ℕ). List·Memᴰ z l) (sym (eqb→eq x (r .0) (r .2))) (r .1)
-
-pub of-scope : (x : ℕ) (l : List ℕ) → List·Memᴰ x l → T (any (eqb x) l)
-of-scope x l m = any-i (eqb x) l x m (eqb-refl x)
-
 module _ (c : Constraint) (ds : List ℕ) (x v : ℕ) where
   abbrev test : Bool → Bool
   test b = elim b [ true ↦ any (rowWith ds x v (c .scope)) (c .rows) | false ↦ true ]
 
   pub supported-e : T (supported ds x v c) → List·Memᴰ x (c .scope) → (r : List ℕ) × List·Memᴰ r (c .rows) × RowIn ds (c .scope) r × PairIn x v (c .scope) r
   unfolding supported
-  supported-e t m = go (any (eqb x) (c .scope)) (of-T (any (eqb x) (c .scope)) (of-scope x (c .scope) m)) t
+  supported-e t m = go (any (eqb x) (c .scope)) (of-T (any (eqb x) (c .scope)) (among-i x (c .scope) m)) t
     where
       go : (b : Bool) → b ≡ true → T (test b) → (r : List ℕ) × List·Memᴰ r (c .rows) × RowIn ds (c .scope) r × PairIn x v (c .scope) r
       go true e t = let r = any-e (rowWith ds x v (c .scope)) (c .rows) t in (r .0, r .1, row-e ds x v (c .scope) (r .0) (r .2), row-pair ds x v (c .scope) (r .0) (r .2) m)
@@ -157,7 +139,7 @@ module _ (c : Constraint) (ds : List ℕ) (x v : ℕ) where
   supported-out n = go (any (eqb x) (c .scope)) refl
     where
       go : (b : Bool) → any (eqb x) (c .scope) ≡ b → T (test b)
-      go true e = absurd (n (in-scope x (c .scope) (T-of (any (eqb x) (c .scope)) e)))
+      go true e = absurd (n (among-e x (c .scope) (T-of (any (eqb x) (c .scope)) e)))
       go false e = tt
 
 -- ---- what a constraint leaves
@@ -212,9 +194,9 @@ module _ (ds : List ℕ) (c : Constraint) where
       where
         go : (b : Bool) → any (eqb x) (c .scope) ≡ b → T (supported (revised ds c) x v c)
         go true e =
-            let r = supported-e c ds x v (revised-e x v t .1) (in-scope x (c .scope) (T-of (any (eqb x) (c .scope)) e)) in
+            let r = supported-e c ds x v (revised-e x v t .1) (among-e x (c .scope) (T-of (any (eqb x) (c .scope)) e)) in
             supported-i c (revised ds c) x v s (r .0) (r .1) (row-kept (r .0) (r .1) (r .2)) (r .3)
-        go false e = supported-out c (revised ds c) x v (λ m. of-not (any (eqb x) (c .scope)) e (of-scope x (c .scope) m))
+        go false e = supported-out c (revised ds c) x v (λ m. of-not (any (eqb x) (c .scope)) e (among-i x (c .scope) m))
 
     -- where one variable of the scope has a value left, all have
     pub all-left : (x v y : ℕ) → List·Memᴰ x (c .scope) → List·Memᴰ y (c .scope) → T (has (at (revised ds c) x) v) → (w : ℕ) × T (has (at (revised ds c) y) w)
@@ -230,14 +212,29 @@ module _ (ds : List ℕ) (c : Constraint) where
       mask-ext 16 (at (revised ds c) x) (at ds x) (revised-sets (length ds) refl .1 x) (small x)
       (λ v b. Rattle.model.proofs.Lists.T-ext (has (at (revised ds c) x) v) (has (at ds x) v) (λ t. revised-e x v t .0) (λ t. revised-i x v b t (supported-out c ds x v n)))
 
+  -- where one set of the scope is not empty, none is
+  pub alive : ((x : ℕ) → at ds x < 2 ^ 16) → Ordered (c .scope) → (y : ℕ) → List·Memᴰ y (c .scope) → (at (revised ds c) y ≡ 0 → ⊥) → (x : ℕ) → List·Memᴰ x (c .scope) → at (revised ds c) x ≡ 0 → ⊥
+  alive small s y m n x k z =
+      let v = member (at (revised ds c) y) (revised-sets (length ds) refl .1 y) n in
+      let w = all-left small s y (v .0) x m k (v .2) in
+      of-not (has 0 (w .0)) (has-none (w .0)) (subst (λ (a : ℕ). T (has a (w .0))) z (w .1))
+
 -- ---- only the sets of the scope count
-pub fixed-local : (c : Constraint) (ds es : List ℕ) → Ordered (c .scope) → ((y : ℕ) → List·Memᴰ y (c .scope) → at ds y ≡ at es y) → Fixed ds c → Fixed es c
-fixed-local c ds es s h f x v t = go (any (eqb x) (c .scope)) refl
-  where
-    go : (b : Bool) → any (eqb x) (c .scope) ≡ b → T (supported es x v c)
-    go true e =
-        let m = in-scope x (c .scope) (T-of (any (eqb x) (c .scope)) e) in
-        let r = supported-e c ds x v (f x v (subst (λ (z : ℕ). T (has z v)) (sym (h x m)) t)) m in
-        supported-i c es x v s (r .0) (r .1)
-        (rowin-pairs ds es (c .scope) (r .0) (r .2) (λ y w p. subst (λ (z : ℕ). T (has z w)) (h y (pair-mem (c .scope) (r .0) y w p)) (pair-has ds (c .scope) (r .0) y w (r .2) p))) (r .3)
-    go false e = supported-out c es x v (λ m. of-not (any (eqb x) (c .scope)) e (of-scope x (c .scope) m))
+row-same : (ds es : List ℕ) (x v : ℕ) (ys ws : List ℕ) → ((y : ℕ) → List·Memᴰ y ys → at es y ≡ at ds y) → T (rowWith ds x v ys ws) → T (rowWith es x v ys ws)
+unfolding rowWith
+row-same ds es x v [] [] h t = t
+row-same ds es x v [] (w ∷ ws) h t = t
+row-same ds es x v (y ∷ ys) [] h t = t
+row-same ds es x v (y ∷ ys) (w ∷ ws) h t =
+    let r = both-r (has (at ds y) w) (both (asked x v y w) (rowWith ds x v ys ws)) t in
+    both-i (has (at es y) w) (both (asked x v y w) (rowWith es x v ys ws))
+    (subst (λ (z : ℕ). T (has z w)) (sym (h y (List·Memᴰ·head refl))) (both-l (has (at ds y) w) (both (asked x v y w) (rowWith ds x v ys ws)) t))
+    (both-i (asked x v y w) (rowWith es x v ys ws) (both-l (asked x v y w) (rowWith ds x v ys ws) r)
+    (row-same ds es x v ys ws (λ z m. h z (List·Memᴰ·tail m)) (both-r (asked x v y w) (rowWith ds x v ys ws) r)))
+
+-- a constraint that takes nothing takes nothing either where the sets of its scope are the same
+pub fixed-kept : (c : Constraint) (ds es : List ℕ) → Fixed ds c → ((x : ℕ) → List·Memᴰ x (c .scope) → at es x ≡ at ds x) → Fixed es c
+fixed-kept c ds es f h x v t =
+    Prune.supported-i es x v c
+    (λ m. let r = any-e (rowWith ds x v (c .scope)) (c .rows) (Prune.supported-e ds x v c m (f x v (subst (λ (z : ℕ). T (has z v)) (h x m) t))) in
+    any-i (rowWith es x v (c .scope)) (c .rows) (r .0) (r .1) (row-same ds es x v (c .scope) (r .0) h (r .2)))

@@ -7,108 +7,149 @@ use Prim.Native.Nat.{ℕ, _+_, _-_, _*_, _%_, _^_, _≤_, _<_}
 use native.Mathlib.Nat.{lt-of-le-of-lt}
 use native.Mathlib.Omega.{arith}
 use native.Mathlib.Decide.{ℕ-discrete}
-use lib.Dec.{T, eqb, ltb}
-use lib.ListN.{length, take}
+use lib.Dec.{T, eqb, ltb, eqb→eq, eqb-refl}
+use lib.ListN.{length}
 use lib.Bits.{bitAnd, bitOr, and-le-l, or-lt, or-zero-r}
 use lib.Count.{trailingZeros}
+use lib.Pow.{pow-lt}
 use borrow.Author.Tests.{ltb-true, ltb-false, eqb-true, eq-eqb}
-use Rattle.model.specs.Lists.{any, at}
-use Rattle.model.specs.ValueSets.{has, anyEmpty}
+use Rattle.model.specs.Lists.{both, any, at}
+use Rattle.model.specs.ValueSets.{has}
 use Rattle.model.specs.Problem.{Problem, Constraint}
-use Rattle.model.proofs.Lists.{T-of, of-T, not-of, of-not, at-out}
-use Rattle.model.proofs.Sets.{has-none, has-lt, has-at-lt, mask-ext, member, Sets, Inside, inside-antisym, size, size-inside, size-strict}
+use Rattle.model.proofs.Lists.{T-of, of-T, not-of, of-not, both-i, among-i, among-e, ascending-sorted}
+use Rattle.model.proofs.Sets.{has-none, has-lt, Sets, Inside, inside-antisym, size, size-inside, size-strict}
+use Rattle.model.proofs.Masks.{has-one}
+use Rattle.model.proofs.Members.{low-has, rest-e, rest-i, rest-less, one-bit, one-has, has-0, or-i, or-e, and-e}
+use Rattle.model.proofs.Firsts.{take-full, take-empty, full-take}
 use Rattle.model.proofs.Prune.{Way}
 use Rattle.model.proofs.WellFormed.{GoodConstraint}
 use Rattle.layout.specs.Layout.{constraintAt}
-use Rattle.constraints.specs.Revised.{revised, Fixed, Given, Revision, setsOf, Waiting, Constrained}
-use Rattle.constraints.specs.Steps.{Gathered, Emptied}
-use Rattle.constraints.proofs.Bits.{low-has, others-e, others-i, others-less}
-use Rattle.constraints.proofs.Unions.{has-0, or-i, or-e}
-use Rattle.constraints.proofs.Rows.{ascending-sorted, of-scope, in-scope, revised-sets, revised-inside, revised-fixed, revised-out, all-left, fixed-local}
-use Rattle.constraints.proofs.Scopes.{is-one, good}
-use Rattle.constraints.proofs.Ways.{take-full, take-empty, full-take, fixed-take, fixed-all, revised-way}
+use Rattle.layout.specs.Tables.{Linked, byRows}
+use Rattle.layout.specs.Pruning.{Fixed, setsOf}
+use Rattle.layout.proofs.Links.{is-one, good}
+use Rattle.constraints.specs.Revised.{revised, Revision, Waiting, Constrained}
+use Rattle.constraints.specs.Steps.{Holding, Nonempty, Gathered}
+use Rattle.constraints.proofs.Bits.{without-has}
+use Rattle.constraints.proofs.Rows.{revised-sets, revised-inside, revised-fixed, revised-out, fixed-kept}
+use Rattle.constraints.proofs.Ways.{fixed-take, fixed-all, revised-way}
 
 -- ---- what a revision changed
-module _ (c : Constraint) (ds es : List ℕ) (changed : ℕ) (s : Sets 16 ds) (r : Revision c ds es changed) where
-  pub still : (x : ℕ) → has changed x ≡ false → at es x ≡ at ds x
+module _ (c : Constraint) (ds es : List ℕ) (changed : ℕ) (s : Sets 16 ds) (r : Revision c ds es changed) (l : changed ≡ 65536 → ⊥) where
+  still : (x : ℕ) → has changed x ≡ false → at es x ≡ at ds x
   still x e = go (eqb (at es x) (at ds x)) refl
     where
       go : (b : Bool) → eqb (at es x) (at ds x) ≡ b → at es x ≡ at ds x
       go true q = eqb-true (at es x) (at ds x) q
-      go false q = absurd (of-not (has changed x) e (T-of (has changed x) (r .moved x ∙ ap not q)))
+      go false q = absurd (of-not (has changed x) e (T-of (has changed x) (r .moved l x ∙ ap not q)))
 
-  pub differs : (x : ℕ) → T (has changed x) → at es x ≡ at ds x → ⊥
-  differs x t e = subst T (r .moved x ∙ ap not (eq-eqb (at es x) (at ds x) e)) t
+  differs : (x : ℕ) → T (has changed x) → at es x ≡ at ds x → ⊥
+  differs x t e = subst T (r .moved l x ∙ ap not (eq-eqb (at es x) (at ds x) e)) t
 
-  pub in-scope-if : (x : ℕ) → T (has changed x) → List·Memᴰ x (c .scope)
+  in-scope-if : (x : ℕ) → T (has changed x) → List·Memᴰ x (c .scope)
   in-scope-if x t = go (any (eqb x) (c .scope)) refl
     where
       go : (b : Bool) → any (eqb x) (c .scope) ≡ b → List·Memᴰ x (c .scope)
-      go true e = in-scope x (c .scope) (T-of (any (eqb x) (c .scope)) e)
-      go false e = absurd (differs x t (ap (λ (l : List ℕ). at l x) (r .sets) ∙ revised-out ds c (s .1) x (λ m. of-not (any (eqb x) (c .scope)) e (of-scope x (c .scope) m))))
+      go true e = among-e x (c .scope) (T-of (any (eqb x) (c .scope)) e)
+      go false e = absurd (differs x t (ap (λ (l : List ℕ). at l x) (r .sets l) ∙ revised-out ds c (s .1) x (λ m. of-not (any (eqb x) (c .scope)) e (among-i x (c .scope) m))))
 
-  pub after : Sets 16 es
-  after = subst (Sets 16) (sym (r .sets)) (revised-sets ds c 16 (s .0))
+  after : Sets 16 es
+  after = subst (Sets 16) (sym (r .sets l)) (revised-sets ds c 16 (s .0))
 
   inside : Inside es ds
-  inside = subst (λ (l : List ℕ). Inside l ds) (sym (r .sets)) (revised-inside ds c)
+  inside = subst (λ (l : List ℕ). Inside l ds) (sym (r .sets l)) (revised-inside ds c)
 
-  -- the sets are the same, or have fewer values
-  pub same-or-fewer : (es ≡ ds) ⊎ (size es < size ds)
-  same-or-fewer = go (ltb (size es) (size ds)) refl
+  -- the sets have no more values, and fewer where one changed
+  fewer : size es ≤ size ds
+  fewer = size-inside es ds (after .0 ∙ sym (s .0)) inside
+
+  less-if : (x : ℕ) → T (has changed x) → size es < size ds
+  less-if x t = go (ltb (size es) (size ds)) refl
     where
-      go : (b : Bool) → ltb (size es) (size ds) ≡ b → (es ≡ ds) ⊎ (size es < size ds)
-      go true q = inr (ltb-true (size es) (size ds) q)
-      go false q = inl (inside-antisym 16 es ds after s inside (size-strict es ds (after .0 ∙ sym (s .0)) (s .1) inside (ltb-false (size es) (size ds) q)))
+      go : (b : Bool) → ltb (size es) (size ds) ≡ b → size es < size ds
+      go true q = ltb-true (size es) (size ds) q
+      go false q = absurd (differs x t (ap (λ (l : List ℕ). at l x) (inside-antisym 16 es ds after s inside (size-strict es ds (after .0 ∙ sym (s .0)) (s .1) inside (ltb-false (size es) (size ds) q)))))
 
-pub changed-lt : (c : Constraint) (ds es : List ℕ) (changed : ℕ) (s : Sets 16 ds) (r : Revision c ds es changed) (x : ℕ) → T (has changed x) → x < 16
-changed-lt c ds es changed s r x t = go (ltb x 16) refl
-  where
-    go : (b : Bool) → ltb x 16 ≡ b → x < 16
-    go true q = ltb-true x 16 q
-    go false q =
-        let h = ltb-false x 16 q in
-        absurd (differs c ds es changed s r x t (at-out es x (omega (arith, after c ds es changed s r .0)) ∙ sym (at-out ds x (omega (arith, s .0)))))
+-- a constraint that is not pruned by variable and not touched has no changed variable in its scope
+pub untouched : {p : Problem} {numbers : List ℕ} {changed g : ℕ} → Linked p numbers → Gathered numbers changed g → (k : ℕ) → k < length (p .constraints) → byRows p k ≡ false → (T (has g k) → ⊥) → (y : ℕ) → y < 16 → List·Memᴰ y (constraintAt p k .scope) → has changed y ≡ false
+untouched {p} {numbers} {changed} {g} n u k h b f y l m =
+    not-of (has changed y)
+    (λ t. f (u .gathered-i y k t (T-of (has (at numbers (72 + y)) k)
+    (n .touching y k l h ∙ of-T (both (any (eqb y) (constraintAt p k .scope)) (not (byRows p k))) (both-i (any (eqb y) (constraintAt p k .scope)) (not (byRows p k)) (among-i y (constraintAt p k .scope) m) (T-of (not (byRows p k)) (ap not b)))))))
 
 -- ---- what holds before each turn
-pub record Turning (p : Problem) (numbers supports ds es : List ℕ) (left : ℕ) : Type 0 where
-  pub given : Given p numbers supports
+pub record Turning (p : Problem) (numbers supports ds es : List ℕ) (left next all : ℕ) : Type 0 where
+  pub held : Holding p numbers supports
+  pub linked : Linked p numbers
   pub sixteen : Sets 16 es
   pub wide : left < 2 ^ 64
+  pub wide-next : next < 2 ^ 64
   pub full : (x : ℕ) → x < p .variables → at es x ≡ 0 → ⊥
-  pub known : (k : ℕ) → T (has left k) → k < length (p .constraints)
-  pub others : (k : ℕ) → k < length (p .constraints) → has left k ≡ false → Fixed es (constraintAt p k)
+  pub known : (k : ℕ) → T (has left k) ⊎ T (has next k) → k < length (p .constraints)
+  pub others : (k : ℕ) → k < length (p .constraints) → has left k ≡ false → has next k ≡ false → byRows p k ≡ false → Fixed es (constraintAt p k)
   pub ways : (prefix : List ℕ) → Way p prefix (setsOf p ds) → Way p prefix (setsOf p es)
-  pub unused : (x : ℕ) → p .variables ≤ x → at es x ≡ at ds x
   pub less : Inside es ds
+  pub kept : (x : ℕ) → has all x ≡ false → at es x ≡ at ds x
+  pub few : (x : ℕ) → T (has all x) → x < p .variables
+  pub shrunk : (x : ℕ) → T (has all x) → size es < size ds
+  pub long : length ds ≡ 16
 
 module _ (p : Problem) (numbers supports ds : List ℕ) where
-  pub turning-begin : (todo : ℕ) → todo < 2 ^ 64 → Waiting p numbers supports ds todo → Turning p numbers supports ds ds todo
+  pub turning-begin : (todo : ℕ) → todo < 2 ^ 64 → Waiting p numbers supports ds todo → Turning p numbers supports ds ds todo 0 0
   turning-begin todo h w = record {
-    given = w .given;
-    sixteen = w .sixteen;
+    held = record { wellFormed = w .wellFormed; numbered = w .numbered; tabled = w .tabled; worded = w .worded; constraints = w .constraints };
+    linked = w .linked;
+    sixteen = w .given .sixteen;
     wide = h;
-    full = full-take (p .variables) ds (w .sixteen) (omega (arith, w .given .wellFormed .few)) (w .full);
-    known = w .known;
-    others = λ k l e. let g = good (w .given) k l in fixed-all (p .variables) ds (w .sixteen) (omega (arith, w .given .wellFormed .few)) (constraintAt p k) (g .ordered) (g .inside) (w .others k l e);
+    wide-next = omega arith;
+    full = full-take (p .variables) ds (w .given .sixteen) (omega (arith, w .wellFormed .few)) (w .given .full);
+    known = λ k. ⊎-elim (w .known k) (λ q. absurd (has-0 k q));
+    others = λ k l e f b. fixed-all (p .variables) ds (w .given .sixteen) (omega (arith, w .wellFormed .few)) (constraintAt p k) (good (w .wellFormed) k l .inside) (w .others k l e b);
     ways = λ prefix y. y;
-    unused = λ x l. refl;
     less = λ x v q. q;
+    kept = λ x e. refl;
+    few = λ x t. absurd (has-0 x t);
+    shrunk = λ x t. absurd (has-0 x t);
+    long = w .given .sixteen .0;
   }
 
-  pub turning-end : (es : List ℕ) (left : ℕ) → left ≡ 0 → Turning p numbers supports ds es left → Constrained p ds es false
-  turning-end es left e t = record {
-    ways = t .ways;
-    unused = t .unused;
-    less = t .less;
+  -- the next round
+  turning-swap : (es : List ℕ) (left next all : ℕ) → left ≡ 0 → Turning p numbers supports ds es left next all → Turning p numbers supports ds es next 0 all
+  turning-swap es left next all e t = record {
+    held = t .held;
+    linked = t .linked;
     sixteen = t .sixteen;
-    answers = sym (take-full (p .variables) es (t .sixteen) (omega (arith, t .given .wellFormed .few)) (t .full));
-    fixed = λ q k l. let g = good (t .given) k l in
-        fixed-take (p .variables) es (t .sixteen) (omega (arith, t .given .wellFormed .few)) (constraintAt p k) (g .ordered) (g .inside) (t .others k l (ap (λ (n : ℕ). has n k) e ∙ has-none k));
+    wide = t .wide-next;
+    wide-next = omega arith;
+    full = t .full;
+    known = λ k. ⊎-elim (λ q. t .known k (inr q)) (λ q. absurd (has-0 k q));
+    others = λ k l f g b. t .others k l (ap (λ (n : ℕ). has n k) e ∙ has-none k) f b;
+    ways = t .ways;
+    less = t .less;
+    kept = t .kept;
+    few = t .few;
+    shrunk = t .shrunk;
+    long = t .long;
+  }
+
+  -- after the choice of the round
+  pub turning-on : (es : List ℕ) (left next all l m : ℕ) → ((left ≡ 0) × (l ≡ next) × (m ≡ 0)) ⊎ ((l ≡ left) × (m ≡ next)) → Turning p numbers supports ds es left next all → Turning p numbers supports ds es l m all
+  turning-on es left next all l m (inl q) t =
+      subst (λ (i : ℕ). Turning p numbers supports ds es i m all) (sym (q .1)) (subst (λ (i : ℕ). Turning p numbers supports ds es next i all) (sym (q .2)) (turning-swap es left next all (q .0) t))
+  turning-on es left next all l m (inr q) t =
+      subst (λ (i : ℕ). Turning p numbers supports ds es i m all) (sym (q .0)) (subst (λ (i : ℕ). Turning p numbers supports ds es left i all) (sym (q .1)) t)
+
+  pub turning-end : (es : List ℕ) (left next all : ℕ) → left ≡ 0 → next ≡ 0 → Turning p numbers supports ds es left next all → Constrained p ds es all
+  turning-end es left next all e f t = record {
+    ended = λ q. let h : 16 < p .variables = t .few 16 (subst (λ (n : ℕ). T (has n 16)) (sym q) (subst T (sym (has-one 16 16)) (eqb-refl 16))) in absurd (omega (arith, t .held .wellFormed .few));
+    lessened = λ n. record { ways = t .ways; sixteen = t .sixteen; full = take-full (p .variables) es (t .sixteen) (omega (arith, t .held .wellFormed .few)) (t .full); less = t .less; kept = t .kept; few = t .few };
+    smaller = λ n. t .shrunk;
+    fixed = λ n k l b.
+        fixed-take (p .variables) es (t .sixteen) (omega (arith, t .held .wellFormed .few)) (constraintAt p k) (good (t .held .wellFormed) k l .inside)
+        (t .others k l (ap (λ (n : ℕ). has n k) e ∙ has-none k) (ap (λ (n : ℕ). has n k) f ∙ has-none k) b);
   }
 
 -- ---- one turn: constraint k has pruned
-module _ {p : Problem} {numbers supports ds es : List ℕ} {left : ℕ} (t : Turning p numbers supports ds es left) (n : left ≡ 0 → ⊥) where
+module _ {p : Problem} {numbers supports ds es : List ℕ} {left next all : ℕ} (t : Turning p numbers supports ds es left next all) (n : left ≡ 0 → ⊥) where
   abbrev k : ℕ
   k = trailingZeros 64 left
 
@@ -116,97 +157,141 @@ module _ {p : Problem} {numbers supports ds es : List ℕ} {left : ℕ} (t : Tur
   low = low-has 64 left (omega arith) (t .wide)
 
   pub k-lt : trailingZeros 64 left < length (p .constraints)
-  k-lt = t .known k (low .0)
+  k-lt = t .known k (inl (low .0))
 
   pub k-few : trailingZeros 64 left < 32
-  k-few = omega (arith, k-lt, t .given .constraints)
+  k-few = omega (arith, k-lt, t .held .constraints)
 
   abbrev c : Constraint
   c = constraintAt p (trailingZeros 64 left)
 
   c-good : GoodConstraint p (constraintAt p (trailingZeros 64 left))
-  c-good = good (t .given) k k-lt
+  c-good = good (t .held .wellFormed) k k-lt
+
+  pub k-full : Nonempty (constraintAt p (trailingZeros 64 left) .scope) es
+  k-full x m = t .full x (c-good .inside x m)
+
+  abbrev others : ℕ
+  others = bitAnd left (left - 1)
+
+  others-i : (j : ℕ) → T (has left j) → T (has others j) ⊎ (j ≡ k)
+  others-i = rest-i 64 left (omega arith) (t .wide)
 
   module _ {fs : List ℕ} {changed : ℕ} (r : Revision (constraintAt p (trailingZeros 64 left)) es fs changed) where
-    turn-ways : (prefix : List ℕ) → Way p prefix (setsOf p ds) → Way p prefix (setsOf p fs)
-    turn-ways prefix y = subst (λ (l : List ℕ). Way p prefix (setsOf p l)) (sym (r .sets)) (revised-way p (t .given .wellFormed) c (is-one (t .given) k k-lt) es (t .sixteen) prefix (t .ways prefix y))
+    way : (prefix : List ℕ) → Way p prefix (setsOf p ds) → Way p prefix (setsOf p (revised es (constraintAt p (trailingZeros 64 left))))
+    way prefix y = revised-way p (t .held .wellFormed) c (is-one p k k-lt) es (t .sixteen) prefix (t .ways prefix y)
 
-    turn-unused : (x : ℕ) → p .variables ≤ x → at fs x ≡ at ds x
-    turn-unused x l = ap (λ (z : List ℕ). at z x) (r .sets) ∙ revised-out es c (t .sixteen .1) x (λ m. let i = c-good .inside x m in omega arith) ∙ t .unused x l
+    -- a set would be empty
+    pub turning-dead : (gs : List ℕ) → changed ≡ 65536 → Constrained p ds gs 65536
+    turning-dead gs e = record {
+      ended = λ q. let z = r .ended e in
+          (setsOf p (revised es c), (way, take-empty (p .variables) (revised es c) (revised-sets es c 16 (t .sixteen .0)) (omega (arith, t .held .wellFormed .few)) (z .0) (c-good .inside (z .0) (z .1)) (z .2)));
+      lessened = λ m. absurd (m refl);
+      smaller = λ m. absurd (m refl);
+      fixed = λ m. absurd (m refl);
+    }
 
-    turn-less : Inside fs ds
-    turn-less x v q = t .less x v (inside c es fs changed (t .sixteen) r x v q)
+    module _ (l : changed ≡ 65536 → ⊥) where
+      changed-lt : (x : ℕ) → T (has changed x) → x < 16
+      changed-lt x q = let i = c-good .inside x (in-scope-if c es fs changed (t .sixteen) r l x q) in omega (arith, t .held .wellFormed .few)
 
-    -- a set is empty
-    pub turning-dead : Emptied fs changed true → Constrained p ds fs true
-    turning-dead e =
-        let q = e .empty refl in
-        record {
-          ways = turn-ways;
-          unused = turn-unused;
-          less = turn-less;
-          sixteen = after c es fs changed (t .sixteen) r;
-          answers = sym (of-T (anyEmpty (setsOf p fs)) (take-empty (p .variables) fs (after c es fs changed (t .sixteen) r) (omega (arith, t .given .wellFormed .few)) (q .0) (c-good .inside (q .0) (in-scope-if c es fs changed (t .sixteen) r (q .0) (q .1))) (q .2)));
-          fixed = λ z. absurd (subst T z tt);
+      turn-full : (x : ℕ) → x < p .variables → at fs x ≡ 0 → ⊥
+      turn-full x i z = go (has changed x) refl
+        where
+          go : (b : Bool) → has changed x ≡ b → ⊥
+          go false q = t .full x i (sym (still c es fs changed (t .sixteen) r l x q) ∙ z)
+          go true q = r .full l x (in-scope-if c es fs changed (t .sixteen) r l x (T-of (has changed x) q)) z
+
+      turn-kept : (x : ℕ) → has (bitOr all changed) x ≡ false → at fs x ≡ at ds x
+      turn-kept x e =
+          still c es fs changed (t .sixteen) r l x (not-of (has changed x) (λ q. of-not (has (bitOr all changed) x) e (or-i all changed x (inr q))))
+          ∙ t .kept x (not-of (has all x) (λ q. of-not (has (bitOr all changed) x) e (or-i all changed x (inl q))))
+
+      turn-few : (x : ℕ) → T (has (bitOr all changed) x) → x < p .variables
+      turn-few x q = ⊎-elim (t .few x) (λ i. c-good .inside x (in-scope-if c es fs changed (t .sixteen) r l x i)) (or-e all changed x q)
+
+      turn-shrunk : (x : ℕ) → T (has (bitOr all changed) x) → size fs < size ds
+      turn-shrunk x q =
+          ⊎-elim (λ i. let a = t .shrunk x i in let b = fewer c es fs changed (t .sixteen) r l in omega (arith, a, b))
+          (λ i. let a = less-if c es fs changed (t .sixteen) r l x i in let b = size-inside es ds (t .sixteen .0 ∙ sym (t .long)) (t .less) in omega (arith, a, b)) (or-e all changed x q)
+
+      -- the constraints of g may have something to take: those that are not left wait for the next round
+      module _ {g : ℕ} (u : Gathered numbers changed g) (m : ℕ) (w : m < 2 ^ 64) (old : (j : ℕ) → T (has next j) → T (has m j)) (new : (j : ℕ) → T (has g j) → (T (has m j) ⊎ T (has others j)) ⊎ (j ≡ k)) (back : (j : ℕ) → T (has m j) → T (has next j) ⊎ T (has g j)) where
+        turn-known : (j : ℕ) → T (has others j) ⊎ T (has m j) → j < length (p .constraints)
+        turn-known j =
+            ⊎-elim (λ q. t .known j (inl (rest-e 64 left (omega arith) (t .wide) j q)))
+            (λ q. ⊎-elim (λ i. t .known j (inr i)) (λ i. let x = u .gathered-e j i in has-lt (length (p .constraints)) (at numbers (72 + x .0)) j (t .linked .touching-few (x .0) (changed-lt (x .0) (x .1))) (x .2)) (back j q))
+
+        turn-others : (j : ℕ) → j < length (p .constraints) → has others j ≡ false → has m j ≡ false → byRows p j ≡ false → Fixed fs (constraintAt p j)
+        turn-others j i e f b = go (ℕ-discrete j k)
+          where
+            go : Dec (j ≡ k) → Fixed fs (constraintAt p j)
+            go (yes q) = subst (λ (i : ℕ). Fixed fs (constraintAt p i)) (sym q) (subst (λ (m : List ℕ). Fixed m c) (sym (r .sets l)) (revised-fixed es c (t .sixteen .1) (ascending-sorted (c .scope) (c-good .ordered))))
+            go (no q) =
+                fixed-kept (constraintAt p j) es fs
+                (t .others j i (not-of (has left j) (λ z. ⊎-elim (of-not (has others j) e) q (others-i j z))) (not-of (has next j) (λ z. of-not (has m j) f (old j z))) b)
+                (λ y z. still c es fs changed (t .sixteen) r l y (untouched (t .linked) u j i b (λ o. ⊎-elim (⊎-elim (of-not (has m j) f) (of-not (has others j) e)) q (new j o)) y (let h = good (t .held .wellFormed) j i .inside y z in omega (arith, t .held .wellFormed .few)) z))
+
+        turned : Turning p numbers supports ds fs (bitAnd left (left - 1)) m (bitOr all changed)
+        turned = record {
+          held = t .held;
+          linked = t .linked;
+          sixteen = after c es fs changed (t .sixteen) r l;
+          wide = lt-of-le-of-lt (and-le-l left (left - 1)) (t .wide);
+          wide-next = w;
+          full = turn-full;
+          known = turn-known;
+          others = turn-others;
+          ways = λ prefix y. subst (λ (l : List ℕ). Way p prefix (setsOf p l)) (sym (r .sets l)) (way prefix y);
+          less = λ x v q. t .less x v (inside c es fs changed (t .sixteen) r l x v q);
+          kept = turn-kept;
+          few = turn-few;
+          shrunk = turn-shrunk;
+          long = t .long;
         }
 
-    -- no set is empty: one that changed and is not tells that none is
-    turn-full : Emptied fs changed false → (x : ℕ) → x < p .variables → at fs x ≡ 0 → ⊥
-    turn-full e x l z = go (has changed x) refl
-      where
-        go : (b : Bool) → has changed x ≡ b → ⊥
-        go false q = t .full x l (sym (still c es fs changed (t .sixteen) r x q) ∙ z)
-        go true q =
-            let y = e .full refl x (T-of (has changed x) q) in
-            let v = member (at fs (y .0)) (after c es fs changed (t .sixteen) r .1 (y .0)) (y .2) in
-            let w = all-left es c (t .sixteen .1) (ascending-sorted (c .scope) (c-good .ordered)) (y .0) (v .0) x (in-scope-if c es fs changed (t .sixteen) r (y .0) (y .1)) (in-scope-if c es fs changed (t .sixteen) r x (T-of (has changed x) q))
-            (subst (λ (m : List ℕ). T (has (at m (y .0)) (v .0))) (r .sets) (v .2)) in
-            has-0 (w .0) (subst (λ (m : ℕ). T (has m (w .0))) z (subst (λ (m : List ℕ). T (has (at m x) (w .0))) (sym (r .sets)) (w .1)))
+      -- nothing changed: a constraint less is left
+      pub turning-same : changed ≡ 0 → Turning p numbers supports ds fs (bitAnd left (left - 1)) next all
+      turning-same e =
+          subst (Turning p numbers supports ds fs (bitAnd left (left - 1)) next) (ap (bitOr all) e ∙ or-zero-r all)
+          (turned {g = 0} record { gathered-i = λ x j q i. absurd (has-0 x (subst (λ (z : ℕ). T (has z x)) e q)); gathered-e = λ j q. absurd (has-0 j q) } next (t .wide-next) (λ j q. q) (λ j q. absurd (has-0 j q)) (λ j q. inl q))
 
-    module _ {g : ℕ} (h : g < 2 ^ 64) (u : Gathered numbers changed g) where
-      abbrev next : ℕ
-      next = bitAnd (bitOr left g) ((2 ^ 64 - 1) - 1 * 2 ^ trailingZeros 64 left % 2 ^ 64)
+      pub same-less : (z : ℕ) → left + next ≡ z → size fs * 2 ^ 65 + (bitAnd left (left - 1) + next) < size es * 2 ^ 65 + z
+      same-less z e = let a = rest-less left n in let b = fewer c es fs changed (t .sixteen) r l in omega arith
 
-      all-small : bitOr left g < 2 ^ 64
-      all-small = or-lt 64 left g (t .wide) h
+      -- something changed: a value less is left
+      module _ {g : ℕ} (h : g < 2 ^ 64) (u : Gathered numbers changed g) where
+        abbrev done : ℕ
+        done = bitOr (1 * 2 ^ trailingZeros 64 left % 2 ^ 64) (bitAnd left (left - 1))
 
-      turn-known : (j : ℕ) → T (has next j) → j < length (p .constraints)
-      turn-known j q = ⊎-elim (t .known j) (λ i. let x = u .gathered-e j i in has-lt (length (p .constraints)) (at numbers (x .0)) j (t .given .numbered .touching-few (x .0) (changed-lt c es fs changed (t .sixteen) r (x .0) (x .1))) (x .2)) (or-e left g j (others-e 64 (bitOr left g) k all-small (low .1) j q .0))
+        abbrev more : ℕ
+        more = bitOr next (bitAnd g ((2 ^ 64 - 1) - bitOr (1 * 2 ^ trailingZeros 64 left % 2 ^ 64) (bitAnd left (left - 1))))
 
-      turn-others : (j : ℕ) → j < length (p .constraints) → has next j ≡ false → Fixed fs (constraintAt p j)
-      turn-others j l q = go (ℕ-discrete j k)
-        where
-          go : Dec (j ≡ k) → Fixed fs (constraintAt p j)
-          go (yes e) = subst (λ (i : ℕ). Fixed fs (constraintAt p i)) (sym e) (subst (λ (m : List ℕ). Fixed m c) (sym (r .sets)) (revised-fixed es c (t .sixteen .1) (ascending-sorted (c .scope) (c-good .ordered))))
-          go (no m) =
-              let o = good (t .given) j l in
-              let d = constraintAt p j in
-              let none : T (has (bitOr left g) j) → ⊥ = λ i. of-not (has next j) q (others-i 64 (bitOr left g) k all-small (low .1) j i m) in
-              fixed-local d es fs (ascending-sorted (d .scope) (o .ordered))
-              (λ y i. sym (still c es fs changed (t .sixteen) r y (not-of (has changed y) (λ z. none (or-i left g j (inr (u .gathered-i y j z (T-of (has (at numbers y) j) (t .given .numbered .touching y j (changed-lt c es fs changed (t .sixteen) r y z) l ∙ of-T (any (eqb y) (d .scope)) (of-scope y (d .scope) i))))))))))
-              (t .others j l (not-of (has left j) (λ z. none (or-i left g j (inl z)))))
+        done-lt : done < 2 ^ 64
+        done-lt = or-lt 64 (1 * 2 ^ k % 2 ^ 64) others (subst (λ (z : ℕ). z < 2 ^ 64) (sym (one-bit 64 k (low .1))) (pow-lt (low .1))) (lt-of-le-of-lt (and-le-l left (left - 1)) (t .wide))
 
-      pub turning-turn : Emptied fs changed false → Turning p numbers supports ds fs (bitAnd (bitOr left g) ((2 ^ 64 - 1) - 1 * 2 ^ trailingZeros 64 left % 2 ^ 64))
-      turning-turn e = record {
-        given = t .given;
-        sixteen = after c es fs changed (t .sixteen) r;
-        wide = lt-of-le-of-lt (and-le-l (bitOr left g) ((2 ^ 64 - 1) - 1 * 2 ^ k % 2 ^ 64)) all-small;
-        full = turn-full e;
-        known = turn-known;
-        others = turn-others;
-        ways = turn-ways;
-        unused = turn-unused;
-        less = turn-less;
-      }
+        more-lt : more < 2 ^ 64
+        more-lt = or-lt 64 next (bitAnd g ((2 ^ 64 - 1) - done)) (t .wide-next) (lt-of-le-of-lt (and-le-l g ((2 ^ 64 - 1) - done)) h)
 
-      -- the measure falls: a set loses a value, or a constraint less is left
-      pub turning-less : size fs * 2 ^ 64 + next < size es * 2 ^ 64 + left
-      turning-less = ⊎-elim same (λ f. let s : next < 2 ^ 64 = lt-of-le-of-lt (and-le-l (bitOr left g) ((2 ^ 64 - 1) - 1 * 2 ^ k % 2 ^ 64)) all-small in omega arith) (same-or-fewer c es fs changed (t .sixteen) r)
-        where
-          same : fs ≡ es → size fs * 2 ^ 64 + next < size es * 2 ^ 64 + left
-          same e =
-              let none : g ≡ 0 = mask-ext 64 g 0 h (omega arith) (λ j l. not-of (has g j) (λ q. let x = u .gathered-e j q in differs c es fs changed (t .sixteen) r (x .0) (x .1) (ap (λ (m : List ℕ). at m (x .0)) e)) ∙ sym (has-none j)) in
-              let q : bitOr left g ≡ left = ap (bitOr left) none ∙ or-zero-r left in
-              let f : next < left = subst (λ (m : ℕ). bitAnd m ((2 ^ 64 - 1) - 1 * 2 ^ k % 2 ^ 64) < left) (sym q) (others-less 64 left k (t .wide) (low .1) (low .0)) in
-              let z : size fs ≡ size es = ap size e in
-              omega arith
+        new : (j : ℕ) → T (has g j) → (T (has more j) ⊎ T (has others j)) ⊎ (j ≡ k)
+        new j q = go (has done j) refl
+          where
+            i : j < 64
+            i = has-lt 64 g j h q
+
+            go : (b : Bool) → has done j ≡ b → (T (has more j) ⊎ T (has others j)) ⊎ (j ≡ k)
+            go true e = ⊎-elim (λ o. inr (eqb→eq j k (subst T (one-has 64 k j (low .1)) o))) (λ o. inl (inr o)) (or-e (1 * 2 ^ k % 2 ^ 64) others j (T-of (has done j) e))
+            go false e = inl (inl (or-i next (bitAnd g ((2 ^ 64 - 1) - done)) j (inr (subst T (sym (without-has 64 g done j done-lt i)) (both-i (has g j) (not (has done j)) q (T-of (not (has done j)) (ap not e)))))))
+
+        back : (j : ℕ) → T (has more j) → T (has next j) ⊎ T (has g j)
+        back j q = ⊎-elim inl (λ o. inr (and-e g ((2 ^ 64 - 1) - done) j o .0)) (or-e next (bitAnd g ((2 ^ 64 - 1) - done)) j q)
+
+        pub turning-more : Turning p numbers supports ds fs (bitAnd left (left - 1)) more (bitOr all changed)
+        turning-more = turned u more more-lt (λ j q. or-i next (bitAnd g ((2 ^ 64 - 1) - done)) j (inl q)) new back
+
+        pub more-less : changed < 2 ^ 64 → (changed ≡ 0 → ⊥) → (z : ℕ) → left + next ≡ z → size fs * 2 ^ 65 + (bitAnd left (left - 1) + more) < size es * 2 ^ 65 + z
+        more-less i o z e =
+            let a = less-if c es fs changed (t .sixteen) r l (trailingZeros 64 changed) (low-has 64 changed (omega arith) i .0) in
+            let b : others < 2 ^ 64 = lt-of-le-of-lt (and-le-l left (left - 1)) (t .wide) in
+            let d = more-lt in
+            omega arith

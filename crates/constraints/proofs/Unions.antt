@@ -1,94 +1,48 @@
 -- The loops that run through the members of a set and unite what each of them gives. Assumes nothing.
-use mathlib.Core.Path.{_≡_, refl, sym, ap, _∙_, subst}
-use mathlib.Core.Bool.{Bool, true, false, not}
-use mathlib.Core.Logic.{_⊎_, inl, inr, ⊎-elim}
+use mathlib.Core.Path.{_≡_, refl, sym, ap, subst}
+use mathlib.Core.Bool.{not}
 use mathlib.Core.List.{List}
-use Prim.Native.Nat.{ℕ, zero, suc, _+_, _-_, _*_, _^_, _≤_, _<_}
+use Prim.Native.Nat.{ℕ, _+_, _-_, _*_, _/_, _%_, _^_, _<_}
 use native.Mathlib.Nat.{lt-of-le-of-lt}
 use native.Mathlib.Omega.{arith}
 use lib.Dec.{T, eqb}
-use lib.Bits.{bitAnd, bitOr, and-le-l, and-le-r}
+use lib.Bits.{bitAnd, bitOr, and-le-l, and-le-r, or-add-and}
 use lib.Count.{trailingZeros}
-use borrow.Author.Tests.{eq-eqb, ne-eqb, eqb-true, eqb-false}
-use Rattle.model.specs.Lists.{both, either, at}
+use borrow.Author.Tests.{eq-eqb, ne-eqb}
+use Rattle.model.specs.Lists.{at}
 use Rattle.model.specs.ValueSets.{has}
-use Rattle.model.proofs.Lists.{T-of, of-T, not-of, of-not, both-i, both-l, both-r, either-l, either-r, either-e}
-use Rattle.model.proofs.Sets.{has-none, member}
-use Rattle.model.proofs.Masks.{has-and, has-or}
-use Rattle.constraints.specs.Steps.{oneIf, Met, Joined, Met3, Joined3, Gathered, Emptied}
-use Rattle.constraints.proofs.Bits.{low-has, rest-e, rest-i, has-oneIf}
+use Rattle.model.proofs.Lists.{T-of, both-i, both-l, both-r}
+use Rattle.model.proofs.Sets.{has-lt}
+use Rattle.model.proofs.Members.{low-has, Rest, rest-begin, rest-turn, has-0, Union, union-begin, union-turn, union-end, and-i, and-e}
+use Rattle.layout.specs.Tables.{Words}
+use Rattle.constraints.specs.Steps.{oneIf, Met, Joined, Met3, Met8, Joined3, Gathered}
+use Rattle.constraints.specs.Lanes.{FullLanes, LaneUnion, Product}
+use Rattle.constraints.proofs.Bits.{has-oneIf}
 
-pub has-0 : (v : ℕ) → T (has 0 v) → ⊥
-has-0 v t = of-not (has 0 v) (has-none v) t
+-- a bound of a union of three sets is one of each
+pub parts-lt : (n a b e : ℕ) → bitOr (bitOr a b) e < n → (a < n) × (b < n) × (e < n)
+parts-lt n a b e h =
+    let p = or-add-and (bitOr a b) e in
+    let q = or-add-and a b in
+    let i = and-le-l (bitOr a b) e in
+    let j = and-le-r (bitOr a b) e in
+    let k = and-le-l a b in
+    let l = and-le-r a b in
+    (omega arith, omega arith, omega arith)
 
--- ---- the members that are left
-abbrev pub Rest : ℕ → ℕ → ℕ → Type 0
-Rest k a m = (m < 2 ^ k) × ((v : ℕ) → T (has m v) → T (has a v))
-
-pub rest-begin : (k a : ℕ) → a < 2 ^ k → Rest k a a
-rest-begin k a h = (h, λ v t. t)
-
-module _ (k a m : ℕ) (r : Rest k a m) (n : m ≡ 0 → ⊥) where
-  positive : 0 < m
-  positive = omega arith
-
-  pub rest-low : T (has a (trailingZeros k m)) × (trailingZeros k m < k)
-  rest-low = let l = low-has k m positive (r .0) in (r .1 (trailingZeros k m) (l .0), l .1)
-
-  pub rest-turn : Rest k a (bitAnd m (m - 1))
-  rest-turn = (lt-of-le-of-lt (and-le-l m (m - 1)) (r .0), λ v t. r .1 v (rest-e k m positive (r .0) v t))
-
-pub rest-less : (m : ℕ) → (m ≡ 0 → ⊥) → bitAnd m (m - 1) < m
-rest-less m n = omega (arith, and-le-r m (m - 1))
-
--- ---- what the members passed so far give
-pub record Union (R : ℕ → ℕ → Type 0) (a m acc : ℕ) : Type 0 where
-  pub put : (v w : ℕ) → T (has a v) → R v w → T (has acc w) ⊎ T (has m v)
-  pub got : (w : ℕ) → T (has acc w) → (v : ℕ) × T (has a v) × R v w
-
-pub union-begin : (R : ℕ → ℕ → Type 0) (a : ℕ) → Union R a a 0
-union-begin R a = record { put = λ v w t r. inr t; got = λ w t. absurd (has-0 w t) }
-
-pub or-i : (a b v : ℕ) → T (has a v) ⊎ T (has b v) → T (has (bitOr a b) v)
-or-i a b v (inl t) = subst T (sym (has-or a b v)) (either-l (has a v) (has b v) t)
-or-i a b v (inr t) = subst T (sym (has-or a b v)) (either-r (has a v) (has b v) t)
-
-pub or-e : (a b v : ℕ) → T (has (bitOr a b) v) → T (has a v) ⊎ T (has b v)
-or-e a b v t = either-e (has a v) (has b v) (subst T (has-or a b v) t)
-
-pub and-i : (a b v : ℕ) → T (has a v) → T (has b v) → T (has (bitAnd a b) v)
-and-i a b v s t = subst T (sym (has-and a b v)) (both-i (has a v) (has b v) s t)
-
-pub and-e : (a b v : ℕ) → T (has (bitAnd a b) v) → T (has a v) × T (has b v)
-and-e a b v t = let q = subst T (has-and a b v) t in (both-l (has a v) (has b v) q, both-r (has a v) (has b v) q)
-
--- one turn: s is what the lowest member gives
-pub union-turn : (R : ℕ → ℕ → Type 0) (k a m acc s : ℕ) → Rest k a m → (m ≡ 0 → ⊥) → Union R a m acc →
-    ((w : ℕ) → R (trailingZeros k m) w → T (has s w)) → ((w : ℕ) → T (has s w) → R (trailingZeros k m) w) → Union R a (bitAnd m (m - 1)) (bitOr acc s)
-union-turn R k a m acc s r n u i e = record { put = λ v w t q. put v w q (u .put v w t q); got = λ w t. ⊎-elim (u .got w) (λ t′. (trailingZeros k m, rest-low k a m r n .0, e w t′)) (or-e acc s w t) }
-  where
-    put : (v w : ℕ) → R v w → T (has acc w) ⊎ T (has m v) → T (has (bitOr acc s) w) ⊎ T (has (bitAnd m (m - 1)) v)
-    put v w q (inl t) = inl (or-i acc s w (inl t))
-    put v w q (inr t) = last (rest-i k m (positive k a m r n) (r .0) v t)
-      where
-        last : T (has (bitAnd m (m - 1)) v) ⊎ (v ≡ trailingZeros k m) → T (has (bitOr acc s) w) ⊎ T (has (bitAnd m (m - 1)) v)
-        last (inl t) = inr t
-        last (inr f) = inl (or-i acc s w (inr (i w (subst (λ (z : ℕ). R z w) f q))))
-
-pub union-end : (R : ℕ → ℕ → Type 0) (a m acc : ℕ) → m ≡ 0 → Union R a m acc → (v w : ℕ) → T (has a v) → R v w → T (has acc w)
-union-end R a m acc e u v w t r = ⊎-elim (λ q. q) (λ q. absurd (has-0 v (subst (λ (n : ℕ). T (has n v)) e q))) (u .put v w t r)
+pub and-wide : (a b : ℕ) → b < 2 ^ 16 → bitAnd a b < 2 ^ 64
+and-wide a b h = omega (arith, and-le-r a b)
 
 -- the member itself where some set is not empty
 pub one-i : (s u : ℕ) → (v : ℕ) → T (has s v) → T (has (oneIf (not (eqb s 0)) u) u)
 one-i s u v t =
     subst T (sym (has-oneIf (not (eqb s 0)) u u)) (both-i (not (eqb s 0)) (eqb u u) (T-of (not (eqb s 0)) (ap not (ne-eqb s 0 (λ e. has-0 v (subst (λ (n : ℕ). T (has n v)) e t))))) (lib.Dec.eqb-refl u))
 
-pub one-e : (s u w : ℕ) → s < 2 ^ 16 → T (has (oneIf (not (eqb s 0)) u) w) → (w ≡ u) × ((v : ℕ) × T (has s v))
-one-e s u w h t =
+pub one-e : (k s u w : ℕ) → s < 2 ^ k → T (has (oneIf (not (eqb s 0)) u) w) → (w ≡ u) × ((v : ℕ) × T (has s v))
+one-e k s u w h t =
     let q = subst T (has-oneIf (not (eqb s 0)) u w) t in
-    let n = both-l (not (eqb s 0)) (eqb w u) q in
-    let m = member s h (λ e. subst T (ap not (eq-eqb s 0 e)) n) in
-    (lib.Dec.eqb→eq w u (both-r (not (eqb s 0)) (eqb w u) q), (m .0, m .2))
+    let n : s ≡ 0 → ⊥ = λ e. subst T (ap not (eq-eqb s 0 e)) (both-l (not (eqb s 0)) (eqb w u) q) in
+    (lib.Dec.eqb→eq w u (both-r (not (eqb s 0)) (eqb w u) q), (trailingZeros k s, low-has k s (omega arith) h .0))
 
 -- ---- two sets by sixteen sets of a table
 module _ (t : List ℕ) (base a b : ℕ) where
@@ -107,18 +61,18 @@ module _ (t : List ℕ) (base a b : ℕ) where
   pub joining-begin : a < 2 ^ 16 → Joining a 0 0
   joining-begin h = record { rest = rest-begin 16 a h; firsts = union-begin Meets a; lasts = union-begin Gives a }
 
-  pub joining-turn : (m first last s : ℕ) → Joining m first last → (m ≡ 0 → ⊥) → b < 2 ^ 16 → s ≡ oneIf (not (eqb (bitAnd (at t (base + trailingZeros 16 m)) b) 0)) (trailingZeros 16 m) →
+  pub joining-turn : (k m first last s : ℕ) → Joining m first last → (m ≡ 0 → ⊥) → b < 2 ^ k → s ≡ oneIf (not (eqb (bitAnd (at t (base + trailingZeros 16 m)) b) 0)) (trailingZeros 16 m) →
       Joining (bitAnd m (m - 1)) (bitOr first s) (bitOr last (bitAnd (at t (base + trailingZeros 16 m)) b))
-  joining-turn m first last s j n h e = record {
+  joining-turn k m first last s j n h e = record {
     rest = rest-turn 16 a m (j .rest) n;
     firsts =
         union-turn Meets 16 a m first s (j .rest) n (j .firsts)
         (λ u q. subst (λ (z : ℕ). T (has z u)) (sym e) (subst (λ (z : ℕ). T (has (oneIf (not (eqb x 0)) v) z)) (sym (q .0)) (one-i x v (q .1 .0) (and-i (at t (base + v)) b (q .1 .0) (q .1 .2) (q .1 .1)))))
-        (λ u q. let r = one-e x v u (lt-of-le-of-lt (and-le-r (at t (base + v)) b) h) (subst (λ (z : ℕ). T (has z u)) e q) in let k = and-e (at t (base + v)) b (r .1 .0) (r .1 .1) in (r .0, (r .1 .0, k .1, k .0)));
+        (λ u q. let r = one-e k x v u (lt-of-le-of-lt (and-le-r (at t (base + v)) b) h) (subst (λ (z : ℕ). T (has z u)) e q) in let d = and-e (at t (base + v)) b (r .1 .0) (r .1 .1) in (r .0, (r .1 .0, d .1, d .0)));
     lasts =
         union-turn Gives 16 a m last x (j .rest) n (j .lasts)
         (λ w q. and-i (at t (base + v)) b w (q .1) (q .0))
-        (λ w q. let k = and-e (at t (base + v)) b w q in (k .1, k .0));
+        (λ w q. let d = and-e (at t (base + v)) b w q in (d .1, d .0));
   }
     where
       v : ℕ
@@ -162,12 +116,12 @@ module _ (t : List ℕ) (base a b e : ℕ) where
     firsts =
         union-turn Firsts 16 a m first s (j .rest) n (j .firsts)
         (λ u i. subst (λ (z : ℕ). T (has z u)) (sym q) (subst (λ (z : ℕ). T (has (oneIf (not (eqb x 0)) (trailingZeros 16 m)) z)) (sym (i .0)) (one-i x (trailingZeros 16 m) (i .1 .0) (r .first-i (i .1 .0) (i .1 .1 .0) (i .1 .1 .1)))))
-        (λ u i. let k = one-e x (trailingZeros 16 m) u h (subst (λ (z : ℕ). T (has z u)) q i) in (k .0, (k .1 .0, r .first-e (k .1 .0) (k .1 .1))));
+        (λ u i. let k = one-e 16 x (trailingZeros 16 m) u h (subst (λ (z : ℕ). T (has z u)) q i) in (k .0, (k .1 .0, r .first-e (k .1 .0) (k .1 .1))));
     seconds = union-turn Seconds 16 a m second x (j .rest) n (j .seconds) (λ v i. r .first-i v (i .0) (i .1)) (λ v i. r .first-e v i);
     lasts = union-turn Lasts 16 a m last y (j .rest) n (j .lasts) (λ w i. r .last-i (i .0) w (i .1)) (λ w i. r .last-e w i);
   }
 
-  pub joining3-end : (m first second last : ℕ) → m ≡ 0 → Joining3 m first second last → Joined3 t base a b e first second last
+  pub joining3-end : (m first second last : ℕ) → m ≡ 0 → Joining3 m first second last → Joined3 (Met3 t base a b e) first second last
   joining3-end m first second last z j = record {
     first-i = λ u v w q. union-end Firsts a m first z (j .firsts) u u (q .0) (refl, (v, (w, q .1)));
     first-e = λ u q. let r = j .firsts .got u q in
@@ -178,28 +132,54 @@ module _ (t : List ℕ) (base a b e : ℕ) where
     last-e = λ w q. let r = j .lasts .got w q in (r .0, (r .2 .0, (r .1, r .2 .1)));
   }
 
+pub joined3-map : {M N : ℕ → ℕ → ℕ → Type 0} {first second last : ℕ} → ((u v w : ℕ) → M u v w → N u v w) → ((u v w : ℕ) → N u v w → M u v w) → Joined3 M first second last → Joined3 N first second last
+joined3-map f g j = record {
+  first-i = λ u v w q. j .first-i u v w (g u v w q);
+  first-e = λ u q. let r = j .first-e u q in (r .0, (r .1 .0, f u (r .0) (r .1 .0) (r .1 .1)));
+  second-i = λ u v w q. j .second-i u v w (g u v w q);
+  second-e = λ v q. let r = j .second-e v q in (r .0, (r .1 .0, f (r .0) v (r .1 .0) (r .1 .1)));
+  last-i = λ u v w q. j .last-i u v w (g u v w q);
+  last-e = λ w q. let r = j .last-e w q in (r .0, (r .1 .0, f (r .0) (r .1 .0) w (r .1 .1)));
+}
+
+-- ---- three sets of values below 8 by numbers of eight lanes
+module _ (t : List ℕ) (base a b e inside : ℕ) (k : b < 2 ^ 8) (l : e < 2 ^ 8) (small : inside < 2 ^ 64) (p : Product b e inside) where
+  to : (u v w : ℕ) → Met8 t base a b e u v w → Met t base a inside u (8 * v + w)
+  to u v w q = (q .0, subst T (sym (p v w (has-lt 8 b v k (q .1)) (has-lt 8 e w l (q .2)))) (both-i (has b v) (has e w) (q .1) (q .2)), q .3)
+
+  from : (u v w : ℕ) → v < 8 → w < 8 → Met t base a inside u (8 * v + w) → Met8 t base a b e u v w
+  from u v w h i q = let r = subst T (p v w h i) (q .1) in (q .0, both-l (has b v) (has e w) r, both-r (has b v) (has e w) r, q .2)
+
+  split : (u i : ℕ) → Met t base a inside u i → Met8 t base a b e u (i / 8) (i % 8)
+  split u i q =
+      let h : i < 64 = has-lt 64 inside i small (q .1) in
+      let f : i ≡ 8 * (i / 8) + i % 8 = omega arith in
+      from u (i / 8) (i % 8) (omega arith) (omega arith) (subst (λ (z : ℕ). Met t base a inside u z) f q)
+
+  pub joined-lanes : (first all second last : ℕ) → Joined t base a inside first all → FullLanes all second → LaneUnion all last → Joined3 (Met8 t base a b e) first second last
+  joined-lanes first all second last j f g = record {
+    first-i = λ u v w q. j .first-i u (8 * v + w) (to u v w q);
+    first-e = λ u q. let r = j .first-e u q in (r .0 / 8, (r .0 % 8, split u (r .0) (r .1)));
+    second-i = λ u v w q. f .full-i v w (has-lt 8 b v k (q .1)) (has-lt 8 e w l (q .2)) (j .last-i u (8 * v + w) (to u v w q));
+    second-e = λ v q. let r = f .full-e v q in let s = j .last-e (8 * v + r .1 .0) (r .1 .2) in (s .0, (r .1 .0, from (s .0) v (r .1 .0) (r .0) (r .1 .1) (s .1)));
+    last-i = λ u v w q. g .union-i v w (has-lt 8 b v k (q .1)) (has-lt 8 e w l (q .2)) (j .last-i u (8 * v + w) (to u v w q));
+    last-e = λ w q. let r = g .union-e w q in let s = j .last-e (8 * r .1 .0 + w) (r .1 .2) in (s .0, (r .1 .0, from (s .0) (r .1 .0) w (r .1 .1) (r .0) (s .1)));
+  }
+
+-- the same as by the sets of the table
+module _ (numbers supports : List ℕ) (g : Words numbers supports) (k a b e : ℕ) (h : k < 32) (x : a < 2 ^ 8) (y : b < 2 ^ 8) (z : e < 2 ^ 8) where
+  pub worded : (first second last : ℕ) → Joined3 (Met8 numbers (128 + 8 * k) a b e) first second last → Joined3 (Met3 supports (256 * k) a b e) first second last
+  worded first second last =
+      joined3-map
+      (λ u v w q. (q .0, (q .1, q .2, subst T (g k u v w h (has-lt 8 a u x (q .0)) (has-lt 8 b v y (q .1)) (has-lt 8 e w z (q .2))) (q .3))))
+      (λ u v w q. (q .0, q .1 .0, q .1 .1, subst T (sym (g k u v w h (has-lt 8 a u x (q .0)) (has-lt 8 b v y (q .1 .0)) (has-lt 8 e w z (q .1 .1)))) (q .1 .2)))
+
 -- ---- the numbers at the members of a set
 abbrev pub Stands : List ℕ → ℕ → ℕ → Type 0
-Stands numbers x k = T (has (at numbers x) k)
+Stands numbers x k = T (has (at numbers (72 + x)) k)
 
 pub gathered : (numbers : List ℕ) (a m all : ℕ) → m ≡ 0 → Union (Stands numbers) a m all → Gathered numbers a all
 gathered numbers a m all e u = record {
   gathered-i = λ x k t q. union-end (Stands numbers) a m all e u x k t q;
   gathered-e = λ k t. u .got k t;
-}
-
--- ---- the first of the changed sets
-pub emptied-none : (sets : List ℕ) (changed : ℕ) → changed ≡ 0 → Emptied sets changed false
-emptied-none sets changed e = record {
-  empty = λ q. absurd (subst T (sym q) tt);
-  full = λ q x t. absurd (has-0 x (subst (λ (n : ℕ). T (has n x)) e t));
-}
-
-pub first-has : (changed : ℕ) → changed < 2 ^ 64 → (changed ≡ 0 → ⊥) → T (has changed (trailingZeros 64 changed))
-first-has changed h n = rest-low 64 changed changed (rest-begin 64 changed h) n .0
-
-pub emptied-first : (sets : List ℕ) (changed : ℕ) → changed < 2 ^ 64 → (changed ≡ 0 → ⊥) → Emptied sets changed (eqb (at sets (trailingZeros 64 changed)) 0)
-emptied-first sets changed h n = record {
-  empty = λ e. (trailingZeros 64 changed, first-has changed h n, eqb-true _ 0 e);
-  full = λ e x t. (trailingZeros 64 changed, first-has changed h n, eqb-false _ 0 e);
 }

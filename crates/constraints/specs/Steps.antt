@@ -1,14 +1,16 @@
 -- What the functions inside this crate say to each other: tables of sets, and one constraint at a time.
 use mathlib.Core.Path.{_≡_}
-use mathlib.Core.Bool.{Bool, true, false}
+use mathlib.Core.Bool.{Bool, true, false, not}
 use mathlib.Core.List.{List, [], _∷_, _++_, List·Memᴰ}
 use Prim.Native.Nat.{ℕ, suc, _+_, _*_, _^_, _≤_, _<_}
-use lib.Dec.{T}
-use lib.ListN.{length}
+use lib.Dec.{T, eqb}
+use lib.ListN.{length, set}
 use Rattle.model.specs.Lists.{any, at, same, ascending}
 use Rattle.model.specs.ValueSets.{has, maskOf}
-use Rattle.model.specs.Problem.{Constraint}
-use Rattle.layout.specs.Layout.{place}
+use Rattle.model.specs.Problem.{Problem, Constraint}
+use Rattle.model.proofs.WellFormed.{WellFormed}
+use Rattle.layout.specs.Layout.{Numbers, Supports, place}
+use Rattle.layout.specs.Tables.{Words}
 
 -- the set of v, or the empty set
 abbrev pub oneIf : Bool → ℕ → ℕ
@@ -30,13 +32,18 @@ pub record Joined (t : List ℕ) (base a b first last : ℕ) : Type 0 where
 abbrev pub Met3 : List ℕ → ℕ → ℕ → ℕ → ℕ → ℕ → ℕ → ℕ → Type 0
 Met3 t base a b e u v w = T (has a u) × Met t (base + 16 * u) b e v w
 
-pub record Joined3 (t : List ℕ) (base a b e first second last : ℕ) : Type 0 where
-  pub first-i : (u v w : ℕ) → Met3 t base a b e u v w → T (has first u)
-  pub first-e : (u : ℕ) → T (has first u) → (v : ℕ) × ((w : ℕ) × Met3 t base a b e u v w)
-  pub second-i : (u v w : ℕ) → Met3 t base a b e u v w → T (has second v)
-  pub second-e : (v : ℕ) → T (has second v) → (u : ℕ) × ((w : ℕ) × Met3 t base a b e u v w)
-  pub last-i : (u v w : ℕ) → Met3 t base a b e u v w → T (has last w)
-  pub last-e : (w : ℕ) → T (has last w) → (u : ℕ) × ((v : ℕ) × Met3 t base a b e u v w)
+-- the same by a number of eight lanes for each value of the first
+abbrev pub Met8 : List ℕ → ℕ → ℕ → ℕ → ℕ → ℕ → ℕ → ℕ → Type 0
+Met8 t base a b e u v w = T (has a u) × T (has b v) × T (has e w) × T (has (at t (base + u)) (8 * v + w))
+
+-- the values that go together with some values of the other two sets
+pub record Joined3 (M : ℕ → ℕ → ℕ → Type 0) (first second last : ℕ) : Type 0 where
+  pub first-i : (u v w : ℕ) → M u v w → T (has first u)
+  pub first-e : (u : ℕ) → T (has first u) → (v : ℕ) × ((w : ℕ) × M u v w)
+  pub second-i : (u v w : ℕ) → M u v w → T (has second v)
+  pub second-e : (v : ℕ) → T (has second v) → (u : ℕ) × ((w : ℕ) × M u v w)
+  pub last-i : (u v w : ℕ) → M u v w → T (has last w)
+  pub last-e : (w : ℕ) → T (has last w) → (u : ℕ) × ((v : ℕ) × M u v w)
 
 -- constraint c has this scope, of variables among the sixteen, and is number k of the table
 pub record Scoped (c : Constraint) (supports : List ℕ) (k : ℕ) (scope : List ℕ) : Type 0 where
@@ -47,12 +54,26 @@ pub record Scoped (c : Constraint) (supports : List ℕ) (k : ℕ) (scope : List
   pub table : (vs : List ℕ) → suc (length vs) ≡ length scope → ((i : ℕ) → i < length vs → at vs i < 16) →
       at supports (256 * k + place vs) ≡ maskOf (λ v. any (same (vs ++ (v ∷ []))) (c .rows))
 
--- the union of the numbers that stand at the members of a set
-pub record Gathered (numbers : List ℕ) (set r : ℕ) : Type 0 where
-  pub gathered-i : (x k : ℕ) → T (has set x) → T (has (at numbers x) k) → T (has r k)
-  pub gathered-e : (k : ℕ) → T (has r k) → (x : ℕ) × T (has set x) × T (has (at numbers x) k)
+-- no set of these variables is empty
+abbrev pub Nonempty : List ℕ → List ℕ → Type 0
+Nonempty scope sets = (x : ℕ) → List·Memᴰ x scope → at sets x ≡ 0 → ⊥
 
--- whether the first of the changed sets is empty
-pub record Emptied (sets : List ℕ) (changed : ℕ) (r : Bool) : Type 0 where
-  pub empty : r ≡ true → (x : ℕ) × T (has changed x) × (at sets x ≡ 0)
-  pub full : r ≡ false → (x : ℕ) → T (has changed x) → (y : ℕ) × T (has changed y) × (at sets y ≡ 0 → ⊥)
+-- the arrays hold the constraints of p
+pub record Holding (p : Problem) (numbers supports : List ℕ) : Type 0 where
+  pub wellFormed : WellFormed p
+  pub numbered : Numbers p numbers
+  pub tabled : Supports p supports
+  pub worded : Words numbers supports
+  pub constraints : length (p .constraints) ≤ 32
+
+-- the set of x becomes t; at 65536 t is empty and nothing is stored
+pub record Cut (ds es : List ℕ) (x t r : ℕ) : Type 0 where
+  pub ended : r ≡ 65536 → t ≡ 0
+  pub full : (r ≡ 65536 → ⊥) → t ≡ 0 → ⊥
+  pub stored : (r ≡ 65536 → ⊥) → es ≡ set ds x t
+  pub moved : (r ≡ 65536 → ⊥) → r ≡ oneIf (not (eqb t (at ds x))) x
+
+-- the union of the numbers that stand from 72 on at the members of a set
+pub record Gathered (numbers : List ℕ) (changed r : ℕ) : Type 0 where
+  pub gathered-i : (x k : ℕ) → T (has changed x) → T (has (at numbers (72 + x)) k) → T (has r k)
+  pub gathered-e : (k : ℕ) → T (has r k) → (x : ℕ) × T (has changed x) × T (has (at numbers (72 + x)) k)

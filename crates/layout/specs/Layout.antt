@@ -21,7 +21,7 @@ place [] = 0
 place (x ∷ []) = x
 place (x ∷ y ∷ r) = 16 * x + y
 
--- `numbers`, 128 of 64 bits: from 0 on, for each of sixteen variables, the set of the constraints that have it in their scope;
+-- `numbers`, 384 of 64 bits: from 0 on, for each of sixteen variables, the set of the constraints that have it in their scope;
 -- from 16 on the initial sets, {0} for a variable from n up; from 32 on, for each constraint, its arity and its scope, a byte each;
 -- at 64 to 67 n, d, c and g
 pub record Numbers (p : Problem) (numbers : List ℕ) : Type 0 where

@@ -1,1 +1,3 @@
 pub mod Layout
+pub mod Tables
+pub mod Pruning

@@ -1,105 +1,136 @@
 -- The level at which a pass stops, its own pair being one that some assignments have and some have not. Assumes nothing.
 use mathlib.Core.Path.{_≡_, refl, sym, ap, _∙_, subst}
-use mathlib.Core.Bool.{Bool, true, false}
-use mathlib.Core.List.{List, [], _∷_}
+use mathlib.Core.Bool.{not}
+use mathlib.Core.List.{List, [], _∷_, append-nil}
+use mathlib.Core.Logic.{inl, inr}
 use Prim.Native.Nat.{ℕ, _+_, _*_, _/_, _%_, _^_, _≤_, _<_}
 use native.Mathlib.Omega.{arith}
-use lib.Dec.{T}
-use Rattle.model.specs.Lists.{at}
-use Rattle.model.specs.ValueSets.{has}
-use Rattle.model.specs.Nogood.{Entry, equality, disequality}
-use Rattle.model.proofs.Sets.{has-lt}
-use Rattle.nogood.specs.declared.Reached.{Reached}
-use Rattle.nogood.specs.declared.Reached.the-variants.{Dead, End, Split}
+use lib.Dec.{T, eqb}
+use lib.ListN.{length, take}
+use borrow.Author.Tests.{eq-eqb}
+use Rattle.model.specs.Lists.{at, both}
+use Rattle.model.specs.ValueSets.{has, withoutMask}
+use Rattle.model.specs.Problem.{Problem}
+use Rattle.model.specs.Nogood.{Entry, disequality}
+use Rattle.model.proofs.Lists.{of-not, both-l, both-r, at-set, at-take, set-each}
+use Rattle.model.proofs.Sets.{Inside, inside-refl, has-at-lt, mask-e}
 use Rattle.nogood.specs.declared.entry.Step.{Step}
-use Rattle.nogood.specs.Scan.{after, Right, Stepped, None, Some, Live, Passed, Left}
+use Rattle.nogood.specs.Scan.{after, Right, Stepped, None, Some, Passed, Left}
+use Rattle.nogood.specs.Marks.{Settled}
+use Rattle.nogood.proofs.Marks.{settled-equality}
 use Rattle.nogood.proofs.Front
-use Rattle.levels.specs.Levels.{imageAt, cutOf, keepOf, levelsFrom, ownAt, Listed, Ready, Fork, forkEntries, Forked, Came, forcedBy}
-use Rattle.nogood.specs.Lists.{Alive}
+use Rattle.levels.specs.Levels.{cutOf, keepOf, levels, ownAt, Held, Ready, Fork, forkEntries, Came, dead, done, ended, forked, forcedBy, Parting}
+use Rattle.levels.proofs.Levels.{levels-fork}
+use Rattle.levels.proofs.Pictures.{image-inside, image-asks, image-is}
 
-pub value-lt : {n : ℕ} {prefix images numbers : List ℕ} {e k j : ℕ} → Listed n prefix images numbers e k → j < k → at prefix j < 16
-value-lt {n} {prefix} {images} {numbers} {e} {k} {j} w h = has-lt 16 (at numbers (16 + j)) (at prefix j) (w .small j h) (w .drawn j h)
+own-right : {p : Problem} {ss work tables : List ℕ} {e k j : ℕ} → Fork p ss work tables e k j → Right (p .variables) (keepOf (ownAt p work e j))
+own-right {p} {ss} {work} {tables} {e} {k} {j} w = (image-inside (w .tabled) j (at work j) (omega (arith, w .inside, w .prefix .bound)) (w .prefix .drawn j (w .inside)), omega arith)
 
-own-right : {n : ℕ} {prefix images numbers : List ℕ} {e k : ℕ} (j : ℕ) → Listed n prefix images numbers e k → j < k → Right n (keepOf (ownAt prefix images e j))
-own-right {n} {prefix} j w h = (w .inside j (at prefix j) h (w .drawn j h), omega arith)
+-- ---- how a pass came out
+module _ {p : Problem} {ss work tables : List ℕ} {e k start : ℕ} (w : Ready p ss work tables e k start) where
+  pub short : k ≤ 12
+  short = omega (arith, w .prefix .bound, w .tabled .wellFormed .few)
 
--- ---- how a pass that came to its end, or to a split, is answered
-module _ {n : ℕ} {ss prefix images numbers : List ℕ} {e k start : ℕ} (w : Ready n ss prefix images numbers e k start) (rs : List ℕ) (r : Reached) (c : Came n ss prefix images numbers e k start rs r) where
-  came-as : (t : Reached) → r ≡ t → Came n ss prefix images numbers e k start rs t
-  came-as t q = subst (λ (i : Reached). Came n ss prefix images numbers e k start rs i) q c
+  some-as : {es : List Entry} → es ≡ levels p work e start k → Some (p .variables) ss es → Some (p .variables) ss (levels p work e start k)
+  some-as q t = subst (λ (es : List Entry). Some (p .variables) ss es) q t
 
-  pub came-dead : r ≡ Dead → None n ss (levelsFrom prefix images numbers e k start)
-  came-dead q = came-as Dead q
+  module _ {rs : List ℕ} {r : ℕ} where
+    came-none : Came p ss work tables e k start rs r → r ≡ 16 → None (p .variables) ss (levels p work e start k)
+    came-none (dead q z) h = subst (λ (es : List Entry). None (p .variables) ss es) (append-nil (levels p work e start k)) (z [])
+    came-none (done q f) h = absurd (omega arith)
+    came-none (ended q t) h = absurd (omega (arith, short))
+    came-none (forked l f) h = absurd (omega (arith, short))
 
-  pub came-passed : r ≡ End → Passed n ss (levelsFrom prefix images numbers e k start) rs []
-  came-passed q = came-as End q
-
-  pub came-forked : (j : ℕ) → r ≡ Split j → Forked n ss prefix images numbers e k start rs j
-  came-forked j q = came-as (Split j) q
-
-  pub came-end : r ≡ End → Some n ss (levelsFrom prefix images numbers e k start)
-  came-end q = Front.ended-some (came-passed q)
-
-  pub came-split : (j : ℕ) → r ≡ Split j → Some n ss (levelsFrom prefix images numbers e k start)
-  came-split j q =
-      let f = came-forked j q in
-      let y = ownAt prefix images e j in
-      Front.split-some (y / 16) (y % 16) (levelsFrom prefix images numbers e k (j + 1)) (f .passed) (own-right j (f .fork .listed) (f .fork .bound)) (f .fork .split)
+    came-some : Came p ss work tables e k start rs r → (r ≡ 16 → ⊥) → Some (p .variables) ss (levels p work e start k)
+    came-some (dead q z) h = absurd (h q)
+    came-some (done q f) h = some-as (append-nil (levels p work e start k)) (Front.ended-some (f .passed []))
+    came-some (ended q t) h = some-as (append-nil (levels p work e start k)) (Front.ended-some (t .passed []))
+    came-some (forked l f) h =
+        some-as (levels-fork p work e start r k (f .begun) l)
+        (Front.split-some (ownAt p work e r / 16) (ownAt p work e r % 16) (levels p work e (r + 1) k) (f .thinned .passed (forkEntries p work e k r)) (own-right (f .fork)) (f .fork .split))
 
 -- ---- at the split
-module _ {n : ℕ} {ss prefix images numbers : List ℕ} {e k j : ℕ} (w : Fork n ss prefix images numbers e k j) where
+module _ {p : Problem} {ss work tables : List ℕ} {e k j : ℕ} (w : Fork p ss work tables e k j) where
+  abbrev n : ℕ
+  n = p .variables
+
+  abbrev x : ℕ
+  x = ownAt p work e j / 16
+
+  abbrev v : ℕ
+  v = ownAt p work e j % 16
+
+  abbrev out : List ℕ
+  out = after ss (disequality x v)
+
   abbrev later : List Entry
-  later = levelsFrom prefix images numbers e k (j + 1)
+  later = levels p work e (j + 1) k
 
-  begun : Passed n ss (forkEntries prefix images numbers e k j) ss (forkEntries prefix images numbers e k j)
-  begun = Front.begin (forkEntries prefix images numbers e k j) (w .live)
+  begun : Passed n ss (forkEntries p work e k j) ss (forkEntries p work e k j)
+  begun = Front.begin (forkEntries p work e k j) (w .held .live)
 
-  right : Right n (keepOf (ownAt prefix images e j))
-  right = own-right j (w .listed) (w .bound)
+  right : Right n (keepOf (ownAt p work e j))
+  right = own-right w
 
-  pub fork-image : (e < 136) × (j < 12) × (at prefix j < 16)
-  fork-image = (w .listed .symmetry, omega (arith, w .bound, w .listed .variables), value-lt (w .listed) (w .bound))
+  pub fork-image : (e < 16) × (j < 12) × (at work j < 16)
+  fork-image = image-asks (w .tabled) j (at work j) (omega (arith, w .inside, w .prefix .bound)) (w .prefix .drawn j (w .inside))
 
-  module _ (y : ℕ) (i : y ≡ ownAt prefix images e j) where
+  module _ (y : ℕ) (i : y ≡ at tables (52224 + 192 * e + 16 * j + at work j)) where
+    is : y ≡ ownAt p work e j
+    is = image-is (w .tabled) j (at work j) (omega (arith, w .inside, w .prefix .bound)) (w .prefix .drawn j (w .inside)) y i
+
     pub fork-asks : (y / 16 < 16) × (y % 16 < 16) × (at ss (y / 16) < 2 ^ 16)
-    fork-asks = (let h = w .live .few in let l : y / 16 < n = subst (λ (u : ℕ). u / 16 < n) (sym i) (right .0) in omega arith, omega arith, w .live .small (y / 16))
+    fork-asks = (let h = w .held .live .few in let l : y / 16 < n = subst (λ (u : ℕ). u / 16 < n) (sym is) (right .0) in omega arith, omega arith, w .held .live .small (y / 16))
 
-    pub forced-as : (ts : List ℕ) → ts ≡ forcedBy ss y → ts ≡ forcedBy ss (ownAt prefix images e j)
-    forced-as ts q = q ∙ ap (forcedBy ss) i
+    module _ (ts : List ℕ) (q : ts ≡ forcedBy ss y) where
+      forced-as : ts ≡ forcedBy ss (ownAt p work e j)
+      forced-as = q ∙ ap (forcedBy ss) is
 
-    pub forced-ready : (ts : List ℕ) → ts ≡ forcedBy ss y → Ready n ts prefix images numbers e k (j + 1)
-    forced-ready ts q =
-        let x = ownAt prefix images e j / 16 in
-        let v = ownAt prefix images e j % 16 in
-        record {
-          listed = w .listed;
-          live = subst (λ (l : List ℕ). Live n l) (sym (forced-as ts q)) (Front.forced-live x v later begun right (w .split));
-          bound = omega (arith, w .bound);
-        }
+      pub forced-ready : Ready p ts work tables e k (j + 1)
+      forced-ready =
+          record {
+            tabled = w .tabled;
+            held = subst (λ (l : List ℕ). Held p l) (sym forced-as) (record {
+              live = Front.forced-live x v later begun right (w .split);
+              unused = λ z l h. Front.unused-set (w .held .live) x _ (right .0) z l ∙ w .held .unused z l h;
+            });
+            prefix = w .prefix;
+            begun = omega (arith, w .inside);
+          }
 
-    module _ (ts : List ℕ) (q : ts ≡ forcedBy ss y) (rs : List ℕ) (r : Reached) (c : Came n ts prefix images numbers e k (j + 1) rs r) where
-      pub stays-dead : r ≡ Dead → None n (forcedBy ss (ownAt prefix images e j)) (levelsFrom prefix images numbers e k (j + 1))
-      stays-dead z = subst (λ (l : List ℕ). None n l later) (forced-as ts q) (came-dead (forced-ready ts q) rs r c z)
+      -- one has it: nothing goes
+      pub parting-kept : {rs : List ℕ} {r : ℕ} → Came p ts work tables e k (j + 1) rs r → (r ≡ 16 → ⊥) → Parting p ss work e k j ss j
+      parting-kept c z =
+          record {
+            left = Front.split-kept x v later begun right (w .split) (Front.front-length (w .held .live)) (subst (λ (l : List ℕ). Some n l later) forced-as (came-some forced-ready c z));
+            less = inside-refl (take n ss);
+            answer = inr refl;
+          }
 
-      pub stays-end : r ≡ End → Some n (forcedBy ss (ownAt prefix images e j)) (levelsFrom prefix images numbers e k (j + 1))
-      stays-end z = subst (λ (l : List ℕ). Some n l later) (forced-as ts q) (came-end (forced-ready ts q) rs r c z)
+      -- no assignment has it: the value goes, and the equality is broken for good
+      pub parting-gone : {rs : List ℕ} {r : ℕ} → Came p ts work tables e k (j + 1) rs r → r ≡ 16 → {us : List ℕ} {s : Step} → Stepped ss (cutOf y) us s → Parting p ss work e k j us 15
+      parting-gone c z {us} {s} st =
+          subst (λ (l : List ℕ). Parting p ss work e k j l 15) (sym (st .sets ∙ ap (λ (u : ℕ). after ss (cutOf u)) is))
+          (record { left = left; less = less; answer = inl (refl, settled) })
+        where
+          left : Left n ss (forkEntries p work e k j) (out)
+          left = Front.split-gone x v later begun right (w .split) (Front.front-length (w .held .live)) (subst (λ (l : List ℕ). None n l later) forced-as (came-none forced-ready c z))
 
-      pub stays-split : (m : ℕ) → r ≡ Split m → Some n (forcedBy ss (ownAt prefix images e j)) (levelsFrom prefix images numbers e k (j + 1))
-      stays-split m z = subst (λ (l : List ℕ). Some n l later) (forced-as ts q) (came-split (forced-ready ts q) rs r c m z)
+          inside : x < length ss
+          inside = omega (arith, right .0, w .held .live .few, w .held .live .sixteen)
 
-    -- no assignment has it: the value goes
-    pub settle-gone : (b : Bool) → b ≡ false → Alive b n (forcedBy ss (ownAt prefix images e j)) (levelsFrom prefix images numbers e k (j + 1)) → {ts : List ℕ} {r : Step} → Stepped ss (cutOf y) ts r → Left n ss (forkEntries prefix images numbers e k j) ts
-    settle-gone true q z st = absurd (subst T q tt)
-    settle-gone false q z {ts} {r} st =
-        let x = ownAt prefix images e j / 16 in
-        let v = ownAt prefix images e j % 16 in
-        subst (λ (l : List ℕ). Left n ss (forkEntries prefix images numbers e k j) l) (sym (st .sets ∙ ap (λ (u : ℕ). after ss (cutOf u)) i))
-        (Front.split-gone x v later begun right (w .split) (Front.front-length (w .live)) z)
+          less : Inside (take n (out)) (take n ss)
+          less a b t =
+              let l : a < n = subst (λ (m : ℕ). a < m) (Front.front-length (left .live)) (has-at-lt (take n (out)) a b t) in
+              subst (λ (m : ℕ). T (has m b)) (sym (at-take n ss a l))
+              (set-each (λ z m. T (has m b) → T (has (at ss z) b)) ss x (withoutMask (at ss x) v) a inside
+              (λ h. both-l (has (at ss x) b) (not (eqb b v)) (mask-e (λ m. both (has (at ss x) m) (not (eqb m v))) b h .1)) (λ d h. h)
+              (subst (λ (m : ℕ). T (has m b)) (at-take n (out) a l) t))
 
-  -- one has it: nothing goes
-  pub settle-kept : (b : Bool) → b ≡ true → Alive b n (forcedBy ss (ownAt prefix images e j)) (levelsFrom prefix images numbers e k (j + 1)) → Left n ss (forkEntries prefix images numbers e k j) ss
-  settle-kept false q z = absurd (subst T (sym q) tt)
-  settle-kept true q z =
-      let x = ownAt prefix images e j / 16 in
-      let v = ownAt prefix images e j % 16 in
-      Front.split-kept x v later begun right (w .split) (Front.front-length (w .live)) z
+          settled : Settled (take n (out)) (keepOf (ownAt p work e j) ∷ [])
+          settled =
+              settled-equality (take n (out)) x v (subst (λ (m : ℕ). x < m) (sym (Front.front-length (left .live))) (right .0))
+              (λ t. of-not (not (eqb v v)) (ap not (eq-eqb v v refl))
+              (both-r (has (at ss x) v) (not (eqb v v))
+              (mask-e (λ m. both (has (at ss x) m) (not (eqb m v))) v
+              (subst (λ (m : ℕ). T (has m v)) (at-take n (out) x (right .0) ∙ at-set ss x (withoutMask (at ss x) v) inside) t) .1)))

@@ -1,156 +1,156 @@
--- The levels that the compiled arrays hold are the nogoods of the symmetry at the prefix, and what the scan leaves is what the filter leaves. Assumes nothing.
-use mathlib.Core.Path.{_≡_, refl, sym, ap, ap₂, _∙_, subst}
-use mathlib.Core.Bool.{Bool, true, false}
-use mathlib.Core.List.{List, [], _∷_, _++_, map, List·Memᴰ, List·Memᴰ·head, List·Memᴰ·tail}
-use Prim.Native.Nat.{ℕ, zero, suc, _+_, _-_, _*_, _/_, _%_, _^_, _≤_, _<_}
-use native.Mathlib.Nat.{not-suc-le-zero, le-of-suc-le-suc, lt-of-lt-of-le, mod-lt}
+-- What the passes and the fork leave is what the filter leaves, and the answer is a mark. Assumes nothing.
+use mathlib.Core.Path.{_≡_, refl, sym, ap, _∙_, subst}
+use mathlib.Core.Bool.{Bool}
+use mathlib.Core.List.{List, [], _∷_, _++_, append-nil, append-assoc}
+use mathlib.Core.Logic.{_⊎_, inl, inr}
+use Prim.Native.Nat.{ℕ, _+_, _≤_, _<_}
 use native.Mathlib.Omega.{arith}
-use lib.Dec.{T, ltb}
-use lib.ListN.{length, take, getD}
-use lib.Pow.{pow-mono}
-use lib.Seq.{length-take-le, getD-take}
-use Rattle.model.specs.Lists.{at, keep, flat, below}
-use Rattle.model.specs.ValueSets.{has, members, anyEmpty}
-use Rattle.model.specs.Problem.{Problem, pair}
-use Rattle.model.specs.Nogood.{Entry, equality, disequality, filtered}
-use Rattle.model.specs.Search.{entriesAt, nogoodsOf}
-use Rattle.model.proofs.Lists.{not-of, of-T, keep-e, below-e, map-ext}
-use Rattle.model.proofs.Sets.{has-lt, members-e, empty-e}
-use Rattle.model.proofs.WellFormed.{WellFormed, GoodSymmetry}
-use Rattle.model.proofs.Pairs
-use Rattle.model.proofs.Symmetry
+use lib.ListN.{length, take}
+use lib.Seq.{length-take-le, take-take}
+use borrow.Author.Tests.{ne-eqb}
+use Rattle.model.specs.Lists.{at}
+use Rattle.model.specs.ValueSets.{anyEmpty}
+use Rattle.model.specs.Problem.{Problem}
+use Rattle.model.specs.Nogood.{Entry, filtered}
+use Rattle.model.specs.Search.{nogoodsOf}
+use Rattle.model.proofs.Lists.{not-of, of-T}
+use Rattle.model.proofs.Sets.{empty-e}
 use Rattle.layout.specs.Layout.{symmetryAt}
-use Rattle.nogood.specs.declared.Reached.{Reached}
-use Rattle.nogood.specs.declared.Reached.the-variants.{Dead, End, Split}
-use Rattle.nogood.specs.Scan.{None, Live, Left}
+use Rattle.nogood.specs.Scan.{None, Left}
+use Rattle.nogood.specs.Marks.{Idle, Settled}
+use Rattle.nogood.proofs.Marks.{idle-mono, idle-append, idle-settled, settled-append}
 use Rattle.nogood.proofs.Front
-use Rattle.levels.specs.Levels.{Levelled, Sifted, leaves, imageAt, cutOf, keepOf, levelAt, levelsFrom, Listed, Ready, Fork, forkEntries, Came}
-use Rattle.levels.proofs.Forks.{came-dead, came-passed, came-forked}
+use Rattle.levels.specs.Levels.{MarkBy, Mark, Levelled, leaves, Sifted, keepOf, cuts, levels, ownAt, Thinned, Freed, Doomed, Ready, forkEntries, Forked, Came, dead, done, ended, forked, Parting}
+use Rattle.levels.proofs.Levels.{levels-append, levels-fork, nogoods-are}
+use Rattle.levels.proofs.Forks.{short}
+use Rattle.levels.proofs.Thinned.{same-length, idle-thinned, thinned-on, freed-on, doomed-on}
 
--- an element of a list stands in it
-mem-getD : (ls : List (List ℕ)) (i : ℕ) (d : List ℕ) → i < length ls → List·Memᴰ (getD ls i d) ls
-mem-getD [] i d h = absurd (not-suc-le-zero h)
-mem-getD (l ∷ ls) zero d h = List·Memᴰ·head refl
-mem-getD (l ∷ ls) (suc i) d h = List·Memᴰ·tail (mem-getD ls i d (le-of-suc-le-suc h))
+module _ {p : Problem} {sets work tables : List ℕ} {e k start : ℕ} (w : Levelled p sets work tables e k start) where
+  abbrev n : ℕ
+  n = p .variables
 
--- 16 times a variable plus a value, taken apart
-apart-variable : (a b : ℕ) → b < 16 → (16 * a + b) / 16 ≡ a
-apart-variable a b h = omega arith
-
-apart-value : (a b : ℕ) → b < 16 → (16 * a + b) % 16 ≡ b
-apart-value a b h = omega arith
-
-module _ {p : Problem} {sets prefix images numbers : List ℕ} {e k : ℕ} (w : Levelled p sets prefix images numbers e k) where
-  abbrev g : List ℕ
-  g = symmetryAt p e
-
-  good : GoodSymmetry p g
-  good = w .wellFormed .symmetric g (mem-getD (p .symmetries) e [] (w .symmetry))
-
-  -- the image of a pair, as the arrays hold it
-  abbrev to : ℕ → ℕ → ℕ
-  to x v = at g (pair p x v)
-
-  module _ (j v : ℕ) (h : j < k) (t : T (has (at (p .initial) j) v)) where
-    inside : j < p .variables
-    inside = omega (arith, w .bound)
-
-    value : v < p .values
-    value = has-lt (p .values) (at (p .initial) j) v (w .wellFormed .narrow j inside) t
-
-    held : imageAt images e j v ≡ 16 * (to j v / p .values) + to j v % p .values
-    held = w .imaged e j v (w .symmetry) inside value
-
-    small : to j v % p .values < 16
-    small = lt-of-lt-of-le (mod-lt (to j v) (w .wellFormed .one)) (w .wellFormed .sixteen)
-
-    variable-is : imageAt images e j v / 16 ≡ to j v / p .values
-    variable-is = ap (λ (n : ℕ). n / 16) held ∙ apart-variable (to j v / p .values) (to j v % p .values) small
-
-    value-is : imageAt images e j v % 16 ≡ to j v % p .values
-    value-is = ap (λ (n : ℕ). n % 16) held ∙ apart-value (to j v / p .values) (to j v % p .values) small
-
-    image-inside : imageAt images e j v / 16 < p .variables
-    image-inside =
-        subst (λ (n : ℕ). n < p .variables) (sym variable-is)
-        (Pairs.isPair-var p (w .wellFormed) (to j v) (Symmetry.to-pair p (w .wellFormed) g good (pair p j v) (Pairs.isPair-i p (w .wellFormed) j v inside t)))
-
-  initial-is : (j : ℕ) → j < k → at numbers (16 + j) ≡ at (p .initial) j
-  initial-is j h = w .numbered .initial j (omega (arith, w .bound))
-
-  member : (j v : ℕ) → j < k → T (has (at numbers (16 + j)) v) → T (has (at (p .initial) j) v)
-  member j v h t = subst (λ (s : ℕ). T (has s v)) (initial-is j h) t
-
-  listed : Listed (p .variables) prefix images numbers e k
-  listed =
+  pub ready : Ready p sets work tables e k start
+  ready =
       record {
-        symmetry = omega (arith, w .symmetry, w .few);
-        variables = omega (arith, w .bound, w .wellFormed .few);
-        small = λ j h. subst (λ (s : ℕ). s < 2 ^ 16) (sym (initial-is j h)) (lt-of-lt-of-le (w .wellFormed .narrow j (omega (arith, w .bound))) (pow-mono (w .wellFormed .sixteen)));
-        drawn = λ j h. subst (λ (s : ℕ). T (has s (at prefix j))) (sym (initial-is j h)) (w .drawn j h);
-        inside = λ j v h t. image-inside j v h (member j v h t);
+        tabled = record { pictured = w .pictured; wellFormed = w .wellFormed; few = w .few; symmetry = w .symmetry };
+        held = record { live = w .live; unused = w .unused };
+        prefix = record { bound = w .bound; drawn = w .drawn };
+        begun = w .begun;
       }
 
-  pub ready : Ready (p .variables) sets prefix images numbers e k 0
-  ready = record { listed = listed; live = w .live; bound = omega arith }
+  -- ---- the levels before the start
+  nogoods-at : (j : ℕ) → j ≤ k → nogoodsOf p (symmetryAt p e) (take j work) ≡ levels p work e 0 j
+  nogoods-at j h = nogoods-are p (w .wellFormed) e work j (omega (arith, short ready, w .work-length))
 
-  -- ---- the entries
-  prefix-at : (j : ℕ) → j < k → at (take k prefix) j ≡ at prefix j
-  unfolding at
-  prefix-at j h = getD-take k prefix j 0 h
+  before : Thinned n sets (levels p work e 0 start) sets
+  before = idle-thinned (levels p work e 0 start) (w .live) (subst (λ (es : List Entry). Idle (take n sets) es) (nogoods-at start (w .begun)) (w .idle))
 
-  level-is : (j : ℕ) → j < k → levelAt prefix images numbers e j ≡ entriesAt p (symmetryAt p e) (take k prefix) j
-  unfolding entriesAt
-  level-is j h =
-      rw (prefix-at j h, initial-is j h)
-      (ap₂ (λ (l m : List Entry). l ++ m)
-      (map-ext (λ v. cutOf (imageAt images e j v)) (λ v. disequality (to j v / p .values) (to j v % p .values)) (keep (λ v. ltb v (at prefix j)) (members (at (p .initial) j)))
-      (λ v m. let t = members-e (at (p .initial) j) v (keep-e (λ u. ltb u (at prefix j)) (members (at (p .initial) j)) v m .0) .1 in ap₂ disequality (variable-is j v h t) (value-is j v h t)))
-      (ap (λ (y : Entry). y ∷ []) (ap₂ equality (variable-is j (at prefix j) h (w .drawn j h)) (value-is j (at prefix j) h (w .drawn j h)))))
+  all : levels p work e 0 start ++ levels p work e start k ≡ levels p work e 0 k
+  all = sym (levels-append p work e 0 start k (omega arith) (w .begun))
 
-  pub levels-are : levelsFrom prefix images numbers e k 0 ≡ nogoodsOf p (symmetryAt p e) (take k prefix)
-  unfolding levelsFrom nogoodsOf below
-  levels-are =
-      let q : k - 0 ≡ k = omega arith in
-      let z : length (take k prefix) ≡ k = length-take-le k prefix (omega (arith, w .bound, w .wellFormed .few, w .prefix-length)) in
-      ap (λ (c : ℕ). flat (map (levelAt prefix images numbers e) (below c))) q
-      ∙ ap flat (map-ext (levelAt prefix images numbers e) (entriesAt p g (take k prefix)) (below k) (λ j m. level-is j (below-e k j m)))
-      ∙ ap (λ (c : ℕ). flat (map (entriesAt p g (take k prefix)) (below c))) (sym z)
+  -- ---- the marks
+  mark-settled : (ts : List ℕ) → Settled (take n ts) (levels p work e 0 k) → Mark p (take n ts) (take k work) e 15
+  mark-settled ts s = subst (λ (es : List Entry). Settled (take n ts) es) (sym (nogoods-at k (omega arith))) s
+
+  mark-idle : (ts : List ℕ) (j : ℕ) → j ≤ k → Idle (take n ts) (levels p work e 0 j) → Mark p (take n ts) (take k work) e j
+  mark-idle ts j h i =
+      let l = short ready in
+      let z : length (take k work) ≡ k = length-take-le k work (omega (arith, w .work-length)) in
+      subst (λ (b : Bool). MarkBy b p (take n ts) (take k work) e j) (sym (ne-eqb j 15 (λ q. omega arith)))
+      (omega arith, subst (λ (es : List Entry). Idle (take n ts) es) (sym (ap (nogoodsOf p (symmetryAt p e)) (take-take j k work h) ∙ nogoods-at j h)) i)
 
   -- ---- the answer
-  pub sifted-dead : (ts : List ℕ) → length ts ≡ length sets → None (p .variables) sets (levelsFrom prefix images numbers e k 0) → Sifted p sets prefix e k ts true
+  sifted-dead : (ts : List ℕ) → length ts ≡ length sets → Doomed n sets (levels p work e start k) → Sifted p sets work e k ts 16
   sifted-dead ts l z =
-      let t = Front.none-empty (p .variables) sets (nogoodsOf p g (take k prefix)) (w .wellFormed .some) (omega (arith, w .live .few, w .live .sixteen)) (subst (λ (es : List Entry). None (p .variables) sets es) levels-are z) in
+      let d : Doomed n sets (levels p work e 0 k) = subst (λ (es : List Entry). Doomed n sets es) all (doomed-on before (levels p work e start k) z) in
+      let t = Front.none-empty n sets (nogoodsOf p (symmetryAt p e) (take k work)) (w .wellFormed .some) (omega (arith, w .live .few, w .live .sixteen))
+      (subst (λ (es : List Entry). None n sets es) (append-nil (levels p work e 0 k) ∙ sym (nogoods-at k (omega arith))) (d [])) in
       record {
-        answers = sym (of-T (anyEmpty (leaves p sets prefix e k)) t);
-        left = λ q. absurd (subst T q tt);
-        live = λ q. absurd (subst T q tt);
-        unused = λ q. absurd (subst T q tt);
+        answers = sym (of-T (anyEmpty (leaves p sets work e k)) t);
+        left = λ q. absurd (q refl);
+        live = λ q. absurd (q refl);
+        unused = λ q. absurd (q refl);
+        mark = λ q. absurd (q refl);
         sixteen = l ∙ w .live .sixteen;
       }
 
-  pub sifted-live : (ts : List ℕ) → Left (p .variables) sets (levelsFrom prefix images numbers e k 0) ts → Sifted p sets prefix e k ts false
-  sifted-live ts z =
-      let a : take (p .variables) ts ≡ leaves p sets prefix e k = z .left ∙ ap (filtered (take (p .variables) sets)) levels-are in
+  sifted-live : (ts : List ℕ) (r : ℕ) → (r ≡ 16 → ⊥) → Left n sets (levels p work e 0 k) ts → Mark p (take n ts) (take k work) e r → Sifted p sets work e k ts r
+  sifted-live ts r h z m =
+      let a : take n ts ≡ leaves p sets work e k = z .left ∙ ap (filtered (take n sets)) (sym (nogoods-at k (omega arith))) in
       record {
-        answers = sym (not-of (anyEmpty (leaves p sets prefix e k)) (λ t. let r = empty-e (leaves p sets prefix e k) t in
+        answers = ne-eqb r 16 h ∙ sym (not-of (anyEmpty (leaves p sets work e k)) (λ t. let r = empty-e (leaves p sets work e k) t in
             Front.front-full (z .live) (r .0) (subst (λ (l : List ℕ). r .0 < length l) (sym a) (r .1)) (ap (λ (l : List ℕ). at l (r .0)) a ∙ r .2)));
         left = λ q. a;
         live = λ q. z .live;
         unused = λ q x h l. z .unused x h ∙ w .unused x h l;
+        mark = λ q. m;
         sixteen = z .live .sixteen;
       }
 
-  -- ---- how the pass ended
-  module _ (rs : List ℕ) (r : Reached) (c : Came (p .variables) sets prefix images numbers e k 0 rs r) where
-    pub at-dead : length rs ≡ length sets → r ≡ Dead → Sifted p sets prefix e k rs true
-    at-dead l q = sifted-dead rs l (came-dead ready rs r c q)
+  left-as : (ts : List ℕ) {es : List Entry} → es ≡ levels p work e 0 k → Left n sets es ts → Left n sets (levels p work e 0 k) ts
+  left-as ts q l = subst (λ (es : List Entry). Left n sets es ts) q l
 
-    pub at-end : r ≡ End → Sifted p sets prefix e k rs false
-    at-end q = sifted-live rs (Front.ended (came-passed ready rs r c q) (Front.front-length (w .live)))
+  module _ (rs : List ℕ) where
+    sifted-done : Freed n sets (levels p work e start k) rs → Sifted p sets work e k rs 15
+    sifted-done f =
+        let g : Freed n sets (levels p work e 0 k) rs = subst (λ (es : List Entry). Freed n sets es rs) all (freed-on before (levels p work e start k) rs f) in
+        sifted-live rs 15 (λ q. omega arith) (left-as rs (append-nil (levels p work e 0 k)) (Front.ended (g .passed []) (Front.front-length (w .live)))) (mark-settled rs (g .settled))
 
-    pub at-fork : (j : ℕ) → r ≡ Split j → Fork (p .variables) rs prefix images numbers e k j
-    at-fork j q = came-forked ready rs r c j q .fork
+    sifted-end : Thinned n sets (levels p work e start k) rs → Sifted p sets work e k rs k
+    sifted-end t =
+        let l = short ready in
+        let g : Thinned n sets (levels p work e 0 k) rs = subst (λ (es : List Entry). Thinned n sets es rs) all (thinned-on before (levels p work e start k) rs t) in
+        sifted-live rs k (λ q. omega arith) (left-as rs (append-nil (levels p work e 0 k)) (Front.ended (g .passed []) (Front.front-length (w .live)))) (mark-idle rs k (omega arith) (g .idle))
 
-    pub at-split : (j : ℕ) → r ≡ Split j → (ts : List ℕ) → Left (p .variables) rs (forkEntries prefix images numbers e k j) ts → Sifted p sets prefix e k ts false
-    at-split j q ts z = sifted-live ts (Front.left-after (came-forked ready rs r c j q .passed) z (Front.front-length (w .live)))
+    -- ---- how the pass ended
+    pub at-reached : (r : ℕ) → length rs ≡ length sets → k ≤ r → Came p sets work tables e k start rs r → Sifted p sets work e k rs r
+    at-reached r l h (dead q z) = subst (λ (m : ℕ). Sifted p sets work e k rs m) (sym q) (sifted-dead rs l z)
+    at-reached r l h (done q f) = subst (λ (m : ℕ). Sifted p sets work e k rs m) (sym q) (sifted-done f)
+    at-reached r l h (ended q t) = subst (λ (m : ℕ). Sifted p sets work e k rs m) (sym q) (sifted-end t)
+    at-reached r l h (forked q f) = absurd (omega arith)
+
+    pub at-forked : (r : ℕ) → r < k → Came p sets work tables e k start rs r → Forked p sets work tables e k start rs r
+    at-forked r h (dead q z) = absurd (omega (arith, short ready))
+    at-forked r h (done q f) = absurd (omega (arith, short ready))
+    at-forked r h (ended q t) = absurd (omega arith)
+    at-forked r h (forked q f) = f
+
+    module _ (j : ℕ) (f : Forked p sets work tables e k start rs j) (ts : List ℕ) (r : ℕ) (g : Parting p rs work e k j ts r) where
+      shrunk : length (take n ts) ≡ length (take n rs)
+      shrunk = same-length (f .fork .held .live) (g .left .live)
+
+      -- the levels up to j, with its cuts
+      front : Thinned n sets (levels p work e 0 start ++ (levels p work e start j ++ cuts p e j (at work j))) rs
+      front = thinned-on before (levels p work e start j ++ cuts p e j (at work j)) rs (f .thinned)
+
+      whole : (levels p work e 0 start ++ (levels p work e start j ++ cuts p e j (at work j))) ++ forkEntries p work e k j ≡ levels p work e 0 k
+      whole =
+          append-assoc (levels p work e 0 start) (levels p work e start j ++ cuts p e j (at work j)) (forkEntries p work e k j)
+          ∙ ap (λ (l : List Entry). levels p work e 0 start ++ l) (levels-fork p work e start j k (f .begun) (f .fork .inside)) ∙ all
+
+      left : Left n sets (levels p work e 0 k) ts
+      left = left-as ts whole (Front.left-after (front .passed (forkEntries p work e k j)) (g .left) (Front.front-length (w .live)))
+
+      upto : Idle (take n ts) (levels p work e 0 j)
+      upto =
+          subst (λ (es : List Entry). Idle (take n ts) es) (sym (levels-append p work e 0 start j (omega arith) (f .begun)))
+          (idle-mono (take n rs) (take n ts) (levels p work e 0 start ++ levels p work e start j) shrunk (g .less)
+          (idle-append (take n rs) (levels p work e 0 start) (levels p work e start j)
+          (idle-mono (take n sets) (take n rs) (levels p work e 0 start) (same-length (w .live) (f .fork .held .live)) (f .thinned .less) (before .idle)) (f .before)))
+
+      pub at-parting : Sifted p sets work e k ts r
+      at-parting = go (g .answer)
+        where
+          go : ((r ≡ 15) × Settled (take n ts) (keepOf (ownAt p work e j) ∷ [])) ⊎ (r ≡ j) → Sifted p sets work e k ts r
+          go (inl q) =
+              subst (λ (m : ℕ). Sifted p sets work e k ts m) (sym (q .0))
+              (sifted-live ts 15 (λ z. omega arith) left
+              (mark-settled ts (subst (λ (es : List Entry). Settled (take n ts) es) whole
+              (idle-settled (take n ts) (levels p work e 0 start ++ (levels p work e start j ++ cuts p e j (at work j))) (forkEntries p work e k j)
+              (idle-mono (take n rs) (take n ts) (levels p work e 0 start ++ (levels p work e start j ++ cuts p e j (at work j))) shrunk (g .less) (front .idle))
+              (settled-append (take n ts) (keepOf (ownAt p work e j) ∷ []) (levels p work e (j + 1) k) (q .1))))))
+          go (inr q) =
+              let l = short ready in
+              let h = f .fork .inside in
+              subst (λ (m : ℕ). Sifted p sets work e k ts m) (sym q)
+              (sifted-live ts j (λ z. omega arith) left (mark-idle ts j (omega arith) upto))

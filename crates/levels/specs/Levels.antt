@@ -1,146 +1,200 @@
 -- The filter of one symmetry at a prefix: what the crate's function asks and answers, and what its parts say to each other.
--- A level is what one variable of the prefix adds to the symmetry's list. No list is built: the entries are read from the compiled arrays.
+-- A level is what one variable of the prefix adds to the symmetry's list. No list is built: the entries are read from the tables.
 -- No reader has to believe this: it stands between proved functions.
 use mathlib.Core.Path.{_≡_}
 use mathlib.Core.Bool.{Bool, true, false}
 use mathlib.Core.List.{List, [], _∷_, _++_, map}
-use Prim.Native.Nat.{ℕ, _+_, _-_, _*_, _/_, _%_, _^_, _≤_, _<_}
+use mathlib.Core.Logic.{_⊎_}
+use Prim.Native.Nat.{ℕ, _+_, _-_, _/_, _%_, _^_, _≤_, _<_}
+use lib.Bits.{bitAnd}
+use lib.Dec.{T, eqb, ltb}
 use lib.ListN.{length, take}
-use lib.Dec.{T, ltb}
 use Rattle.model.specs.Lists.{at, keep, flat, upFrom}
 use Rattle.model.specs.ValueSets.{has, members, anyEmpty}
 use Rattle.model.specs.Problem.{Problem}
 use Rattle.model.specs.Nogood.{Entry, equality, disequality, filtered}
 use Rattle.model.specs.Search.{nogoodsOf}
+use Rattle.model.proofs.Sets.{Inside}
 use Rattle.model.proofs.WellFormed.{WellFormed}
-use Rattle.layout.specs.Layout.{Numbers, Images, symmetryAt}
-use Rattle.nogood.specs.declared.Reached.{Reached}
-use Rattle.nogood.specs.declared.Reached.the-variants.{Dead, End, Split}
+use Rattle.layout.specs.Layout.{symmetryAt}
+use Rattle.layout.specs.Tables.{Pictures, imageOf}
 use Rattle.nogood.specs.declared.entry.Step.{Step}
 use Rattle.nogood.specs.declared.entry.Step.the-variants as step
-use Rattle.nogood.specs.Scan.{stepOf, None, Live, Passed}
+use Rattle.nogood.specs.Scan.{stepOf, None, Live, Passed, Left}
 use Rattle.nogood.specs.Lists.{forced}
+use Rattle.nogood.specs.Marks.{Idle, Settled}
 
 -- ---- the contract of the filter
--- the arrays hold p; the first k numbers of `prefix` are values of the initial sets of variables 0 to k - 1;
--- of sixteen sets the first n are p's variables', none of them empty, and the others are {0}
-pub record Levelled (p : Problem) (sets prefix images numbers : List ℕ) (e k : ℕ) : Type 0 where
-  pub numbered : Numbers p numbers
-  pub imaged : Images p images
+-- what is known of symmetry e at a prefix, for sets ds: by the mark 15, its nogoods are obeyed for good;
+-- by a smaller mark m, the levels of the first m variables say nothing more
+abbrev pub MarkBy : Bool → Problem → List ℕ → List ℕ → ℕ → ℕ → Type 0
+MarkBy true p ds prefix e m = Settled ds (nogoodsOf p (symmetryAt p e) prefix)
+MarkBy false p ds prefix e m = (m ≤ length prefix) × Idle ds (nogoodsOf p (symmetryAt p e) (take m prefix))
+
+abbrev pub Mark : Problem → List ℕ → List ℕ → ℕ → ℕ → Type 0
+Mark p ds prefix e m = MarkBy (eqb m 15) p ds prefix e m
+
+-- the tables hold p's symmetries; the first k numbers of `work` are values of the initial sets of variables 0 to k - 1;
+-- of sixteen sets the first n are p's variables', none of them empty, and the others are {0}; the levels before `start` say nothing more
+pub record Levelled (p : Problem) (sets work tables : List ℕ) (e k start : ℕ) : Type 0 where
+  pub pictured : Pictures p tables
   pub wellFormed : WellFormed p
-  pub few : length (p .symmetries) ≤ 136
+  pub few : length (p .symmetries) ≤ 16
   pub symmetry : e < length (p .symmetries)
   pub bound : k ≤ p .variables
-  pub drawn : (j : ℕ) → j < k → T (has (at (p .initial) j) (at prefix j))
-  pub prefix-length : length prefix ≡ 256
+  pub drawn : (j : ℕ) → j < k → T (has (at (p .initial) j) (at work j))
+  pub work-length : length work ≡ 256
   pub live : Live (p .variables) sets
   pub unused : (x : ℕ) → p .variables ≤ x → x < 16 → at sets x ≡ 1
+  pub begun : start ≤ k
+  pub idle : Idle (take (p .variables) sets) (nogoodsOf p (symmetryAt p e) (take start work))
 
 -- what the exact filter leaves of p's sets, for the nogoods of symmetry e at the prefix of k values
 abbrev pub leaves : Problem → List ℕ → List ℕ → ℕ → ℕ → List ℕ
-leaves p sets prefix e k = filtered (take (p .variables) sets) (nogoodsOf p (symmetryAt p e) (take k prefix))
+leaves p sets work e k = filtered (take (p .variables) sets) (nogoodsOf p (symmetryAt p e) (take k work))
 
--- the answer is whether it leaves an empty set; where it leaves none, the sets are what it leaves
-pub record Sifted (p : Problem) (sets prefix : List ℕ) (e k : ℕ) (sets′ : List ℕ) (dead : Bool) : Type 0 where
-  pub answers : dead ≡ anyEmpty (leaves p sets prefix e k)
-  pub left : dead ≡ false → take (p .variables) sets′ ≡ leaves p sets prefix e k
-  pub live : dead ≡ false → Live (p .variables) sets′
-  pub unused : dead ≡ false → (x : ℕ) → p .variables ≤ x → x < 16 → at sets′ x ≡ 1
+-- the answer is 16 where it leaves an empty set; else the sets are what it leaves, and the answer is a mark for them
+pub record Sifted (p : Problem) (sets work : List ℕ) (e k : ℕ) (sets′ : List ℕ) (r : ℕ) : Type 0 where
+  pub answers : eqb r 16 ≡ anyEmpty (leaves p sets work e k)
+  pub left : (r ≡ 16 → ⊥) → take (p .variables) sets′ ≡ leaves p sets work e k
+  pub live : (r ≡ 16 → ⊥) → Live (p .variables) sets′
+  pub unused : (r ≡ 16 → ⊥) → (x : ℕ) → p .variables ≤ x → x < 16 → at sets′ x ≡ 1
+  pub mark : (r ≡ 16 → ⊥) → Mark p (take (p .variables) sets′) (take k work) e r
   pub sixteen : length sets′ ≡ 16
 
--- ---- between the functions of the crate: the entries, as the arrays hold them
--- the image of the pair (x, v) under symmetry e, as 16 times its variable plus its value
-abbrev pub imageAt : List ℕ → ℕ → ℕ → ℕ → ℕ
-imageAt images e x v = at images (192 * e + 16 * x + v)
-
--- "not this pair", and "this pair"
+-- ---- between the functions of the crate: the entries, as the tables hold them
+-- "not this pair", and "this pair", of 16 times a variable plus a value
 abbrev pub cutOf : ℕ → Entry
 cutOf y = disequality (y / 16) (y % 16)
 
 abbrev pub keepOf : ℕ → Entry
 keepOf y = equality (y / 16) (y % 16)
 
--- the images of a set of values of x, in order, as disequalities
-abbrev pub cuts : List ℕ → ℕ → ℕ → ℕ → List Entry
-cuts images e x s = map (λ v. cutOf (imageAt images e x v)) (members s)
+-- the values of x's initial set below v
+abbrev pub lower : Problem → ℕ → ℕ → List ℕ
+lower p x v = keep (λ w. ltb w v) (members (at (p .initial) x))
 
--- the level of a variable x with the initial set s and the value v in the prefix
-abbrev pub levelOf : List ℕ → ℕ → ℕ → ℕ → ℕ → List Entry
-levelOf images e x s v =
-    map (λ w. cutOf (imageAt images e x w)) (keep (λ w. ltb w v) (members s)) ++ (keepOf (imageAt images e x v) ∷ [])
+-- the level of a variable x with the value v in the prefix: the images of the smaller values go, then the image of its own pair is an equality
+abbrev pub cuts : Problem → ℕ → ℕ → ℕ → List Entry
+cuts p e x v = map (λ w. cutOf (imageOf p e x w)) (lower p x v)
 
-abbrev pub levelAt : List ℕ → List ℕ → List ℕ → ℕ → ℕ → List Entry
-levelAt prefix images numbers e j = levelOf images e j (at numbers (16 + j)) (at prefix j)
+abbrev pub levelOf : Problem → ℕ → ℕ → ℕ → List Entry
+levelOf p e x v = cuts p e x v ++ (keepOf (imageOf p e x v) ∷ [])
 
 -- the levels from j up to k
-unfoldable pub levelsFrom : List ℕ → List ℕ → List ℕ → ℕ → ℕ → ℕ → List Entry
-levelsFrom prefix images numbers e k j = flat (map (levelAt prefix images numbers e) (upFrom j (k - j)))
+unfoldable pub levels : Problem → List ℕ → ℕ → ℕ → ℕ → List Entry
+levels p work e j k = flat (map (λ i. levelOf p e i (at work i)) (upFrom j (k - j)))
 
 -- the image of the prefix's own pair of variable j
-abbrev pub ownAt : List ℕ → List ℕ → ℕ → ℕ → ℕ
-ownAt prefix images e j = imageAt images e j (at prefix j)
+abbrev pub ownAt : Problem → List ℕ → ℕ → ℕ → ℕ
+ownAt p work e j = imageOf p e j (at work j)
+
+-- ---- a first part of a list is passed, whatever comes after it
+-- its cuts are made, and it says nothing more
+pub record Thinned (n : ℕ) (ss : List ℕ) (es : List Entry) (rs : List ℕ) : Type 0 where
+  pub passed : (fs : List Entry) → Passed n ss (es ++ fs) rs fs
+  pub idle : Idle (take n rs) es
+  pub less : Inside (take n rs) (take n ss)
+
+-- its cuts are made, and it is obeyed for good
+pub record Freed (n : ℕ) (ss : List ℕ) (es : List Entry) (rs : List ℕ) : Type 0 where
+  pub passed : (fs : List Entry) → Passed n ss (es ++ fs) rs []
+  pub settled : Settled (take n rs) es
+  pub less : Inside (take n rs) (take n ss)
+
+-- no assignment obeys it
+abbrev pub Doomed : ℕ → List ℕ → List Entry → Type 0
+Doomed n ss es = (fs : List Entry) → None n ss (es ++ fs)
 
 -- ---- one level
--- the images of the values of s, a set of variable x, are pairs of the n variables
-pub record Pictured (n : ℕ) (ss images : List ℕ) (e x s : ℕ) : Type 0 where
-  pub live : Live n ss
-  pub symmetry : e < 136
-  pub variable : x < 12
-  pub small : s < 2 ^ 16
-  pub inside : (v : ℕ) → T (has s v) → imageAt images e x v / 16 < n
+-- the tables hold p's symmetries, and e is one of them
+pub record Tabled (p : Problem) (tables : List ℕ) (e : ℕ) : Type 0 where
+  pub pictured : Pictures p tables
+  pub wellFormed : WellFormed p
+  pub few : length (p .symmetries) ≤ 16
+  pub symmetry : e < length (p .symmetries)
 
--- the entries of a list, with any after them, are passed; or an empty set is met
+-- sixteen sets, none empty: p's, and {0} for the others
+pub record Held (p : Problem) (ss : List ℕ) : Type 0 where
+  pub live : Live (p .variables) ss
+  pub unused : (x : ℕ) → p .variables ≤ x → x < 16 → at ss x ≡ 1
+
+pub record Level (p : Problem) (ss tables : List ℕ) (e x v : ℕ) : Type 0 where
+  pub tabled : Tabled p tables e
+  pub held : Held p ss
+  pub variable : x < p .variables
+  pub value : T (has (at (p .initial) x) v)
+
+-- no set has a value of the table's
+abbrev pub Missed : Bool → List ℕ → List ℕ → ℕ → Type 0
+Missed r ss tables first = r ≡ false → (y : ℕ) → y < 16 → bitAnd (at ss y) (at tables (first + y)) ≡ 0
+
+-- each set loses the table's, and the answer says whether one is empty
+pub record Taken (ss tables : List ℕ) (first : ℕ) (rs : List ℕ) (r : Bool) : Type 0 where
+  pub sixteen : length rs ≡ length ss
+  pub each : (y : ℕ) → y < 16 → at rs y ≡ bitAnd (at ss y) ((2 ^ 16 - 1) - at tables (first + y))
+  pub empty : r ≡ true → (y : ℕ) × (y < 16) × (at rs y ≡ 0)
+  pub full : r ≡ false → (y : ℕ) → y < 16 → at rs y ≡ 0 → ⊥
+
 abbrev pub Cut : Bool → ℕ → List ℕ → List Entry → List ℕ → Type 0
-Cut true n ss es rs = (fs : List Entry) → None n ss (es ++ fs)
-Cut false n ss es rs = (fs : List Entry) → Passed n ss (es ++ fs) rs fs
+Cut true n ss es rs = Doomed n ss es
+Cut false n ss es rs = Thinned n ss es rs
 
--- a level is passed, with any entries fs after it; y is the image of its own pair
-pub record Parted (n : ℕ) (ss : List ℕ) (es : List Entry) (rs : List ℕ) (y : ℕ) : Type 0 where
-  pub split : stepOf rs (keepOf y) ≡ step.Split
-  pub passed : (fs : List Entry) → Passed n ss (es ++ fs) rs (keepOf y ∷ fs)
+-- the cuts of a level are made, and some assignments have its own pair, and some have not
+pub record Parted (p : Problem) (ss : List ℕ) (e x v : ℕ) (rs : List ℕ) : Type 0 where
+  pub thinned : Thinned (p .variables) ss (cuts p e x v) rs
+  pub split : stepOf rs (keepOf (imageOf p e x v)) ≡ step.Split
 
-abbrev pub Met : Step → ℕ → List ℕ → List Entry → List ℕ → ℕ → Type 0
-Met step.Next n ss es rs y = (fs : List Entry) → Passed n ss (es ++ fs) rs fs
-Met step.Dead n ss es rs y = (fs : List Entry) → None n ss (es ++ fs)
-Met step.Free n ss es rs y = (fs : List Entry) → Passed n ss (es ++ fs) rs []
-Met step.Split n ss es rs y = Parted n ss es rs y
+abbrev pub Met : Step → Problem → List ℕ → ℕ → ℕ → ℕ → List ℕ → Type 0
+Met step.Next p ss e x v rs = Thinned (p .variables) ss (levelOf p e x v) rs
+Met step.Dead p ss e x v rs = Doomed (p .variables) ss (levelOf p e x v)
+Met step.Free p ss e x v rs = Freed (p .variables) ss (levelOf p e x v) rs
+Met step.Split p ss e x v rs = Parted p ss e x v rs
 
 -- ---- the levels of a prefix
--- the arrays hold k levels whose entries are pairs of the n variables
-pub record Listed (n : ℕ) (prefix images numbers : List ℕ) (e k : ℕ) : Type 0 where
-  pub symmetry : e < 136
-  pub variables : k ≤ 12
-  pub small : (j : ℕ) → j < k → at numbers (16 + j) < 2 ^ 16
-  pub drawn : (j : ℕ) → j < k → T (has (at numbers (16 + j)) (at prefix j))
-  pub inside : (j v : ℕ) → j < k → T (has (at numbers (16 + j)) v) → imageAt images e j v / 16 < n
+-- the first k numbers of `work` are values of the initial sets
+pub record Prefix (p : Problem) (work : List ℕ) (k : ℕ) : Type 0 where
+  pub bound : k ≤ p .variables
+  pub drawn : (j : ℕ) → j < k → T (has (at (p .initial) j) (at work j))
 
 -- a pass from a level may begin
-pub record Ready (n : ℕ) (ss prefix images numbers : List ℕ) (e k start : ℕ) : Type 0 where
-  pub listed : Listed n prefix images numbers e k
-  pub live : Live n ss
-  pub bound : start ≤ k
+pub record Ready (p : Problem) (ss work tables : List ℕ) (e k start : ℕ) : Type 0 where
+  pub tabled : Tabled p tables e
+  pub held : Held p ss
+  pub prefix : Prefix p work k
+  pub begun : start ≤ k
 
 -- the own pair of level j is one that some assignments have and some have not
-pub record Fork (n : ℕ) (ss prefix images numbers : List ℕ) (e k j : ℕ) : Type 0 where
-  pub listed : Listed n prefix images numbers e k
-  pub live : Live n ss
-  pub bound : j < k
-  pub split : stepOf ss (keepOf (ownAt prefix images e j)) ≡ step.Split
+pub record Fork (p : Problem) (ss work tables : List ℕ) (e k j : ℕ) : Type 0 where
+  pub tabled : Tabled p tables e
+  pub held : Held p ss
+  pub prefix : Prefix p work k
+  pub inside : j < k
+  pub split : stepOf ss (keepOf (ownAt p work e j)) ≡ step.Split
 
 -- what is left there
-abbrev pub forkEntries : List ℕ → List ℕ → List ℕ → ℕ → ℕ → ℕ → List Entry
-forkEntries prefix images numbers e k j = keepOf (ownAt prefix images e j) ∷ levelsFrom prefix images numbers e k (j + 1)
+abbrev pub forkEntries : Problem → List ℕ → ℕ → ℕ → ℕ → List Entry
+forkEntries p work e k j = keepOf (ownAt p work e j) ∷ levels p work e (j + 1) k
 
-pub record Forked (n : ℕ) (ss prefix images numbers : List ℕ) (e k start : ℕ) (rs : List ℕ) (j : ℕ) : Type 0 where
-  pub fork : Fork n rs prefix images numbers e k j
-  pub passed : Passed n ss (levelsFrom prefix images numbers e k start) rs (forkEntries prefix images numbers e k j)
+pub record Forked (p : Problem) (ss work tables : List ℕ) (e k start : ℕ) (rs : List ℕ) (j : ℕ) : Type 0 where
+  pub fork : Fork p rs work tables e k j
+  pub begun : start ≤ j
+  pub before : Idle (take (p .variables) rs) (levels p work e start j)
+  pub thinned : Thinned (p .variables) ss (levels p work e start j ++ cuts p e j (at work j)) rs
 
 -- how far a pass from a level came
-abbrev pub Came : ℕ → List ℕ → List ℕ → List ℕ → List ℕ → ℕ → ℕ → ℕ → List ℕ → Reached → Type 0
-Came n ss prefix images numbers e k start rs Dead = None n ss (levelsFrom prefix images numbers e k start)
-Came n ss prefix images numbers e k start rs End = Passed n ss (levelsFrom prefix images numbers e k start) rs []
-Came n ss prefix images numbers e k start rs (Split j) = Forked n ss prefix images numbers e k start rs j
+pub data Came (p : Problem) (ss work tables : List ℕ) (e k start : ℕ) (rs : List ℕ) (r : ℕ) : Type 0 where
+  dead : r ≡ 16 → Doomed (p .variables) ss (levels p work e start k) → Came p ss work tables e k start rs r
+  done : r ≡ 15 → Freed (p .variables) ss (levels p work e start k) rs → Came p ss work tables e k start rs r
+  ended : r ≡ k → Thinned (p .variables) ss (levels p work e start k) rs → Came p ss work tables e k start rs r
+  forked : r < k → Forked p ss work tables e k start rs r → Came p ss work tables e k start rs r
 
 -- the sets with the pair y forced
 abbrev pub forcedBy : List ℕ → ℕ → List ℕ
 forcedBy ss y = forced ss (y / 16) (y % 16)
+
+-- what a fork comes to: its own pair goes, and then no assignment has it; or nothing goes
+pub record Parting (p : Problem) (ss work : List ℕ) (e k j : ℕ) (rs : List ℕ) (r : ℕ) : Type 0 where
+  pub left : Left (p .variables) ss (forkEntries p work e k j) rs
+  pub less : Inside (take (p .variables) rs) (take (p .variables) ss)
+  pub answer : ((r ≡ 15) × Settled (take (p .variables) rs) (keepOf (ownAt p work e j) ∷ [])) ⊎ (r ≡ j)

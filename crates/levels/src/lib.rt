@@ -1,163 +1,151 @@
-// The exact filter for the nogoods of one symmetry at a prefix (paper 01, "The search"), with no list built: a level at a time from the compiled arrays.
+// The exact filter for the nogoods of one symmetry at a prefix (paper 01, "The search"), with no list built: a level at a time from the tables.
+// It resumes at a mark, and answers the next one.
 ghost use mathlib.Core.Path.{_≡_};
-ghost use Prim.Native.Nat.{ℕ, _+_, _*_, _<_};
+ghost use Prim.Native.Nat.{_+_, _*_, _≤_, _<_};
 ghost use lib.ListN.{length};
-ghost use lib.Dec.{T};
 ghost use Rattle.model.specs.Lists.{at};
-ghost use Rattle.model.specs.ValueSets.{has};
 ghost use Rattle.model.specs.Problem.{Problem};
-ghost use Rattle.nogood.specs.Scan.{Left};
-ghost use Rattle.nogood.specs.Lists.{Alive};
-ghost use Rattle.levels.specs.Levels.{Levelled, Sifted, imageAt, cuts, levelOf, levelsFrom, ownAt, Pictured, Cut, Met, Ready, Fork, forkEntries, Came, forcedBy};
-use nogood::Reached;
+ghost use Rattle.levels.specs.Levels.{Levelled, Sifted, Missed, Taken, Level, cuts, Cut, Met, Ready, Came, Fork, Parting};
 use nogood::entry;
 use nogood::entry::Step;
 
-// The image of the pair (x, v) under symmetry e: 16 times its variable plus its value.
-fn image(images: &[u8; 26112], e: usize, x: usize, v: usize) -> u8
-    requires { ⌜ (e < 136) × (x < 12) × (v < 16) ⌝ }
-    ensures { λ r. ⌜ r ≡ imageAt (now (images .entry)) e x v ⌝ }
-{
-    images[192 * e + 16 * x + v]
-}
+// The mark of a symmetry whose nogoods are obeyed for good.
+pub const DONE: u64 = 15;
 
-// The images of a set of values of x, in order, as disequalities; true at an empty set.
-fn cut(sets: &mut [u16; 16], images: &[u8; 26112], e: usize, x: usize, values: u16) -> bool
-    requires { ⌜ ((n : ℕ) × Pictured n (now sets) (now images) e x values) ⌝ }
-    ensures sixteen { λ _. ⌜ length (now (sets .exit)) ≡ length (now (sets .entry)) ⌝ }
-    ensures entries { λ r. ⌜ ((n : ℕ) → Pictured n (now (sets .entry)) (now (images .entry)) e x values → Cut r n (now (sets .entry)) (cuts (now (images .entry)) e x values) (now (sets .exit))) ⌝ }
+// The answer where no assignment obeys.
+pub const DEAD: u64 = 16;
+
+// Whether the level from a place of the tables on takes a value of some set.
+fn hits(sets: &[u16; 16], tables: &[u16; 55296], first: usize) -> bool
+    requires { ⌜ first + 16 ≤ 55296 ⌝ }
+    ensures { λ r. ⌜ Missed r (now (sets .entry)) (now (tables .entry)) first ⌝ }
 {
-    let mut m = values;
-    while m != 0 {
-        let y = image(images, e, x, u16::trailing_zeros(m) as usize);
-        let step = entry::disequality(sets, (y / 16) as usize, y % 16);
-        if let Step::Dead = step {
-            return true;
-        }
-        m = m & (m - 1);
+    let mut hit = 0u16;
+    let mut y = 0;
+    while y < 16 {
+        hit = hit | (sets[y] & tables[first + y]);
+        y += 1;
     }
-    false
+    hit != 0
 }
 
-// A level: the images of the smaller values of x's initial set are cut, and then the image of the prefix's own pair is an equality.
-fn level(
-    sets: &mut [u16; 16],
-    images: &[u8; 26112],
-    e: usize,
-    x: usize,
-    initial: u16,
-    v: usize,
-) -> Step
-    requires { ⌜ ((n : ℕ) × Pictured n (now sets) (now images) e x initial) × T (has initial v) ⌝ }
-    ensures sixteen { λ _. ⌜ length (now (sets .exit)) ≡ length (now (sets .entry)) ⌝ }
-    ensures entries { λ r. ⌜ ((n : ℕ) → Pictured n (now (sets .entry)) (now (images .entry)) e x initial → Met r n (now (sets .entry)) (levelOf (now (images .entry)) e x initial v) (now (sets .exit)) (imageAt (now (images .entry)) e x v)) ⌝ }
+// Takes the level's sets from the sets; true where one is left empty.
+fn take(sets: &mut [u16; 16], tables: &[u16; 55296], first: usize) -> bool
+    requires { ⌜ (length (now sets) ≡ 16) × (first + 16 ≤ 55296) ⌝ }
+    ensures { λ r. ⌜ Taken (now (sets .entry)) (now (tables .entry)) first (now (sets .exit)) r ⌝ }
 {
-    if cut(sets, images, e, x, initial & ((1u16 << v) - 1)) {
+    let mut empty = false;
+    let mut y = 0;
+    while y < 16 {
+        let t = sets[y] & !tables[first + y];
+        sets[y] = t;
+        empty = empty | (t == 0);
+        y += 1;
+    }
+    empty
+}
+
+// The images of the smaller values of x's initial set go; true at an empty set.
+fn cut(sets: &mut [u16; 16], tables: &[u16; 55296], e: usize, x: usize, v: usize) -> bool
+    requires { ⌜ ((p : Problem) × Level p (now sets) (now tables) e x v) ⌝ }
+    ensures sixteen { λ _. ⌜ length (now (sets .exit)) ≡ length (now (sets .entry)) ⌝ }
+    ensures entries { λ r. ⌜ ((p : Problem) → Level p (now (sets .entry)) (now (tables .entry)) e x v → Cut r (p .variables) (now (sets .entry)) (cuts p e x v) (now (sets .exit))) ⌝ }
+{
+    let first = 3072 + 3072 * e + 256 * x + 16 * v;
+    if !hits(sets, tables, first) {
+        return false;
+    }
+    take(sets, tables, first)
+}
+
+// The image of the pair (x, v) under symmetry e: 16 times its variable plus its value.
+fn image(tables: &[u16; 55296], e: usize, x: usize, v: usize) -> u16
+    requires { ⌜ (e < 16) × (x < 12) × (v < 16) ⌝ }
+    ensures { λ r. ⌜ r ≡ at (now (tables .entry)) (52224 + 192 * e + 16 * x + v) ⌝ }
+{
+    tables[52224 + 192 * e + 16 * x + v]
+}
+
+// A level: the cuts are made, and then the image of the prefix's own pair is an equality.
+fn level(sets: &mut [u16; 16], tables: &[u16; 55296], e: usize, x: usize, v: usize) -> Step
+    requires { ⌜ ((p : Problem) × Level p (now sets) (now tables) e x v) ⌝ }
+    ensures sixteen { λ _. ⌜ length (now (sets .exit)) ≡ length (now (sets .entry)) ⌝ }
+    ensures entries { λ r. ⌜ ((p : Problem) → Level p (now (sets .entry)) (now (tables .entry)) e x v → Met r p (now (sets .entry)) e x v (now (sets .exit))) ⌝ }
+{
+    if cut(sets, tables, e, x, v) {
         return Step::Dead;
     }
-    let y = image(images, e, x, v);
-    entry::equality(sets, (y / 16) as usize, y % 16)
+    let y = image(tables, e, x, v);
+    entry::equality(sets, (y / 16) as usize, (y % 16) as u8)
 }
 
-// Passes the levels from a start, until the outcome is settled.
+// Passes the levels from a start, until the outcome is settled: DEAD, DONE, the level that splits the assignments, or k at the end.
 fn pass(
     sets: &mut [u16; 16],
-    prefix: &[u64; 256],
-    images: &[u8; 26112],
-    numbers: &[u64; 128],
+    work: &[u64; 256],
+    tables: &[u16; 55296],
     e: usize,
     k: usize,
     start: usize,
-) -> Reached
-    requires { ⌜ ((n : ℕ) × Ready n (now sets) (now prefix) (now images) (now numbers) e k start) ⌝ }
+) -> u64
+    requires { ⌜ ((p : Problem) × Ready p (now sets) (now work) (now tables) e k start) ⌝ }
     ensures sixteen { λ _. ⌜ length (now (sets .exit)) ≡ length (now (sets .entry)) ⌝ }
-    ensures entries { λ r. ⌜ ((n : ℕ) → Ready n (now (sets .entry)) (now (prefix .entry)) (now (images .entry)) (now (numbers .entry)) e k start → Came n (now (sets .entry)) (now (prefix .entry)) (now (images .entry)) (now (numbers .entry)) e k start (now (sets .exit)) r) ⌝ }
+    ensures entries { λ r. ⌜ ((p : Problem) → Ready p (now (sets .entry)) (now (work .entry)) (now (tables .entry)) e k start → Came p (now (sets .entry)) (now (work .entry)) (now (tables .entry)) e k start (now (sets .exit)) r) ⌝ }
 {
     let mut j = start;
     while j < k {
-        let step = level(
-            sets,
-            images,
-            e,
-            j,
-            numbers[16 + j] as u16,
-            prefix[j] as usize,
-        );
+        let step = level(sets, tables, e, j, work[j] as usize);
         match step {
             Step::Next => {}
-            Step::Dead => return Reached::Dead,
-            Step::Free => return Reached::End,
-            Step::Split => return Reached::Split(j),
+            Step::Dead => return DEAD,
+            Step::Free => return DONE,
+            Step::Split => return j as u64,
         }
         j += 1;
     }
-    Reached::End
+    k as u64
 }
 
-// At a level whose own pair some assignments have and some have not: whether an assignment that has it obeys the levels after it.
-fn stays(
-    sets: &[u16; 16],
-    prefix: &[u64; 256],
-    images: &[u8; 26112],
-    numbers: &[u64; 128],
-    e: usize,
-    k: usize,
-    j: usize,
-) -> bool
-    requires { ⌜ ((n : ℕ) × Fork n (now sets) (now prefix) (now images) (now numbers) e k j) ⌝ }
-    ensures { λ r. ⌜ ((n : ℕ) → Fork n (now (sets .entry)) (now (prefix .entry)) (now (images .entry)) (now (numbers .entry)) e k j → Alive r n (forcedBy (now (sets .entry)) (ownAt (now (prefix .entry)) (now (images .entry)) e j)) (levelsFrom (now (prefix .entry)) (now (images .entry)) (now (numbers .entry)) e k (j + 1))) ⌝ }
-{
-    let mut work = *sets;
-    let y = image(images, e, j, prefix[j] as usize);
-    entry::force(&mut work, (y / 16) as usize, y % 16);
-    let reached = pass(&mut work, prefix, images, numbers, e, k, j + 1);
-    match reached {
-        Reached::Dead => false,
-        Reached::End => true,
-        Reached::Split(_) => true,
-    }
-}
-
-// There the pair goes where no assignment has it, and nothing else does.
-fn settle(
+// At a level whose own pair some assignments have and some have not: the pair goes where no assignment that has it obeys the levels after it.
+fn fork(
     sets: &mut [u16; 16],
-    prefix: &[u64; 256],
-    images: &[u8; 26112],
-    numbers: &[u64; 128],
+    work: &[u64; 256],
+    tables: &[u16; 55296],
     e: usize,
     k: usize,
-    j: usize,
-)
-    requires { ⌜ ((n : ℕ) × Fork n (now sets) (now prefix) (now images) (now numbers) e k j) ⌝ }
-    ensures { λ _. ⌜ ((n : ℕ) → Fork n (now (sets .entry)) (now (prefix .entry)) (now (images .entry)) (now (numbers .entry)) e k j → Left n (now (sets .entry)) (forkEntries (now (prefix .entry)) (now (images .entry)) (now (numbers .entry)) e k j) (now (sets .exit))) ⌝ }
+    split: usize,
+) -> u64
+    requires { ⌜ ((p : Problem) × Fork p (now sets) (now work) (now tables) e k split) ⌝ }
+    ensures { λ r. ⌜ ((p : Problem) → Fork p (now (sets .entry)) (now (work .entry)) (now (tables .entry)) e k split → Parting p (now (sets .entry)) (now (work .entry)) e k split (now (sets .exit)) r) ⌝ }
 {
-    if stays(sets, prefix, images, numbers, e, k, j) {
-        return;
+    let y = image(tables, e, split, work[split] as usize);
+    let x = (y / 16) as usize;
+    let v = (y % 16) as u8;
+    let mut ahead = *sets;
+    entry::force(&mut ahead, x, v);
+    if pass(&mut ahead, work, tables, e, k, split + 1) == DEAD {
+        entry::disequality(sets, x, v);
+        return DONE;
     }
-    let y = image(images, e, j, prefix[j] as usize);
-    entry::disequality(sets, (y / 16) as usize, y % 16);
+    split as u64
 }
 
-// Takes from the sets each value that no assignment uses that is drawn from them and obeys the nogoods of symmetry e at the prefix of k values.
-// True where none obeys; the sets then say nothing.
-pub fn filter_at(
+// Takes from the sets each value that no assignment uses that is drawn from them and obeys the nogoods of symmetry e at the prefix of k values;
+// the levels before `start` say nothing more. DEAD where none obeys, and the sets then say nothing; else the mark.
+pub fn filter(
     sets: &mut [u16; 16],
-    prefix: &[u64; 256],
-    images: &[u8; 26112],
-    numbers: &[u64; 128],
+    work: &[u64; 256],
+    tables: &[u16; 55296],
     e: usize,
     k: usize,
-) -> bool
-    requires { ⌜ ((p : Problem) × Levelled p (now sets) (now prefix) (now images) (now numbers) e k) ⌝ }
-    ensures { λ r. ⌜ ((p : Problem) → Levelled p (now (sets .entry)) (now (prefix .entry)) (now (images .entry)) (now (numbers .entry)) e k → Sifted p (now (sets .entry)) (now (prefix .entry)) e k (now (sets .exit)) r) ⌝ }
+    start: usize,
+) -> u64
+    requires { ⌜ ((p : Problem) × Levelled p (now sets) (now work) (now tables) e k start) ⌝ }
+    ensures { λ r. ⌜ ((p : Problem) → Levelled p (now (sets .entry)) (now (work .entry)) (now (tables .entry)) e k start → Sifted p (now (sets .entry)) (now (work .entry)) e k (now (sets .exit)) r) ⌝ }
 {
-    let reached = pass(sets, prefix, images, numbers, e, k, 0);
-    match reached {
-        Reached::Dead => true,
-        Reached::End => false,
-        Reached::Split(j) => {
-            settle(sets, prefix, images, numbers, e, k, j);
-            false
-        }
+    let reached = pass(sets, work, tables, e, k, start);
+    if reached < k as u64 {
+        return fork(sets, work, tables, e, k, reached as usize);
     }
+    reached
 }

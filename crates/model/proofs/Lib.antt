@@ -3,6 +3,9 @@ pub mod Lists
 pub mod Counting
 pub mod Sets
 pub mod Masks
+pub mod Members
+pub mod Firsts
+pub mod Filling
 pub mod Assignments
 pub mod Filter
 pub mod WellFormed

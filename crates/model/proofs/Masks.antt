@@ -1,12 +1,12 @@
 -- What the code's operations on sixteen bits do to members; the least value. Assumes nothing.
 use mathlib.Core.Path.{_≡_, refl, sym, ap, ap₂, _∙_, fun-ext}
 use mathlib.Core.Bool.{Bool, true, false, not}
-use Prim.Native.Nat.{ℕ, zero, suc, _-_, _*_, _/_, _%_, _^_, _≤_, _<_, min, max}
+use Prim.Native.Nat.{ℕ, zero, suc, _+_, _-_, _*_, _/_, _%_, _^_, _≤_, _<_, min, max}
 use native.Mathlib.Nat.{not-suc-le-zero, le-of-suc-le-suc, mod-eq-of-lt, lt-of-le-of-lt}
 use native.Mathlib.Omega.{arith}
 use lib.Dec.{eqb, ltb, lit<, leb·suc-suc, eqb·zero-suc, eqb·suc-zero, eqb·suc-suc}
-use lib.Bits.{bitAnd, bitOr, and-step, or-step, and-lt, or-lt, and-mask, and-le-l}
-use lib.Pow.{pow-pos, pow-lt}
+use lib.Bits.{bitAnd, bitOr, and-step, or-step, and-lt, or-lt, and-mask, and-le-l, and-le-r}
+use lib.Pow.{pow-pos, pow-lt, shr-shr}
 use lib.Count.{trailingZeros, under}
 use borrow.Author.Tests.{eq-eqb, ne-eqb, lt-ltb, le-ltb}
 use Rattle.model.specs.Lists.{both, either}
@@ -102,6 +102,16 @@ least-below (suc k) f j l = below (least-below k (λ v. f (suc v))) (f 0) refl j
     below h false e zero l′ = e
     below h false e (suc i) l′ = h i (le-of-suc-le-suc l′)
 
+pub least-is : (k : ℕ) (f : ℕ → Bool) → least k f < k → f (least k f) ≡ true
+unfolding least
+least-is zero f l = absurd (not-suc-le-zero l)
+least-is (suc k) f l = go (least-is k (λ v. f (suc v))) (f 0) refl l
+  where
+    go : (least k (λ v. f (suc v)) < k → f (suc (least k (λ v. f (suc v)))) ≡ true) → (b : Bool) → f 0 ≡ b →
+        leastStep b (least k (λ v. f (suc v))) < suc k → f (leastStep b (least k (λ v. f (suc v)))) ≡ true
+    go ih true e l = e
+    go ih false e l = ih (le-of-suc-le-suc l)
+
 -- ---- the operations of the type, as comprehensions
 -- a set is the comprehension of its members
 pub is-mask : (s : ℕ) (f : ℕ → Bool) → s < 2 ^ 16 → ((v : ℕ) → v < 16 → has s v ≡ f v) → s ≡ maskOf f
@@ -191,3 +201,14 @@ contains-op s v = ap (λ (n : ℕ). eqb n 1) (and-mask (s / 2 ^ v) 1)
 
 pub shl-pos : (v : ℕ) → v < 16 → 1 ≤ 1 * 2 ^ v % 2 ^ 16
 shl-pos v h = rw (shl-one v h) (pow-pos v)
+
+-- ---- a shift, and the last eight bits
+pub has-shr : (x s i : ℕ) → has (x / 2 ^ s) i ≡ has x (s + i)
+unfolding has
+has-shr x s i = ap (λ (n : ℕ). eqb (n % 2) 1) (shr-shr x s i)
+
+pub byte-has : (s w : ℕ) → w < 8 → has (bitAnd s 255) w ≡ has s w
+byte-has s w h = has-and s 255 w ∙ ap (both (has s w)) (has-not 8 0 w (omega arith) h ∙ ap not (has-none w)) ∙ both-true (has s w)
+
+pub byte-lt : (s : ℕ) → bitAnd s 255 < 256
+byte-lt s = omega (arith, and-le-r s 255)

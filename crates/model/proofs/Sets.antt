@@ -8,11 +8,11 @@ use native.Mathlib.Numerals.{one-add}
 use native.Mathlib.Omega.{arith}
 use lib.Dec.{T, eqb, ltb, eqb→eq}
 use lib.Pow.{shr-shr}
-use lib.ListN.{length}
+use lib.ListN.{length, set, length-set}
 use borrow.Author.Tests.{eq-eqb, ne-eqb}
 use Rattle.model.specs.Lists.{keep, below, at}
 use Rattle.model.specs.ValueSets.{bit, has, maskBelow, maskOf, members, anyEmpty}
-use Rattle.model.proofs.Lists.{T-of, not-of, of-not, T-ext, keep-i, keep-e, keep-none, below-i, below-e, Sorted, sorted-keep, sorted-below, at-out, at-ext, mem-at, at-mem, any-i, any-e, sublist-keep}
+use Rattle.model.proofs.Lists.{T-of, not-of, of-not, T-ext, keep-i, keep-e, keep-none, below-i, below-e, Sorted, sorted-keep, sorted-below, at-out, at-ext, mem-at, at-mem, set-each, any-i, any-e, sublist-keep}
 
 -- ---- the member test, bit by bit
 pub has-zero : (s : ℕ) → has s 0 ≡ eqb (s % 2) 1
@@ -136,6 +136,10 @@ inside-trans ds es fs h k x v t = k x v (h x v t)
 pub inside-antisym : (n : ℕ) (ds es : List ℕ) → Sets n ds → Sets n es → Inside ds es → Inside es ds → ds ≡ es
 inside-antisym n ds es s t h k =
     at-ext ds es (s .0 ∙ sym (t .0)) (λ x l. mask-ext 16 (at ds x) (at es x) (s .1 x) (t .1 x) (λ v b. T-ext (has (at ds x) v) (has (at es x) v) (h x v) (k x v)))
+
+-- one set stored
+pub set-sets : (n : ℕ) (ds : List ℕ) (x b : ℕ) → Sets n ds → x < n → b < 2 ^ 16 → Sets n (set ds x b)
+set-sets n ds x b s h k = (length-set ds x b ∙ s .0, λ y. set-each (λ z t. t < 2 ^ 16) ds x b y (omega (arith, s .0)) k (λ e. s .1 y))
 
 -- a value of a set stands at a variable
 pub has-at-lt : (ds : List ℕ) (x v : ℕ) → T (has (at ds x) v) → x < length ds

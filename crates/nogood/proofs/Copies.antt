@@ -6,17 +6,13 @@ use Prim.Native.Nat.{ℕ, _+_, _^_, _≤_, _<_}
 use native.Mathlib.Nat.{not-suc-le-zero}
 use native.Mathlib.Omega.{arith}
 use lib.ListN.{length, set, take, length-set, length-map}
-use lib.Seq.{length-take-le, getD-take}
+use lib.Seq.{length-take-le}
 use Rattle.model.specs.Lists.{at}
-use Rattle.model.proofs.Lists.{at-ext}
+use Rattle.model.proofs.Lists.{at-ext, at-take, set-each}
 use Rattle.model.proofs.Sets.{at-zeros}
 use Rattle.nogood.specs.Scan.{Live}
 use Rattle.nogood.specs.Lists.{zeros, Loaded}
-use Rattle.nogood.proofs.Scan.{at-set-same, at-set-other, set-each, small-set}
-
-at-take : (n : ℕ) (l : List ℕ) (i : ℕ) → i < n → at (take n l) i ≡ at l i
-unfolding at
-at-take n l i h = getD-take n l i 0 h
+use Rattle.nogood.proofs.Scan.{small-set}
 
 -- ---- a slice filled from the front by f
 pub record Filling (f : ℕ → ℕ) (ts₀ ts : List ℕ) (i : ℕ) : Type 0 where

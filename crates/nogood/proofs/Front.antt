@@ -12,7 +12,7 @@ use borrow.Author.Tests.{eqb-true, eqb-false}
 use Rattle.model.specs.Lists.{either, at}
 use Rattle.model.specs.ValueSets.{withoutMask, onlyMask, anyEmpty}
 use Rattle.model.specs.Nogood.{Entry, equality, disequality, obeysFrom, filtered}
-use Rattle.model.proofs.Lists.{either-l, at-out}
+use Rattle.model.proofs.Lists.{either-l, at-out, at-set-other, set-each}
 use Rattle.model.proofs.Sets.{at-zeros, empty-i}
 use Rattle.nogood.specs.declared.entry.Step.{Step}
 use Rattle.nogood.specs.declared.entry.Step.the-variants.{Next, Dead, Free, Split}
@@ -37,12 +37,12 @@ never-dead true c e = let z : _≡_ {A = ℕ} 0 1 = cc in omega arith
 never-dead false true e = let z : _≡_ {A = ℕ} 0 1 = cc in omega arith
 never-dead false false e = let z : _≡_ {A = ℕ} 0 1 = cc in omega arith
 
-next-keep : (b c : Bool) → keepStep b c ≡ Next → b ≡ true
+pub next-keep : (b c : Bool) → keepStep b c ≡ Next → b ≡ true
 next-keep true c e = refl
 next-keep false true e = let z : _≡_ {A = ℕ} 0 1 = cc in absurd (omega arith)
 next-keep false false e = let z : _≡_ {A = ℕ} 0 1 = cc in absurd (omega arith)
 
-free-keep : (b c : Bool) → keepStep b c ≡ Free → c ≡ true
+pub free-keep : (b c : Bool) → keepStep b c ≡ Free → c ≡ true
 free-keep true c e = let z : _≡_ {A = ℕ} 0 1 = cc in absurd (omega arith)
 free-keep false true e = refl
 free-keep false false e = let z : _≡_ {A = ℕ} 0 1 = cc in absurd (omega arith)
@@ -85,11 +85,11 @@ module _ {n : ℕ} {ss : List ℕ} (l : Live n ss) where
           few = l .few;
           sixteen = length-set ss x s ∙ l .sixteen;
           small = Scan.small-set ss x s (whole-lt x h) (l .small) b;
-          full = λ y k. Scan.set-each (λ z t. t ≡ 0 → ⊥) ss x s y (whole-lt x h) f (λ e. l .full y k);
+          full = λ y k. set-each (λ z t. t ≡ 0 → ⊥) ss x s y (whole-lt x h) f (λ e. l .full y k);
         }
 
     pub unused-set : (y : ℕ) → n ≤ y → at (set ss x s) y ≡ at ss y
-    unused-set y k = Scan.at-set-other ss x s y (λ e. omega arith)
+    unused-set y k = at-set-other ss x s y (λ e. omega arith)
 
     -- the same of the front alone
     front-set : take n (set ss x s) ≡ set (take n ss) x s

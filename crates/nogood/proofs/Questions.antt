@@ -13,6 +13,7 @@ use Rattle.model.specs.Verdict.{Verdict, accepted, refused, ask}
 use Rattle.model.specs.Nogood.{Entry, entryOk, firstWrong, filterVerdict, setsAfter, filtered}
 use Rattle.model.proofs.Lists.{T-of}
 use Rattle.model.proofs.Masks.{least-none, least-at, least-below}
+use Rattle.model.proofs.Members.{both-no}
 use Rattle.nogood.specs.declared.Answer.{Answer}
 use Rattle.nogood.specs.declared.Answer.the-variants.{Filtered, Refused}
 use Rattle.nogood.specs.Lists.{Listed, means}
@@ -38,10 +39,6 @@ module _ (n : ℕ) (xs es us : List ℕ) where
   all-ok e j l = not-false (okAt j) (least-below (length xs) (λ i. not (okAt i)) j (subst (λ (k : ℕ). j < k) (sym e) l))
 
 -- ---- the verdict, question by question
-both-false : (b : Bool) → both b false ≡ false
-both-false true = refl
-both-false false = refl
-
 module _ (ds xs es us : List ℕ) where
   pub no-set : length ds < 1 → refused 17 0 ≡ filterVerdict ds xs es us
   unfolding filterVerdict
@@ -49,7 +46,7 @@ module _ (ds xs es us : List ℕ) where
 
   pub many-sets : 12 < length ds → refused 17 0 ≡ filterVerdict ds xs es us
   unfolding filterVerdict
-  many-sets h = simp (lt-leb (length ds) 12 h, both-false)
+  many-sets h = simp (lt-leb (length ds) 12 h, both-no)
 
   module _ (h : 1 ≤ length ds) (m : length ds ≤ 12) where
     pub other-equals : (length es ≡ length xs → ⊥) → refused 18 0 ≡ filterVerdict ds xs es us
@@ -58,11 +55,11 @@ module _ (ds xs es us : List ℕ) where
 
     pub other-others : (length us ≡ length xs → ⊥) → refused 18 0 ≡ filterVerdict ds xs es us
     unfolding filterVerdict
-    other-others q = simp (le-leb 1 (length ds) h, le-leb (length ds) 12 m, ne-eqb (length us) (length xs) q, both-false)
+    other-others q = simp (le-leb 1 (length ds) h, le-leb (length ds) 12 m, ne-eqb (length us) (length xs) q, both-no)
 
     pub long-lists : 192 < length xs → refused 18 0 ≡ filterVerdict ds xs es us
     unfolding filterVerdict
-    long-lists l = simp (le-leb 1 (length ds) h, le-leb (length ds) 12 m, lt-leb (length xs) 192 l, both-false)
+    long-lists l = simp (le-leb 1 (length ds) h, le-leb (length ds) 12 m, lt-leb (length xs) 192 l, both-no)
 
     module _ (p : length es ≡ length xs) (q : length us ≡ length xs) (l : length xs ≤ 192) (r : ℕ) (b : r ≡ firstWrong (length ds) xs es us) where
       pub wrong-entry : (r ≡ length xs → ⊥) → refused 19 r ≡ filterVerdict ds xs es us

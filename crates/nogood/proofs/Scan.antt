@@ -10,40 +10,20 @@ use native.Mathlib.Decide.{ℕ-discrete}
 use native.Mathlib.Omega.{arith}
 use lib.Dec.{T, eqb, eqb→eq, eqb-refl}
 use lib.ListN.{length, getD, set, take, length-set, length-map}
-use lib.Seq.{getD-set-same, getD-set-other, set-getD, getD-take, take-set-lt, length-take-le}
+use lib.Seq.{getD-set-same, getD-take, take-set-lt, length-take-le}
 use borrow.Author.Tests.{eq-eqb, ne-eqb, eqb-true, eqb-false}
 use Rattle.model.specs.Lists.{both, either, any, keep, at, tabulate}
 use Rattle.model.specs.ValueSets.{has, maskOf, members, withoutMask, onlyMask, anyEmpty}
 use Rattle.model.specs.Problem.{assignments}
 use Rattle.model.specs.Nogood.{Entry, equality, disequality, is, obeysFrom, obeys, obeying, used, filtered}
-use Rattle.model.proofs.Lists.{T-of, of-T, not-of, T-ext, both-i, both-l, both-r, either-l, either-r, either-e, any-i, any-e, keep-i, keep-e, getD-at, at-ext, at-tabulate, length-tabulate}
+use Rattle.model.proofs.Lists.{T-of, of-T, not-of, T-ext, both-i, both-l, both-r, either-l, either-r, either-e, any-i, any-e, keep-i, keep-e, getD-at, at-ext, at-tabulate, length-tabulate, at-set, at-set-other, set-at, set-each, both-less}
 use Rattle.model.proofs.Sets.{has-mask, has-none, mask-lt, mask-i, mask-e, members-i, members-e, member, empty-i, at-zeros}
 use Rattle.model.proofs.Masks.{is-mask}
+use Rattle.model.proofs.Members.{either-no}
 use Rattle.model.proofs.Assignments.{assign-i, assign-e}
 use Rattle.nogood.specs.declared.entry.Step.{Step}
 use Rattle.nogood.specs.declared.entry.Step.the-variants.{Next, Dead, Free, Split}
 use Rattle.nogood.specs.Scan.{stepOf, after, cutStep, keepStep, models, None, Some, Live, Passed, Left, Right}
-
--- ---- one set of a list stored
-pub at-set-same : (ss : List ℕ) (x s : ℕ) → x < length ss → at (set ss x s) x ≡ s
-unfolding at
-at-set-same ss x s h = getD-set-same ss x s 0 h
-
-pub at-set-other : (ss : List ℕ) (x s y : ℕ) → (y ≡ x → ⊥) → at (set ss x s) y ≡ at ss y
-unfolding at
-at-set-other ss x s y h = getD-set-other ss x y s 0 h
-
-pub set-at : (ss : List ℕ) (x : ℕ) → set ss x (at ss x) ≡ ss
-unfolding at
-set-at ss x = set-getD ss x 0
-
--- what holds of the set stored, and of the others, holds of each
-pub set-each : (P : ℕ → ℕ → Type 0) (ss : List ℕ) (x s y : ℕ) → x < length ss → P x s → ((y ≡ x → ⊥) → P y (at ss y)) → P y (at (set ss x s) y)
-set-each P ss x s y h here there = go (ℕ-discrete y x)
-  where
-    go : Dec (y ≡ x) → P y (at (set ss x s) y)
-    go (yes e) = subst (λ (z : ℕ). P z (at (set ss x s) z)) (sym e) (subst (P x) (sym (at-set-same ss x s h)) here)
-    go (no e) = subst (P y) (sym (at-set-other ss x s y e)) (there e)
 
 -- ---- an assignment drawn from the sets
 abbrev pub Draw : List ℕ → List ℕ → Type 0
@@ -89,14 +69,14 @@ cut-e ss x f a h d = ((d .0 ∙ length-set ss x _, λ y l. go y (ℕ-discrete y 
     drawn y l = d .1 y (subst (λ (n : ℕ). y < n) (sym (length-set ss x _)) l)
 
     here : T (both (has (at ss x) (at a x)) (f (at a x)))
-    here = mask-e (λ v. both (has (at ss x) v) (f v)) (at a x) (subst (λ (s : ℕ). T (has s (at a x))) (at-set-same ss x _ h) (drawn x h .1)) .1
+    here = mask-e (λ v. both (has (at ss x) v) (f v)) (at a x) (subst (λ (s : ℕ). T (has s (at a x))) (at-set ss x _ h) (drawn x h .1)) .1
 
     go : (y : ℕ) → Dec (y ≡ x) → y < length ss → (at a y < 16) × T (has (at ss y) (at a y))
     go y (yes e) l = subst (λ (z : ℕ). (at a z < 16) × T (has (at ss z) (at a z))) (sym e) (drawn x h .0, both-l (has (at ss x) (at a x)) (f (at a x)) here)
     go y (no e) l = (drawn y l .0, subst (λ (s : ℕ). T (has s (at a y))) (at-set-other ss x _ y e) (drawn y l .1))
 
 -- ---- one entry
-obeys-unheld : (a : List ℕ) (es : List Entry) → obeysFrom false a es ≡ true
+pub obeys-unheld : (a : List ℕ) (es : List Entry) → obeysFrom false a es ≡ true
 unfolding obeysFrom
 obeys-unheld a [] = refl
 obeys-unheld a (equality x v ∷ es) = obeys-unheld a es
@@ -168,18 +148,13 @@ at-empty ss x es q h e =
 
 -- so does one that is stored
 pub stored-empty : (ss : List ℕ) (x s : ℕ) (es : List Entry) (q : List ℕ → Bool) → x < length ss → s ≡ 0 → models (set ss x s) es q ≡ false
-stored-empty ss x s es q h e = at-empty (set ss x s) x es q (subst (λ (n : ℕ). x < n) (sym (length-set ss x s)) h) (at-set-same ss x s h ∙ e)
+stored-empty ss x s es q h e = at-empty (set ss x s) x es q (subst (λ (n : ℕ). x < n) (sym (length-set ss x s)) h) (at-set ss x s h ∙ e)
 
 -- a set that has no member but u, and one that has not u
 only-u : (b c : Bool) → both b (not c) ≡ false → b ≡ both b c
 only-u true true e = refl
 only-u true false e = e
 only-u false c e = refl
-
-not-u : (b c : Bool) → both b c ≡ false → b ≡ both b (not c)
-not-u true true e = e
-not-u true false e = refl
-not-u false c e = refl
 
 no-member : (f : ℕ → Bool) (s v : ℕ) → v < 16 → narrow f s ≡ 0 → both (has s v) (f v) ≡ false
 no-member f s v l e = sym (has-mask 16 (λ w. both (has s w) (f w)) v l) ∙ ap (λ (n : ℕ). has n v) e ∙ has-none v
@@ -188,11 +163,7 @@ pub kept-only : (s u : ℕ) → s < 2 ^ 16 → withoutMask s u ≡ 0 → onlyMas
 kept-only s u h e = sym (is-mask s (λ v. both (has s v) (eqb v u)) h (λ v l. only-u (has s v) (eqb v u) (no-member (other u) s v l e)))
 
 pub kept-without : (s u : ℕ) → s < 2 ^ 16 → onlyMask s u ≡ 0 → withoutMask s u ≡ s
-kept-without s u h e = sym (is-mask s (λ v. both (has s v) (not (eqb v u))) h (λ v l. not-u (has s v) (eqb v u) (no-member (equal u) s v l e)))
-
-either-false : (b : Bool) → either b false ≡ b
-either-false true = refl
-either-false false = refl
+kept-without s u h e = sym (is-mask s (λ v. both (has s v) (not (eqb v u))) h (λ v l. both-less (has s v) (eqb v u) (no-member (equal u) s v l e)))
 
 module _ (ss : List ℕ) (x u : ℕ) (es : List Entry) (q : List ℕ → Bool) (h : x < length ss) (b : at ss x < 2 ^ 16) where
   -- every assignment keeps the equality: it says nothing
@@ -206,7 +177,7 @@ module _ (ss : List ℕ) (x u : ℕ) (es : List Entry) (q : List ℕ → Bool) (
   at-never e =
       at-equality ss x u es q h
       ∙ ap₂ either (ap (λ (l : List ℕ). models l [] q) (ap (set ss x) (kept-without (at ss x) u b e) ∙ set-at ss x)) (stored-empty ss x (onlyMask (at ss x) u) es q h e)
-      ∙ either-false (models ss [] q)
+      ∙ either-no (models ss [] q)
 
 -- ---- the end of a scan, over any list of sets
 -- each is of sixteen bits; none is empty
@@ -302,7 +273,7 @@ module _ (ss : List ℕ) (x u : ℕ) (es : List Entry) (b : Small ss) (f : Full 
   split-gone z =
       filtered-end out (small-set ss x _ l b (without-lt (at ss x) u)) (full-set ss x _ l f some)
       ∙ filtered-same out [] ss (equality x u ∷ es) (length-set ss x _)
-      (λ q. sym (at-equality ss x u es q l ∙ ap (either (models out [] q)) (z q) ∙ either-false (models out [] q)))
+      (λ q. sym (at-equality ss x u es q l ∙ ap (either (models out [] q)) (z q) ∙ either-no (models out [] q)))
 
   -- it has one: nothing goes
   parts : (i v : ℕ) → i < length ss → v < 16 → models ss (equality x u ∷ es) (λ a. is a i v) ≡ either (has (at out i) v) (models on es (λ a. is a i v))
@@ -343,7 +314,7 @@ module _ (ss : List ℕ) (x u : ℕ) (es : List Entry) (b : Small ss) (f : Full 
           (r .3))
       at-x v h e false q =
           either-l (lft x v) (rgt x v)
-          (subst (λ (s : ℕ). T (has s v)) (sym (at-set-same ss x _ l))
+          (subst (λ (s : ℕ). T (has s v)) (sym (at-set ss x _ l))
           (mask-i (λ w. both (has (at ss x) w) (other u w)) v h (both-i (has (at ss x) v) (other u v) e (T-of (not (eqb v u)) (ap not q)))))
 
       back : (i v : ℕ) → v < 16 → T (has (at ss i) v) → Dec (i ≡ x) → T (either (lft i v) (rgt i v))

@@ -6,31 +6,33 @@ use Prim.Native.Nat.{ℕ, _+_, _*_, _^_, _≤_, _<_}
 use native.Mathlib.Omega.{arith}
 use lib.Dec.{T, eqb, ltb}
 use lib.ListN.{length, getD, take}
+use lib.Bits.{bitAnd}
 use borrow.Author.Tests.{ltb-true, ltb-false, eqb-true, eq-eqb}
-use Rattle.model.specs.Lists.{any, at}
+use Rattle.model.specs.Lists.{at}
 use Rattle.model.specs.ValueSets.{has, anyEmpty}
 use Rattle.model.specs.Problem.{Problem, Constraint}
-use Rattle.model.specs.Search.{nogoodsOf, pruned, setsAt, isLive}
-use Rattle.model.proofs.Lists.{T-of, of-T, not-of, of-not, at-ext}
-use Rattle.model.proofs.Sets.{has-none, has-lt, mask-ext, empty-inside, Sets, Inside, inside-antisym, size, size-inside, size-strict}
-use Rattle.model.proofs.Prune.{Kept, fixed-i, closed, largest, Way, live-is, way-live, way-end}
+use Rattle.model.specs.Search.{nogoodsOf, pruned, setsAt, isLive, supported}
+use Rattle.model.proofs.Lists.{T-of, of-T, not-of, of-not, at-ext, both-l, place-of}
+use Rattle.model.proofs.Sets.{has-none, mask-ext, empty-inside, Sets, Inside, inside-antisym, size, size-inside, size-strict}
+use Rattle.model.proofs.Masks.{has-and}
+use Rattle.model.proofs.Firsts.{take-sets}
+use Rattle.model.proofs.Prune.{Sized, Kept, fixed-i, closed, largest, Way, live-is, way-live, way-end}
 use Rattle.model.proofs.Tree.{well-sized}
-use Rattle.layout.specs.Layout.{constraintAt}
-use Rattle.constraints.specs.Revised.{setsOf, Fixed, Waiting, Constrained}
+use Rattle.layout.specs.Pruning.{Given, Ended, setsOf}
 use Rattle.constraints.specs.Steps.{Gathered}
-use Rattle.constraints.proofs.Rows.{ascending-sorted, of-scope, fixed-local}
-use Rattle.constraints.proofs.Scopes.{good}
-use Rattle.constraints.proofs.Ways.{take-at, take-sets}
-use Rattle.prune.specs.Steps.{Ground, Live, AllSifted, Ended, Nearing, Arrived, Differ}
-use Rattle.prune.proofs.Sifting.{place-of}
+use Rattle.levels.proofs.Marks.{mark-mono}
+use Rattle.prune.specs.Steps as steps
+use Rattle.prune.specs.Steps.{Stage, Pending, Steady, Ground, Live, Marking, AllSifted, EndedAt, Nearing, Arrived, Differ}
+use Rattle.prune.proofs.Pending.{take-less, still-fixed, touched-known, still-arc}
+use Rattle.prune.proofs.Sifting.{same-take, kept-trans}
 
 -- ---- a set is empty, so the prefix is dead
-pub not-live : (p : Problem) (prefix es : List ℕ) → Way p prefix es → Rattle.model.proofs.Prune.Sized p → T (anyEmpty es) → isLive p prefix ≡ false
+pub not-live : (p : Problem) (prefix es : List ℕ) → Way p prefix es → Sized p → T (anyEmpty es) → isLive p prefix ≡ false
 not-live p prefix es w s t =
     live-is p prefix ∙ ap not (of-T (anyEmpty (closed p prefix)) (empty-inside (p .variables) (closed p prefix) es (largest p prefix s .sets) (w .sets) (w .over) t))
 
-dead : (p : Problem) (prefix sets : List ℕ) → isLive p prefix ≡ false → Arrived p prefix sets true
-dead p prefix sets e = record { answers = sym (ap not e); sets-are = λ q. absurd (subst T q tt); live = λ q. absurd (subst T q tt) }
+dead : (p : Problem) (k : ℕ) (work work′ sets : List ℕ) → steps.Kept work work′ k → isLive p (take k work) ≡ false → Arrived p k work work′ sets true
+dead p k work work′ sets r e = record { answers = sym (ap not e); sets-are = λ q. absurd (subst T q tt); live = λ q. absurd (subst T q tt); marking = λ q. absurd (subst T q tt); kept = r }
 
 -- ---- which sets differ
 module _ (ds es : List ℕ) (s : Sets 16 ds) (t : Sets 16 es) (changed : ℕ) (d : Differ ds es changed) where
@@ -55,86 +57,119 @@ module _ (ds es : List ℕ) (s : Sets 16 ds) (t : Sets 16 es) (changed : ℕ) (d
       go true q = ltb-true (size es) (size ds) q
       go false q = absurd (some-differs h n (inside-antisym 16 es ds t s i (size-strict es ds (t .0 ∙ sym (s .0)) (s .1) i (ltb-false (size es) (size ds) q))))
 
+-- ---- what is said of work's prefix is said of another with the same prefix
+module _ {p : Problem} {supports tables numbers : List ℕ} (st : Stage p supports tables numbers) {work₀ work : List ℕ} {k : ℕ} (l : length work₀ ≡ 256) (h : k ≤ p .variables) (r : steps.Kept work₀ work k) where
+  same-prefix : take k work ≡ take k work₀
+  same-prefix = same-take work₀ work k k l r (omega (arith, h, st .wellFormed .few))
+
+  pub arrived-from : {work′ sets : List ℕ} {b : Bool} → Arrived p k work work′ sets b → Arrived p k work₀ work′ sets b
+  arrived-from {work′ = work′} {sets = sets} a = record {
+    answers = a .answers ∙ ap (λ (z : List ℕ). not (isLive p z)) same-prefix;
+    sets-are = λ q. a .sets-are q ∙ ap (setsAt p) same-prefix;
+    live = a .live;
+    marking = λ q. subst (λ (z : List ℕ). Marking p (setsOf p sets) z work′ k) same-prefix (a .marking q);
+    kept = kept-trans work₀ work work′ k r (a .kept);
+  }
+
 -- ---- one turn: the constraints leave es, the filters fs
-module _ {p : Problem} {work supports images numbers ds : List ℕ} {k todo : ℕ} (n : Nearing p work supports images numbers ds k todo) where
-  prefix : List ℕ
-  prefix = take k work
-
+module _ {p : Problem} {supports tables numbers : List ℕ} (st : Stage p supports tables numbers) {work ds : List ℕ} {k todo dirty : ℕ} (n : Nearing p work numbers ds k todo dirty) where
   n-few : p .variables ≤ 16
-  n-few = omega (arith, n .ground .wellFormed .few)
+  n-few = omega (arith, st .wellFormed .few)
 
-  pub constrained-dead : (es : List ℕ) → Constrained p ds es true → Arrived p (take k work) es true
-  constrained-dead es c = dead p (take k work) es (not-live p (take k work) (setsOf p es) (c .ways (take k work) (n .way)) (well-sized p (n .ground .wellFormed)) (T-of (anyEmpty (setsOf p es)) (sym (c .answers))))
+  kept-self : steps.Kept work work k
+  kept-self = record { before = λ j i. refl; size = refl }
 
-  module _ {es : List ℕ} (c : Constrained p ds es false) where
+  pub constrained-dead : (es : List ℕ) → Ended p ds → Arrived p k work work es true
+  constrained-dead es e = dead p k work work es kept-self (not-live p (take k work) (e .0) (e .1 .0 (take k work) (n .way)) (well-sized p (st .wellFormed)) (e .1 .1))
+
+  module _ {es : List ℕ} (c : Steady p ds es) where
     pub constrained-live : Live p es
-    constrained-live = record { sixteen = c .sixteen; full = sym (c .answers); unused = λ x l h. c .unused x l ∙ n .live .unused x l h }
+    constrained-live = record { sixteen = c .given .sixteen; full = c .given .full; unused = λ x l i. c .unused x l ∙ n .live .unused x l i }
+
+    pub constrained-marking : Marking p (setsOf p es) (take k work) work k
+    constrained-marking e l =
+        mark-mono p (setsOf p ds) (setsOf p es) (take k work) e (at work (16 * k + 16 + e)) (take-sets (p .variables) es (c .given .sixteen) n-few .0 ∙ sym (take-sets (p .variables) ds (n .live .sixteen) n-few .0))
+        (take-less st ds es (n .live .sixteen) (c .given .sixteen) (c .less)) (n .marking e l)
 
     way-1 : Way p (take k work) (setsOf p es)
     way-1 = c .ways (take k work) (n .way)
 
-    pub sifted-dead : (fs : List ℕ) → Ended p (take k work) es → Arrived p (take k work) fs true
-    sifted-dead fs e = dead p (take k work) fs (not-live p (take k work) (e .0) (e .1 .0 way-1) (well-sized p (n .ground .wellFormed)) (e .1 .1))
+    pub sifted-dead : (work′ fs : List ℕ) → steps.Kept work work′ k → EndedAt p (take k work) es → Arrived p k work work′ fs true
+    sifted-dead work′ fs r e = dead p k work work′ fs r (not-live p (take k work) (e .0) (e .1 .0 way-1) (well-sized p (st .wellFormed)) (e .1 .1))
 
-    module _ {fs : List ℕ} (s : AllSifted p (take k work) es fs) {changed : ℕ} (d : Differ es fs changed) where
+    module _ {work′ fs : List ℕ} (s : AllSifted p (take k work) es fs) (m : Marking p (setsOf p fs) (take k work) work′ k) (r : steps.Kept work work′ k) {changed : ℕ} (d : Differ es fs changed) where
       way-2 : Way p (take k work) (setsOf p fs)
       way-2 = s .way way-1
 
       -- nothing moved: no constraint and no filter takes anything
-      pub settled : changed ≡ 0 → Arrived p (take k work) fs false
+      pub settled : changed ≡ 0 → Arrived p k work work′ fs false
       settled e = record {
         answers = sym (ap not (of-T (isLive p (take k work)) live));
         sets-are = λ q. sym sets;
         live = λ q. s .live;
+        marking = λ q. m;
+        kept = r;
       }
         where
           same : fs ≡ es
-          same = none-differs es fs (c .sixteen) (s .live .sixteen) changed d e
+          same = none-differs es fs (c .given .sixteen) (s .live .sixteen) changed d e
 
           kept : (x v : ℕ) → T (has (at (setsOf p es) x) v) → Kept p (take k work) (setsOf p es) x v
           kept x v t = record {
             member = t;
-            rows = λ a m. let r = place-of (p .constraints) a (record { scope = []; rows = [] }) m in subst (λ (z : Constraint). T (Rattle.model.specs.Search.supported (setsOf p es) x v z)) (r .2) (c .fixed refl (r .0) (r .1) x v t);
-            filters = λ g m. subst (λ (z : List ℕ). T (has (at z x) v)) (sym (s .fixed same g m)) t;
+            rows = λ a i. let q = place-of (p .constraints) a (record { scope = []; rows = [] }) i in subst (λ (z : Constraint). T (supported (setsOf p es) x v z)) (q .2) (c .fixed (q .0) (q .1) x v t);
+            filters = λ g i. subst (λ (z : List ℕ). T (has (at z x) v)) (sym (s .fixed same g i)) t;
           }
 
           fixed : pruned p (take k work) (setsOf p fs) ≡ setsOf p fs
-          fixed = subst (λ (z : List ℕ). pruned p (take k work) (setsOf p z) ≡ setsOf p z) (sym same) (fixed-i p (take k work) (setsOf p es) (take-sets (p .variables) es (c .sixteen) n-few) kept)
+          fixed = subst (λ (z : List ℕ). pruned p (take k work) (setsOf p z) ≡ setsOf p z) (sym same) (fixed-i p (take k work) (setsOf p es) (take-sets (p .variables) es (c .given .sixteen) n-few) kept)
 
           sets : setsAt p (take k work) ≡ setsOf p fs
-          sets = way-live p (take k work) (well-sized p (n .ground .wellFormed)) (setsOf p fs) way-2 fixed (s .live .full)
+          sets = way-live p (take k work) (well-sized p (st .wellFormed)) (setsOf p fs) way-2 fixed (s .live .full)
 
           live : T (isLive p (take k work))
-          live = T-of (isLive p (take k work)) (live-is p (take k work) ∙ ap not (ap anyEmpty (sym (way-end p (take k work) (well-sized p (n .ground .wellFormed)) (setsOf p fs) way-2 fixed)) ∙ s .live .full))
+          live = T-of (isLive p (take k work)) (live-is p (take k work) ∙ ap not (ap anyEmpty (sym (way-end p (take k work) (well-sized p (st .wellFormed)) (setsOf p fs) way-2 fixed)) ∙ s .live .full))
 
       -- something moved: the constraints of the changed variables are due
-      module _ {left : ℕ} (u : Gathered numbers changed left) where
-        pub settling : Nearing p work supports images numbers fs k left
+      module _ {left moved : ℕ} (u : Gathered numbers changed left) (q : moved ≡ bitAnd changed (at numbers 70)) where
+        same-at-x : (x : ℕ) → x < p .variables → has changed x ≡ false → at fs x ≡ at es x
+        same-at-x x l e = same-at es fs (c .given .sixteen) (s .live .sixteen) changed d x (omega (arith, n-few)) e
+
+        given : Given p fs
+        given = record { sixteen = s .live .sixteen; full = s .live .full; inside = λ x v t. c .given .inside x v (take-less st es fs (c .given .sixteen) (s .live .sixteen) (s .less) x v t) }
+
+        prefix-is : take k work′ ≡ take k work
+        prefix-is = same-take work work′ k k (n .ground .work-length) r (omega (arith, n .ground .depth, n-few))
+
+        pub settling : Nearing p work′ numbers fs k left moved
         settling = record {
-          ground = n .ground;
-          live = s .live;
-          waiting = record {
-            given = n .waiting .given;
-            sixteen = s .live .sixteen;
-            full = s .live .full;
-            known = λ j t. let x = u .gathered-e j t in has-lt (length (p .constraints)) (at numbers (x .0)) j (n .ground .numbered .touching-few (x .0) (d .few (x .0) (x .1))) (x .2);
-            others = others;
+          ground = record {
+            depth = n .ground .depth;
+            drawn = λ j l. subst (λ (z : ℕ). T (has (at (p .initial) j) z)) (sym (r .before j (omega arith))) (n .ground .drawn j l);
+            work-length = r .size ∙ n .ground .work-length;
           };
-          way = way-2;
+          live = s .live;
+          pending = record {
+            given = given;
+            known = touched-known st changed left u (d .few);
+            others = λ j l e b. still-fixed st es fs changed left (c .given .sixteen) (s .live .sixteen) same-at-x u j l e b (c .fixed j l);
+            inner = λ x t. inner-x x (both-l (has changed x) (has (at numbers 70) x) (subst T (ap (λ (z : ℕ). has z x) q ∙ has-and changed (at numbers 70) x) t));
+            arcs = λ x l e. still-arc st es fs changed moved (c .given) given (s .less) same-at-x q x l e (c .arcs x l);
+          };
+          marking = subst (λ (z : List ℕ). Marking p (setsOf p fs) z work′ k) (sym prefix-is) m;
+          way = subst (λ (z : List ℕ). Way p z (setsOf p fs)) (sym prefix-is) way-2;
         }
           where
-            others : (j : ℕ) → j < length (p .constraints) → has left j ≡ false → Fixed (setsOf p fs) (constraintAt p j)
-            others j l e =
-                let a = constraintAt p j in
-                let o = good (n .waiting .given) j l in
-                fixed-local a (setsOf p es) (setsOf p fs) (ascending-sorted (a .scope) (o .ordered))
-                (λ y m.
-                let i = o .inside y m in
-                let h : y < 16 = omega (arith, n-few) in
-                take-at (p .variables) es (c .sixteen) n-few y i
-                ∙ sym (same-at es fs (c .sixteen) (s .live .sixteen) changed d y h (not-of (has changed y) (λ t. of-not (has left j) e (u .gathered-i y j t (T-of (has (at numbers y) j) (n .ground .numbered .touching y j h l ∙ of-T (any (eqb y) (a .scope)) (of-scope y (a .scope) m)))))))
-                ∙ sym (take-at (p .variables) fs (s .live .sixteen) n-few y i))
-                (c .fixed refl j l)
+            -- an unused set never changes
+            inner-x : (x : ℕ) → T (has changed x) → x < p .variables
+            inner-x x t = go (ltb x (p .variables)) refl
+              where
+                go : (b : Bool) → ltb x (p .variables) ≡ b → x < p .variables
+                go true e = ltb-true x (p .variables) e
+                go false e =
+                    let o = ltb-false x (p .variables) e in
+                    let i = d .few x t in
+                    absurd (of-not (has changed x) (d .differ x i ∙ ap not (eq-eqb (at fs x) (at es x) (s .live .unused x o i ∙ sym (constrained-live .unused x o i)))) t)
 
       pub settling-less : changed < 2 ^ 64 → (changed ≡ 0 → ⊥) → size fs < size ds
-      settling-less h z = omega (arith, fewer es fs (c .sixteen) (s .live .sixteen) changed d h z (s .less), size-inside es ds (c .sixteen .0 ∙ sym (n .live .sixteen .0)) (c .less))
+      settling-less h z = omega (arith, fewer es fs (c .given .sixteen) (s .live .sixteen) changed d h z (s .less), size-inside es ds (c .given .sixteen .0 ∙ sym (n .live .sixteen .0)) (c .less))

@@ -1,126 +1,217 @@
 -- The loop over the symmetries: what their filters have left before each turn, one turn, and both ends. Assumes nothing.
 use mathlib.Core.Path.{_≡_, refl, sym, ap, _∙_, subst}
 use mathlib.Core.Bool.{Bool, true, false, not}
-use mathlib.Core.List.{List, [], _∷_, List·Memᴰ, List·Memᴰ·head, List·Memᴰ·tail, List·Memᴰ·not-nil}
-use Prim.Native.Nat.{ℕ, zero, suc, _+_, _≤_, _<_}
+use mathlib.Core.List.{List, []}
+use Prim.Native.Nat.{ℕ, zero, _+_, _*_, _≤_, _<_}
 use native.Mathlib.Omega.{arith}
 use native.Mathlib.Decide.{ℕ-discrete}
-use lib.Dec.{T, ltb}
-use lib.ListN.{length, getD, take}
-use borrow.Author.Tests.{ltb-true, ltb-false}
+use lib.Dec.{T, eqb, ltb}
+use lib.ListN.{length, set, take, length-set}
+use lib.Seq.{length-take-le}
+use borrow.Author.Tests.{ltb-true, ltb-false, eqb-true, ne-eqb, eq-eqb}
 use Rattle.model.specs.Lists.{at}
 use Rattle.model.specs.ValueSets.{has, anyEmpty}
 use Rattle.model.specs.Problem.{Problem}
 use Rattle.model.specs.Nogood.{filtered}
 use Rattle.model.specs.Search.{nogoodsOf}
-use Rattle.model.proofs.Lists.{T-of}
+use Rattle.model.proofs.Lists.{T-of, at-ext, at-set, at-set-other, at-take, mem-getD, place-of}
 use Rattle.model.proofs.Sets.{Sets, Inside, inside-antisym, has-at-lt}
+use Rattle.model.proofs.Firsts.{take-sets, take-e, take-i, full-take}
 use Rattle.model.proofs.Filter.{filtered-inside}
 use Rattle.model.proofs.Prune.{Way, way-removal, filter-removal}
 use Rattle.model.proofs.Tree.{well-sized}
 use Rattle.layout.specs.Layout.{symmetryAt}
-use Rattle.constraints.specs.Revised.{setsOf}
-use Rattle.constraints.proofs.Scopes.{mem-getD}
-use Rattle.constraints.proofs.Ways.{take-sets, take-e, take-i, full-take}
-use Rattle.levels.specs.Levels.{Levelled, Sifted, leaves}
-use Rattle.prune.specs.Steps.{Ground, Live, AllSifted, AllSiftedOr}
+use Rattle.layout.specs.Pruning.{setsOf}
+use Rattle.nogood.specs.Marks.{Idle}
+use Rattle.levels.specs.Levels.{Mark, MarkBy, Levelled, Sifted, leaves}
+use Rattle.levels.proofs.Marks.{mark-mono, mark-done}
+use Rattle.prune.specs.Steps.{Stage, Ground, Live, Marking, AllSifted, AllSiftedOr, Kept}
 
--- a member stands at some place
-pub place-of : {A : Type 0} (l : List A) (x d : A) → List·Memᴰ x l → (i : ℕ) × (i < length l) × (getD l i d ≡ x)
-place-of [] x d m = absurd (List·Memᴰ·not-nil m)
-place-of (y ∷ l) x d (List·Memᴰ·head e) = (0, omega arith, sym e)
-place-of (y ∷ l) x d (List·Memᴰ·tail m) = let r = place-of l x d m in (suc (r .0), omega (arith, r .1), r .2)
+-- ---- what of `work` is kept
+pub kept-none : (work : List ℕ) (k : ℕ) → Kept work work k
+kept-none work k = record { before = λ j h. refl; size = refl }
+
+pub kept-trans : (a b c : List ℕ) (k : ℕ) → Kept a b k → Kept b c k → Kept a c k
+kept-trans a b c k r s = record { before = λ j h. s .before j h ∙ r .before j h; size = s .size ∙ r .size }
+
+kept-set : (a b : List ℕ) (k i m : ℕ) → 16 * k + 16 ≤ i → Kept a b k → Kept a (set b i m) k
+kept-set a b k i m h r = record { before = λ j l. at-set-other b i m j (λ e. omega arith) ∙ r .before j l; size = length-set b i m ∙ r .size }
+
+take-length : (work : List ℕ) (j : ℕ) → length work ≡ 256 → j ≤ 16 → length (take j work) ≡ j
+take-length work j l h = length-take-le j work (omega (arith, l))
+
+-- the first values are the same
+pub same-take : (work work′ : List ℕ) (k j : ℕ) → length work ≡ 256 → Kept work work′ k → j ≤ 16 → take j work′ ≡ take j work
+same-take work work′ k j l r h =
+    at-ext (take j work′) (take j work) (take-length work′ j (r .size ∙ l) h ∙ sym (take-length work j l h))
+    (λ i m. let m′ : i < j = subst (λ (n : ℕ). i < n) (take-length work′ j (r .size ∙ l) h) m in at-take j work′ i m′ ∙ r .before i (omega arith) ∙ sym (at-take j work i m′))
+
+take-take : (work : List ℕ) (j k : ℕ) → length work ≡ 256 → j ≤ k → k ≤ 16 → take j (take k work) ≡ take j work
+take-take work j k l h f =
+    at-ext (take j (take k work)) (take j work) (length-take-le j (take k work) (omega (arith, take-length work k l f)) ∙ sym (take-length work j l (omega arith)))
+    (λ i m. let m′ : i < j = subst (λ (n : ℕ). i < n) (length-take-le j (take k work) (omega (arith, take-length work k l f))) m in at-take j (take k work) i m′ ∙ at-take k work i (omega arith) ∙ sym (at-take j work i m′))
 
 -- ---- what holds before the turn of symmetry e
-pub record Sifting (p : Problem) (prefix ds es : List ℕ) (e : ℕ) : Type 0 where
+pub record Sifting (p : Problem) (k : ℕ) (work₀ ds work es : List ℕ) (e : ℕ) : Type 0 where
   pub live : Live p es
   pub less : Inside es ds
-  pub way : Way p prefix (setsOf p ds) → Way p prefix (setsOf p es)
-  pub fixed : es ≡ ds → (i : ℕ) → i < e → filtered (setsOf p ds) (nogoodsOf p (symmetryAt p i) prefix) ≡ setsOf p ds
+  pub way : Way p (take k work₀) (setsOf p ds) → Way p (take k work₀) (setsOf p es)
+  pub fixed : es ≡ ds → (i : ℕ) → i < e → filtered (setsOf p ds) (nogoodsOf p (symmetryAt p i) (take k work₀)) ≡ setsOf p ds
+  pub marking : Marking p (setsOf p es) (take k work₀) work k
+  pub kept : Kept work₀ work k
 
-module _ (p : Problem) (work images numbers : List ℕ) (k : ℕ) (g : Ground p work images numbers k) (ds : List ℕ) where
-  pub sifting-begin : Live p ds → Sifting p (take k work) ds ds 0
-  sifting-begin l = record { live = l; less = λ x v t. t; way = λ y. y; fixed = λ q i h. absurd (omega arith) }
+module _ {p : Problem} {supports tables numbers : List ℕ} (st : Stage p supports tables numbers) {work₀ : List ℕ} {k : ℕ} (g : Ground p work₀ k) (ds : List ℕ) where
+  pub sifting-begin : Live p ds → Marking p (setsOf p ds) (take k work₀) work₀ k → Sifting p k work₀ ds work₀ ds 0
+  sifting-begin l m = record { live = l; less = λ x v t. t; way = λ y. y; fixed = λ q i h. absurd (omega arith); marking = m; kept = kept-none work₀ k }
 
-  pub sifting-end : (es : List ℕ) (e : ℕ) → at numbers 67 ≤ e → Sifting p (take k work) ds es e → AllSiftedOr p (take k work) ds es false
-  sifting-end es e h s = record { ended = λ q. absurd (subst T (sym q) tt); sifted = λ q. sifted }
+  pub sifting-end : (work es : List ℕ) (e : ℕ) → at numbers 67 ≤ e → Sifting p k work₀ ds work es e → AllSiftedOr p k work₀ ds work es false
+  sifting-end work es e h s = record { ended = λ q. absurd (subst T (sym q) tt); sifted = λ q. sifted; marking = λ q. s .marking; kept = s .kept }
     where
-      sifted : AllSifted p (take k work) ds es
+      sifted : AllSifted p (take k work₀) ds es
       sifted = record {
         live = s .live;
         less = s .less;
         way = s .way;
-        fixed = λ q t m. let r = place-of (p .symmetries) t [] m in subst (λ (z : List ℕ). filtered (setsOf p ds) (nogoodsOf p z (take k work)) ≡ setsOf p ds) (r .2) (s .fixed q (r .0) (omega (arith, r .1, g .numbered .symmetries)));
+        fixed = λ q t m. let r = place-of (p .symmetries) t [] m in subst (λ (z : List ℕ). filtered (setsOf p ds) (nogoodsOf p z (take k work₀)) ≡ setsOf p ds) (r .2) (s .fixed q (r .0) (omega (arith, r .1, st .indexed .numbered .symmetries)));
       }
 
   -- ---- one turn
-  module _ (es fs : List ℕ) (e : ℕ) (h : e < at numbers 67) (s : Sifting p (take k work) ds es e) where
+  module _ {work es : List ℕ} {e : ℕ} (h : e < at numbers 67) (s : Sifting p k work₀ ds work es e) where
     e-lt : e < length (p .symmetries)
-    e-lt = omega (arith, g .numbered .symmetries)
+    e-lt = omega (arith, st .indexed .numbered .symmetries)
+
+    pub e-few : e < 16
+    e-few = omega (arith, e-lt, st .symmetries)
+
+    pub k-few : k ≤ 12
+    k-few = omega (arith, g .depth, st .wellFormed .few)
 
     n-few : p .variables ≤ 16
-    n-few = omega (arith, g .wellFormed .few)
+    n-few = omega (arith, st .wellFormed .few)
 
-    pub levelled : Levelled p es work images numbers e k
-    levelled = record {
-      numbered = g .numbered;
-      imaged = g .imaged;
-      wellFormed = g .wellFormed;
-      few = g .symmetries;
-      symmetry = e-lt;
-      bound = g .depth;
-      drawn = g .drawn;
-      prefix-length = g .work-length;
-      live = record { few = n-few; sixteen = s .live .sixteen .0; small = s .live .sixteen .1; full = full-take (p .variables) es (s .live .sixteen) n-few (s .live .full) };
-      unused = s .live .unused;
-    }
+    es-sets : Sets (p .variables) (setsOf p es)
+    es-sets = take-sets (p .variables) es (s .live .sixteen) n-few
 
-    left-way : Way p (take k work) (setsOf p ds) → Way p (take k work) (leaves p es work e k)
-    left-way y =
-        way-removal p (take k work) (well-sized p (g .wellFormed)) (setsOf p es) (leaves p es work e k) (s .way y)
-        (filter-removal p (take k work) (setsOf p es) (take-sets (p .variables) es (s .live .sixteen) n-few) (symmetryAt p e) (mem-getD (p .symmetries) e [] e-lt))
+    mark : Mark p (setsOf p es) (take k work₀) e (at work (16 * k + 16 + e))
+    mark = s .marking e e-lt
 
-    pub sifting-dead : Sifted p es work e k fs true → AllSiftedOr p (take k work) ds fs true
-    sifting-dead f = record { ended = λ q. (leaves p es work e k, (left-way, T-of (anyEmpty (leaves p es work e k)) (sym (f .answers)))); sifted = λ q. absurd (subst T q tt) }
-
-    module _ (f : Sifted p es work e k fs false) where
-      here : setsOf p fs ≡ leaves p es work e k
-      here = f .left refl
-
-      sixteen : Sets 16 fs
-      sixteen = (f .sixteen, f .live refl .small)
-
-      turn-live : Live p fs
-      turn-live = record { sixteen = sixteen; full = ap anyEmpty here ∙ sym (f .answers); unused = f .unused refl }
-
-      turn-less : Inside fs es
-      turn-less x v t = go (ltb x (p .variables)) refl
-        where
-          go : (b : Bool) → ltb x (p .variables) ≡ b → T (has (at es x) v)
-          go true q =
-              let i = take-i (p .variables) fs sixteen n-few x v (ltb-true x (p .variables) q) t in
-              take-e (p .variables) es (s .live .sixteen) n-few x v (filtered-inside (setsOf p es) (nogoodsOf p (symmetryAt p e) (take k work)) x v (subst (λ (l : List ℕ). T (has (at l x) v)) here i)) .1
-          go false q =
-              let o = ltb-false x (p .variables) q in
-              let i : x < 16 = subst (λ (n : ℕ). x < n) (f .sixteen) (has-at-lt fs x v t) in
-              subst (λ (n : ℕ). T (has n v)) (f .unused refl x o i ∙ sym (s .live .unused x o i)) t
-
-      turn-fixed : fs ≡ ds → (i : ℕ) → i < e + 1 → filtered (setsOf p ds) (nogoodsOf p (symmetryAt p i) (take k work)) ≡ setsOf p ds
-      turn-fixed q i l = go (ℕ-discrete i e)
+    -- what a turn that leaves fs adds
+    module _ (fs : List ℕ) (sixteen : Sets 16 fs) (less : Inside fs es) (left : setsOf p fs ≡ filtered (setsOf p es) (nogoodsOf p (symmetryAt p e) (take k work₀))) where
+      fixed-turn : fs ≡ ds → (i : ℕ) → i < e + 1 → filtered (setsOf p ds) (nogoodsOf p (symmetryAt p i) (take k work₀)) ≡ setsOf p ds
+      fixed-turn q i l = go (ℕ-discrete i e)
         where
           same : es ≡ ds
-          same = inside-antisym 16 es ds (s .live .sixteen) (subst (Sets 16) q sixteen) (s .less) (subst (λ (z : List ℕ). Inside z es) q turn-less)
+          same = inside-antisym 16 es ds (s .live .sixteen) (subst (Sets 16) q sixteen) (s .less) (subst (λ (z : List ℕ). Inside z es) q less)
 
-          go : Dec (i ≡ e) → filtered (setsOf p ds) (nogoodsOf p (symmetryAt p i) (take k work)) ≡ setsOf p ds
+          go : Dec (i ≡ e) → filtered (setsOf p ds) (nogoodsOf p (symmetryAt p i) (take k work₀)) ≡ setsOf p ds
           go (yes o) =
-              subst (λ (z : ℕ). filtered (setsOf p ds) (nogoodsOf p (symmetryAt p z) (take k work)) ≡ setsOf p ds) (sym o)
-              (ap (λ (z : List ℕ). filtered (setsOf p z) (nogoodsOf p (symmetryAt p e) (take k work))) (sym same) ∙ sym here ∙ ap (setsOf p) q)
+              subst (λ (z : ℕ). filtered (setsOf p ds) (nogoodsOf p (symmetryAt p z) (take k work₀)) ≡ setsOf p ds) (sym o)
+              (ap (λ (z : List ℕ). filtered (setsOf p z) (nogoodsOf p (symmetryAt p e) (take k work₀))) (sym same) ∙ sym left ∙ ap (setsOf p) q)
           go (no o) = s .fixed same i (omega arith)
 
-      pub sifting-turn : Sifting p (take k work) ds fs (e + 1)
-      sifting-turn = record {
-        live = turn-live;
-        less = λ x v t. s .less x v (turn-less x v t);
-        way = λ y. subst (Way p (take k work)) (sym here) (left-way y);
-        fixed = turn-fixed;
+    -- nothing to do for a symmetry that is obeyed for good
+    pub sifting-skip : at work (16 * k + 16 + e) ≡ 15 → Sifting p k work₀ ds work es (e + 1)
+    sifting-skip q = record {
+      live = s .live;
+      less = s .less;
+      way = s .way;
+      fixed = fixed-turn es (s .live .sixteen) (λ x v t. t) (sym (mark-done p (setsOf p es) (take k work₀) e es-sets (s .live .full) (subst (Mark p (setsOf p es) (take k work₀) e) q mark)));
+      marking = s .marking;
+      kept = s .kept;
+    }
+
+    module _ (n : at work (16 * k + 16 + e) ≡ 15 → ⊥) where
+      abbrev start : ℕ
+      start = at work (16 * k + 16 + e)
+
+      resumes : (at work (16 * k + 16 + e) ≤ length (take k work₀)) × Idle (setsOf p es) (nogoodsOf p (symmetryAt p e) (take (at work (16 * k + 16 + e)) (take k work₀)))
+      resumes = subst (λ (b : Bool). MarkBy b p (setsOf p es) (take k work₀) e (at work (16 * k + 16 + e))) (ne-eqb (at work (16 * k + 16 + e)) 15 n) mark
+
+      begun : at work (16 * k + 16 + e) ≤ k
+      begun = subst (λ (z : ℕ). at work (16 * k + 16 + e) ≤ z) (take-length work₀ k (g .work-length) (omega (arith, k-few))) (resumes .0)
+
+      prefix-is : take k work ≡ take k work₀
+      prefix-is = same-take work₀ work k k (g .work-length) (s .kept) (omega (arith, k-few))
+
+      pub levelled : Levelled p es work tables e k (at work (16 * k + 16 + e))
+      levelled = record {
+        pictured = st .indexed .pictured;
+        wellFormed = st .wellFormed;
+        few = st .symmetries;
+        symmetry = e-lt;
+        bound = g .depth;
+        drawn = λ j l. subst (λ (z : ℕ). T (has (at (p .initial) j) z)) (sym (s .kept .before j (omega arith))) (g .drawn j l);
+        work-length = s .kept .size ∙ g .work-length;
+        live = record { few = n-few; sixteen = s .live .sixteen .0; small = s .live .sixteen .1; full = full-take (p .variables) es (s .live .sixteen) n-few (s .live .full) };
+        unused = s .live .unused;
+        begun = begun;
+        idle = subst (λ (z : List ℕ). Idle (setsOf p es) (nogoodsOf p (symmetryAt p e) z))
+            (take-take work₀ (at work (16 * k + 16 + e)) k (g .work-length) begun (omega (arith, k-few)) ∙ sym (same-take work₀ work k (at work (16 * k + 16 + e)) (g .work-length) (s .kept) (omega (arith, k-few, begun)))) (resumes .1);
       }
+
+      -- what the filter leaves, at the prefix
+      leaves-is : leaves p es work e k ≡ filtered (setsOf p es) (nogoodsOf p (symmetryAt p e) (take k work₀))
+      leaves-is = ap (λ (z : List ℕ). filtered (setsOf p es) (nogoodsOf p (symmetryAt p e) z)) prefix-is
+
+      left-way : Way p (take k work₀) (setsOf p ds) → Way p (take k work₀) (filtered (setsOf p es) (nogoodsOf p (symmetryAt p e) (take k work₀)))
+      left-way y =
+          way-removal p (take k work₀) (well-sized p (st .wellFormed)) (setsOf p es) (filtered (setsOf p es) (nogoodsOf p (symmetryAt p e) (take k work₀))) (s .way y)
+          (filter-removal p (take k work₀) (setsOf p es) es-sets (symmetryAt p e) (mem-getD (p .symmetries) e [] e-lt))
+
+      module _ {fs : List ℕ} {r : ℕ} (f : Sifted p es work e k fs r) where
+        pub sifting-dead : r ≡ 16 → AllSiftedOr p k work₀ ds work fs true
+        sifting-dead q = record {
+          ended = λ _. (filtered (setsOf p es) (nogoodsOf p (symmetryAt p e) (take k work₀)), (left-way, T-of (anyEmpty (filtered (setsOf p es) (nogoodsOf p (symmetryAt p e) (take k work₀)))) (ap anyEmpty (sym leaves-is) ∙ sym (f .answers) ∙ eq-eqb r 16 q)));
+          sifted = λ z. absurd (subst T z tt);
+          marking = λ z. absurd (subst T z tt);
+          kept = s .kept;
+        }
+
+        module _ (live : r ≡ 16 → ⊥) where
+          here : setsOf p fs ≡ filtered (setsOf p es) (nogoodsOf p (symmetryAt p e) (take k work₀))
+          here = f .left live ∙ leaves-is
+
+          sixteen : Sets 16 fs
+          sixteen = (f .sixteen, f .live live .small)
+
+          turn-live : Live p fs
+          turn-live = record { sixteen = sixteen; full = ap anyEmpty (f .left live) ∙ sym (f .answers) ∙ ne-eqb r 16 live; unused = f .unused live }
+
+          turn-less : Inside fs es
+          turn-less x v t = go (ltb x (p .variables)) refl
+            where
+              go : (b : Bool) → ltb x (p .variables) ≡ b → T (has (at es x) v)
+              go true q =
+                  let i = take-i (p .variables) fs sixteen n-few x v (ltb-true x (p .variables) q) t in
+                  take-e (p .variables) es (s .live .sixteen) n-few x v (filtered-inside (setsOf p es) (nogoodsOf p (symmetryAt p e) (take k work₀)) x v (subst (λ (l : List ℕ). T (has (at l x) v)) here i)) .1
+              go false q =
+                  let o = ltb-false x (p .variables) q in
+                  let i : x < 16 = subst (λ (z : ℕ). x < z) (f .sixteen) (has-at-lt fs x v t) in
+                  subst (λ (z : ℕ). T (has z v)) (f .unused live x o i ∙ sym (s .live .unused x o i)) t
+
+          take-less : Inside (setsOf p fs) (setsOf p es)
+          take-less x v t = let q = take-e (p .variables) fs sixteen n-few x v t in take-i (p .variables) es (s .live .sixteen) n-few x v (q .0) (turn-less x v (q .1))
+
+          marking-turn : Marking p (setsOf p fs) (take k work₀) (set work (16 * k + 16 + e) r) k
+          marking-turn i l = go (ℕ-discrete i e)
+            where
+              slot : 16 * k + 16 + e < length work
+              slot = omega (arith, e-few, k-few, s .kept .size, g .work-length)
+
+              go : Dec (i ≡ e) → Mark p (setsOf p fs) (take k work₀) i (at (set work (16 * k + 16 + e) r) (16 * k + 16 + i))
+              go (yes q) =
+                  subst (λ (z : ℕ). Mark p (setsOf p fs) (take k work₀) z (at (set work (16 * k + 16 + e) r) (16 * k + 16 + z))) (sym q)
+                  (subst (Mark p (setsOf p fs) (take k work₀) e) (sym (at-set work (16 * k + 16 + e) r slot)) (subst (λ (z : List ℕ). Mark p (setsOf p fs) z e r) prefix-is (f .mark live)))
+              go (no q) =
+                  subst (Mark p (setsOf p fs) (take k work₀) i) (sym (at-set-other work (16 * k + 16 + e) r (16 * k + 16 + i) (λ z. q (omega arith))))
+                  (mark-mono p (setsOf p es) (setsOf p fs) (take k work₀) i (at work (16 * k + 16 + i)) (take-sets (p .variables) fs sixteen n-few .0 ∙ sym (es-sets .0)) take-less (s .marking i l))
+
+          pub sifting-turn : Sifting p k work₀ ds (set work (16 * k + 16 + e) r) fs (e + 1)
+          sifting-turn = record {
+            live = turn-live;
+            less = λ x v t. s .less x v (turn-less x v t);
+            way = λ y. subst (Way p (take k work₀)) (sym here) (left-way y);
+            fixed = fixed-turn fs sixteen turn-less here;
+            marking = marking-turn;
+            kept = kept-set work₀ work k (16 * k + 16 + e) r (omega arith) (s .kept);
+          }

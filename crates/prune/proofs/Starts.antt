@@ -1,5 +1,5 @@
 -- The sets that `root` and `child` start from are on the way to those at their prefix; what they leave on the stack. Assumes nothing.
-use mathlib.Core.Path.{_≡_, refl, sym, ap, _∙_, subst}
+use mathlib.Core.Path.{_≡_, refl, sym, ap, ap₂, _∙_, subst}
 use mathlib.Core.Bool.{Bool, true, false, not}
 use mathlib.Core.List.{List, [], _∷_, _++_, List·Memᴰ}
 use Prim.Native.Nat.{ℕ, zero, suc, _+_, _-_, _*_, _%_, _^_, _≤_, _<_}
@@ -7,30 +7,38 @@ use native.Mathlib.Nat.{lt-of-lt-of-le, mod-eq-of-lt}
 use native.Mathlib.Numerals.{add-one}
 use native.Mathlib.Omega.{arith}
 use native.Mathlib.Decide.{ℕ-discrete}
-use lib.Dec.{T, eqb, ltb}
+use lib.Dec.{T, eqb, ltb, eqb-refl}
+use lib.Bits.{bitAnd}
 use lib.ListN.{length, getD, set, take, length-set}
 use lib.Pow.{pow-pos, pow-lt, pow-mono}
 use lib.Seq.{take-suc, take-set-lt, getD-take, length-take-le, set-getD}
-use borrow.Author.Tests.{ltb-true, ltb-false}
-use Rattle.model.specs.Lists.{any, at}
+use borrow.Author.Tests.{ltb-true, ltb-false, eqb-true}
+use Rattle.model.specs.Lists.{both, any, at}
 use Rattle.model.specs.ValueSets.{has, anyEmpty}
 use Rattle.model.specs.Problem.{Problem, Constraint}
 use Rattle.model.specs.Search.{narrowed, setsAt, isLive}
-use Rattle.model.proofs.Lists.{T-of, of-T, not-of, of-not, at-ext, at-out}
-use Rattle.model.proofs.Sets.{has-none, has-lt, member, empty-i, Sets}
-use Rattle.model.proofs.Masks.{has-not}
+use Rattle.model.proofs.Lists.{T-of, of-T, not-of, of-not, at-ext, at-out, both-i, both-l, among-i, mem-at, at-set, at-set-other, at-take}
+use Rattle.model.proofs.Sets.{has-none, has-lt, member, empty-i, Sets, Inside, inside-refl, set-sets}
+use Rattle.model.proofs.Masks.{has-and, has-not, has-one}
+use Rattle.model.proofs.Members.{one-bit}
+use Rattle.model.proofs.Firsts.{take-at, take-e, take-i, take-sets, take-length, take-full}
 use Rattle.model.proofs.Prune.{Kept, narrowed-e, closed, Largest, largest, fixed-e, Way, way-start, setsAt-live, setsAt-sets, live-closed}
 use Rattle.model.proofs.Child.{child-start}
 use Rattle.model.proofs.Tree.{well-sized}
+use Rattle.model.proofs.WellFormed.{GoodConstraint}
 use Rattle.layout.specs.Layout.{constraintAt}
-use Rattle.constraints.specs.Revised.{setsOf, Fixed, Given, Waiting}
-use Rattle.constraints.proofs.Bits.{one-bit}
-use Rattle.constraints.proofs.Rows.{ascending-sorted, of-scope, fixed-local}
-use Rattle.constraints.proofs.Scopes.{good, is-one}
-use Rattle.constraints.proofs.Stores.{at-same, at-other, set-sets}
-use Rattle.constraints.proofs.Ways.{take-at, take-length, take-full}
-use Rattle.prune.specs.Node.{Holds, Ready, AtNode, Reached, longer}
-use Rattle.prune.specs.Steps.{Ground, Live, Nearing, Arrived, Loaded, Stored}
+use Rattle.layout.specs.Tables.{byRows}
+use Rattle.layout.proofs.Links.{is-one, good}
+use Rattle.layout.specs.Pruning.{Given, Fixed, Arc, setsOf}
+use Rattle.constraints.specs.Steps.{Gathered}
+use Rattle.links.proofs.Going.{goes-kept}
+use Rattle.constraints.proofs.Rows.{fixed-kept}
+use Rattle.levels.specs.Levels.{Mark}
+use Rattle.levels.proofs.Marks.{mark-start, mark-mono, mark-longer}
+use Rattle.prune.specs.Node.{Holds, Ready, Marked, AtNode, Reached, longer}
+use Rattle.prune.specs.Steps.{Stage, Ground, Live, Marking, Nearing, Arrived, Loaded, Stored}
+use Rattle.prune.proofs.Arcs.{arc-kept, arc-free}
+use Rattle.prune.proofs.Pending.{touched-known}
 
 -- ---- sixteen sets, of which the first n are ds and the others {0}
 module _ (n : ℕ) (ds es : List ℕ) (l : length es ≡ 16) (s : Sets n ds) (h : n ≤ 16) (e : (x : ℕ) → x < n → at es x ≡ at ds x) (u : (x : ℕ) → n ≤ x → x < 16 → at es x ≡ 1) where
@@ -48,36 +56,55 @@ module _ (n : ℕ) (ds es : List ℕ) (l : length es ≡ 16) (s : Sets n ds) (h 
   pub padded-take : take n es ≡ ds
   padded-take = at-ext (take n es) ds (take-length n es padded-sets h ∙ sym (s .0)) (λ x k. let m : x < n = subst (λ (z : ℕ). x < z) (take-length n es padded-sets h) k in take-at n es padded-sets h x m ∙ e x m)
 
--- ---- what is left on the stack
-module _ (p : Problem) (few : p .variables ≤ 16) (prefix sets : List ℕ) (k : ℕ) (stack work : List ℕ) where
-  pub reached-dead : Arrived p prefix sets true → Reached p prefix k stack work stack work true
-  reached-dead a = record { answers = a .answers; holds = λ q. absurd (subst T q tt); before = λ i l. refl; after = λ i l. refl; kept = λ j l. refl; stack-length = refl; work-length = refl }
+-- ---- what is left on the stack, where `work` had become `middle` before the fixpoint
+module _ (p : Problem) (few : p .variables ≤ 16) (prefix sets : List ℕ) (k : ℕ) (stack work middle work′ : List ℕ) (is : take k middle ≡ prefix) (size : length middle ≡ length work) (early : (j : ℕ) → j < 16 * k + 16 → at middle j ≡ at work j) where
+  pub reached-dead : Arrived p k middle work′ sets true → Reached p prefix k stack work stack work′ true
+  reached-dead a = record {
+    answers = a .answers ∙ ap (λ (z : List ℕ). not (isLive p z)) is;
+    holds = λ q. absurd (subst T q tt);
+    before = λ i l. refl;
+    after = λ i l. refl;
+    marked = λ q. absurd (subst T q tt);
+    kept = λ j l. a .kept .before j l ∙ early j l;
+    stack-length = refl;
+    work-length = a .kept .size ∙ size;
+  }
 
-  pub reached-live : (stack′ : List ℕ) → Arrived p prefix sets false → Stored stack k sets stack′ → Reached p prefix k stack work stack′ work false
+  pub reached-live : (stack′ : List ℕ) → Arrived p k middle work′ sets false → Stored stack k (at sets) stack′ → Reached p prefix k stack work stack′ work′ false
   reached-live stack′ a s = record {
-    answers = a .answers;
+    answers = a .answers ∙ ap (λ (z : List ℕ). not (isLive p z)) is;
     holds = λ q. record {
-      sets = λ x l. s .here x (omega arith) ∙ sym (take-at (p .variables) sets (a .live refl .sixteen) few x l) ∙ ap (λ (z : List ℕ). at z x) (a .sets-are refl);
+      sets = λ x l. s .here x (omega arith) ∙ sym (take-at (p .variables) sets (a .live refl .sixteen) few x l) ∙ ap (λ (z : List ℕ). at z x) sets-are;
       unused = λ x l h. s .here x h ∙ a .live refl .unused x l h;
     };
     before = s .before;
     after = s .after;
-    kept = λ j l. refl;
+    marked = λ q. subst (λ (z : List ℕ). Marking p z prefix work′ k) sets-are (subst (λ (z : List ℕ). Marking p (setsOf p sets) z work′ k) is (a .marking refl));
+    kept = λ j l. a .kept .before j l ∙ early j l;
     stack-length = s .size;
-    work-length = refl;
+    work-length = a .kept .size ∙ size;
   }
+    where
+      sets-are : setsOf p sets ≡ setsAt p prefix
+      sets-are = a .sets-are refl ∙ ap (setsAt p) is
+
+way-initial : (p : Problem) (prefix es : List ℕ) → Way p prefix es → Inside es (p .initial)
+way-initial p prefix es w x v t = narrowed-e prefix (p .initial) x v (w .inside x v t) .0
+
+pub stage : {p : Problem} {stack work supports tables numbers : List ℕ} → Ready p stack work supports tables numbers → Stage p supports tables numbers
+stage r = record { indexed = r .indexed; wellFormed = r .wellFormed; constraints = r .constraints; symmetries = r .symmetries }
 
 -- ---- the root
-pub some-few : {p : Problem} {stack work supports images numbers : List ℕ} → Ready p stack work supports images numbers → at numbers 66 < 64
-some-few r = omega (arith, r .compiled .numbered .constraints, r .constraints)
+pub some-few : {p : Problem} {stack work supports tables numbers : List ℕ} → Ready p stack work supports tables numbers → at numbers 64 < 64
+some-few r = omega (arith, r .indexed .numbered .variables, r .wellFormed .few)
 
 pub some-one : (c : ℕ) → c < 64 → 1 ≤ 1 * 2 ^ c % 2 ^ 64
 some-one c h = subst (λ (z : ℕ). 1 ≤ z) (sym (one-bit 64 c h)) (pow-pos c)
 
-pub ready-few : {p : Problem} {stack work supports images numbers : List ℕ} → Ready p stack work supports images numbers → p .variables ≤ 16
+pub ready-few : {p : Problem} {stack work supports tables numbers : List ℕ} → Ready p stack work supports tables numbers → p .variables ≤ 16
 ready-few r = omega (arith, r .wellFormed .few)
 
-module _ {p : Problem} {stack work supports images numbers : List ℕ} (r : Ready p stack work supports images numbers) (sets : List ℕ) (l : length sets ≡ 16) (e : (x : ℕ) → x < 16 → at sets x ≡ at numbers (16 + x) % 65536) where
+module _ {p : Problem} {stack work supports tables numbers : List ℕ} (r : Ready p stack work supports tables numbers) (sets : List ℕ) (l : length sets ≡ 16) (e : (x : ℕ) → x < 16 → at sets x ≡ at numbers (16 + x) % 65536) where
   n-16 : p .variables ≤ 16
   n-16 = ready-few r
 
@@ -85,10 +112,10 @@ module _ {p : Problem} {stack work supports images numbers : List ℕ} (r : Read
   initial-sets = well-sized p (r .wellFormed)
 
   at-initial : (x : ℕ) → x < p .variables → at sets x ≡ at (p .initial) x
-  at-initial x h = e x (omega (arith, n-16)) ∙ ap (λ (z : ℕ). z % 65536) (r .compiled .numbered .initial x h) ∙ mod-eq-of-lt (initial-sets .1 x)
+  at-initial x h = e x (omega (arith, n-16)) ∙ ap (λ (z : ℕ). z % 65536) (r .indexed .numbered .initial x h) ∙ mod-eq-of-lt (initial-sets .1 x)
 
   at-unused : (x : ℕ) → p .variables ≤ x → x < 16 → at sets x ≡ 1
-  at-unused x h k = e x k ∙ ap (λ (z : ℕ). z % 65536) (r .compiled .numbered .unused x h k)
+  at-unused x h k = e x k ∙ ap (λ (z : ℕ). z % 65536) (r .indexed .numbered .unused x h k)
 
   sets-16 : Sets 16 sets
   sets-16 = padded-sets (p .variables) (p .initial) sets l initial-sets n-16 at-initial at-unused
@@ -103,35 +130,69 @@ module _ {p : Problem} {stack work supports images numbers : List ℕ} (r : Read
   unfolding narrowed
   root-way = subst (Way p []) (sym are-initial) (way-start p [] (well-sized p (r .wellFormed)))
 
-  -- the set of all constraints
-  all-of : (c : ℕ) → c < 64 → 1 * 2 ^ c % 2 ^ 64 - 1 ≡ (2 ^ c - 1) - 0
-  all-of c h = ap (λ (z : ℕ). z - 1) (one-bit 64 c h) ∙ omega arith
+  -- the set of all variables
+  all-of : (n : ℕ) → n < 64 → 1 * 2 ^ n % 2 ^ 64 - 1 ≡ (2 ^ n - 1) - 0
+  all-of n h = ap (λ (z : ℕ). z - 1) (one-bit 64 n h) ∙ omega arith
 
-  pub root-start : (todo : ℕ) → todo ≡ 1 * 2 ^ at numbers 66 % 2 ^ 64 - 1 → Nearing p work supports images numbers sets 0 todo
-  root-start todo q = record {
-    ground = record { numbered = r .compiled .numbered; imaged = r .compiled .imaged; wellFormed = r .wellFormed; symmetries = r .symmetries; depth = omega arith; drawn = λ j h. absurd (omega arith); work-length = r .work-length };
-    live = record { sixteen = sets-16; full = is-full; unused = at-unused };
-    waiting = record {
-      given = record { numbered = r .compiled .numbered; tabled = r .compiled .supported; wellFormed = r .wellFormed; constraints = r .constraints };
-      sixteen = sets-16;
-      full = is-full;
-      known = λ k t. has-lt (length (p .constraints)) (2 ^ length (p .constraints) - 1) k (omega (arith, pow-pos (length (p .constraints)))) (subst (λ (z : ℕ). T (has z k)) is t);
-      others = λ k h f. absurd (of-not (has todo k) f (T-of (has todo k) (ap (λ (z : ℕ). has z k) all ∙ has-not (length (p .constraints)) 0 k (pow-pos (length (p .constraints))) h ∙ ap not (has-none k))));
-    };
-    way = root-way;
-  }
-    where
-      all : todo ≡ (2 ^ length (p .constraints) - 1) - 0
-      all = q ∙ all-of (at numbers 66) (some-few r) ∙ ap (λ (z : ℕ). (2 ^ z - 1) - 0) (r .compiled .numbered .constraints)
+  module _ (every : ℕ) (q : every ≡ 1 * 2 ^ at numbers 64 % 2 ^ 64 - 1) (todo : ℕ) (u : Gathered numbers every todo) where
+    every-is : every ≡ (2 ^ p .variables - 1) - 0
+    every-is = q ∙ all-of (at numbers 64) (some-few r) ∙ ap (λ (z : ℕ). (2 ^ z - 1) - 0) (r .indexed .numbered .variables)
 
-      is : todo ≡ 2 ^ length (p .constraints) - 1
-      is = all ∙ omega arith
+    every-few : (x : ℕ) → T (has every x) → x < 16
+    every-few x t =
+        let h = has-lt (p .variables) ((2 ^ p .variables - 1) - 0) x (omega (arith, pow-pos (p .variables))) (subst (λ (z : ℕ). T (has z x)) every-is t) in
+        omega (arith, n-16)
+
+    every-one : (x : ℕ) → x < p .variables → T (has every x)
+    every-one x h = T-of (has every x) (ap (λ (z : ℕ). has z x) every-is ∙ has-not (p .variables) 0 x (pow-pos (p .variables)) h ∙ ap not (has-none x))
+
+    -- every constraint that is not pruned by variable is due: it has a variable
+    is-due : (k : ℕ) → k < length (p .constraints) → byRows p k ≡ false → T (has todo k)
+    is-due k h b =
+        let g = good (r .wellFormed) k h in
+        let x = at (constraintAt p k .scope) 0 in
+        let m = mem-at (constraintAt p k .scope) 0 (g .some) in
+        let i = g .inside x m in
+        u .gathered-i x k (every-one x i)
+        (T-of (has (at numbers (72 + x)) k)
+        (r .indexed .linked .touching x k (omega (arith, n-16)) h
+        ∙ of-T (both (any (eqb x) (constraintAt p k .scope)) (not (byRows p k))) (both-i (any (eqb x) (constraintAt p k .scope)) (not (byRows p k)) (among-i x (constraintAt p k .scope) m) (T-of (not (byRows p k)) (ap not b)))))
+
+    module _ (middle : List ℕ) (c : Stored work 1 (λ i. 0) middle) where
+      zero-mark : (i : ℕ) → i < length (p .symmetries) → at middle (16 * 0 + 16 + i) ≡ 0
+      zero-mark i h = c .here i (omega (arith, h, r .symmetries))
+
+      pub root-start : Nearing p middle numbers sets 0 todo (at numbers 70)
+      root-start = record {
+        ground = record { depth = omega arith; drawn = λ j h. absurd (omega arith); work-length = c .size ∙ r .work-length };
+        live = record { sixteen = sets-16; full = is-full; unused = at-unused };
+        pending = record {
+          given = record { sixteen = sets-16; full = is-full; inside = subst (λ (z : List ℕ). Inside z (p .initial)) (sym are-initial) (inside-refl (p .initial)) };
+          known = touched-known (stage r) every todo u every-few;
+          others = λ k h f b. absurd (of-not (has todo k) f (is-due k h b));
+          inner = r .indexed .linked .linked-few;
+          arcs = arcs;
+        };
+        marking = λ i h. subst (Mark p (setsOf p sets) [] i) (sym (zero-mark i h)) (mark-start p (setsOf p sets) i);
+        way = root-way;
+      }
+        where
+          arcs : (x : ℕ) → x < p .variables → has (at numbers 70) x ≡ false → Arc p (setsOf p sets) x
+          arcs x h f =
+              let m = member (at sets x) (sets-16 .1 x) (λ q. let z = sym (at-initial x h) ∙ q in omega (arith, r .wellFormed .nonempty x h, z)) in
+              arc-free p numbers (r .indexed .linked) (setsOf p sets) x (m .0) f (take-i (p .variables) sets sets-16 n-16 x (m .0) h (m .2))
+
+      root-early : (j : ℕ) → j < 16 * 0 + 16 → at middle j ≡ at work j
+      root-early j h = c .before j (omega arith)
+
+      pub root-dead : (fs work′ : List ℕ) (b : Bool) → Arrived p 0 middle work′ fs b → b ≡ true → Reached p [] 0 stack work stack work′ true
+      root-dead fs work′ b a i = reached-dead p n-16 [] fs 0 stack work middle work′ refl (c .size) root-early (subst (Arrived p 0 middle work′ fs) i a)
+
+      pub root-live : (fs work′ stack′ : List ℕ) (b : Bool) → Arrived p 0 middle work′ fs b → b ≡ false → Stored stack 0 (at fs) stack′ → Reached p [] 0 stack work stack′ work′ false
+      root-live fs work′ stack′ b a i t = reached-live p n-16 [] fs 0 stack work middle work′ refl (c .size) root-early stack′ (subst (Arrived p 0 middle work′ fs) i a) t
 
 -- ---- the child
-module _ {p : Problem} {stack work supports images numbers : List ℕ} {k : ℕ} (a : AtNode p stack work supports images numbers k) where
-  abbrev parent : List ℕ
-  parent = setsAt p (take k work)
-
+module _ {p : Problem} {stack work supports tables numbers : List ℕ} {k : ℕ} (a : AtNode p stack work supports tables numbers k) where
   wf-sized : Sets (p .variables) (p .initial)
   wf-sized = well-sized p (a .ready .wellFormed)
 
@@ -164,9 +225,13 @@ module _ {p : Problem} {stack work supports images numbers : List ℕ} {k : ℕ}
   parent-full : (x : ℕ) → x < p .variables → at (setsAt p (take k work)) x ≡ 0 → ⊥
   parent-full x h e = subst T (ap anyEmpty parent-is ∙ live-closed p (take k work) (a .live)) (empty-i (setsAt p (take k work)) x (subst (λ (z : ℕ). x < z) (sym (parent-sets .0)) h) e)
 
-  at-prefix : (x : ℕ) → x < k → at (take k work) x ≡ at work x
-  unfolding at
-  at-prefix x l = getD-take k work x 0 l
+  parent-fixed : (j : ℕ) → j < length (p .constraints) → Fixed (setsAt p (take k work)) (constraintAt p j)
+  parent-fixed j h x v t = fixed-e p (take k work) (setsAt p (take k work)) (parent-largest .fixed) x v t .rows (constraintAt p j) (is-one p j h)
+
+  parent-arc : (x : ℕ) → x < p .variables → Arc p (setsAt p (take k work)) x
+  parent-arc x h y w u =
+      let m = member (at (setsAt p (take k work)) x) (parent-sets .1 x) (parent-full x h) in
+      goes-kept p (a .ready .wellFormed) (setsAt p (take k work)) x y w (m .0) (m .2) (fixed-e p (take k work) (setsAt p (take k work)) (parent-largest .fixed) y w u .rows)
 
   drawn : (j : ℕ) → j < k + 1 → T (has (at (p .initial) j) (at work j))
   drawn j h = go (ℕ-discrete j k)
@@ -180,94 +245,176 @@ module _ {p : Problem} {stack work supports images numbers : List ℕ} {k : ℕ}
           let l : j < k = omega arith in
           let m = member (at (setsAt p (take k work)) j) (parent-sets .1 j) (parent-full j (omega (arith, a .room))) in
           let r = from-parent j (m .0) (m .2) in
-          subst (λ (z : ℕ). T (has (at (p .initial) j) z)) (r .1 (omega (arith, prefix-length)) ∙ at-prefix j l) (r .0)
+          subst (λ (z : ℕ). T (has (at (p .initial) j) z)) (r .1 (omega (arith, prefix-length)) ∙ at-take k work j l) (r .0)
 
-  module _ (sets : List ℕ) (l : Loaded stack k sets) (one todo : ℕ) (o : one ≡ 1 * 2 ^ at work k % 2 ^ 16) (d : (at sets k ≡ one → todo ≡ 0) × ((at sets k ≡ one → ⊥) → todo ≡ at numbers k)) where
-    one-is : one ≡ 2 ^ at work k
-    one-is = o ∙ one-bit 16 (at work k) v-lt
+  -- ---- `work` with the marks of depth k at depth k + 1 too
+  module _ (middle : List ℕ) (c : Stored work (k + 2) (λ e. at work (16 * k + 16 + e)) middle) where
+    pub child-early : (j : ℕ) → j < 16 * (k + 1) + 16 → at middle j ≡ at work j
+    child-early j h = c .before j (omega arith)
 
-    at-parent : (x : ℕ) → x < p .variables → at sets x ≡ at (setsAt p (take k work)) x
-    at-parent x h = l .1 x (omega (arith, n-16′)) ∙ a .held .sets x h
+    pub value-is : at middle k ≡ at work k
+    value-is = child-early k (omega arith)
 
-    unused : (x : ℕ) → p .variables ≤ x → x < 16 → at sets x ≡ 1
-    unused x h b = l .1 x b ∙ a .held .unused x h b
+    middle-length : length middle ≡ 256
+    middle-length = c .size ∙ a .ready .work-length
 
-    before : Sets 16 sets
-    before = padded-sets (p .variables) (setsAt p (take k work)) sets (l .0) parent-sets n-16′ at-parent unused
+    pub child-prefix : take (k + 1) middle ≡ longer work k
+    child-prefix =
+        at-ext (take (k + 1) middle) (take (k + 1) work) (length-take-le (k + 1) middle (omega (arith, k-12, middle-length)) ∙ sym (length-take-le (k + 1) work (omega (arith, k-12, a .ready .work-length))))
+        (λ i h. let h′ : i < k + 1 = subst (λ (n : ℕ). i < n) (length-take-le (k + 1) middle (omega (arith, k-12, middle-length))) h in at-take (k + 1) middle i h′ ∙ child-early i (omega arith) ∙ sym (at-take (k + 1) work i h′))
+        ∙ longer-is
 
-    k-in : k < length sets
-    k-in = omega (arith, k-12, l .0)
+    module _ (sets : List ℕ) (l : Loaded stack k sets) (one todo dirty : ℕ) (o : one ≡ 1 * 2 ^ at middle k % 2 ^ 16)
+        (d : (at sets k ≡ one → todo ≡ 0) × ((at sets k ≡ one → ⊥) → todo ≡ at numbers (72 + k)))
+        (f : (at sets k ≡ one → dirty ≡ 0) × ((at sets k ≡ one → ⊥) → dirty ≡ bitAnd (at numbers 70) (1 * 2 ^ k % 2 ^ 64))) where
+      one-is : one ≡ 2 ^ at work k
+      one-is = o ∙ ap (λ (z : ℕ). 1 * 2 ^ z % 2 ^ 16) value-is ∙ one-bit 16 (at work k) v-lt
 
-    abbrev start : List ℕ
-    start = set sets k one
+      at-parent : (x : ℕ) → x < p .variables → at sets x ≡ at (setsAt p (take k work)) x
+      at-parent x h = l .1 x (omega (arith, n-16′)) ∙ a .held .sets x h
 
-    after : Sets 16 (set sets k one)
-    after = set-sets 16 sets k one before (omega (arith, k-12)) (subst (λ (z : ℕ). z < 2 ^ 16) (sym one-is) (pow-lt v-lt))
+      unused : (x : ℕ) → p .variables ≤ x → x < 16 → at sets x ≡ 1
+      unused x h b = l .1 x b ∙ a .held .unused x h b
 
-    start-is : setsOf p (set sets k one) ≡ set (setsAt p (take k work)) k (2 ^ at work k)
-    start-is =
-        take-set-lt (p .variables) sets k one (a .room)
-        ∙ ap (λ (z : List ℕ). set z k one) (padded-take (p .variables) (setsAt p (take k work)) sets (l .0) parent-sets n-16′ at-parent unused)
-        ∙ ap (λ (z : ℕ). set (setsAt p (take k work)) k z) one-is
+      before : Sets 16 sets
+      before = padded-sets (p .variables) (setsAt p (take k work)) sets (l .0) parent-sets n-16′ at-parent unused
 
-    way : Way p (take (k + 1) work) (setsOf p (set sets k one))
-    way =
-        let w = child-start p (take k work) (at work k) wf-sized (subst (λ (z : ℕ). T (has (at (setsAt p (take k work)) z) (at work k))) (sym prefix-length) (a .member)) in
-        let w′ = subst (λ (z : ℕ). Way p (longer work k) (set (setsAt p (take k work)) z (2 ^ at work k))) prefix-length w in
-        subst (λ (z : List ℕ). Way p z (setsOf p (set sets k one))) (sym longer-is) (subst (Way p (longer work k)) (sym start-is) w′)
+      are-parent : setsOf p sets ≡ setsAt p (take k work)
+      are-parent = padded-take (p .variables) (setsAt p (take k work)) sets (l .0) parent-sets n-16′ at-parent unused
 
-    start-full : anyEmpty (setsOf p (set sets k one)) ≡ false
-    start-full = take-full (p .variables) (set sets k one) after n-16′ (λ x h e. go x h (ℕ-discrete x k) e)
-      where
-        go : (x : ℕ) → x < p .variables → Dec (x ≡ k) → at (set sets k one) x ≡ 0 → ⊥
-        go x h (yes q) e =
-            let z : 2 ^ at work k ≡ 0 = sym one-is ∙ sym (at-same sets k one k-in) ∙ ap (at (set sets k one)) (sym q) ∙ e in
-            omega (arith, pow-pos (at work k))
-        go x h (no n) e = parent-full x h (sym (at-parent x h) ∙ sym (at-other sets k one x n) ∙ e)
+      k-in : k < length sets
+      k-in = omega (arith, k-12, l .0)
 
-    start-unused : (x : ℕ) → p .variables ≤ x → x < 16 → at (set sets k one) x ≡ 1
-    start-unused x h b = at-other sets k one x (λ q. omega (arith, a .room)) ∙ unused x h b
+      after : Sets 16 (set sets k one)
+      after = set-sets 16 sets k one before (omega (arith, k-12)) (subst (λ (z : ℕ). z < 2 ^ 16) (sym one-is) (pow-lt v-lt))
 
-    given : Given p numbers supports
-    given = record { numbered = a .ready .compiled .numbered; tabled = a .ready .compiled .supported; wellFormed = a .ready .wellFormed; constraints = a .ready .constraints }
+      start-is : setsOf p (set sets k one) ≡ set (setsAt p (take k work)) k (2 ^ at work k)
+      start-is = take-set-lt (p .variables) sets k one (a .room) ∙ ap (λ (z : List ℕ). set z k one) are-parent ∙ ap (λ (z : ℕ). set (setsAt p (take k work)) k z) one-is
 
-    known : (j : ℕ) → T (has todo j) → j < length (p .constraints)
-    known j t = go (ℕ-discrete (at sets k) one)
-      where
-        go : Dec (at sets k ≡ one) → j < length (p .constraints)
-        go (yes e) = absurd (of-not (has 0 j) (has-none j) (subst (λ (z : ℕ). T (has z j)) (d .0 e) t))
-        go (no n) = has-lt (length (p .constraints)) (at numbers k) j (a .ready .compiled .numbered .touching-few k (omega (arith, k-12))) (subst (λ (z : ℕ). T (has z j)) (d .1 n) t)
+      way : Way p (take (k + 1) middle) (setsOf p (set sets k one))
+      way =
+          let w = child-start p (take k work) (at work k) wf-sized (subst (λ (z : ℕ). T (has (at (setsAt p (take k work)) z) (at work k))) (sym prefix-length) (a .member)) in
+          let w′ = subst (λ (z : ℕ). Way p (longer work k) (set (setsAt p (take k work)) z (2 ^ at work k))) prefix-length w in
+          subst (λ (z : List ℕ). Way p z (setsOf p (set sets k one))) (sym child-prefix) (subst (Way p (longer work k)) (sym start-is) w′)
 
-    same : at sets k ≡ one → set sets k one ≡ sets
-    unfolding at
-    same e = ap (set sets k) (sym e) ∙ set-getD sets k 0
+      start-full : anyEmpty (setsOf p (set sets k one)) ≡ false
+      start-full = take-full (p .variables) (set sets k one) after n-16′ (λ x h e. go x h (ℕ-discrete x k) e)
+        where
+          go : (x : ℕ) → x < p .variables → Dec (x ≡ k) → at (set sets k one) x ≡ 0 → ⊥
+          go x h (yes q) e =
+              let z : 2 ^ at work k ≡ 0 = sym one-is ∙ sym (at-set sets k one k-in) ∙ ap (at (set sets k one)) (sym q) ∙ e in
+              omega (arith, pow-pos (at work k))
+          go x h (no n) e = parent-full x h (sym (at-parent x h) ∙ sym (at-set-other sets k one x n) ∙ e)
 
-    -- a constraint that is not due has the sets that it had
-    steady : (j : ℕ) → j < length (p .constraints) → has todo j ≡ false → (y : ℕ) → List·Memᴰ y (constraintAt p j .scope) → at (set sets k one) y ≡ at sets y
-    steady j h f y m = go (ℕ-discrete (at sets k) one)
-      where
-        go : Dec (at sets k ≡ one) → at (set sets k one) y ≡ at sets y
-        go (yes e) = ap (λ (z : List ℕ). at z y) (same e)
-        go (no n) =
-            at-other sets k one y (λ e. of-not (has todo j) f (T-of (has todo j) (ap (λ (z : ℕ). has z j) (d .1 n) ∙ a .ready .compiled .numbered .touching k j (omega (arith, k-12)) h ∙ of-T (any (eqb k) (constraintAt p j .scope)) (of-scope k (constraintAt p j .scope) (subst (λ (z : ℕ). List·Memᴰ z (constraintAt p j .scope)) e m)))))
+      start-unused : (x : ℕ) → p .variables ≤ x → x < 16 → at (set sets k one) x ≡ 1
+      start-unused x h b = at-set-other sets k one x (λ q. omega (arith, a .room)) ∙ unused x h b
 
-    others : (j : ℕ) → j < length (p .constraints) → has todo j ≡ false → Fixed (setsOf p (set sets k one)) (constraintAt p j)
-    others j h f =
-        let g = good given j h in
-        fixed-local (constraintAt p j) (setsAt p (take k work)) (setsOf p (set sets k one)) (ascending-sorted (constraintAt p j .scope) (g .ordered))
-        (λ y m. let i = g .inside y m in sym (take-at (p .variables) (set sets k one) after n-16′ y i ∙ steady j h f y m ∙ at-parent y i))
-        (λ x v t. fixed-e p (take k work) (setsAt p (take k work)) (parent-largest .fixed) x v t .rows (constraintAt p j) (is-one given j h))
+      -- the value of k is one of its set's
+      start-value : T (has (at (setsOf p (set sets k one)) k) (at work k))
+      start-value =
+          take-i (p .variables) (set sets k one) after n-16′ k (at work k) (a .room)
+          (subst (λ (z : ℕ). T (has z (at work k))) (sym (at-set sets k one k-in ∙ one-is)) (subst T (sym (has-one (at work k) (at work k))) (eqb-refl (at work k))))
 
-    pub child-near : Nearing p work supports images numbers (set sets k one) (k + 1) todo
-    child-near = record {
-      ground = record { numbered = a .ready .compiled .numbered; imaged = a .ready .compiled .imaged; wellFormed = a .ready .wellFormed; symmetries = a .ready .symmetries; depth = omega (arith, a .room); drawn = drawn; work-length = a .ready .work-length };
-      live = record { sixteen = after; full = start-full; unused = start-unused };
-      waiting = record { given = given; sixteen = after; full = start-full; known = known; others = others };
-      way = way;
-    }
+      start-inside : Inside (setsOf p (set sets k one)) (setsAt p (take k work))
+      start-inside x v t = go (ℕ-discrete x k)
+        where
+          t′ : T (has (at (set sets k one) x) v)
+          t′ = take-e (p .variables) (set sets k one) after n-16′ x v t .1
 
-  pub child-dead : (sets : List ℕ) (r : Bool) → Arrived p (take (k + 1) work) sets r → r ≡ true → Reached p (longer work k) (k + 1) stack work stack work true
-  child-dead sets r e q = reached-dead p n-16′ (longer work k) sets (k + 1) stack work (subst (λ (z : List ℕ). Arrived p z sets true) longer-is (subst (Arrived p (take (k + 1) work) sets) q e))
+          go : Dec (x ≡ k) → T (has (at (setsAt p (take k work)) x) v)
+          go (yes e) =
+              let u : T (has (2 ^ at work k) v) = subst (λ (z : ℕ). T (has z v)) (at-set sets k one k-in ∙ one-is) (subst (λ (z : ℕ). T (has (at (set sets k one) z) v)) e t′) in
+              let w : v ≡ at work k = eqb-true v (at work k) (of-T (eqb v (at work k)) (subst T (has-one (at work k) v) u)) in
+              subst (λ (z : ℕ). T (has (at (setsAt p (take k work)) z) v)) (sym e) (subst (λ (z : ℕ). T (has (at (setsAt p (take k work)) k) z)) (sym w) (a .member))
+          go (no n) = subst (λ (z : ℕ). T (has z v)) (at-set-other sets k one x n ∙ at-parent x (take-e (p .variables) (set sets k one) after n-16′ x v t .0)) t′
 
-  pub child-live : (sets stack′ : List ℕ) (r : Bool) → Arrived p (take (k + 1) work) sets r → r ≡ false → Stored stack (k + 1) sets stack′ → Reached p (longer work k) (k + 1) stack work stack′ work false
-  child-live sets stack′ r e q t = reached-live p n-16′ (longer work k) sets (k + 1) stack work stack′ (subst (λ (z : List ℕ). Arrived p z sets false) longer-is (subst (Arrived p (take (k + 1) work) sets) q e)) t
+      child-known : (j : ℕ) → T (has todo j) → j < length (p .constraints)
+      child-known j t = go (ℕ-discrete (at sets k) one)
+        where
+          go : Dec (at sets k ≡ one) → j < length (p .constraints)
+          go (yes e) = absurd (of-not (has 0 j) (has-none j) (subst (λ (z : ℕ). T (has z j)) (d .0 e) t))
+          go (no n) = has-lt (length (p .constraints)) (at numbers (72 + k)) j (a .ready .indexed .linked .touching-few k (omega (arith, k-12))) (subst (λ (z : ℕ). T (has z j)) (d .1 n) t)
+
+      same : at sets k ≡ one → set sets k one ≡ sets
+      unfolding at
+      same e = ap (set sets k) (sym e) ∙ set-getD sets k 0
+
+      -- a constraint that is not due has the sets that it had
+      steady : (j : ℕ) → j < length (p .constraints) → has todo j ≡ false → byRows p j ≡ false → (y : ℕ) → List·Memᴰ y (constraintAt p j .scope) → at (set sets k one) y ≡ at sets y
+      steady j h n b y m = go (ℕ-discrete (at sets k) one)
+        where
+          touches : (y ≡ k) → T (has (at numbers (72 + k)) j)
+          touches e =
+              T-of (has (at numbers (72 + k)) j)
+              (a .ready .indexed .linked .touching k j (omega (arith, k-12)) h
+              ∙ of-T (both (any (eqb k) (constraintAt p j .scope)) (not (byRows p j)))
+              (both-i (any (eqb k) (constraintAt p j .scope)) (not (byRows p j)) (among-i k (constraintAt p j .scope) (subst (λ (z : ℕ). List·Memᴰ z (constraintAt p j .scope)) e m)) (T-of (not (byRows p j)) (ap not b))))
+
+          go : Dec (at sets k ≡ one) → at (set sets k one) y ≡ at sets y
+          go (yes e) = ap (λ (z : List ℕ). at z y) (same e)
+          go (no i) = at-set-other sets k one y (λ e. of-not (has todo j) n (subst (λ (z : ℕ). T (has z j)) (sym (d .1 i)) (touches e)))
+
+      others : (j : ℕ) → j < length (p .constraints) → has todo j ≡ false → byRows p j ≡ false → Fixed (setsOf p (set sets k one)) (constraintAt p j)
+      others j h n b =
+          let g = good (a .ready .wellFormed) j h in
+          fixed-kept (constraintAt p j) (setsAt p (take k work)) (setsOf p (set sets k one)) (parent-fixed j h)
+          (λ y m. let i = g .inside y m in take-at (p .variables) (set sets k one) after n-16′ y i ∙ steady j h n b y m ∙ at-parent y i)
+
+      -- what is dirty is variable k, where it is in a constraint by variable and has changed
+      has-dirty : (at sets k ≡ one → ⊥) → (x : ℕ) → has dirty x ≡ both (has (at numbers 70) x) (eqb x k)
+      has-dirty n x =
+          ap (λ (z : ℕ). has z x) (f .1 n) ∙ has-and (at numbers 70) (1 * 2 ^ k % 2 ^ 64) x
+          ∙ ap (both (has (at numbers 70) x)) (ap (λ (z : ℕ). has z x) (one-bit 64 k (omega (arith, k-12))) ∙ has-one k x)
+
+      inner : (x : ℕ) → T (has dirty x) → x < p .variables
+      inner x t = go (ℕ-discrete (at sets k) one)
+        where
+          go : Dec (at sets k ≡ one) → x < p .variables
+          go (yes e) = absurd (of-not (has 0 x) (has-none x) (subst (λ (z : ℕ). T (has z x)) (f .0 e) t))
+          go (no n) = a .ready .indexed .linked .linked-few x (both-l (has (at numbers 70) x) (eqb x k) (subst T (has-dirty n x) t))
+
+      arcs : (x : ℕ) → x < p .variables → has dirty x ≡ false → Arc p (setsOf p (set sets k one)) x
+      arcs x h n = go (ℕ-discrete (at sets k) one) (ℕ-discrete x k)
+        where
+          kept : at (setsOf p (set sets k one)) x ≡ at (setsAt p (take k work)) x → Arc p (setsOf p (set sets k one)) x
+          kept e = arc-kept p (setsAt p (take k work)) (setsOf p (set sets k one)) x start-inside e (parent-arc x h)
+
+          go : Dec (at sets k ≡ one) → Dec (x ≡ k) → Arc p (setsOf p (set sets k one)) x
+          go (yes e) q = kept (ap (λ (z : List ℕ). at (setsOf p z) x) (same e) ∙ ap (λ (z : List ℕ). at z x) are-parent)
+          go (no i) (yes e) =
+              subst (Arc p (setsOf p (set sets k one))) (sym e)
+              (arc-free p numbers (a .ready .indexed .linked) (setsOf p (set sets k one)) k (at work k)
+              (not-of (has (at numbers 70) k) (λ t. of-not (has dirty k) (ap (has dirty) (sym e) ∙ n) (subst T (sym (has-dirty i k)) (both-i (has (at numbers 70) k) (eqb k k) t (eqb-refl k)))))
+              start-value)
+          go (no i) (no m) = kept (take-at (p .variables) (set sets k one) after n-16′ x h ∙ at-set-other sets k one x m ∙ at-parent x h)
+
+      marking : Marking p (setsOf p (set sets k one)) (take (k + 1) middle) middle (k + 1)
+      marking e h =
+          let m = mark-longer p (setsAt p (take k work)) (take k work) (at work k) e (at work (16 * k + 16 + e)) (a .marked e h) in
+          let n = mark-mono p (setsAt p (take k work)) (setsOf p (set sets k one)) (longer work k) e (at work (16 * k + 16 + e)) (take-sets (p .variables) (set sets k one) after n-16′ .0 ∙ sym (parent-sets .0)) start-inside m in
+          subst (λ (z : List ℕ). Mark p (setsOf p (set sets k one)) z e (at middle (16 * (k + 1) + 16 + e))) (sym child-prefix)
+          (subst (Mark p (setsOf p (set sets k one)) (longer work k) e) (sym (ap (at middle) place ∙ c .here e (omega (arith, h, a .ready .symmetries)))) n)
+        where
+          place : 16 * (k + 1) + 16 + e ≡ 16 * (k + 2) + e
+          place = omega arith
+
+      pub child-near : Nearing p middle numbers (set sets k one) (k + 1) todo dirty
+      child-near = record {
+        ground = record { depth = omega (arith, a .room); drawn = λ j h. subst (λ (z : ℕ). T (has (at (p .initial) j) z)) (sym (child-early j (omega arith))) (drawn j h); work-length = middle-length };
+        live = record { sixteen = after; full = start-full; unused = start-unused };
+        pending = record {
+          given = record { sixteen = after; full = start-full; inside = way-initial p (take (k + 1) middle) (setsOf p (set sets k one)) way };
+          known = child-known;
+          others = others;
+          inner = inner;
+          arcs = arcs;
+        };
+        marking = marking;
+        way = way;
+      }
+
+    pub child-dead : (sets work′ : List ℕ) (r : Bool) → Arrived p (k + 1) middle work′ sets r → r ≡ true → Reached p (longer work k) (k + 1) stack work stack work′ true
+    child-dead sets work′ r e q = reached-dead p n-16′ (longer work k) sets (k + 1) stack work middle work′ child-prefix (c .size) child-early (subst (Arrived p (k + 1) middle work′ sets) q e)
+
+    pub child-live : (sets work′ stack′ : List ℕ) (r : Bool) → Arrived p (k + 1) middle work′ sets r → r ≡ false → Stored stack (k + 1) (at sets) stack′ → Reached p (longer work k) (k + 1) stack work stack′ work′ false
+    child-live sets work′ stack′ r e q t = reached-live p n-16′ (longer work k) sets (k + 1) stack work middle work′ child-prefix (c .size) child-early stack′ (subst (Arrived p (k + 1) middle work′ sets) q e) t

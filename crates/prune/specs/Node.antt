@@ -1,5 +1,6 @@
 -- What the functions of this crate ask and leave: the sets at a prefix (paper 01, "The search") on a lent stack of thirteen depths.
--- Depth k has the sets of sixteen variables from 16 k on. The numbers of `work` from 0 to 11 are the prefix, the value of variable j at j.
+-- Depth k has the sets of sixteen variables from 16 k on. The numbers of `work` from 0 to 11 are the prefix, the value of variable j at j;
+-- from 16 k + 16 on, the marks of depth k: what is known there of each symmetry's nogoods.
 use mathlib.Core.Path.{_≡_}
 use mathlib.Core.Bool.{Bool, true, false, not}
 use mathlib.Core.List.{List, [], _∷_, _++_}
@@ -11,7 +12,8 @@ use Rattle.model.specs.ValueSets.{has}
 use Rattle.model.specs.Problem.{Problem}
 use Rattle.model.specs.Search.{setsAt, isLive}
 use Rattle.model.proofs.WellFormed.{WellFormed}
-use Rattle.layout.specs.Layout.{Compiled}
+use Rattle.layout.specs.Tables.{Indexed}
+use Rattle.levels.specs.Levels.{Mark}
 
 -- depth k of the stack holds the sets ds of p's variables, and {0} for every other of sixteen
 pub record Holds (p : Problem) (stack : List ℕ) (k : ℕ) (ds : List ℕ) : Type 0 where
@@ -20,32 +22,39 @@ pub record Holds (p : Problem) (stack : List ℕ) (k : ℕ) (ds : List ℕ) : Ty
 
 -- the arrays hold p, which has no more constraints and symmetries than they have room for; what is lent to write on has its length
 -- (a reference to an array tells its length to no proof)
-pub record Ready (p : Problem) (stack work supports images numbers : List ℕ) : Type 0 where
-  pub compiled : Compiled p numbers supports images
+pub record Ready (p : Problem) (stack work supports tables numbers : List ℕ) : Type 0 where
+  pub indexed : Indexed p numbers supports tables
   pub wellFormed : WellFormed p
   pub constraints : length (p .constraints) ≤ 32
-  pub symmetries : length (p .symmetries) ≤ 136
+  pub symmetries : length (p .symmetries) ≤ 16
   pub stack-length : length stack ≡ 208
   pub work-length : length work ≡ 256
 
--- the prefix of k values that work holds is live, its sets are at depth k, and the next value in work is one of variable k's
-pub record AtNode (p : Problem) (stack work supports images numbers : List ℕ) (k : ℕ) : Type 0 where
-  pub ready : Ready p stack work supports images numbers
+-- the marks of depth k are right at a prefix
+abbrev pub Marked : Problem → List ℕ → List ℕ → ℕ → Type 0
+Marked p work prefix k = (e : ℕ) → e < length (p .symmetries) → Mark p (setsAt p prefix) prefix e (at work (16 * k + 16 + e))
+
+-- the prefix of k values that work holds is live, its sets and marks are at depth k, and the next value in work is one of variable k's
+pub record AtNode (p : Problem) (stack work supports tables numbers : List ℕ) (k : ℕ) : Type 0 where
+  pub ready : Ready p stack work supports tables numbers
   pub room : k < p .variables
   pub live : T (isLive p (take k work))
   pub held : Holds p stack k (setsAt p (take k work))
+  pub marked : Marked p work (take k work) k
   pub member : T (has (at (setsAt p (take k work)) k) (at work k))
 
 -- the prefix with one value more
 abbrev pub longer : List ℕ → ℕ → List ℕ
 longer work k = take k work ++ (at work k ∷ [])
 
--- the answer is whether the prefix is dead; its sets are at depth k where it is live; no other depth and no value of the prefix is changed
+-- the answer is whether the prefix is dead; its sets and marks are at depth k where it is live; no other sets, no value of the prefix and no marks
+-- of a smaller depth are changed
 pub record Reached (p : Problem) (prefix : List ℕ) (k : ℕ) (stack work stack′ work′ : List ℕ) (dead : Bool) : Type 0 where
   pub answers : dead ≡ not (isLive p prefix)
   pub holds : dead ≡ false → Holds p stack′ k (setsAt p prefix)
   pub before : (i : ℕ) → i < 16 * k → at stack′ i ≡ at stack i
   pub after : (i : ℕ) → 16 * k + 16 ≤ i → at stack′ i ≡ at stack i
-  pub kept : (j : ℕ) → j < 12 → at work′ j ≡ at work j
+  pub marked : dead ≡ false → Marked p work′ prefix k
+  pub kept : (j : ℕ) → j < 16 * k + 16 → at work′ j ≡ at work j
   pub stack-length : length stack′ ≡ length stack
   pub work-length : length work′ ≡ length work

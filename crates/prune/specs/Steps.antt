@@ -13,15 +13,43 @@ use Rattle.model.specs.Search.{nogoodsOf, setsAt, isLive}
 use Rattle.model.proofs.Sets.{Sets, Inside}
 use Rattle.model.proofs.Prune.{Way}
 use Rattle.model.proofs.WellFormed.{WellFormed}
-use Rattle.layout.specs.Layout.{Numbers, Images}
-use Rattle.constraints.specs.Revised.{setsOf, Waiting}
+use Rattle.layout.specs.Layout.{constraintAt}
+use Rattle.layout.specs.Tables.{Indexed, byRows}
+use Rattle.layout.specs.Pruning.{Given, Ended, Fixed, Arc, setsOf}
+use Rattle.levels.specs.Levels.{Mark}
 
--- the arrays hold p, and work begins with k values, each of its variable's initial set
-pub record Ground (p : Problem) (work images numbers : List ℕ) (k : ℕ) : Type 0 where
-  pub numbered : Numbers p numbers
-  pub imaged : Images p images
+-- the arrays hold p
+pub record Stage (p : Problem) (supports tables numbers : List ℕ) : Type 0 where
+  pub indexed : Indexed p numbers supports tables
   pub wellFormed : WellFormed p
-  pub symmetries : length (p .symmetries) ≤ 136
+  pub constraints : length (p .constraints) ≤ 32
+  pub symmetries : length (p .symmetries) ≤ 16
+
+-- ---- the constraints
+-- only the constraints of `todo`, and the constraints by variable of the variables of `dirty`, may take something
+pub record Pending (p : Problem) (numbers sets : List ℕ) (todo dirty : ℕ) : Type 0 where
+  pub given : Given p sets
+  pub known : (k : ℕ) → T (has todo k) → k < length (p .constraints)
+  pub others : (k : ℕ) → k < length (p .constraints) → has todo k ≡ false → byRows p k ≡ false → Fixed (setsOf p sets) (constraintAt p k)
+  pub inner : (x : ℕ) → T (has dirty x) → x < p .variables
+  pub arcs : (x : ℕ) → x < p .variables → has dirty x ≡ false → Arc p (setsOf p sets) x
+
+-- no constraint takes anything; on the way only values went that a round of pruning takes too, at any prefix
+pub record Steady (p : Problem) (sets sets′ : List ℕ) : Type 0 where
+  pub ways : (prefix : List ℕ) → Way p prefix (setsOf p sets) → Way p prefix (setsOf p sets′)
+  pub given : Given p sets′
+  pub less : Inside sets′ sets
+  pub unused : (x : ℕ) → p .variables ≤ x → at sets′ x ≡ at sets x
+  pub fixed : (k : ℕ) → k < length (p .constraints) → Fixed (setsOf p sets′) (constraintAt p k)
+  pub arcs : (x : ℕ) → x < p .variables → Arc p (setsOf p sets′) x
+
+pub record SteadyOr (p : Problem) (sets sets′ : List ℕ) (dead : Bool) : Type 0 where
+  pub ended : dead ≡ true → Ended p sets
+  pub steady : dead ≡ false → Steady p sets sets′
+
+-- ---- the filters
+-- work begins with k values, each of its variable's initial set
+pub record Ground (p : Problem) (work : List ℕ) (k : ℕ) : Type 0 where
   pub depth : k ≤ p .variables
   pub drawn : (j : ℕ) → j < k → T (has (at (p .initial) j) (at work j))
   pub work-length : length work ≡ 256
@@ -32,6 +60,10 @@ pub record Live (p : Problem) (sets : List ℕ) : Type 0 where
   pub full : anyEmpty (setsOf p sets) ≡ false
   pub unused : (x : ℕ) → p .variables ≤ x → x < 16 → at sets x ≡ 1
 
+-- the marks of depth k are right for sets at a prefix
+abbrev pub Marking : Problem → List ℕ → List ℕ → List ℕ → ℕ → Type 0
+Marking p ds prefix work k = (e : ℕ) → e < length (p .symmetries) → Mark p ds prefix e (at work (16 * k + 16 + e))
+
 -- what the filters of all symmetries, one after another, leave: values that no round keeps went, and where nothing went, no filter takes anything
 pub record AllSifted (p : Problem) (prefix sets sets′ : List ℕ) : Type 0 where
   pub live : Live p sets′
@@ -39,38 +71,51 @@ pub record AllSifted (p : Problem) (prefix sets sets′ : List ℕ) : Type 0 whe
   pub way : Way p prefix (setsOf p sets) → Way p prefix (setsOf p sets′)
   pub fixed : sets′ ≡ sets → (g : List ℕ) → List·Memᴰ g (p .symmetries) → filtered (setsOf p sets) (nogoodsOf p g prefix) ≡ setsOf p sets
 
--- a dead end: values that no round keeps went, and a set is empty
-abbrev pub Ended : Problem → List ℕ → List ℕ → Type 0
-Ended p prefix sets = (es : List ℕ) × ((Way p prefix (setsOf p sets) → Way p prefix es) × T (anyEmpty es))
+-- a dead end at a prefix: values that no round keeps went, and a set is empty
+abbrev pub EndedAt : Problem → List ℕ → List ℕ → Type 0
+EndedAt p prefix sets = (es : List ℕ) × ((Way p prefix (setsOf p sets) → Way p prefix es) × T (anyEmpty es))
 
-pub record AllSiftedOr (p : Problem) (prefix sets sets′ : List ℕ) (dead : Bool) : Type 0 where
-  pub ended : dead ≡ true → Ended p prefix sets
-  pub sifted : dead ≡ false → AllSifted p prefix sets sets′
+-- nothing of `work` is changed but the marks of depth k and what comes after them
+pub record Kept (work work′ : List ℕ) (k : ℕ) : Type 0 where
+  pub before : (j : ℕ) → j < 16 * k + 16 → at work′ j ≡ at work j
+  pub size : length work′ ≡ length work
 
--- on the way to the sets at the prefix: only the constraints of `todo` may take something
-pub record Nearing (p : Problem) (work supports images numbers sets : List ℕ) (k todo : ℕ) : Type 0 where
-  pub ground : Ground p work images numbers k
+pub record AllSiftedOr (p : Problem) (k : ℕ) (work sets work′ sets′ : List ℕ) (dead : Bool) : Type 0 where
+  pub ended : dead ≡ true → EndedAt p (take k work) sets
+  pub sifted : dead ≡ false → AllSifted p (take k work) sets sets′
+  pub marking : dead ≡ false → Marking p (setsOf p sets′) (take k work) work′ k
+  pub kept : Kept work work′ k
+
+-- ---- both by turns
+-- on the way to the sets at the prefix
+pub record Nearing (p : Problem) (work numbers sets : List ℕ) (k todo dirty : ℕ) : Type 0 where
+  pub ground : Ground p work k
   pub live : Live p sets
-  pub waiting : Waiting p numbers supports sets todo
+  pub pending : Pending p numbers sets todo dirty
+  pub marking : Marking p (setsOf p sets) (take k work) work k
   pub way : Way p (take k work) (setsOf p sets)
 
--- there: the answer is whether the prefix is dead, and where it is live, the sets are those at the prefix
-pub record Arrived (p : Problem) (prefix sets : List ℕ) (dead : Bool) : Type 0 where
-  pub answers : dead ≡ not (isLive p prefix)
-  pub sets-are : dead ≡ false → setsOf p sets ≡ setsAt p prefix
+-- there: the answer is whether the prefix is dead, and where it is live, the sets are those at the prefix, and the marks are right for them
+pub record Arrived (p : Problem) (k : ℕ) (work work′ sets : List ℕ) (dead : Bool) : Type 0 where
+  pub answers : dead ≡ not (isLive p (take k work))
+  pub sets-are : dead ≡ false → setsOf p sets ≡ setsAt p (take k work)
   pub live : dead ≡ false → Live p sets
+  pub marking : dead ≡ false → Marking p (setsOf p sets) (take k work) work′ k
+  pub kept : Kept work work′ k
 
 -- the variables whose sets differ
 pub record Differ (old new : List ℕ) (changed : ℕ) : Type 0 where
   pub few : (x : ℕ) → T (has changed x) → x < 16
   pub differ : (x : ℕ) → x < 16 → has changed x ≡ not (eqb (at new x) (at old x))
 
+-- ---- copies
 -- sixteen sets from a depth of the stack
 abbrev pub Loaded : List ℕ → ℕ → List ℕ → Type 0
 Loaded stack k sets = (length sets ≡ 16) × ((x : ℕ) → x < 16 → at sets x ≡ at stack (16 * k + x))
 
-pub record Stored (stack : List ℕ) (k : ℕ) (sets stack′ : List ℕ) : Type 0 where
-  pub here : (x : ℕ) → x < 16 → at stack′ (16 * k + x) ≡ at sets x
-  pub before : (i : ℕ) → i < 16 * k → at stack′ i ≡ at stack i
-  pub after : (i : ℕ) → 16 * k + 16 ≤ i → at stack′ i ≡ at stack i
-  pub size : length stack′ ≡ length stack
+-- sixteen numbers at a place of a list
+pub record Stored (list : List ℕ) (k : ℕ) (sixteen : ℕ → ℕ) (list′ : List ℕ) : Type 0 where
+  pub here : (x : ℕ) → x < 16 → at list′ (16 * k + x) ≡ sixteen x
+  pub before : (i : ℕ) → i < 16 * k → at list′ i ≡ at list i
+  pub after : (i : ℕ) → 16 * k + 16 ≤ i → at list′ i ≡ at list i
+  pub size : length list′ ≡ length list

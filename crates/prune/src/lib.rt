@@ -1,29 +1,80 @@
 // The sets at a prefix (paper 01, "The search"), from those at the prefix with one value less.
 ghost use mathlib.Core.Path.{_≡_};
 ghost use mathlib.Core.List.{[]};
-ghost use Prim.Native.Nat.{ℕ, _+_, _*_, _%_, _<_};
-ghost use lib.ListN.{length, take};
+ghost use Prim.Native.Nat.{ℕ, _+_, _*_, _%_, _≤_, _<_};
+ghost use lib.ListN.{length};
 ghost use Rattle.model.specs.Lists.{at};
 ghost use Rattle.model.specs.Problem.{Problem};
 ghost use Rattle.prune.specs.Node.{Ready, AtNode, Reached, longer};
-ghost use Rattle.prune.specs.Steps.{Ground, Live, AllSiftedOr, Nearing, Arrived, Differ, Loaded, Stored};
+ghost use Rattle.prune.specs.Steps.{Stage, Pending, SteadyOr, Ground, Live, Marking, AllSiftedOr, Nearing, Arrived, Differ, Loaded, Stored};
+ghost use Rattle.layout.specs.Pruning.{setsOf};
+ghost use lib.ListN.{take};
+use layout::DEAD;
 
-// The filter of every symmetry's nogoods at the prefix of k values, one after another; true where a set is empty.
+// Where `numbers` has the number of variables, that of symmetries, and the variables in a constraint that is pruned by variable.
+const VARIABLES: usize = 64;
+
+const SYMMETRIES: usize = 67;
+
+const LINKED: usize = 70;
+
+// From where on it has the other constraints of each variable.
+const TOUCHING: usize = 72;
+
+// Prunes by the constraints until nothing moves, those by variable and the others by turns; true where a set is empty.
+fn constrain(
+    sets: &mut [u16; 16],
+    supports: &[u16; 8192],
+    tables: &[u16; 55296],
+    numbers: &[u64; 384],
+    todo: u64,
+    dirty: u64,
+) -> bool
+    requires { ⌜ ((p : Problem) × Stage p (now supports) (now tables) (now numbers) × Pending p (now numbers) (now sets) todo dirty) ⌝ }
+    ensures { λ r. ⌜ ((p : Problem) → Stage p (now (supports .entry)) (now (tables .entry)) (now (numbers .entry)) → Pending p (now (numbers .entry)) (now (sets .entry)) todo dirty → SteadyOr p (now (sets .entry)) (now (sets .exit)) r) ⌝ }
+{
+    let mut left = todo;
+    let mut moved = dirty;
+    loop {
+        let cut = links::arcs(sets, tables, numbers, moved);
+        if cut == DEAD {
+            return true;
+        }
+        left = left | constraints::touched(numbers, cut);
+        let pruned = constraints::constrain(sets, numbers, supports, left);
+        if pruned == DEAD {
+            return true;
+        }
+        moved = pruned & numbers[LINKED];
+        if moved == 0 {
+            return false;
+        }
+        left = 0;
+    }
+}
+
+// The filter of every symmetry's nogoods at the prefix of k values, one after another, each from its mark on; true where a set is empty.
 fn filters(
     sets: &mut [u16; 16],
-    work: &[u64; 256],
-    images: &[u8; 26112],
-    numbers: &[u64; 128],
+    work: &mut [u64; 256],
+    supports: &[u16; 8192],
+    tables: &[u16; 55296],
+    numbers: &[u64; 384],
     k: usize,
 ) -> bool
-    requires { ⌜ ((p : Problem) × Ground p (now work) (now images) (now numbers) k × Live p (now sets)) ⌝ }
-    ensures { λ r. ⌜ ((p : Problem) → Ground p (now (work .entry)) (now (images .entry)) (now (numbers .entry)) k → Live p (now (sets .entry)) → AllSiftedOr p (take k (now (work .entry))) (now (sets .entry)) (now (sets .exit)) r) ⌝ }
+    requires { ⌜ ((p : Problem) × Stage p (now supports) (now tables) (now numbers) × Ground p (now work) k × Live p (now sets) × Marking p (setsOf p (now sets)) (take k (now work)) (now work) k) ⌝ }
+    ensures { λ r. ⌜ ((p : Problem) → Stage p (now (supports .entry)) (now (tables .entry)) (now (numbers .entry)) → Ground p (now (work .entry)) k → Live p (now (sets .entry)) → Marking p (setsOf p (now (sets .entry))) (take k (now (work .entry))) (now (work .entry)) k → AllSiftedOr p k (now (work .entry)) (now (sets .entry)) (now (work .exit)) (now (sets .exit)) r) ⌝ }
 {
-    let g = numbers[67] as usize;
+    let g = numbers[SYMMETRIES] as usize;
     let mut e = 0;
     while e < g {
-        if levels::filter_at(sets, work, images, numbers, e, k) {
-            return true;
+        let start = work[16 * k + 16 + e];
+        if start != levels::DONE {
+            let mark = levels::filter(sets, work, tables, e, k, start as usize);
+            if mark == levels::DEAD {
+                return true;
+            }
+            work[16 * k + 16 + e] = mark;
         }
         e += 1;
     }
@@ -43,32 +94,35 @@ fn difference(old: &[u16; 16], new: &[u16; 16]) -> u64
     all
 }
 
-// The constraints of todo and the filters by turns until nothing moves; true where the prefix is dead.
+// The constraints that are due and the filters by turns until nothing moves; true where the prefix is dead.
 fn fixpoint(
     sets: &mut [u16; 16],
-    work: &[u64; 256],
+    work: &mut [u64; 256],
     supports: &[u16; 8192],
-    images: &[u8; 26112],
-    numbers: &[u64; 128],
+    tables: &[u16; 55296],
+    numbers: &[u64; 384],
     k: usize,
     todo: u64,
+    dirty: u64,
 ) -> bool
-    requires { ⌜ ((p : Problem) × Nearing p (now work) (now supports) (now images) (now numbers) (now sets) k todo) ⌝ }
-    ensures { λ r. ⌜ ((p : Problem) → Nearing p (now (work .entry)) (now (supports .entry)) (now (images .entry)) (now (numbers .entry)) (now (sets .entry)) k todo → Arrived p (take k (now (work .entry))) (now (sets .exit)) r) ⌝ }
+    requires { ⌜ ((p : Problem) × Stage p (now supports) (now tables) (now numbers) × Nearing p (now work) (now numbers) (now sets) k todo dirty) ⌝ }
+    ensures { λ r. ⌜ ((p : Problem) → Stage p (now (supports .entry)) (now (tables .entry)) (now (numbers .entry)) → Nearing p (now (work .entry)) (now (numbers .entry)) (now (sets .entry)) k todo dirty → Arrived p k (now (work .entry)) (now (work .exit)) (now (sets .exit)) r) ⌝ }
 {
     let mut left = todo;
+    let mut moved = dirty;
     loop {
-        if constraints::constrain(sets, numbers, supports, left) {
+        if constrain(sets, supports, tables, numbers, left, moved) {
             return true;
         }
         let old = *sets;
-        if filters(sets, work, images, numbers, k) {
+        if filters(sets, work, supports, tables, numbers, k) {
             return true;
         }
         let changed = difference(&old, sets);
         if changed == 0 {
             return false;
         }
+        moved = changed & numbers[LINKED];
         left = constraints::touched(numbers, changed);
     }
 }
@@ -86,7 +140,7 @@ fn load(stack: &[u16; 208], k: usize, sets: &mut [u16; 16])
 
 fn store(stack: &mut [u16; 208], k: usize, sets: &[u16; 16])
     requires { ⌜ (k < 13) × (length (now stack) ≡ 208) ⌝ }
-    ensures { λ _. ⌜ Stored (now (stack .entry)) k (now (sets .entry)) (now (stack .exit)) ⌝ }
+    ensures { λ _. ⌜ Stored (now (stack .entry)) k (at (now (sets .entry))) (now (stack .exit)) ⌝ }
 {
     let mut i = 0;
     while i < 16 {
@@ -96,7 +150,7 @@ fn store(stack: &mut [u16; 208], k: usize, sets: &[u16; 16])
 }
 
 // The initial sets.
-fn initial(numbers: &[u64; 128], sets: &mut [u16; 16])
+fn initial(numbers: &[u64; 384], sets: &mut [u16; 16])
     requires { ⌜ length (now sets) ≡ 16 ⌝ }
     ensures { λ _. ⌜ (length (now (sets .exit)) ≡ 16) × ((x : ℕ) → x < 16 → at (now (sets .exit)) x ≡ at (now (numbers .entry)) (16 + x) % 65536) ⌝ }
 {
@@ -107,28 +161,62 @@ fn initial(numbers: &[u64; 128], sets: &mut [u16; 16])
     }
 }
 
-// The constraints to prune by once a set has become one value: none where it was that already.
-fn due(old: u16, one: u16, touching: u64) -> u64
-    ensures { λ r. ⌜ ((old ≡ one → r ≡ 0) × ((old ≡ one → ⊥) → r ≡ touching)) ⌝ }
+// What is due of `all` once a set has become one value: nothing where it was that already.
+fn due(old: u16, one: u16, all: u64) -> u64
+    ensures { λ r. ⌜ ((old ≡ one → r ≡ 0) × ((old ≡ one → ⊥) → r ≡ all)) ⌝ }
 {
-    if old == one { 0 } else { touching }
+    if old == one { 0 } else { all }
 }
 
-// Puts the sets at the empty prefix at depth 0; true where it is dead.
+// The marks of depth 0: nothing is known yet.
+fn clear_marks(work: &mut [u64; 256])
+    requires { ⌜ length (now work) ≡ 256 ⌝ }
+    ensures { λ _. ⌜ Stored (now (work .entry)) 1 (λ e. 0) (now (work .exit)) ⌝ }
+{
+    let mut e = 0;
+    while e < 16 {
+        work[16 + e] = 0;
+        e += 1;
+    }
+}
+
+// What is known at depth k is known at depth k + 1.
+fn copy_marks(work: &mut [u64; 256], k: usize)
+    requires { ⌜ (k < 12) × (length (now work) ≡ 256) ⌝ }
+    ensures { λ _. ⌜ Stored (now (work .entry)) (k + 2) (λ e. at (now (work .entry)) (16 * k + 16 + e)) (now (work .exit)) ⌝ }
+{
+    let mut e = 0;
+    while e < 16 {
+        work[16 * k + 32 + e] = work[16 * k + 16 + e];
+        e += 1;
+    }
+}
+
+// Puts the sets and marks at the empty prefix at depth 0; true where it is dead.
 pub fn root(
     stack: &mut [u16; 208],
     work: &mut [u64; 256],
     supports: &[u16; 8192],
-    images: &[u8; 26112],
-    numbers: &[u64; 128],
+    tables: &[u16; 55296],
+    numbers: &[u64; 384],
 ) -> bool
-    requires { ⌜ ((p : Problem) × Ready p (now stack) (now work) (now supports) (now images) (now numbers)) ⌝ }
-    ensures { λ r. ⌜ ((p : Problem) → Ready p (now (stack .entry)) (now (work .entry)) (now (supports .entry)) (now (images .entry)) (now (numbers .entry)) → Reached p [] 0 (now (stack .entry)) (now (work .entry)) (now (stack .exit)) (now (work .exit)) r) ⌝ }
+    requires { ⌜ ((p : Problem) × Ready p (now stack) (now work) (now supports) (now tables) (now numbers)) ⌝ }
+    ensures { λ r. ⌜ ((p : Problem) → Ready p (now (stack .entry)) (now (work .entry)) (now (supports .entry)) (now (tables .entry)) (now (numbers .entry)) → Reached p [] 0 (now (stack .entry)) (now (work .entry)) (now (stack .exit)) (now (work .exit)) r) ⌝ }
 {
     let mut sets = [1u16; 16];
     initial(numbers, &mut sets);
-    let todo = (1u64 << numbers[66]) - 1;
-    let dead = fixpoint(&mut sets, work, supports, images, numbers, 0, todo);
+    clear_marks(work);
+    let todo = constraints::touched(numbers, (1u64 << numbers[VARIABLES]) - 1);
+    let dead = fixpoint(
+        &mut sets,
+        work,
+        supports,
+        tables,
+        numbers,
+        0,
+        todo,
+        numbers[LINKED],
+    );
     if dead {
         return true;
     }
@@ -136,24 +224,35 @@ pub fn root(
     false
 }
 
-// Puts the sets at the prefix of work's first k + 1 values at depth k + 1, from those of the first k values at depth k; true where it is dead.
+// Puts the sets and marks at the prefix of work's first k + 1 values at depth k + 1, from those of the first k values at depth k; true where it is dead.
 pub fn child(
     stack: &mut [u16; 208],
     work: &mut [u64; 256],
     supports: &[u16; 8192],
-    images: &[u8; 26112],
-    numbers: &[u64; 128],
+    tables: &[u16; 55296],
+    numbers: &[u64; 384],
     k: usize,
 ) -> bool
-    requires { ⌜ ((p : Problem) × AtNode p (now stack) (now work) (now supports) (now images) (now numbers) k) ⌝ }
-    ensures { λ r. ⌜ ((p : Problem) → AtNode p (now (stack .entry)) (now (work .entry)) (now (supports .entry)) (now (images .entry)) (now (numbers .entry)) k → Reached p (longer (now (work .entry)) k) (k + 1) (now (stack .entry)) (now (work .entry)) (now (stack .exit)) (now (work .exit)) r) ⌝ }
+    requires { ⌜ ((p : Problem) × AtNode p (now stack) (now work) (now supports) (now tables) (now numbers) k) ⌝ }
+    ensures { λ r. ⌜ ((p : Problem) → AtNode p (now (stack .entry)) (now (work .entry)) (now (supports .entry)) (now (tables .entry)) (now (numbers .entry)) k → Reached p (longer (now (work .entry)) k) (k + 1) (now (stack .entry)) (now (work .entry)) (now (stack .exit)) (now (work .exit)) r) ⌝ }
 {
     let mut sets = [1u16; 16];
     load(stack, k, &mut sets);
+    copy_marks(work, k);
     let one = 1u16 << work[k];
-    let todo = due(sets[k], one, numbers[k]);
+    let todo = due(sets[k], one, numbers[TOUCHING + k]);
+    let dirty = due(sets[k], one, numbers[LINKED] & (1u64 << k));
     sets[k] = one;
-    let dead = fixpoint(&mut sets, work, supports, images, numbers, k + 1, todo);
+    let dead = fixpoint(
+        &mut sets,
+        work,
+        supports,
+        tables,
+        numbers,
+        k + 1,
+        todo,
+        dirty,
+    );
     if dead {
         return true;
     }

@@ -10,7 +10,7 @@ use lib.Seq.{drop-append-seam}
 use Rattle.model.specs.Lists.{flat}
 use Rattle.model.specs.Problem.{isSolution}
 use Rattle.model.specs.Sheet.{problemOf}
-use Rattle.model.specs.Run.{ended, refusal, answerOf, listOf, resultOf, written, plansIn}
+use Rattle.model.specs.Run.{ended, refusal, answerOf, listOf, resultOf, written, plansIn, nodesIn, tallyFor, tallyOf}
 use Rattle.model.specs.Run as Run
 use Rattle.model.specs.Claims.{Chain}
 use Rattle.model.proofs.Runs.{rows-counted, rows-sized}
@@ -20,7 +20,7 @@ use Rattle.search.specs.declared.Ending.{Ending}
 use Rattle.search.specs.declared.Ending.the-variants.{Finished, Spent, Full}
 use Rattle.search.specs.declared.Answer.{Answer}
 use Rattle.search.specs.declared.Answer.the-variants.{Refused, Ended}
-use Rattle.search.specs.Demands.{Call, plansFrom, AtEnd, AtFinish, Demands}
+use Rattle.search.specs.Demands.{Call, Lent, plansFrom, AtEnd, AtFinish, Demands}
 use Rattle.search.proofs.Sheets.{answer-refused, list-refused}
 
 -- ---- an answer is known by what it means
@@ -80,12 +80,19 @@ module _ (b : List ℕ) (limit : ℕ) (out : List ℕ) (r : Answer) (left : List
         nothing = M.nothing-listed b limit out plans nodes a;
       }
 
+-- the lent tally goes by the answer
+tally-is : (b : List ℕ) (limit : ℕ) (out : List ℕ) (tally : ℕ) (r : Answer) (left : List ℕ) (tally′ : ℕ) → Lent b limit out tally r left tally′ → tally′ ≡ tallyFor (means r) tally
+unfolding tallyOf
+tally-is b limit out tally r left tally′ h = h .counts ∙ ap (λ (a : Run.Answer). tallyFor a tally) (sym (h .call .answers))
+
 pub demands : Demands
 demands = record {
   refuses = λ b limit out r left c number item e. (is-refused r number item (c .answers ∙ sym (answer-refused b number item e limit out)), c .leaves ∙ sym (list-refused b number item e limit out));
   ends = λ b limit out r left c e. let x = M.ends b limit out e in is-ended r (x .0) (c .answers ∙ x .1);
   at-end = at-end;
   at-finish = at-finish;
+  tally-kept = λ b limit out tally r left tally′ h number item q. tally-is b limit out tally r left tally′ h ∙ ap (λ (a : Answer). tallyFor (means a) tally) q;
+  tally-counts = λ b limit out tally r left tally′ h e q. tally-is b limit out tally r left tally′ h ∙ ap (λ (a : Answer). tallyFor (means a) tally) q;
   fewer = λ b c t k o limit out r left x limit′ out′ r′ left′ y plans nodes plans′ nodes′ e e′.
       let f = M.fewer b c t k o limit out plans nodes (answered b limit out r left x (Finished plans nodes) e) limit′ out′ plans′ nodes′ (answered c limit′ out′ r′ left′ y (Finished plans′ nodes′) e′) in
       (subst₂ Sublistᴰ (listed c limit′ out′ r′ left′ y plans′) (listed b limit out r left x plans) (f .0), f .1);

@@ -5,6 +5,10 @@ pub mod Steps
 pub mod Prefix
 pub mod Listing
 pub mod Turns
-pub mod Whole
+pub mod Facts
 pub mod Sheets
+pub mod Whole
 pub mod Demands
+pub mod Again
+pub mod Loans
+pub mod Locals

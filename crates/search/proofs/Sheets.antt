@@ -1,20 +1,19 @@
--- What a run makes of the sheet's verdict: an accepted sheet states a problem that the arrays have room for, and the run's answer and list go by
--- the verdict. Assumes nothing.
+-- What is known of a sheet by its verdict: an accepted one states a problem that the arrays have room for, and a refusal is the run's answer.
+-- Assumes nothing.
 use mathlib.Core.Path.{_≡_, refl, sym, ap, _∙_, subst}
 use mathlib.Core.List.{List}
-use Prim.Native.Nat.{ℕ, zero, suc}
+use Prim.Native.Nat.{ℕ, zero, suc, _≤_}
 use native.Mathlib.Omega.{arith}
 use lib.Dec.{T}
 use lib.ListN.{length, replicate, length-map, length-replicate}
 use Rattle.model.specs.Lists.{at, upFrom, below}
-use Rattle.sheet.specs.Form.{Zeros}
+use Rattle.model.specs.Problem.{Problem}
 use Rattle.model.specs.Verdict.{Verdict, accepted, refused, isAccepted}
 use Rattle.model.specs.Sheet.{verdictOf, problemOf, headerOf, constraintsFrom, afterAt, tableAt}
-use Rattle.model.specs.Run.{ended, refusal, answerFor, answerOf, listFor, listOf}
+use Rattle.model.specs.Run.{refusal, answerFor, answerOf, listFor, listOf}
 use Rattle.model.proofs.Accepted.{passed}
-use Rattle.layout.specs.Layout.{Compiled}
-use Rattle.search.specs.Meaning.{endingOf, Held, Ran}
-use Rattle.search.specs.declared.Ending.{Ending}
+use Rattle.model.proofs.WellFormed.{WellFormed}
+use Rattle.sheet.specs.Form.{Zeros}
 
 length-constraints : (b : List ℕ) (k o : ℕ) → length (constraintsFrom b k o) ≡ k
 unfolding constraintsFrom
@@ -44,24 +43,20 @@ at-replicate (suc n) (suc i) = at-replicate n i
 pub zeros : (n : ℕ) → Zeros n (replicate n 0)
 zeros n = record { sized = length-replicate n 0; blank = at-replicate n }
 
-module _ (b : List ℕ) (e : verdictOf b ≡ accepted) where
-  pub held : (numbers supports images : List ℕ) → Compiled (problemOf b) numbers supports images → Held (problemOf b) numbers supports images
-  held numbers supports images c =
-      let q = passed b (subst (λ (v : Verdict). T (isAccepted v)) (sym e) tt) in
-      record {
-        compiled = c;
-        wellFormed = q .well;
-        constraints = let l = constraints-are b in let f = q .constraints in omega arith;
-        symmetries = let l = symmetries-are b in let f = q .symmetries in omega arith;
-      }
+-- a problem that the arrays have room for
+pub record Stated (p : Problem) : Type 0 where
+  pub wellFormed : WellFormed p
+  pub constraints : length (p .constraints) ≤ 32
+  pub symmetries : length (p .symmetries) ≤ 16
 
-  pub answer-ended : (limit : ℕ) (list list′ : List ℕ) (x : Ending) → Ran (problemOf b) limit list list′ x → ended (endingOf x) ≡ answerOf b limit list
-  unfolding answerOf answerFor
-  answer-ended limit list list′ x r = ap ended (r .ends) ∙ ap (λ (v : Verdict). answerFor v b limit (length list)) (sym e)
-
-  pub list-ended : (limit : ℕ) (list list′ : List ℕ) (x : Ending) → Ran (problemOf b) limit list list′ x → list′ ≡ listOf b limit list
-  unfolding listOf listFor
-  list-ended limit list list′ x r = r .lists ∙ ap (λ (v : Verdict). listFor v b limit list) (sym e)
+pub stated : (b : List ℕ) → verdictOf b ≡ accepted → Stated (problemOf b)
+stated b e =
+    let q = passed b (subst (λ (v : Verdict). T (isAccepted v)) (sym e) tt) in
+    record {
+      wellFormed = q .well;
+      constraints = let l = constraints-are b in let f = q .constraints in omega arith;
+      symmetries = let l = symmetries-are b in let f = q .symmetries in omega arith;
+    }
 
 module _ (b : List ℕ) (number item : ℕ) (e : verdictOf b ≡ refused number item) (limit : ℕ) (list : List ℕ) where
   pub answer-refused : refusal number item ≡ answerOf b limit list

@@ -9,7 +9,7 @@ use lib.Dec.{T}
 use Rattle.model.specs.Problem.{isSolution}
 use Rattle.model.specs.Verdict.{accepted, refused}
 use Rattle.model.specs.Sheet.{verdictOf, problemOf}
-use Rattle.model.specs.Run.{answerOf, listOf, listedPlans, plansIn, nodesIn}
+use Rattle.model.specs.Run.{answerOf, listOf, listedPlans, plansIn, nodesIn, tallyOf}
 use Rattle.model.specs.Claims.{leaders, CountsAt, Chain, OneMore}
 use Rattle.search.specs.Meaning.{endingOf, means}
 use Rattle.search.specs.declared.Ending.{Ending}
@@ -21,6 +21,11 @@ use Rattle.search.specs.declared.Answer.the-variants.{Refused, Ended}
 pub record Call (b : List ℕ) (limit : ℕ) (out : List ℕ) (r : Answer) (left : List ℕ) : Type 0 where
   pub answers : means r ≡ answerOf b limit out
   pub leaves : left ≡ listOf b limit out
+
+-- a call of `run_with`, which is lent a tally besides: its trials as it came, and at the end
+pub record Lent (b : List ℕ) (limit : ℕ) (out : List ℕ) (tally : ℕ) (r : Answer) (left : List ℕ) (tally′ : ℕ) : Type 0 where
+  pub call : Call b limit out r left
+  pub counts : tally′ ≡ tallyOf b limit out tally
 
 -- the listed plans: as many rows of n bytes at the front of the list as the ending carries
 abbrev pub plansFrom : List ℕ → ℕ → List ℕ → List (List ℕ)
@@ -53,6 +58,11 @@ pub record Demands : Type 0 where
       (e : Ending) → r ≡ Ended e → AtEnd b limit out e left
   pub at-finish : (b : List ℕ) (limit : ℕ) (out : List ℕ) (r : Answer) (left : List ℕ) → Call b limit out r left →
       (plans nodes : ℕ) → r ≡ Ended (Finished plans nodes) → AtFinish b plans left
+  -- the lent tally: as it came where the sheet is refused, else it has as many trials as the ending carries
+  pub tally-kept : (b : List ℕ) (limit : ℕ) (out : List ℕ) (tally : ℕ) (r : Answer) (left : List ℕ) (tally′ : ℕ) → Lent b limit out tally r left tally′ →
+      (number item : ℕ) → r ≡ Refused number item → tally′ ≡ tally
+  pub tally-counts : (b : List ℕ) (limit : ℕ) (out : List ℕ) (tally : ℕ) (r : Answer) (left : List ℕ) (tally′ : ℕ) → Lent b limit out tally r left tally′ →
+      (e : Ending) → r ≡ Ended e → tally′ ≡ nodesIn (endingOf e)
   -- a sheet c with one exchange more than b: where both runs finish, c's lists no other plan and makes no more nodes ..
   pub fewer : (b c t : List ℕ) (k : ℕ) → OneMore b c k t →
       (limit : ℕ) (out : List ℕ) (r : Answer) (left : List ℕ) → Call b limit out r left →

@@ -2,4 +2,5 @@
 pub mod Walk
 pub mod Pair
 pub mod Meaning
+pub mod Whole
 pub mod Demands

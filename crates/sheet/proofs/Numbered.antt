@@ -14,7 +14,7 @@ use Rattle.model.specs.Sheet.{headerOf, word, words, scopeAt, rowsAt, problemOf
 use Rattle.model.proofs.Sets.{has-none}
 use Rattle.model.proofs.Accepted.{length-words, at-words}
 use Rattle.layout.specs.Layout.{Numbers, Supports, constraintAt, place}
-use Rattle.sheet.specs.Parts.{Fit, AllSets}
+use Rattle.sheet.specs.Parts.{Fit, AllSets, entries}
 use Rattle.sheet.specs.Fill.{packed}
 use Rattle.sheet.specs.Steps.{offsetAt, numbersTo, supportsTo}
 use Rattle.sheet.specs.Form.{counted}
@@ -25,19 +25,19 @@ use Rattle.sheet.proofs.Backing.{Backed, backed, set-of-rows}
 use Rattle.sheet.proofs.Passed.{length-constraints, constraint-at}
 
 -- ---- the four counts
-module _ (n d c g : ℕ) (l : List ℕ) (long : length l ≡ 128) where
+module _ (n d c g : ℕ) (l : List ℕ) (long : length l ≡ entries) where
   counted-low : (i : ℕ) → i < 64 → at (counted n d c g l) i ≡ at l i
   counted-low i h =
       at-other (set (set (set l 64 n) 65 d) 66 c) 67 i g (λ e. omega arith) ∙ at-other (set (set l 64 n) 65 d) 66 i c (λ e. omega arith)
       ∙ at-other (set l 64 n) 65 i d (λ e. omega arith) ∙ at-other l 64 i n (λ e. omega arith)
 
-  long1 : length (set l 64 n) ≡ 128
+  long1 : length (set l 64 n) ≡ entries
   long1 = length-set l 64 n ∙ long
 
-  long2 : length (set (set l 64 n) 65 d) ≡ 128
+  long2 : length (set (set l 64 n) 65 d) ≡ entries
   long2 = length-set (set l 64 n) 65 d ∙ long1
 
-  long3 : length (set (set (set l 64 n) 65 d) 66 c) ≡ 128
+  long3 : length (set (set (set l 64 n) 65 d) 66 c) ≡ entries
   long3 = length-set (set (set l 64 n) 65 d) 66 c ∙ long2
 
   counted-n : at (counted n d c g l) 64 ≡ n
@@ -84,7 +84,7 @@ module _ (b : List ℕ) where
 
   module _ (f : Fit b) (good : (j : ℕ) → j < headerOf b .constraints → Good b (headerOf b .variables) (headerOf b .values) (offsetAt b (headerOf b .second) j)) where
     -- ---- the numbers
-    module _ (l m : List ℕ) (long : length l ≡ 128) (blank : (i : ℕ) → at l i ≡ 0) (sets : AllSets b (headerOf b .variables) l m) where
+    module _ (l m : List ℕ) (long : length l ≡ entries) (blank : (i : ℕ) → at l i ≡ 0) (sets : AllSets b (headerOf b .variables) l m) where
       abbrev t : Held b (headerOf b .second) (headerOf b .constraints) m (numbersTo b (headerOf b .second) (headerOf b .constraints) m)
       t =
           held b (headerOf b .variables) (headerOf b .values) (headerOf b .second) (headerOf b .constraints) (omega (arith, f .few)) good m (sets .sized) (f .constraints)
@@ -96,7 +96,7 @@ module _ (b : List ℕ) where
       abbrev new : List ℕ
       new = counted (headerOf b .variables) (headerOf b .values) (headerOf b .constraints) (headerOf b .symmetries) mid
 
-      sized : length mid ≡ 128
+      sized : length mid ≡ entries
       sized = t .sized ∙ sets .sized
 
       low : (i : ℕ) → i < 64 → at new i ≡ at mid i

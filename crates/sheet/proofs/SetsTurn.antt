@@ -10,7 +10,7 @@ use borrow.Author.Tests.{eqb-true, eqb-false}
 use Rattle.model.specs.Lists.{both, at, below, upFrom}
 use Rattle.model.specs.Verdict.{Verdict, refused, ask}
 use Rattle.model.specs.Sheet.{Header, word, headerOf, setsVerdict}
-use Rattle.sheet.specs.Parts.{Unused, Initial, AllSets, SetsAsked}
+use Rattle.sheet.specs.Parts.{Unused, Initial, AllSets, SetsAsked, entries}
 use Rattle.sheet.specs.declared.Answer.the-variants.{Accepted, Refused}
 use Rattle.sheet.proofs.Arrays.{at-same, at-other}
 
@@ -65,7 +65,7 @@ sets-accepted b n old new e p f =
     }
 
 -- ---- the stores
-pub unused-none : (n : ℕ) (old : List ℕ) → length old ≡ 128 → Unused n n old old
+pub unused-none : (n : ℕ) (old : List ℕ) → length old ≡ entries → Unused n n old old
 unused-none n old e =
     record {
       sized = e;
@@ -92,7 +92,7 @@ unused-more n x old new l m u =
 pub unused-all : (n x : ℕ) (old new : List ℕ) → 16 ≤ x → x ≤ 16 → Unused n x old new → Unused n 16 old new
 unused-all n x old new l m u = let e : x ≡ 16 = omega arith in subst (λ (k : ℕ). Unused n k old new) e u
 
-pub initial-none : (b old : List ℕ) → length old ≡ 128 → Initial b 0 old old
+pub initial-none : (b old : List ℕ) → length old ≡ entries → Initial b 0 old old
 initial-none b old e =
     record {
       sized = e;

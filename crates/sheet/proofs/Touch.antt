@@ -14,6 +14,7 @@ use Rattle.model.specs.Lists.{at, both, either, any, below, ascending}
 use Rattle.model.specs.ValueSets.{has}
 use Rattle.model.specs.Sheet.{word, words, scopeAt}
 use Rattle.model.proofs.Masks.{has-or, has-one}
+use Rattle.sheet.specs.Parts.{entries}
 use Rattle.sheet.specs.Fill.{touch, touched, packed, rowFits, numbersWith}
 use Rattle.sheet.specs.Steps.{offsetAt, numbersTo}
 use Rattle.sheet.proofs.Arrays.{at-same, at-other}
@@ -160,7 +161,7 @@ either-assoc : (a b c : Bool) → either (either a b) c ≡ either a (either b c
 either-assoc true b c = refl
 either-assoc false b c = refl
 
-module _ (b : List ℕ) (n d o c : ℕ) (n16 : n ≤ 16) (good : (j : ℕ) → j < c → Good b n d (offsetAt b o j)) (l : List ℕ) (long : length l ≡ 128) (c32 : c ≤ 32) (blank : (x : ℕ) → x < 16 → at l x ≡ 0) where
+module _ (b : List ℕ) (n d o c : ℕ) (n16 : n ≤ 16) (good : (j : ℕ) → j < c → Good b n d (offsetAt b o j)) (l : List ℕ) (long : length l ≡ entries) (c32 : c ≤ 32) (blank : (x : ℕ) → x < 16 → at l x ≡ 0) where
   pub held : (k : ℕ) → k ≤ c → Held b o k l (numbersTo b o k l)
   unfolding numbersTo scopeAt
   held zero h =

@@ -58,27 +58,31 @@ pub record Fit (b : List ℕ) : Type 0 where
   pub ordered : headerOf b .second ≤ headerOf b .third
   pub third : headerOf b .third ≤ length b
 
+-- how many numbers a compiled problem has
+abbrev pub entries : ℕ
+entries = 384
+
 -- ---- question 8
 abbrev pub setsAsked : List ℕ → Verdict → Verdict
 setsAsked b later = setsVerdict b (headerOf b) (below (headerOf b .variables)) later
 
 -- {0} for each variable from n up to k, and nothing else changed
 pub record Unused (n k : ℕ) (old new : List ℕ) : Type 0 where
-  pub sized : length new ≡ 128
+  pub sized : length new ≡ entries
   pub unused : (x : ℕ) → n ≤ x → x < k → at new (16 + x) ≡ 1
   pub low : (i : ℕ) → i < 16 + n → at new i ≡ at old i
   pub high : (i : ℕ) → 16 + k ≤ i → at new i ≡ at old i
 
 -- the initial sets of the variables below k, and nothing else changed
 pub record Initial (b : List ℕ) (k : ℕ) (old new : List ℕ) : Type 0 where
-  pub sized : length new ≡ 128
+  pub sized : length new ≡ entries
   pub initial : (x : ℕ) → x < k → at new (16 + x) ≡ word b (16 + 2 * x)
   pub low : (i : ℕ) → i < 16 → at new i ≡ at old i
   pub high : (i : ℕ) → 16 + k ≤ i → at new i ≡ at old i
 
 -- the sets of all sixteen variables
 pub record AllSets (b : List ℕ) (n : ℕ) (old new : List ℕ) : Type 0 where
-  pub sized : length new ≡ 128
+  pub sized : length new ≡ entries
   pub initial : (x : ℕ) → x < n → at new (16 + x) ≡ word b (16 + 2 * x)
   pub unused : (x : ℕ) → n ≤ x → x < 16 → at new (16 + x) ≡ 1
   pub low : (i : ℕ) → i < 16 → at new i ≡ at old i

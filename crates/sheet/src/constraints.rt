@@ -1,8 +1,9 @@
 // Questions 9 to 13, and what they store of each constraint: its scope, and the set of constraints that touch a variable.
 use crate::Answer;
 use crate::read::Header;
-use crate::read::word;
 use crate::rows;
+use reader::word_at;
+use symmetry::Numbers;
 ghost use Prim.Native.Nat.{_+_, _*_, _≤_, _<_};
 ghost use mathlib.Core.Path.{_≡_};
 ghost use lib.ListN.{length};
@@ -34,7 +35,7 @@ fn counts_fit(a: usize, r: usize) -> bool
 }
 
 // Constraint k into the set of those that touch a variable.
-fn touch(k: usize, x: usize, numbers: &mut [u64; 128])
+fn touch(k: usize, x: usize, numbers: &mut Numbers)
     requires { ⌜ (k < 32) × (x < 16) ⌝ }
     ensures { λ _. ⌜ now (numbers .exit) ≡ touchAt k x (now (numbers .entry)) ⌝ }
 {
@@ -42,7 +43,7 @@ fn touch(k: usize, x: usize, numbers: &mut [u64; 128])
 }
 
 // Question 11 to the scope of a variables at an offset: below n, strictly ascending.
-fn scope(sheet: &[u8], from: usize, a: usize, n: usize, k: usize, numbers: &mut [u64; 128]) -> bool
+fn scope(sheet: &[u8], from: usize, a: usize, n: usize, k: usize, numbers: &mut Numbers) -> bool
     requires { ⌜ (1 ≤ a) × (a ≤ 3) × (n ≤ 12) × (k < 32) × (from + 2 * a ≤ length (now sheet)) ⌝ }
     ensures { λ r. ⌜ ScopeAsked (now (sheet .entry)) from a n k (now (numbers .entry)) (now (numbers .exit)) r ⌝ }
 {
@@ -51,7 +52,7 @@ fn scope(sheet: &[u8], from: usize, a: usize, n: usize, k: usize, numbers: &mut 
     let mut least = 0;
     let mut i = 0;
     while i < a {
-        let x = word(sheet, from + 2 * i);
+        let x = word_at(sheet, from + 2 * i);
         if x < least {
             return false;
         }
@@ -76,7 +77,7 @@ fn constraint(
     third: usize,
     o: usize,
     k: usize,
-    numbers: &mut [u64; 128],
+    numbers: &mut Numbers,
     supports: &mut [u16; 8192],
 ) -> Step
     requires { ⌜ Fit (now sheet) × (n ≡ headerOf (now sheet) .variables) × (d ≡ headerOf (now sheet) .values) × (third ≡ headerOf (now sheet) .third) × (o ≤ third) × (k < 32) ⌝ }
@@ -85,8 +86,8 @@ fn constraint(
     if third < o + 4 {
         return Step::Refused(9);
     }
-    let a = word(sheet, o);
-    let r = word(sheet, o + 2);
+    let a = word_at(sheet, o);
+    let r = word_at(sheet, o + 2);
     if !counts_fit(a, r) {
         return Step::Refused(10);
     }
@@ -106,7 +107,7 @@ fn constraint(
 }
 
 // Questions 9 to 13 to each constraint in turn; after the last, whether it ends at the third offset.
-pub fn ask(sheet: &[u8], h: Header, numbers: &mut [u64; 128], supports: &mut [u16; 8192]) -> Answer
+pub fn ask(sheet: &[u8], h: Header, numbers: &mut Numbers, supports: &mut [u16; 8192]) -> Answer
     requires { ⌜ Fit (now sheet) × (stated h ≡ headerOf (now sheet)) ⌝ }
     ensures { λ r. ⌜ ConstraintsAsked (now (sheet .entry)) (now (numbers .entry)) (now (supports .entry)) (now (numbers .exit)) (now (supports .exit)) r ⌝ }
 {

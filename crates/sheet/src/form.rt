@@ -4,10 +4,11 @@ use crate::constraints;
 use crate::heading;
 use crate::read::Header;
 use crate::sets;
+use symmetry::Numbers;
 ghost use Prim.Native.Nat.{_^_, _≤_, _<_};
 ghost use mathlib.Core.Path.{_≡_};
 ghost use Rattle.sheet.specs.Form.{Zeros, counted, FormAsked};
-ghost use Rattle.sheet.specs.Parts.{tablesFit};
+ghost use Rattle.sheet.specs.Parts.{entries, tablesFit};
 ghost use Rattle.sheet.specs.Read.{stated};
 
 // Question 14: the symmetries' tables fill the rest.
@@ -18,7 +19,7 @@ fn tables_fit(h: Header) -> bool
     h.size == h.third + 2 * (h.symmetries * (h.variables * h.values))
 }
 
-fn store_counts(h: Header, numbers: &mut [u64; 128])
+fn store_counts(h: Header, numbers: &mut Numbers)
     ensures { λ _. ⌜ now (numbers .exit) ≡ counted (h .variables) (h .values) (h .constraints) (h .symmetries) (now (numbers .entry)) ⌝ }
 {
     numbers[64] = h.variables as u64;
@@ -28,8 +29,8 @@ fn store_counts(h: Header, numbers: &mut [u64; 128])
 }
 
 // The arrays are lent full of zeros.
-pub fn ask(sheet: &[u8], numbers: &mut [u64; 128], supports: &mut [u16; 8192]) -> Answer
-    requires { ⌜ Zeros 128 (now numbers) × Zeros 8192 (now supports) ⌝ }
+pub fn ask(sheet: &[u8], numbers: &mut Numbers, supports: &mut [u16; 8192]) -> Answer
+    requires { ⌜ Zeros entries (now numbers) × Zeros 8192 (now supports) ⌝ }
     ensures { λ r. ⌜ FormAsked (now (sheet .entry)) (now (numbers .exit)) (now (supports .exit)) r ⌝ }
 {
     let first = heading::ask(sheet);

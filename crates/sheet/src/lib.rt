@@ -8,7 +8,7 @@ ghost use Rattle.sheet.specs.Form.{Zeros, Compilation};
 pub mod constraints; // questions 9 to 13
 pub mod form; // questions 1 to 14
 pub mod heading; // questions 1 to 7
-pub mod read; // words and the header, by a plain offset and a slice
+pub mod read; // the header
 pub mod rows; // questions 12 and 13 to one constraint
 pub mod sets; // question 8
 pub mod tables; // questions 15 and 16, and the images
@@ -23,7 +23,7 @@ pub enum Answer {
 pub fn question(sheet: &[u8]) -> Answer
     ensures { λ r. ⌜ means r ≡ verdictOf (now (sheet .entry)) ⌝ }
 {
-    let mut numbers = [0u64; 128];
+    let mut numbers = [0u64; 384];
     let mut supports = [0u16; 8192];
     let first = form::ask(sheet, &mut numbers, &mut supports);
     let Answer::Accepted = first else {
@@ -37,11 +37,11 @@ pub fn question(sheet: &[u8]) -> Answer
 // `numbers` and `supports` are lent full of zeros; after a refusal the arrays hold nothing that is meant.
 pub fn compile(
     sheet: &[u8],
-    numbers: &mut [u64; 128],
+    numbers: &mut [u64; 384],
     supports: &mut [u16; 8192],
     images: &mut [u8; 26112],
 ) -> Answer
-    requires { ⌜ Zeros 128 (now numbers) × Zeros 8192 (now supports) × (length (now images) ≡ 26112) ⌝ }
+    requires { ⌜ Zeros 384 (now numbers) × Zeros 8192 (now supports) × (length (now images) ≡ 26112) ⌝ }
     ensures { λ r. ⌜ Compilation (now (sheet .entry)) (now (numbers .exit)) (now (supports .exit)) (now (images .exit)) r ⌝ }
 {
     let first = form::ask(sheet, numbers, supports);

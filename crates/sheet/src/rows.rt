@@ -1,5 +1,5 @@
 // Questions 12 and 13 to the rows of one constraint, and its support sets.
-use crate::read::word;
+use reader::word_at;
 ghost use Prim.Native.Nat.{_+_, _*_, _≤_, _<_};
 ghost use mathlib.Core.Path.{_≡_};
 ghost use lib.ListN.{length};
@@ -15,7 +15,7 @@ fn key(sheet: &[u8], o: usize, a: usize, d: usize) -> usize
     let mut key = 0;
     let mut i = 0;
     while i < a {
-        let v = word(sheet, o + 2 * i);
+        let v = word_at(sheet, o + 2 * i);
         if d <= v {
             return 4096;
         }

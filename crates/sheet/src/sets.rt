@@ -1,6 +1,7 @@
 // Question 8, and the initial sets, into `numbers` from 16 on.
 use crate::Answer;
-use crate::read::word;
+use reader::word_at;
+use symmetry::Numbers;
 ghost use Prim.Native.Nat.{_^_, _≤_};
 ghost use mathlib.Core.Bool.{not};
 ghost use mathlib.Core.Path.{_≡_};
@@ -8,7 +9,7 @@ ghost use lib.ListN.{length};
 ghost use lib.Dec.{ltb, eqb};
 ghost use Rattle.model.specs.Lists.{both};
 ghost use Rattle.model.specs.Sheet.{headerOf};
-ghost use Rattle.sheet.specs.Parts.{Fit, SetsAsked, Unused};
+ghost use Rattle.sheet.specs.Parts.{Fit, entries, SetsAsked, Unused};
 
 // The first number that is no set of d values.
 fn limit(d: usize) -> usize
@@ -25,8 +26,8 @@ fn is_set(s: usize, limit: usize) -> bool
 }
 
 // The set {0} for each variable from n up.
-fn fill_unused(n: usize, numbers: &mut [u64; 128])
-    requires { ⌜ (n ≤ 16) × (length (now numbers) ≡ 128) ⌝ }
+fn fill_unused(n: usize, numbers: &mut Numbers)
+    requires { ⌜ (n ≤ 16) × (length (now numbers) ≡ entries) ⌝ }
     ensures { λ _. ⌜ Unused n 16 (now (numbers .entry)) (now (numbers .exit)) ⌝ }
 {
     let mut x = n;
@@ -36,14 +37,14 @@ fn fill_unused(n: usize, numbers: &mut [u64; 128])
     }
 }
 
-pub fn ask(sheet: &[u8], n: usize, d: usize, numbers: &mut [u64; 128]) -> Answer
-    requires { ⌜ Fit (now sheet) × (n ≡ headerOf (now sheet) .variables) × (d ≡ headerOf (now sheet) .values) × (length (now numbers) ≡ 128) ⌝ }
+pub fn ask(sheet: &[u8], n: usize, d: usize, numbers: &mut Numbers) -> Answer
+    requires { ⌜ Fit (now sheet) × (n ≡ headerOf (now sheet) .variables) × (d ≡ headerOf (now sheet) .values) × (length (now numbers) ≡ entries) ⌝ }
     ensures { λ r. ⌜ SetsAsked (now (sheet .entry)) n (now (numbers .entry)) (now (numbers .exit)) r ⌝ }
 {
     let limit = limit(d);
     let mut x = 0;
     while x < n {
-        let s = word(sheet, 16 + 2 * x);
+        let s = word_at(sheet, 16 + 2 * x);
         if !is_set(s, limit) {
             return Answer::Refused { number: 8, item: x };
         }

@@ -1,7 +1,8 @@
 // Questions 15 and 16 to each table of symmetries, and the images of the pairs.
 use crate::Answer;
 use crate::read::Header;
-use crate::read::word;
+use reader::word_at;
+use symmetry::Numbers;
 ghost use mathlib.Core.Path.{_≡_};
 ghost use Prim.Native.Nat.{_*_, _≤_, _<_};
 ghost use lib.ListN.{length};
@@ -13,7 +14,7 @@ ghost use Rattle.sheet.specs.Form.{Formed};
 ghost use Rattle.sheet.specs.Decoding.{codeOf, Decodable, Decoded};
 ghost use Rattle.sheet.specs.Read.{stated};
 
-pub fn ask(sheet: &[u8], h: Header, numbers: &[u64; 128], supports: &[u16; 8192]) -> Answer
+pub fn ask(sheet: &[u8], h: Header, numbers: &Numbers, supports: &[u16; 8192]) -> Answer
     requires { ⌜ Formed (now sheet) (now numbers) (now supports) × (stated h ≡ headerOf (now sheet)) ⌝ }
     ensures { λ r. ⌜ means r ≡ symmetriesVerdict (problemOf (now (sheet .entry))) 0 (problemOf (now (sheet .entry)) .symmetries) ⌝ }
 {
@@ -47,9 +48,8 @@ fn decode(sheet: &[u8], from: usize, count: usize, d: usize, base: usize, images
 {
     let mut q = 0;
     while q < count {
-        let y = word(sheet, from + 2 * q);
-        let slot = base + code(q, d);
-        images[slot] = code(y, d) as u8;
+        let y = word_at(sheet, from + 2 * q);
+        images[base + code(q, d)] = code(y, d) as u8;
         q += 1;
     }
 }

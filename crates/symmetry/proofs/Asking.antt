@@ -18,6 +18,7 @@ use Rattle.model.proofs.Lists.{T-of, of-T, not-of, of-not, both-i, all-i, any-i
 use Rattle.model.proofs.Sets.{has-lt, has-none}
 use Rattle.layout.specs.Layout.{constraintAt}
 use Rattle.symmetry.specs.Forbidden.{blocked, numberOf, MaybePair, clashes, valueIn, refusedBy, Candidates, Triple, Left}
+use Rattle.symmetry.proofs.Codes.{variable-lt}
 use Rattle.symmetry.proofs.Blocks.{clash-blocked}
 use Rattle.symmetry.proofs.Laws.{has-rest, has-lowest, trailing-least}
 use Rattle.symmetry.proofs.Triples.{Gives, OneGives, found, refused-all, refused-blocked, blocked-refused}
@@ -33,12 +34,10 @@ module _ (p : Problem) (numbers supports : List ℕ) (short a b e : ℕ) (t : Tr
   pub third-clash : clashes b e ≡ true → true ≡ blocked p (numberOf p a ∷ numberOf p b ∷ numberOf p e ∷ [])
   third-clash h = sym (of-T _ (clash-blocked p (t .ready .framed .stated) b e _ (t .second) (t .third) (T-of (clashes b e) h) (List·Memᴰ·tail (List·Memᴰ·head refl)) (List·Memᴰ·tail (List·Memᴰ·tail (List·Memᴰ·head refl)))))
 
-  variable-small : (y : ℕ) → MaybePair p y → y / 16 < 16
-  variable-small y (inl n) = omega arith
-  variable-small y (inr c) = omega (arith, c .0, t .ready .framed .stated .few)
-
   pub variables-small : (a / 16 < 16) × (b / 16 < 16) × (e / 16 < 16)
-  variables-small = (variable-small a (t .first), variable-small b (t .second), variable-small e (t .third))
+  variables-small =
+      let w = t .ready .framed .stated in
+      (variable-lt p w a (t .first), variable-lt p w b (t .second), variable-lt p w e (t .third))
 
   -- ---- which constraints are asked
   one-of : (x : ℕ) → OneGives a b e x (valueIn a b e x) → T (any (eqb x) (a / 16 ∷ b / 16 ∷ e / 16 ∷ []))

@@ -84,6 +84,10 @@ module _ (p : Problem) where
   unfolding blocked
   blocked-e image t = let r = any-e (λ h. within h image) (forbidden p) t in (r .0, r .1, within-e (r .0) image (r .2))
 
+  -- more pairs
+  pub blocked-more : (l m : List ℕ) → ((q : ℕ) → List·Memᴰ q l → List·Memᴰ q m) → T (blocked p l) → T (blocked p m)
+  blocked-more l m f t = let r = blocked-e l t in blocked-i m (r .0) (r .1) (λ q k. f q (r .2 q k))
+
   module _ (w : Stated p) where
     small : (k : ℕ) → k < length (p .constraints) → (x v : ℕ) → List·Memᴰ x (constraintAt p k .scope) → T (has (at (p .initial) x) v) → v < 16
     small k h x v m t = init-16 p w x v (good p w k h .inside x m) t

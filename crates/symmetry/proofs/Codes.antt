@@ -93,6 +93,10 @@ module _ (p : Problem) (w : Stated p) where
   pub code-lt : (a : ℕ) → PairCode p a → numberOf p a < p .variables * p .values
   code-lt a h = pair-lt (a / 16) (a % 16) (h .0) (code-value a h)
 
+  pub variable-lt : (a : ℕ) → MaybePair p a → a / 16 < 16
+  variable-lt a (inl n) = omega arith
+  variable-lt a (inr c) = omega (arith, c .0, w .few)
+
   -- 255 numbers no pair
   pub none-out : p .variables * p .values ≤ numberOf p 255
   unfolding pair

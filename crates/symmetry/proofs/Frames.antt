@@ -80,7 +80,7 @@ ShortTo p set k = (j : ℕ) → j < k → length (constraintAt p j .scope) < 3 �
 pub short-none : (p : Problem) (set : ℕ) → ShortTo p set 0
 short-none p set j h = absurd (not-suc-le-zero h)
 
-shl-64 : (k : ℕ) → k < 64 → 1 * 2 ^ k % 2 ^ 64 ≡ 2 ^ k
+pub shl-64 : (k : ℕ) → k < 64 → 1 * 2 ^ k % 2 ^ 64 ≡ 2 ^ k
 shl-64 k h = ap (λ (n : ℕ). n % 2 ^ 64) (let e : 1 * 2 ^ k ≡ 2 ^ k = omega arith in e) ∙ mod-eq-of-lt (pow-lt h)
 
 -- with constraint k, as the code adds it

@@ -1,5 +1,6 @@
 pub mod Answers
 pub mod Asking
+pub mod Beside
 pub mod Blocks
 pub mod Codes
 pub mod Doubles
@@ -10,5 +11,6 @@ pub mod Respects
 pub mod Rows
 pub mod Scans
 pub mod Scopes
+pub mod Surely
 pub mod Triples
 pub mod Walks

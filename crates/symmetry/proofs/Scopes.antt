@@ -22,7 +22,7 @@ use Rattle.symmetry.specs.Forbidden.{Short, Candidates}
 use Rattle.symmetry.proofs.Codes.{good}
 use Rattle.symmetry.proofs.Blocks.{three}
 
-abbrev Among : ℕ → ℕ → ℕ → ℕ → Type 0
+abbrev pub Among : ℕ → ℕ → ℕ → ℕ → Type 0
 Among x y z u = (u ≡ x) ⊎ ((u ≡ y) ⊎ (u ≡ z))
 
 among : (x y z u : ℕ) → T (any (eqb u) (x ∷ y ∷ z ∷ [])) → Among x y z u
@@ -48,11 +48,11 @@ filled x y z u v w h k (inr a) (inr b) (inr c) = absurd (go a b c)
     go (inr a) (inl b) (inr c) = omega arith
     go (inr a) (inr b) c = omega arith
 
-first-two : (b c : Bool) → T (elim b [ true ↦ c | false ↦ false ]) → T b × T c
+pub first-two : (b c : Bool) → T (elim b [ true ↦ c | false ↦ false ]) → T b × T c
 first-two true c t = (tt, t)
 first-two false c t = absurd t
 
-ascends : (u v w : ℕ) → T (ascending (u ∷ v ∷ w ∷ [])) → (u < v) × (v < w)
+pub ascends : (u v w : ℕ) → T (ascending (u ∷ v ∷ w ∷ [])) → (u < v) × (v < w)
 unfolding ascending
 ascends u v w t =
     let r = first-two (ltb u v) (ascending (v ∷ w ∷ [])) t in

@@ -21,11 +21,11 @@ use Rattle.model.proofs.Masks.{has-and, has-not}
 use Rattle.model.proofs.WellFormed.{GoodConstraint}
 use Rattle.layout.specs.Layout.{constraintAt, Supports}
 use Rattle.symmetry.specs.Table.{Stated, Framed, Ready}
-use Rattle.symmetry.specs.Forbidden.{blocked, numberOf, PairCode, MaybePair, Coded, Begun, codesAt, keeps, packed, lastThree, Lent, Chosen, Walking, Choices, Triple}
+use Rattle.symmetry.specs.Forbidden.{blocked, numberOf, PairCode, MaybePair, Coded, Begun, codesAt, keeps, packed, lastThree, Lent, Chosen, Walking, Choices, Triple, Beside, allBlocked}
 use Rattle.symmetry.proofs.Codes.{good, init-16, init-small, none-out, code-lt}
 use Rattle.symmetry.proofs.Keys.{Digits, begun-digits, packed-snoc, packed-none, packed-lt, row-test}
 use Rattle.symmetry.proofs.Blocks.{blocked-ext}
-use Rattle.symmetry.proofs.Laws.{all-stop, all-rest, all-over, rest-has, has-lowest, trailing-least}
+use Rattle.symmetry.proofs.Laws.{all-ext, all-stop, all-rest, all-over, rest-has, has-lowest, trailing-least}
 
 -- ---- one value more
 pub begun-snoc : (p : Problem) (xs vs : List ℕ) (v : ℕ) → length vs < length xs → Begun p xs vs → T (has (at (p .initial) (at xs (length vs))) v) → Begun p xs (vs ++ (v ∷ []))
@@ -305,6 +305,34 @@ module _ (p : Problem) (vs numbers supports codes : List ℕ) (short k left key 
 
       pub walk-rest : r ≡ true → Choices p vs codes k left (bitAnd set (set - 1))
       walk-rest f = choices-rest p vs codes k left set c m (answer ∙ f)
+
+-- at the last variable: the two codes last chosen beside the images of its pairs
+module _ (p : Problem) (vs numbers supports codes : List ℕ) (short k left key a b e x set : ℕ) (s : Walking p vs numbers supports codes short k left key a b e) (one : left ≡ 1) (ex : x ≡ at (constraintAt p k .scope) (length vs)) (c : Choices p vs codes k left set) where
+  some : left ≡ 0 → ⊥
+  some z = omega arith
+
+  pub last-beside : Beside p numbers supports codes short x set b e
+  last-beside =
+      let t = walked-triple p vs numbers supports codes short k left key a b e s in
+      record {
+        lent = s .lent;
+        variable = subst (λ (y : ℕ). y < p .variables) (sym ex) (next-var p vs numbers supports codes short k left key a b e s some);
+        values = λ v h. subst (λ (y : ℕ). T (has (at (p .initial) y) v)) (sym ex) (c .allowed v h);
+        small = c .small;
+        first = t .second;
+        second = t .third;
+      }
+
+  last-is : (v : ℕ) → T (has set v) →
+      blocked p (numberOf p b ∷ numberOf p e ∷ numberOf p (at codes (16 * x + v)) ∷ []) ≡ keeps p codes (constraintAt p k) (drop (suc (length vs)) (constraintAt p k .scope)) (vs ++ (v ∷ []))
+  last-is v h =
+      let f = further p vs numbers supports codes short k left key a b e s some v (c .allowed v h) (c .absent v h) in
+      ap (λ (y : ℕ). blocked p (numberOf p b ∷ numberOf p e ∷ numberOf p (at codes (16 * y + v)) ∷ [])) ex
+      ∙ walked p (vs ++ (v ∷ [])) numbers supports codes short k (left - 1) (16 * key + v) b e _ f (omega arith)
+      ∙ ap (λ (i : ℕ). keeps p codes (constraintAt p k) (drop i (constraintAt p k .scope)) (vs ++ (v ∷ []))) (length-snoc vs v)
+
+  pub last-all : (r : Bool) → r ≡ allBlocked p codes x b e (members set) → r ≡ keeps p codes (constraintAt p k) (drop (length vs) (constraintAt p k .scope)) vs
+  last-all r q = q ∙ all-ext _ _ (members set) (λ v m. last-is v (members-e set v m .1)) ∙ c .whole
 
 -- before the first variable
 pub walk-start : (p : Problem) (numbers supports codes : List ℕ) (short k left : ℕ) → Lent p numbers supports codes short → k < length (p .constraints) → left ≡ length (constraintAt p k .scope) →

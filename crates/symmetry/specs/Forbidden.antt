@@ -139,6 +139,38 @@ pub record Choices (p : Problem) (vs codes : List ℕ) (k left set : ℕ) : Type
   pub whole : all (λ v. keeps p codes (constraintAt p k) (drop (suc (length vs)) (constraintAt p k .scope)) (vs ++ (v ∷ []))) (members set)
       ≡ keeps p codes (constraintAt p k) (drop (length vs) (constraintAt p k .scope)) vs
 
+-- ---- two pairs beside the pairs of a variable
+-- the pairs with these values of y are blocked with the pairs a and b
+abbrev pub Sure : Problem → ℕ → ℕ → ℕ → ℕ → Type 0
+Sure p a b y set = (e : ℕ) → e / 16 ≡ y → PairCode p e → T (has set (e % 16)) → T (blocked p (numberOf p a ∷ numberOf p b ∷ numberOf p e ∷ []))
+
+-- values below n for which the set at base + step * v lacks w
+abbrev pub Lacking : List ℕ → ℕ → ℕ → ℕ → ℕ → ℕ → Type 0
+Lacking supports base step w n set = (v : ℕ) → T (has set v) → (v < n) × (T (has (at supports (base + step * v)) w) → ⊥)
+
+-- constraint k has the variables of two pairs and variable y
+pub record On (p : Problem) (numbers supports : List ℕ) (k a b y : ℕ) : Type 0 where
+  pub ready : Ready p numbers supports
+  pub inside : k < length (p .constraints)
+  pub first : MaybePair p a
+  pub second : MaybePair p b
+  pub has-first : T (any (eqb (a / 16)) (constraintAt p k .scope))
+  pub has-second : T (any (eqb (b / 16)) (constraintAt p k .scope))
+  pub has-third : T (any (eqb y) (constraintAt p k .scope))
+
+-- the image of each (x, v) is blocked with the pairs a and b
+abbrev pub allBlocked : Problem → List ℕ → ℕ → ℕ → ℕ → List ℕ → Bool
+allBlocked p codes x a b vs = all (λ v. blocked p (numberOf p a ∷ numberOf p b ∷ numberOf p (at codes (16 * x + v)) ∷ [])) vs
+
+-- values of the initial set of x, and two pairs
+pub record Beside (p : Problem) (numbers supports codes : List ℕ) (short x set a b : ℕ) : Type 0 where
+  pub lent : Lent p numbers supports codes short
+  pub variable : x < p .variables
+  pub values : (v : ℕ) → T (has set v) → T (has (at (p .initial) x) v)
+  pub small : set < 2 ^ 16
+  pub first : MaybePair p a
+  pub second : MaybePair p b
+
 -- ---- the walk of a variable's forbidden sets
 -- the images of (x, v) and of each (x, w) are blocked
 abbrev pub besides : Problem → List ℕ → ℕ → ℕ → List ℕ → Bool
@@ -147,14 +179,6 @@ besides p codes x v ws = all (λ w. blocked p (numberOf p (at codes (16 * x + v)
 unfoldable pub doublings : Problem → List ℕ → ℕ → List ℕ → Bool
 doublings p codes x [] = true
 doublings p codes x (v ∷ vs) = both (besides p codes x v vs) (doublings p codes x vs)
-
--- a pair (x, v), and values of the initial set of x beside it
-pub record Beside (p : Problem) (numbers supports codes : List ℕ) (short x v set : ℕ) : Type 0 where
-  pub lent : Lent p numbers supports codes short
-  pub variable : x < p .variables
-  pub value : T (has (at (p .initial) x) v)
-  pub others : (w : ℕ) → T (has set w) → T (has (at (p .initial) x) w)
-  pub small : set < 2 ^ 16
 
 -- what is asked of the pairs of x with the values of a set is what is asked of all
 pub record Doubling (p : Problem) (codes : List ℕ) (x set : ℕ) : Type 0 where

@@ -10,6 +10,7 @@ ghost use Rattle.symmetry.specs.Table.{Framed, Ready};
 ghost use Rattle.symmetry.specs.Forbidden.{Short, Candidates, Triple, clashes, valueIn, refusedBy, blocked as blockedBy, numberOf};
 use super::table::number;
 use super::table::wide16;
+use crate::Numbers;
 
 pub fn support(supports: &[u16; 8192], i: usize) -> usize
     requires { ⌜ i < 8192 ⌝ }
@@ -19,14 +20,14 @@ pub fn support(supports: &[u16; 8192], i: usize) -> usize
 }
 
 // How many variables a constraint has, and the variable at a place of its scope.
-pub fn arity(numbers: &[u64; 128], k: usize) -> usize
+pub fn arity(numbers: &Numbers, k: usize) -> usize
     requires { ⌜ ((p : Problem) × Framed p (now numbers) × (k < length (p .constraints))) ⌝ }
     ensures { λ r. ⌜ ((p : Problem) → Framed p (now (numbers .entry)) → k < length (p .constraints) → r ≡ length (constraintAt p k .scope)) ⌝ }
 {
     number(numbers, 32 + k) % 256
 }
 
-pub fn scope_at(numbers: &[u64; 128], k: usize, i: usize) -> usize
+pub fn scope_at(numbers: &Numbers, k: usize, i: usize) -> usize
     requires { ⌜ ((p : Problem) × Framed p (now numbers) × (k < length (p .constraints)) × (i < length (constraintAt p k .scope))) ⌝ }
     ensures { λ r. ⌜ ((p : Problem) → Framed p (now (numbers .entry)) → k < length (p .constraints) → i < length (constraintAt p k .scope) → r ≡ at (constraintAt p k .scope) i) ⌝ }
 {
@@ -34,7 +35,7 @@ pub fn scope_at(numbers: &[u64; 128], k: usize, i: usize) -> usize
 }
 
 // The set of the constraints on fewer than three variables.
-pub fn short_scopes(numbers: &[u64; 128]) -> usize
+pub fn short_scopes(numbers: &Numbers) -> usize
     requires { ⌜ ((p : Problem) × Framed p (now numbers)) ⌝ }
     ensures { λ r. ⌜ ((p : Problem) → Framed p (now (numbers .entry)) → Short p r) ⌝ }
 {
@@ -51,7 +52,7 @@ pub fn short_scopes(numbers: &[u64; 128]) -> usize
 }
 
 // Constraints among which are all whose scope lies among three variables.
-fn candidates(numbers: &[u64; 128], short: usize, x: usize, y: usize, z: usize) -> usize
+fn candidates(numbers: &Numbers, short: usize, x: usize, y: usize, z: usize) -> usize
     requires { ⌜ (x < 16) × (y < 16) × (z < 16) ⌝ }
     ensures { λ r. ⌜ ((p : Problem) → Framed p (now (numbers .entry)) → Short p short → Candidates p x y z r) ⌝ }
 {
@@ -86,7 +87,7 @@ fn value_in(a: usize, b: usize, e: usize, x: usize) -> usize
 
 // Whether a constraint's scope lies among the variables of three pairs, whose values are no row of it.
 fn refused(
-    numbers: &[u64; 128],
+    numbers: &Numbers,
     supports: &[u16; 8192],
     k: usize,
     a: usize,
@@ -112,7 +113,7 @@ fn refused(
 
 // Whether some forbidden set lies among three pairs.
 pub fn blocked(
-    numbers: &[u64; 128],
+    numbers: &Numbers,
     supports: &[u16; 8192],
     short: usize,
     a: usize,

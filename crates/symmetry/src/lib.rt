@@ -1,5 +1,6 @@
 // Questions 15 and 16 (paper 01), for one table of a sheet.
 mod forbidden;
+mod sure;
 mod table;
 mod walk;
 
@@ -8,13 +9,11 @@ ghost use Prim.Native.Nat.{ℕ, _+_, _*_, _≤_, _<_};
 ghost use Rattle.model.specs.Problem.{Problem};
 ghost use Rattle.symmetry.specs.Table.{Asked, tableAnswer};
 
+// The numbers of a compiled problem (crate layout).
+pub type Numbers = [u64; 384];
+
 // 0 where the table at an offset passes both questions, else the number of the first whose answer is no.
-pub fn table_question(
-    sheet: &[u8],
-    offset: usize,
-    numbers: &[u64; 128],
-    supports: &[u16; 8192],
-) -> u8
+pub fn table_question(sheet: &[u8], offset: usize, numbers: &Numbers, supports: &[u16; 8192]) -> u8
     requires { ⌜ ((p : Problem) × Asked p (now sheet) offset (now numbers) (now supports)) ⌝ }
     ensures { λ r. ⌜ ((p : Problem) → Asked p (now (sheet .entry)) offset (now (numbers .entry)) (now (supports .entry)) → r ≡ tableAnswer p (now (sheet .entry)) offset) ⌝ }
 {

@@ -5,9 +5,11 @@ ghost use lib.ListN.{length};
 ghost use lib.Dec.{T};
 ghost use Rattle.model.specs.Lists.{at};
 ghost use Rattle.model.specs.Problem.{Problem, isPair};
-ghost use Rattle.model.specs.Sheet.{word as wordAt, permutesPairs};
+ghost use Rattle.model.specs.Sheet.{permutesPairs};
 ghost use Rattle.symmetry.specs.Table.{Framed, Laid, tableOf};
 ghost use Rattle.symmetry.specs.Forbidden.{Decoded};
+use crate::Numbers;
+use reader::word_at;
 
 // A byte and a 16-bit number as an index, and an element of `numbers`.
 pub fn wide(x: u8) -> usize
@@ -22,23 +24,15 @@ pub fn wide16(x: u16) -> usize
     x as usize
 }
 
-pub fn number(numbers: &[u64; 128], i: usize) -> usize
-    requires { ⌜ i < 128 ⌝ }
+pub fn number(numbers: &Numbers, i: usize) -> usize
+    requires { ⌜ i < 384 ⌝ }
     ensures { λ r. ⌜ r ≡ at (now (numbers .entry)) i ⌝ }
 {
     numbers[i] as usize
 }
 
-// A 16-bit number of the sheet, low byte first.
-pub fn word(sheet: &[u8], offset: usize) -> usize
-    requires { ⌜ offset + 2 ≤ length (now sheet) ⌝ }
-    ensures { λ r. ⌜ (r ≡ wordAt (now (sheet .entry)) offset) × (r < 65536) ⌝ }
-{
-    wide(sheet[offset]) + 256 * wide(sheet[offset + 1])
-}
-
 // Whether a number is that of a pair.
-fn is_pair(numbers: &[u64; 128], q: usize) -> bool
+fn is_pair(numbers: &Numbers, q: usize) -> bool
     requires { ⌜ ((p : Problem) × Framed p (now numbers)) ⌝ }
     ensures { λ r. ⌜ ((p : Problem) → Framed p (now (numbers .entry)) → r ≡ isPair p q) ⌝ }
 {
@@ -52,7 +46,7 @@ fn is_pair(numbers: &[u64; 128], q: usize) -> bool
 }
 
 // Whether each number that is no pair stands for itself, and the pairs are permuted among themselves.
-pub fn permutes(sheet: &[u8], offset: usize, numbers: &[u64; 128]) -> bool
+pub fn permutes(sheet: &[u8], offset: usize, numbers: &Numbers) -> bool
     requires { ⌜ ((p : Problem) × Laid p (now sheet) offset (now numbers)) ⌝ }
     ensures { λ r. ⌜ ((p : Problem) → Laid p (now (sheet .entry)) offset (now (numbers .entry)) → r ≡ permutesPairs p (tableOf p (now (sheet .entry)) offset)) ⌝ }
 {
@@ -60,7 +54,7 @@ pub fn permutes(sheet: &[u8], offset: usize, numbers: &[u64; 128]) -> bool
     let mut seen = [0u8; 192];
     let mut q = 0;
     while q < count {
-        let y = word(sheet, offset + 2 * q);
+        let y = word_at(sheet, offset + 2 * q);
         if is_pair(numbers, q) {
             if !is_pair(numbers, y) {
                 return false;
@@ -80,7 +74,7 @@ pub fn permutes(sheet: &[u8], offset: usize, numbers: &[u64; 128]) -> bool
 }
 
 // The codes of a table's images: 16 times the variable plus the value, that of the image of (x, v) at 16 x + v.
-pub fn decode(sheet: &[u8], offset: usize, numbers: &[u64; 128]) -> [u8; 256]
+pub fn decode(sheet: &[u8], offset: usize, numbers: &Numbers) -> [u8; 256]
     requires { ⌜ ((p : Problem) × Laid p (now sheet) offset (now numbers) × T (permutesPairs p (tableOf p (now sheet) offset))) ⌝ }
     ensures { λ r. ⌜ ((p : Problem) → Laid p (now (sheet .entry)) offset (now (numbers .entry)) → T (permutesPairs p (tableOf p (now (sheet .entry)) offset)) → Decoded p (tableOf p (now (sheet .entry)) offset) r) ⌝ }
 {
@@ -89,7 +83,7 @@ pub fn decode(sheet: &[u8], offset: usize, numbers: &[u64; 128]) -> [u8; 256]
     let mut codes = [0u8; 256];
     let mut q = 0;
     while q < count {
-        let y = word(sheet, offset + 2 * q);
+        let y = word_at(sheet, offset + 2 * q);
         codes[16 * (q / d) + q % d] = (16 * (y / d) + y % d) as u8;
         q += 1;
     }

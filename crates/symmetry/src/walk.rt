@@ -8,13 +8,15 @@ ghost use Rattle.model.specs.ValueSets.{members};
 ghost use Rattle.model.specs.Problem.{Problem};
 ghost use Rattle.layout.specs.Layout.{constraintAt};
 ghost use Rattle.symmetry.specs.Table.{Ready};
-ghost use Rattle.symmetry.specs.Forbidden.{Lent, Chosen, Walking, Choices, Beside, keeps, besides, doublings};
+ghost use Rattle.symmetry.specs.Forbidden.{Lent, Chosen, Walking, Choices, Beside, keeps, allBlocked, doublings};
 use super::forbidden::arity;
-use super::forbidden::blocked;
 use super::forbidden::scope_at;
 use super::forbidden::support;
+use super::sure::surely_after;
+use super::sure::third_blocked;
 use super::table::number;
 use super::table::wide;
+use crate::Numbers;
 
 fn code(codes: &[u8; 256], i: usize) -> usize
     requires { ⌜ i < 256 ⌝ }
@@ -25,7 +27,7 @@ fn code(codes: &[u8; 256], i: usize) -> usize
 
 // The values to try for the next variable x of constraint k: those of its initial set, less for the last variable those of its rows.
 fn choices(
-    numbers: &[u64; 128],
+    numbers: &Numbers,
     supports: &[u16; 8192],
     k: usize,
     left: usize,
@@ -43,10 +45,42 @@ fn choices(
     }
 }
 
+// Whether the pairs a and b are blocked with the image of (x, v) for each v of a set.
+// `sure` has the values of y, the variable of the last image, that surely are.
+fn all_blocked(
+    numbers: &Numbers,
+    supports: &[u16; 8192],
+    codes: &[u8; 256],
+    short: usize,
+    x: usize,
+    set: usize,
+    a: usize,
+    b: usize,
+) -> bool
+    requires { ⌜ ((p : Problem) × Beside p (now numbers) (now supports) (now codes) short x set a b) ⌝ }
+    ensures { λ r. ⌜ ((p : Problem) → Beside p (now (numbers .entry)) (now (supports .entry)) (now (codes .entry)) short x set a b → r ≡ allBlocked p (now (codes .entry)) x a b (members set)) ⌝ }
+{
+    let mut left = set;
+    let mut y = 16;
+    let mut sure = 0;
+    while left != 0 {
+        let v = usize::trailing_zeros(left) as usize;
+        let e = code(codes, 16 * x + v);
+        sure = surely_after(numbers, supports, a, b, e / 16, y, sure);
+        y = e / 16;
+        if !third_blocked(numbers, supports, short, a, b, e, sure) {
+            return false;
+        }
+        left = left & (left - 1);
+    }
+    true
+}
+
 // Whether the image of each forbidden set of constraint k with the values chosen so far is blocked: goes through the choices for the
 // next variable, and for each of these through the choices for the variables after it, of which `left` falls.
+// The images of the last two pairs chosen are a and b.
 fn walk(
-    numbers: &[u64; 128],
+    numbers: &Numbers,
     supports: &[u16; 8192],
     codes: &[u8; 256],
     short: usize,
@@ -55,16 +89,15 @@ fn walk(
     key: usize,
     a: usize,
     b: usize,
-    e: usize,
 ) -> bool
-    requires { ⌜ ((p : Problem) × (vs : List ℕ) × Walking p vs (now numbers) (now supports) (now codes) short k left key a b e) ⌝ }
-    ensures { λ r. ⌜ ((p : Problem) (vs : List ℕ) → Walking p vs (now (numbers .entry)) (now (supports .entry)) (now (codes .entry)) short k left key a b e → r ≡ keeps p (now (codes .entry)) (constraintAt p k) (drop (length vs) (constraintAt p k .scope)) vs) ⌝ }
+    requires { ⌜ ((p : Problem) × (vs : List ℕ) × (z : ℕ) × Walking p vs (now numbers) (now supports) (now codes) short k left key z a b × (left ≡ 0 → ⊥)) ⌝ }
+    ensures { λ r. ⌜ ((p : Problem) (vs : List ℕ) (z : ℕ) → Walking p vs (now (numbers .entry)) (now (supports .entry)) (now (codes .entry)) short k left key z a b → (left ≡ 0 → ⊥) → r ≡ keeps p (now (codes .entry)) (constraintAt p k) (drop (length vs) (constraintAt p k .scope)) vs) ⌝ }
 {
-    if left == 0 {
-        return blocked(numbers, supports, short, a, b, e);
-    }
     let x = scope_at(numbers, k, arity(numbers, k) - left);
     let mut set = choices(numbers, supports, k, left, key, x);
+    if left == 1 {
+        return all_blocked(numbers, supports, codes, short, x, set, a, b);
+    }
     while set != 0 {
         let v = usize::trailing_zeros(set) as usize;
         if !walk(
@@ -76,7 +109,6 @@ fn walk(
             left - 1,
             16 * key + v,
             b,
-            e,
             code(codes, 16 * x + v),
         ) {
             return false;
@@ -88,7 +120,7 @@ fn walk(
 
 // Whether the image of each forbidden set of each constraint is blocked.
 pub fn constraints(
-    numbers: &[u64; 128],
+    numbers: &Numbers,
     supports: &[u16; 8192],
     codes: &[u8; 256],
     short: usize,
@@ -109,7 +141,6 @@ pub fn constraints(
             0,
             255,
             255,
-            255,
         ) {
             return false;
         }
@@ -118,34 +149,9 @@ pub fn constraints(
     true
 }
 
-// Whether the images of (x, v) and of (x, w) are blocked for each w of a set.
-fn beside(
-    numbers: &[u64; 128],
-    supports: &[u16; 8192],
-    codes: &[u8; 256],
-    short: usize,
-    x: usize,
-    v: usize,
-    set: usize,
-) -> bool
-    requires { ⌜ ((p : Problem) × Beside p (now numbers) (now supports) (now codes) short x v set) ⌝ }
-    ensures { λ r. ⌜ ((p : Problem) → Beside p (now (numbers .entry)) (now (supports .entry)) (now (codes .entry)) short x v set → r ≡ besides p (now (codes .entry)) x v (members set)) ⌝ }
-{
-    let a = code(codes, 16 * x + v);
-    let mut left = set;
-    while left != 0 {
-        let w = usize::trailing_zeros(left) as usize;
-        if !blocked(numbers, supports, short, 255, a, code(codes, 16 * x + w)) {
-            return false;
-        }
-        left = left & (left - 1);
-    }
-    true
-}
-
 // Whether the images of any two pairs of variable x are blocked.
 fn doubles(
-    numbers: &[u64; 128],
+    numbers: &Numbers,
     supports: &[u16; 8192],
     codes: &[u8; 256],
     short: usize,
@@ -158,7 +164,16 @@ fn doubles(
     while left != 0 {
         let v = usize::trailing_zeros(left) as usize;
         left = left & (left - 1);
-        if !beside(numbers, supports, codes, short, x, v, left) {
+        if !all_blocked(
+            numbers,
+            supports,
+            codes,
+            short,
+            x,
+            left,
+            255,
+            code(codes, 16 * x + v),
+        ) {
             return false;
         }
     }
@@ -166,12 +181,7 @@ fn doubles(
 }
 
 // Whether the images of any two pairs of one variable are blocked.
-pub fn variables(
-    numbers: &[u64; 128],
-    supports: &[u16; 8192],
-    codes: &[u8; 256],
-    short: usize,
-) -> bool
+pub fn variables(numbers: &Numbers, supports: &[u16; 8192], codes: &[u8; 256], short: usize) -> bool
     requires { ⌜ ((p : Problem) × Lent p (now numbers) (now supports) (now codes) short) ⌝ }
     ensures { λ r. ⌜ ((p : Problem) → Lent p (now (numbers .entry)) (now (supports .entry)) (now (codes .entry)) short → r ≡ all (λ x. doublings p (now (codes .entry)) x (members (at (p .initial) x))) (below (p .variables))) ⌝ }
 {

@@ -1,87 +1,77 @@
-use mathlib.Core.Path.{subst}
-use Rattle.constraints.specs.Steps.{Emptied}
+use mathlib.Core.Path.{_≡_, sym, _∙_}
+use mathlib.Core.Logic.{_⊎_, inl, inr, ⊎-elim}
 use Prim.Native.Nat.{_+_, _*_, _^_, _<_}
 use native.Mathlib.Omega.{arith}
 use borrow.Author.Needs.{needs}
 use lib.Count.{trailingZeros}
-use Rattle.model.specs.Lists.{at}
 use Rattle.model.specs.Problem.{Problem}
 use Rattle.model.proofs.Sets.{size}
 use Rattle.constraints.specs.Revised.{Waiting}
-use Rattle.constraints.proofs.Turns.{Turning, turning-begin, turning-end, turning-dead, turning-turn, turning-less, k-lt, k-few, changed-lt}
+use Rattle.constraints.proofs.Turns.{Turning, turning-begin, turning-on, turning-end, turning-dead, turning-same, same-less, turning-more, more-less, k-lt, k-few, k-full}
 use Rattle.constraints.proofs.constrain.Statement.{statement}
 use Rattle.constraints.proofs.constrain.Tie as tie
-use Rattle.constraints.proofs.constrain.Reads as reads
-use Rattle.constraints.proofs.constrain.Lts as lts
-use Rattle.constraints.proofs.emptied.Reads as emptied-reads
-use Rattle.constraints.proofs.revise.Reads as revise-reads
-use Rattle.constraints.proofs.touched.Reads as touched-reads
 
 abbrev Inv-loop : tie.InvT-loop
-Inv-loop sets₀ numbers supports todo left₀ sets left = (p : Problem) → Waiting p numbers supports sets₀ todo → Turning p numbers supports sets₀ sets left
+Inv-loop sets₀ numbers supports todo left₀ next₀ all₀ sets left next all = (p : Problem) → Waiting p numbers supports sets₀ todo → Turning p numbers supports sets₀ sets left next all
 
 abbrev μ-loop : tie.MeasureT-loop
-μ-loop sets₀ numbers supports todo left₀ sets left = size sets * 2 ^ 64 + left
+μ-loop sets₀ numbers supports todo left₀ next₀ all₀ sets left next all = size sets * 2 ^ 65 + (left + next)
 
--- the invariant in a turn, for the problem of the `requires`
-turning : (c : tie.In-loop Inv-loop μ-loop) → Turning (c .before .before .pre .0) (c .before .before .args .numbers .now) (c .before .before .args .supports .now) (c .before .before .args .sets .now) (c .before .loop .sets) (c .before .loop .left)
-turning c = c .before .loop .inv (c .before .before .pre .0) (c .before .before .pre .1)
+-- after the choice of the round: the round before is at its end, or not
+choice : (c : tie.Joined1 Inv-loop μ-loop) → ((c .before .loop .left ≡ 0) × (c .if1 .left ≡ c .before .loop .next) × (c .if1 .next ≡ 0)) ⊎ ((c .if1 .left ≡ c .before .loop .left) × (c .if1 .next ≡ c .before .loop .next))
+choice c = ⊎-elim (λ q. inl (q .0 .taken, q .2, q .3)) (λ q. inr (q .1, q .2)) (c .if1 .came)
 
-few : (c : tie.In-loop Inv-loop μ-loop) → trailingZeros 64 (c .before .loop .left) < 32
-few c = k-few (turning c) (c .loop-test .taken)
+some : (c : tie.Joined1 Inv-loop μ-loop) → c .if1 .left ≡ 0 → ⊥
+some c e = ⊎-elim (λ q. q .1 .left (sym (q .2) ∙ e)) (λ q. q .0 .left (sym (q .1) ∙ e)) (c .if1 .came)
 
--- src/lib.rt:185:5
+same-sum : (c : tie.Joined1 Inv-loop μ-loop) → c .if1 .left + c .if1 .next ≡ c .before .loop .left + c .before .loop .next
+same-sum c = ⊎-elim (λ q. omega (arith, q .0, q .1, q .2)) (λ q. omega (arith, q .0, q .1)) (choice c)
+
+-- the invariant then, for the problem of the `requires`
+turning : (c : tie.Joined1 Inv-loop μ-loop) → Turning (c .before .before .pre .0) (c .before .before .args .numbers .now) (c .before .before .args .supports .now) (c .before .before .args .sets .now) (c .before .loop .sets) (c .if1 .left) (c .if1 .next) (c .before .loop .all)
+turning c = turning-on _ _ _ _ _ _ _ _ _ _ (choice c) (c .before .loop .inv (c .before .before .pre .0) (c .before .before .pre .1))
+
+few : (c : tie.Joined1 Inv-loop μ-loop) → trailingZeros 64 (c .if1 .left) < 32
+few c = k-few (turning c) (some c)
+
 loop-holds : tie.Need-loop-holds Inv-loop μ-loop
 loop-holds c = λ p w. turning-begin p _ _ _ _ (search needs) w
 
--- src/lib.rt:187:55
+returns : tie.Need-returns Inv-loop μ-loop
+returns c = λ p w. turning-end p _ _ _ _ _ _ _ (c .before .if1 .taken) (c .if2 .taken) (c .before .before .loop .inv p w)
+
 cast-revise : tie.Need-cast-revise Inv-loop μ-loop
 cast-revise c = omega (arith, few (c .before))
 
--- src/lib.rt:187:13
 revise-requires : tie.Need-revise-requires Inv-loop μ-loop
-revise-requires c κs = let t = turning (c .before) in (t .sixteen, (_, t .given, k-lt t (c .before .loop-test .taken)))
+revise-requires c κs = let t = turning (c .before) in (t .sixteen, (_, t .held, k-lt t (some (c .before)), k-full t (some (c .before))))
 
--- src/lib.rt:188:12
-emptied-requires : tie.Need-emptied-requires Inv-loop μ-loop
-emptied-requires c κs = let i = c .before .before .before in let t = turning i in changed-lt _ _ _ _ (t .sixteen) (c .before .revise .ensures _ (t .given) (k-lt t (i .loop-test .taken)))
+returns-2 : tie.Need-returns-2 Inv-loop μ-loop
+returns-2 c = let j = c .before .before .before in λ p w. let t = turning-on _ _ _ _ _ _ _ _ _ _ (choice j) (j .before .loop .inv p w) in turning-dead t (some j) (c .before .revise .ensures p (t .held) (k-lt t (some j))) _ (c .if3 .taken)
 
--- src/lib.rt:189:13
-returns : tie.Need-returns Inv-loop μ-loop
-returns c =
-    let i = c .before .before .before .before .before in λ p w.
-    let t = i .before .loop .inv p w in
-    turning-dead t (i .loop-test .taken) (c .before .before .before .revise .ensures p (t .given) (k-lt t (i .loop-test .taken))) (subst (Emptied _ _) (c .if1 .taken) (c .before .emptied .ensures))
+sub-left : tie.Need-sub-left Inv-loop μ-loop
+sub-left c = let n = some (c .before .before .before .before) in omega arith
 
--- src/lib.rt:191:24
 touched-requires : tie.Need-touched-requires Inv-loop μ-loop
 touched-requires c κs = tt
 
--- src/lib.rt:191:63
-cast-left : tie.Need-cast-left Inv-loop μ-loop
-cast-left c = omega (arith, few (c .before .before .before .before .before .before))
+cast-next : tie.Need-cast-next Inv-loop μ-loop
+cast-next c = omega (arith, few (c .before .before .before .before .before .before))
 
--- src/lib.rt:191:55
-shl-left : tie.Need-shl-left Inv-loop μ-loop
-shl-left c = omega (arith, few (c .before .before .before .before .before .before))
+shl-next : tie.Need-shl-next Inv-loop μ-loop
+shl-next c = omega (arith, few (c .before .before .before .before .before .before))
 
--- src/lib.rt:185:5
 loop-less : tie.Need-loop-less Inv-loop μ-loop
-loop-less c =
-    let i = c .before .before .before .before .before .before in
-    let t = turning i in
-    turning-less t (i .loop-test .taken) (c .before .before .before .before .revise .ensures _ (t .given) (k-lt t (i .loop-test .taken))) (search needs) (c .touched .ensures)
+loop-less c = let j = c .before .before .before .before .before .before .before in let t = turning j in more-less t (some j) (c .before .before .before .before .before .revise .ensures _ (t .held) (k-lt t (some j))) (c .before .before .before .before .if3 .left) (search needs) (c .before .touched .ensures) (search needs) (c .before .before .if4 .taken) _ (same-sum j)
 
--- src/lib.rt:185:5
 loop-again : tie.Need-loop-again Inv-loop μ-loop
-loop-again c =
-    let i = c .before .before .before .before .before .before in λ p w.
-    let t = i .before .loop .inv p w in
-    turning-turn t (i .loop-test .taken) (c .before .before .before .before .revise .ensures p (t .given) (k-lt t (i .loop-test .taken))) (search needs) (c .touched .ensures) (subst (Emptied _ _) (c .before .if1 .left) (c .before .before .emptied .ensures))
+loop-again c = let j = c .before .before .before .before .before .before .before in λ p w. let t = turning-on _ _ _ _ _ _ _ _ _ _ (choice j) (j .before .loop .inv p w) in turning-more t (some j) (c .before .before .before .before .before .revise .ensures p (t .held) (k-lt t (some j))) (c .before .before .before .before .if3 .left) (search needs) (c .before .touched .ensures)
 
--- src/lib.rt:175:1
-returns-2 : tie.Need-returns-2 Inv-loop μ-loop
-returns-2 c = λ p w. turning-end p _ _ _ _ _ (c .loop-test .left) (c .before .loop .inv p w)
+loop-less-2 : tie.Need-loop-less-2 Inv-loop μ-loop
+loop-less-2 c = let j = c .before .before .before .before .before in let t = turning j in same-less t (some j) (c .before .before .before .revise .ensures _ (t .held) (k-lt t (some j))) (c .before .before .if3 .left) _ (same-sum j)
+
+loop-again-2 : tie.Need-loop-again-2 Inv-loop μ-loop
+loop-again-2 c = let j = c .before .before .before .before .before in λ p w. let t = turning-on _ _ _ _ _ _ _ _ _ _ (choice j) (j .before .loop .inv p w) in turning-same t (some j) (c .before .before .before .revise .ensures p (t .held) (k-lt t (some j))) (c .before .before .if3 .left) (c .if4 .left)
 
 pub constrain-spec : {M : Type 1} → statement M
 constrain-spec =
@@ -90,13 +80,15 @@ constrain-spec =
     Inv-loop
     μ-loop
     loop-holds
+    returns
     cast-revise
     revise-requires
-    emptied-requires
-    returns
+    returns-2
+    sub-left
     touched-requires
-    cast-left
-    shl-left
+    cast-next
+    shl-next
     loop-less
     loop-again
-    returns-2)
+    loop-less-2
+    loop-again-2)

@@ -3,12 +3,10 @@ use lib.Count.{trailingZeros}
 use Rattle.model.specs.Lists.{at}
 use native.Mathlib.Omega.{arith}
 use borrow.Author.Needs.{needs}
-use Rattle.constraints.proofs.Unions.{Joining, joining-begin, joining-turn, joining-end, rest-low, rest-less}
+use Rattle.model.proofs.Members.{rest-low, rest-less}
+use Rattle.constraints.proofs.Unions.{and-wide, Joining, joining-begin, joining-turn, joining-end}
 use Rattle.constraints.proofs.joined.Statement.{statement}
 use Rattle.constraints.proofs.joined.Tie as tie
-use Rattle.constraints.proofs.joined.Reads as reads
-use Rattle.constraints.proofs.joined.Lts as lts
-use Rattle.constraints.proofs.mark.Reads as mark-reads
 
 abbrev Inv-loop : tie.InvT-loop
 Inv-loop supports base a b first₀ last₀ m₀ first last m = Joining supports base a b m first last
@@ -19,44 +17,37 @@ abbrev μ-loop : tie.MeasureT-loop
 low : (c : tie.In-loop Inv-loop μ-loop) → trailingZeros 16 (c .before .loop .m) < 16
 low c = rest-low 16 _ _ (c .before .loop .inv .rest) (c .loop-test .taken) .1
 
--- src/lib.rt:50:5
 loop-holds : tie.Need-loop-holds Inv-loop μ-loop
 loop-holds c = joining-begin _ _ _ _ (search needs)
 
--- src/lib.rt:52:34
 cast-t : tie.Need-cast-t Inv-loop μ-loop
 cast-t c = omega (arith, low c)
 
--- src/lib.rt:52:26
 add-t : tie.Need-add-t Inv-loop μ-loop
 add-t c = omega (arith, low c)
 
--- src/lib.rt:52:17
 mul-t : tie.Need-mul-t Inv-loop μ-loop
 mul-t c = omega (arith, low c)
 
--- src/lib.rt:52:17
 element-copy-out-t : tie.Need-element-copy-out-t Inv-loop μ-loop
 element-copy-out-t c = omega (arith, low c)
 
--- src/lib.rt:53:25
+cast-mark : tie.Need-cast-mark Inv-loop μ-loop
+cast-mark c = search (needs, and-wide)
+
 mark-requires : tie.Need-mark-requires Inv-loop μ-loop
 mark-requires c κs = low (c .before)
 
--- src/lib.rt:55:18
 sub-m : tie.Need-sub-m Inv-loop μ-loop
 sub-m c = search needs
 
--- src/lib.rt:50:5
 loop-less : tie.Need-loop-less Inv-loop μ-loop
 loop-less c = rest-less _ (c .before .before .loop-test .taken)
 
--- src/lib.rt:50:5
 loop-again : tie.Need-loop-again Inv-loop μ-loop
 unfolding at
-loop-again c = joining-turn _ _ _ _ _ _ _ _ (c .before .before .before .loop .inv) (c .before .before .loop-test .taken) (search needs) (c .mark .ensures)
+loop-again c = joining-turn _ _ _ _ 16 _ _ _ _ (c .before .before .before .loop .inv) (c .before .before .loop-test .taken) (search needs) (c .mark .ensures)
 
--- src/lib.rt:43:1
 returns : tie.Need-returns Inv-loop μ-loop
 returns c = joining-end _ _ _ _ _ _ _ (c .loop-test .left) (c .before .loop .inv)
 
@@ -71,6 +62,7 @@ joined-spec =
     add-t
     mul-t
     element-copy-out-t
+    cast-mark
     mark-requires
     sub-m
     loop-less

@@ -3,13 +3,10 @@ use native.Mathlib.Omega.{arith}
 use borrow.Author.Needs.{needs}
 use lib.Count.{trailingZeros}
 use Rattle.model.specs.Lists.{at}
-use Rattle.constraints.proofs.Unions.{Joining3, joining3-begin, joining3-turn, joining3-end, rest-low, rest-less}
+use Rattle.model.proofs.Members.{rest-low, rest-less}
+use Rattle.constraints.proofs.Unions.{Joining3, joining3-begin, joining3-turn, joining3-end}
 use Rattle.constraints.proofs.joined3.Statement.{statement}
 use Rattle.constraints.proofs.joined3.Tie as tie
-use Rattle.constraints.proofs.joined3.Reads as reads
-use Rattle.constraints.proofs.joined3.Lts as lts
-use Rattle.constraints.proofs.joined.Reads as joined-reads
-use Rattle.constraints.proofs.mark.Reads as mark-reads
 
 abbrev Inv-loop : tie.InvT-loop
 Inv-loop supports base a b e first₀ second₀ last₀ m₀ first second last m = Joining3 supports base a b e m first second last
@@ -20,44 +17,37 @@ abbrev μ-loop : tie.MeasureT-loop
 low : (c : tie.In-loop Inv-loop μ-loop) → trailingZeros 16 (c .before .loop .m) < 16
 low c = rest-low 16 _ _ (c .before .loop .inv .rest) (c .loop-test .taken) .1
 
--- src/lib.rt:69:5
 loop-holds : tie.Need-loop-holds Inv-loop μ-loop
 loop-holds c = joining3-begin _ _ _ _ _ (search needs)
 
--- src/lib.rt:71:47
 cast-joined : tie.Need-cast-joined Inv-loop μ-loop
 cast-joined c = omega (arith, low c)
 
--- src/lib.rt:71:41
 mul-joined : tie.Need-mul-joined Inv-loop μ-loop
 mul-joined c = omega (arith, low c)
 
--- src/lib.rt:71:34
 add-joined : tie.Need-add-joined Inv-loop μ-loop
 add-joined c = omega (arith, low c)
 
--- src/lib.rt:71:13
 joined-requires : tie.Need-joined-requires Inv-loop μ-loop
 joined-requires c κs = omega (arith, low c)
 
--- src/lib.rt:72:25
-mark-requires : tie.Need-mark-requires Inv-loop μ-loop
-mark-requires c κs = low (c .before)
+cast-mark : tie.Need-cast-mark Inv-loop μ-loop
+cast-mark c = search needs
 
--- src/lib.rt:75:18
+mark-requires : tie.Need-mark-requires Inv-loop μ-loop
+mark-requires c κs = low (c .before .before)
+
 sub-m : tie.Need-sub-m Inv-loop μ-loop
 sub-m c = search needs
 
--- src/lib.rt:69:5
 loop-less : tie.Need-loop-less Inv-loop μ-loop
-loop-less c = rest-less _ (c .before .before .before .before .loop-test .taken)
+loop-less c = rest-less _ (c .before .before .before .before .before .loop-test .taken)
 
--- src/lib.rt:69:5
 loop-again : tie.Need-loop-again Inv-loop μ-loop
 unfolding at
-loop-again c = joining3-turn _ _ _ _ _ _ _ _ _ _ _ _ (c .before .before .before .before .before .loop .inv) (c .before .before .before .before .loop-test .taken) (search needs) (c .before .before .before .joined .ensures) (c .before .before .mark .ensures)
+loop-again c = joining3-turn _ _ _ _ _ _ _ _ _ _ _ _ (c .before .before .before .before .before .before .loop .inv) (c .before .before .before .before .before .loop-test .taken) (search needs) (c .before .before .before .before .joined .ensures) (c .before .before .mark .ensures)
 
--- src/lib.rt:61:1
 returns : tie.Need-returns Inv-loop μ-loop
 returns c = joining3-end _ _ _ _ _ _ _ _ _ (c .loop-test .left) (c .before .loop .inv)
 
@@ -72,6 +62,7 @@ joined3-spec =
     mul-joined
     add-joined
     joined-requires
+    cast-mark
     mark-requires
     sub-m
     loop-less

@@ -2,26 +2,20 @@ use mathlib.Core.Path.{sym, ap, _∙_}
 use mathlib.Core.Bool.{Bool, not}
 use borrow.Author.Tests.{eq-eqb, ne-eqb}
 use Rattle.constraints.specs.Steps.{oneIf}
-use Rattle.constraints.proofs.Bits.{one-bit}
+use Rattle.model.proofs.Members.{one-bit}
 use borrow.Author.Needs.{needs}
 use Rattle.constraints.proofs.mark.Statement.{statement}
 use Rattle.constraints.proofs.mark.Tie as tie
-use Rattle.constraints.proofs.mark.Reads as reads
-use Rattle.constraints.proofs.mark.Lts as lts
 
--- src/lib.rt:31:25
 cast-result : tie.Need-cast-result
 cast-result c = search needs
 
--- src/lib.rt:31:17
 shl-result : tie.Need-shl-result
 shl-result c = search needs
 
--- src/lib.rt:27:1
 returns : tie.Need-returns
 returns c = one-bit 16 _ (search needs) ∙ ap (λ (b : Bool). oneIf (not b) (c .before .args .v)) (sym (ne-eqb _ 0 (c .if1 .taken)))
 
--- src/lib.rt:27:1
 returns-2 : tie.Need-returns-2
 returns-2 c = ap (λ (b : Bool). oneIf (not b) (c .before .args .v)) (sym (eq-eqb _ 0 (c .if1 .left)))
 

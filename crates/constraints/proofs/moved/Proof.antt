@@ -2,22 +2,17 @@ use mathlib.Core.Path.{sym, ap, _∙_}
 use mathlib.Core.Bool.{Bool, not}
 use borrow.Author.Tests.{eq-eqb, ne-eqb}
 use Rattle.constraints.specs.Steps.{oneIf}
-use Rattle.constraints.proofs.Bits.{one-bit}
+use Rattle.model.proofs.Members.{one-bit}
 use borrow.Author.Needs.{needs}
 use Rattle.constraints.proofs.moved.Statement.{statement}
 use Rattle.constraints.proofs.moved.Tie as tie
-use Rattle.constraints.proofs.moved.Reads as reads
-use Rattle.constraints.proofs.moved.Lts as lts
 
--- src/lib.rt:39:17
 shl-result : tie.Need-shl-result
 shl-result c = search needs
 
--- src/lib.rt:35:1
 returns : tie.Need-returns
 returns c = one-bit 64 _ (search needs) ∙ ap (λ (b : Bool). oneIf (not b) (c .before .args .x)) (sym (ne-eqb _ _ (c .if1 .taken)))
 
--- src/lib.rt:35:1
 returns-2 : tie.Need-returns-2
 returns-2 c = ap (λ (b : Bool). oneIf (not b) (c .before .args .x)) (sym (eq-eqb _ _ (c .if1 .left)))
 

@@ -3,11 +3,10 @@ use lib.Count.{trailingZeros}
 use Rattle.model.specs.Lists.{at}
 use native.Mathlib.Omega.{arith}
 use borrow.Author.Needs.{needs}
-use Rattle.constraints.proofs.Unions.{Rest, rest-begin, rest-low, rest-turn, rest-less, Union, union-begin, union-turn, Stands, gathered}
+use Rattle.model.proofs.Members.{Rest, rest-begin, rest-low, rest-turn, rest-less, Union, union-begin, union-turn}
+use Rattle.constraints.proofs.Unions.{Stands, gathered}
 use Rattle.constraints.proofs.touched.Statement.{statement}
 use Rattle.constraints.proofs.touched.Tie as tie
-use Rattle.constraints.proofs.touched.Reads as reads
-use Rattle.constraints.proofs.touched.Lts as lts
 
 abbrev Inv-loop : tie.InvT-loop
 Inv-loop numbers changed all₀ m₀ all m = Rest 64 changed m × Union (Stands numbers) changed m all
@@ -18,36 +17,31 @@ abbrev μ-loop : tie.MeasureT-loop
 low : (c : tie.In-loop Inv-loop μ-loop) → trailingZeros 64 (c .before .loop .m) < 64
 low c = rest-low 64 _ _ (c .before .loop .inv .0) (c .loop-test .taken) .1
 
--- src/lib.rt:152:5
 loop-holds : tie.Need-loop-holds Inv-loop μ-loop
 loop-holds c = (rest-begin 64 _ (search needs), union-begin _ _)
 
--- src/lib.rt:153:29
 cast-all : tie.Need-cast-all Inv-loop μ-loop
 cast-all c = omega (arith, low c)
 
--- src/lib.rt:153:21
+add-all : tie.Need-add-all Inv-loop μ-loop
+add-all c = omega (arith, low c)
+
 mul-all : tie.Need-mul-all Inv-loop μ-loop
 mul-all c = omega (arith, low c)
 
--- src/lib.rt:153:21
 element-copy-out-all : tie.Need-element-copy-out-all Inv-loop μ-loop
 element-copy-out-all c = omega (arith, low c)
 
--- src/lib.rt:154:18
 sub-m : tie.Need-sub-m Inv-loop μ-loop
 sub-m c = search needs
 
--- src/lib.rt:152:5
 loop-less : tie.Need-loop-less Inv-loop μ-loop
 loop-less c = rest-less _ (c .before .loop-test .taken)
 
--- src/lib.rt:152:5
 loop-again : tie.Need-loop-again Inv-loop μ-loop
 unfolding at
 loop-again c = (rest-turn 64 _ _ (c .before .before .loop .inv .0) (c .before .loop-test .taken), union-turn _ 64 _ _ _ _ (c .before .before .loop .inv .0) (c .before .loop-test .taken) (c .before .before .loop .inv .1) (λ w q. q) (λ w q. q))
 
--- src/lib.rt:147:1
 returns : tie.Need-returns Inv-loop μ-loop
 returns c = gathered _ _ _ _ (c .loop-test .left) (c .before .loop .inv .1)
 
@@ -59,6 +53,7 @@ touched-spec =
     μ-loop
     loop-holds
     cast-all
+    add-all
     mul-all
     element-copy-out-all
     sub-m

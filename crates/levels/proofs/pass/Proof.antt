@@ -1,27 +1,23 @@
--- The loop's invariant: what the levels from the start ask of the sets at the start, those from j on ask of the sets now. Assumes nothing.
+-- The loop's invariant: the levels from the start to j are passed. Assumes nothing.
 use mathlib.Core.Path.{_≡_, refl, _∙_}
-use Prim.Native.Nat.{ℕ, _-_}
-use native.Mathlib.Omega.{arith}
+use Prim.Native.Nat.{_-_}
 use lib.ListN.{length}
 use borrow.Author.Needs.{needs}
 use Rattle.model.specs.Lists.{at}
-use Rattle.nogood.specs.Scan.{Passed}
-use Rattle.levels.specs.Levels.{levelsFrom, Ready}
-use Rattle.levels.proofs.Turns.{starts, ends, turn-asks, turn-next, turn-dead, turn-free, turn-split}
+use Rattle.model.specs.Problem.{Problem}
+use Rattle.levels.specs.Levels.{Ready}
+use Rattle.levels.proofs.Turns.{Passing, passing-none, ends, turn-asks, turn-next, turn-dead, turn-free, turn-split}
 use Rattle.levels.proofs.pass.Statement.{statement}
 use Rattle.levels.proofs.pass.Tie as tie
 
 abbrev Inv-loop : tie.InvT-loop
-Inv-loop sets₀ prefix images numbers e k start j₀ sets j = (length sets ≡ length sets₀) × ((n : ℕ) → Ready n sets₀ prefix images numbers e k start → Passed n sets₀ (levelsFrom prefix images numbers e k start) sets (levelsFrom prefix images numbers e k j))
+Inv-loop sets₀ work tables e k start j₀ sets j = (length sets ≡ length sets₀) × ((p : Problem) → Ready p sets₀ work tables e k start → Passing p sets₀ work e k start sets j)
 
 abbrev μ-loop : tie.MeasureT-loop
-μ-loop sets₀ prefix images numbers e k start j₀ sets j = k - j
+μ-loop sets₀ work tables e k start j₀ sets j = k - j
 
 loop-holds : tie.Need-loop-holds Inv-loop μ-loop
-loop-holds c = (refl, λ n w. starts w)
-
-add-level : tie.Need-add-level Inv-loop μ-loop
-add-level c = search needs
+loop-holds c = (refl, λ p w. passing-none w)
 
 mul-level : tie.Need-mul-level Inv-loop μ-loop
 mul-level c = search needs
@@ -29,19 +25,9 @@ mul-level c = search needs
 element-copy-out-level : tie.Need-element-copy-out-level Inv-loop μ-loop
 element-copy-out-level c = search needs
 
-cast-level : tie.Need-cast-level Inv-loop μ-loop
-unfolding at
-cast-level c = let h = c .before .before .before .before .pre .1 .listed .small (c .before .before .before .loop .j) (c .before .before .loop-test .taken) in omega arith
-
-mul-level-2 : tie.Need-mul-level-2 Inv-loop μ-loop
-mul-level-2 c = search needs
-
-element-copy-out-level-2 : tie.Need-element-copy-out-level-2 Inv-loop μ-loop
-element-copy-out-level-2 c = search needs
-
 level-requires : tie.Need-level-requires Inv-loop μ-loop
 unfolding at
-level-requires c κs = let w = c .before .before .before .before .before .pre .1 in ((c .before .before .before .before .before .pre .0, turn-asks w (c .before .before .before .before .loop .inv .1 (c .before .before .before .before .before .pre .0) w) (c .before .before .before .loop-test .taken)), w .listed .drawn (c .before .before .before .before .loop .j) (c .before .before .before .loop-test .taken))
+level-requires c κs = let p = c .before .before .before .before .pre .0 in let w = c .before .before .before .before .pre .1 in (p, turn-asks w (c .before .before .before .loop .inv .1 p w) (c .before .before .loop-test .taken))
 
 enum-told : tie.Need-enum-told Inv-loop μ-loop
 enum-told c = search needs
@@ -51,21 +37,21 @@ enum-told-2 c = search needs
 
 returns : tie.Need-returns Inv-loop μ-loop
 unfolding at
-returns c = (c .before .before .level .ensures .0 ∙ c .before .before .before .before .before .before .before .loop .inv .0, λ n w. turn-dead w (c .before .before .before .before .before .before .before .loop .inv .1 n w) (c .before .before .before .before .before .before .loop-test .taken) (c .before .before .level .last .0) (c .before .before .level .result) (c .before .before .level .ensures .1 n (turn-asks w (c .before .before .before .before .before .before .before .loop .inv .1 n w) (c .before .before .before .before .before .before .loop-test .taken))) (c .enum-told2 .given .1))
+returns c = (c .before .before .level .ensures .0 ∙ c .before .before .before .before .before .before .loop .inv .0, λ p w. turn-dead w (c .before .before .before .before .before .before .loop .inv .1 p w) (c .before .before .before .before .before .loop-test .taken) (c .before .before .level .last .0) (c .before .before .level .result) (c .before .before .level .ensures .1 p (turn-asks w (c .before .before .before .before .before .before .loop .inv .1 p w) (c .before .before .before .before .before .loop-test .taken))) (c .enum-told2 .given .1))
 
 enum-told-3 : tie.Need-enum-told-3 Inv-loop μ-loop
 enum-told-3 c = search needs
 
 returns-2 : tie.Need-returns-2 Inv-loop μ-loop
 unfolding at
-returns-2 c = (c .before .before .level .ensures .0 ∙ c .before .before .before .before .before .before .before .loop .inv .0, λ n w. turn-free w (c .before .before .before .before .before .before .before .loop .inv .1 n w) (c .before .before .before .before .before .before .loop-test .taken) (c .before .before .level .last .0) (c .before .before .level .result) (c .before .before .level .ensures .1 n (turn-asks w (c .before .before .before .before .before .before .before .loop .inv .1 n w) (c .before .before .before .before .before .before .loop-test .taken))) (c .enum-told3 .given .1))
+returns-2 c = (c .before .before .level .ensures .0 ∙ c .before .before .before .before .before .before .loop .inv .0, λ p w. turn-free w (c .before .before .before .before .before .before .loop .inv .1 p w) (c .before .before .before .before .before .loop-test .taken) (c .before .before .level .last .0) (c .before .before .level .result) (c .before .before .level .ensures .1 p (turn-asks w (c .before .before .before .before .before .before .loop .inv .1 p w) (c .before .before .before .before .before .loop-test .taken))) (c .enum-told3 .given .1))
 
 enum-told-4 : tie.Need-enum-told-4 Inv-loop μ-loop
 enum-told-4 c = search needs
 
 returns-3 : tie.Need-returns-3 Inv-loop μ-loop
 unfolding at
-returns-3 c = (c .before .before .level .ensures .0 ∙ c .before .before .before .before .before .before .before .loop .inv .0, λ n w. turn-split w (c .before .before .before .before .before .before .before .loop .inv .1 n w) (c .before .before .before .before .before .before .loop-test .taken) (c .before .before .level .last .0) (c .before .before .level .result) (c .before .before .level .ensures .1 n (turn-asks w (c .before .before .before .before .before .before .before .loop .inv .1 n w) (c .before .before .before .before .before .before .loop-test .taken))) (c .enum-told4 .given .1))
+returns-3 c = (c .before .before .level .ensures .0 ∙ c .before .before .before .before .before .before .loop .inv .0, λ p w. turn-split w (c .before .before .before .before .before .before .loop .inv .1 p w) (c .before .before .before .before .before .loop-test .taken) (c .before .before .level .last .0) (c .before .before .level .result) (c .before .before .level .ensures .1 p (turn-asks w (c .before .before .before .before .before .before .loop .inv .1 p w) (c .before .before .before .before .before .loop-test .taken))) (c .enum-told4 .given .1))
 
 add-j : tie.Need-add-j Inv-loop μ-loop
 add-j c = search needs
@@ -75,10 +61,10 @@ loop-less c = search needs
 
 loop-again : tie.Need-loop-again Inv-loop μ-loop
 unfolding at
-loop-again c = (c .before .before .level .ensures .0 ∙ c .before .before .before .before .before .before .before .loop .inv .0, λ n w. turn-next w (c .before .before .before .before .before .before .before .loop .inv .1 n w) (c .before .before .before .before .before .before .loop-test .taken) (c .before .before .level .last .0) (c .before .before .level .result) (c .before .before .level .ensures .1 n (turn-asks w (c .before .before .before .before .before .before .before .loop .inv .1 n w) (c .before .before .before .before .before .before .loop-test .taken))) (c .enum-told .given .1))
+loop-again c = (c .before .before .level .ensures .0 ∙ c .before .before .before .before .before .before .loop .inv .0, λ p w. turn-next w (c .before .before .before .before .before .before .loop .inv .1 p w) (c .before .before .before .before .before .loop-test .taken) (c .before .before .level .last .0) (c .before .before .level .result) (c .before .before .level .ensures .1 p (turn-asks w (c .before .before .before .before .before .before .loop .inv .1 p w) (c .before .before .before .before .before .loop-test .taken))) (c .enum-told .given .1))
 
 returns-4 : tie.Need-returns-4 Inv-loop μ-loop
-returns-4 c = (c .before .loop .inv .0, λ n w. ends w (c .before .loop .inv .1 n w) (c .loop-test .left))
+returns-4 c = (c .before .loop .inv .0, λ p w. ends w (c .before .loop .inv .1 p w) (c .loop-test .left))
 
 pub pass-spec : {M : Type 1} → statement M
 pass-spec =
@@ -87,12 +73,8 @@ pass-spec =
     Inv-loop
     μ-loop
     loop-holds
-    add-level
     mul-level
     element-copy-out-level
-    cast-level
-    mul-level-2
-    element-copy-out-level-2
     level-requires
     enum-told
     enum-told-2

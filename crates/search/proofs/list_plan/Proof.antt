@@ -1,45 +1,46 @@
 -- `search::list_plan` meets its contract: proofs/Listing. Assumes nothing.
 use native.Mathlib.Omega.{arith}
-use denote.Ref.{now}
 use Rattle.model.specs.Lists.{at}
-use Rattle.search.specs.Pair.{prefixOf}
 use Rattle.search.proofs.Listing.{fits-counted, fits-bytes, full-now, kept-now}
 use borrow.Author.Needs.{needs}
 use Rattle.search.proofs.list_plan.Statement.{statement}
 use Rattle.search.proofs.list_plan.Tie as tie
+
+element-copy-out-plans : tie.Need-element-copy-out-plans
+element-copy-out-plans c = search needs
 
 element-copy-out-if1 : tie.Need-element-copy-out-if1
 element-copy-out-if1 c = search needs
 
 returns : tie.Need-returns
 unfolding at
-returns c =
-    let a = c .before .before .before in
-    full-now (at (now (a .args .numbers)) 64) (at (now (a .args .numbers)) 69) (now (a .args .list)) (a .args .r) (a .pre .0)
-    (prefixOf (now (a .args .work)) (at (now (a .args .numbers)) 64)) (c .if1 .taken)
+returns c = let a = c .before .before .before .before in full-now _ _ _ _ (a .pre .0) (c .if1 .taken)
 
 element-copy-out-n : tie.Need-element-copy-out-n
 element-copy-out-n c = search needs
 
 mul-keep : tie.Need-mul-keep
 unfolding at
-mul-keep c = let a = c .before .before .before .before .before .before in omega (arith, a .pre .0 .listed, a .good .1 .1 .0 .0)
+mul-keep c = let a = c .before .before .before .before .before .before .before .before in omega (arith, a .pre .0 .listed, a .good .1 .1 .0 .0)
 
 keep-requires : tie.Need-keep-requires
 unfolding at
 keep-requires c κs =
-    let a = c .before .before .before .before .before .before in (
-      omega (arith, a .pre .1 .0, c .keep-arg2 .given .0),
-      fits-bytes (at (now (a .args .numbers)) 64) (at (now (a .args .numbers)) 69) (now (a .args .list)) (a .args .r) (a .pre .0) (c .before .before .before .if1 .left),
+    let a = c .before .before .before .before .before .before .before .before in (
+      omega (arith, a .pre .1 .0, a .pre .1 .2),
+      fits-bytes _ _ _ _ (a .pre .0) (c .before .before .before .before .if1 .left),
       a .pre .1 .1,
     )
 
-add-more : tie.Need-add-more
+add-work : tie.Need-add-work
 unfolding at
-add-more c =
-    let a = c .before .before .before .before .before .before .before .before .before in
-    let l = fits-counted (at (now (a .args .numbers)) 64) (at (now (a .args .numbers)) 69) (now (a .args .list)) (a .args .r) (a .pre .0) (c .before .before .before .before .before .before .if1 .left) in
+add-work c =
+    let a = c .before .before .before .before .before .before .before .before .before .before .before in
+    let l = fits-counted _ _ _ _ (a .pre .0) (c .before .before .before .before .before .before .before .if1 .left) in
     omega (arith, a .good .1 .1 .0 .0)
+
+element-write-work : tie.Need-element-write-work
+element-write-work c = search needs
 
 same-length : tie.Need-same-length
 same-length c = search needs
@@ -47,19 +48,20 @@ same-length c = search needs
 returns-2 : tie.Need-returns-2
 unfolding at
 returns-2 c =
-    let a = c .before .before .before .before .before .before .before .before .before in
-    kept-now (at (now (a .args .numbers)) 64) (at (now (a .args .numbers)) 69) (now (a .args .list)) (a .args .r) (a .pre .0)
-    (prefixOf (now (a .args .work)) (at (now (a .args .numbers)) 64)) (c .before .before .keep .last .0) (c .before .before .before .before .before .before .if1 .left) (c .before .before .keep .ensures)
+    let a = c .before .before .before .before .before .before .before .before .before .before .before in
+    kept-now _ _ _ _ (a .pre .0) _ (a .pre .1 .2) (c .before .before .before .before .before .before .before .if1 .left) (c .before .before .keep .ensures)
 
 pub list-plan-spec : {M : Type 1} → statement M
 list-plan-spec =
     tie.close
     (tie.spec
+    element-copy-out-plans
     element-copy-out-if1
     returns
     element-copy-out-n
     mul-keep
     keep-requires
-    add-more
+    add-work
+    element-write-work
     same-length
     returns-2)

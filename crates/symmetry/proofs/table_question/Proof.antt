@@ -19,11 +19,11 @@ use Rattle.symmetry.proofs.table.permutes.Reads as permutes-reads
 use Rattle.symmetry.proofs.walk.constraints.Reads as constraints-reads
 use Rattle.symmetry.proofs.walk.variables.Reads as variables-reads
 
--- src/lib.rt:21:9
+-- src/lib.rt:20:9
 permutes-requires : tie.Need-permutes-requires
 permutes-requires c κs = let h = c .before .pre in (h .0, asked-laid (h .0) _ _ _ _ (h .1))
 
--- src/lib.rt:22:9
+-- src/lib.rt:21:9
 returns : tie.Need-returns
 returns c = λ p a. answer-15 p _ _ _ _ a (sym (c .before .permutes .ensures p (asked-laid p _ _ _ _ a)) ∙ not-true _ (c .if1 .taken))
 
@@ -39,34 +39,34 @@ shorts c p a = c .short-scopes .ensures p (a .ready .framed)
 lent : (c : tie.After-short-scopes) (p : Problem) → Asked p (now (c .before .before .before .before .before .args .sheet)) (c .before .before .before .before .before .args .offset) (now (c .before .before .before .before .before .args .numbers)) (now (c .before .before .before .before .before .args .supports)) → Lent p (now (c .before .before .before .before .before .args .numbers)) (now (c .before .before .before .before .before .args .supports)) (c .before .decode .result) (c .short-scopes .result)
 lent c p a = asked-lent p _ _ _ _ a (permuted (c .before .before) p a) _ _ (decoded c p a) (shorts c p a)
 
--- src/lib.rt:24:17
+-- src/lib.rt:23:17
 decode-requires : tie.Need-decode-requires
 decode-requires c κs = let h = c .before .before .before .pre in (h .0, asked-laid (h .0) _ _ _ _ (h .1), T-of _ (permuted c (h .0) (h .1)))
 
--- src/lib.rt:25:9
+-- src/lib.rt:24:9
 short-scopes-requires : tie.Need-short-scopes-requires
 short-scopes-requires c κs = search needs
 
--- src/lib.rt:26:9
+-- src/lib.rt:25:9
 variables-requires : tie.Need-variables-requires
 variables-requires c κs = let h = c .before .before .before .before .before .before .pre in (h .0, lent (c .before) (h .0) (h .1))
 
--- src/lib.rt:27:9
+-- src/lib.rt:26:9
 returns-2 : tie.Need-returns-2
 returns-2 c = λ p a. let d = c .before .before .before in answer-16 p _ _ _ _ a (permuted (d .before .before) p a) _ _ (decoded d p a) (shorts d p a) _ (c .before .variables .ensures p (lent d p a)) (not-true _ (c .if2 .taken))
 
--- src/lib.rt:29:9
+-- src/lib.rt:28:9
 constraints-requires : tie.Need-constraints-requires
 constraints-requires c κs = let h = c .before .before .before .before .before .before .before .before .before .pre in (h .0, lent (c .before .before .before .before) (h .0) (h .1))
 
--- src/lib.rt:30:9
+-- src/lib.rt:29:9
 returns-3 : tie.Need-returns-3
 returns-3 c =
     λ p a.
     let d = c .before .before .before .before .before .before in
     answer-last p _ _ _ _ a (permuted (d .before .before) p a) _ _ (decoded d p a) (shorts d p a) _ (c .before .before .before .before .variables .ensures p (lent d p a)) _ false (not-false _ (c .before .before .before .if2 .left)) (c .before .constraints .ensures p (lent d p a)) (not-true _ (c .if3 .taken))
 
--- src/lib.rt:12:1
+-- src/lib.rt:16:1
 returns-4 : tie.Need-returns-4
 returns-4 c =
     λ p a.

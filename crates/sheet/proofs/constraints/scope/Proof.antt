@@ -6,7 +6,6 @@ use Rattle.sheet.proofs.constraints.scope.Tie as tie
 use Rattle.sheet.proofs.constraints.scope.Reads as reads
 use Rattle.sheet.proofs.constraints.scope.Lts as lts
 use Rattle.sheet.proofs.constraints.touch.Reads as touch-reads
-use Rattle.sheet.proofs.read.word.Reads as word-reads
 
 abbrev Inv-loop : tie.InvT-loop
 Inv-loop sheet from a n k numbers₀ packed₀ unit₀ least₀ i₀ numbers packed unit least i = (i ≤ a) × ScopeTo sheet from a n k numbers₀ i numbers packed unit least
@@ -14,75 +13,75 @@ Inv-loop sheet from a n k numbers₀ packed₀ unit₀ least₀ i₀ numbers pac
 abbrev μ-loop : tie.MeasureT-loop
 μ-loop sheet from a n k numbers₀ packed₀ unit₀ least₀ i₀ numbers packed unit least i = a - i
 
--- src/constraints.rt:53:5
+-- src/constraints.rt:54:5
 loop-holds : tie.Need-loop-holds Inv-loop μ-loop
 loop-holds c = (omega arith, scope-none _ _ _ _ _ _ (c .before .pre .1))
 
--- src/constraints.rt:54:36
-mul-word : tie.Need-mul-word Inv-loop μ-loop
-mul-word c = omega (arith, c .loop-test .taken, c .before .before .before .pre .1)
+-- src/constraints.rt:55:39
+mul-word-at : tie.Need-mul-word-at Inv-loop μ-loop
+mul-word-at c = omega (arith, c .loop-test .taken, c .before .before .before .pre .1)
 
--- src/constraints.rt:54:29
-add-word : tie.Need-add-word Inv-loop μ-loop
-add-word c = omega (arith, c .loop-test .taken, c .before .before .before .pre .4, c .before .before .before .good)
+-- src/constraints.rt:55:32
+add-word-at : tie.Need-add-word-at Inv-loop μ-loop
+add-word-at c = omega (arith, c .loop-test .taken, c .before .before .before .pre .4, c .before .before .before .good)
 
--- src/constraints.rt:54:13
-word-requires : tie.Need-word-requires Inv-loop μ-loop
-word-requires c κs = omega (arith, c .loop-test .taken, c .before .before .before .pre .4)
+-- src/constraints.rt:55:13
+word-at-requires : tie.Need-word-at-requires Inv-loop μ-loop
+word-at-requires c κs = omega (arith, c .loop-test .taken, c .before .before .before .pre .4)
 
--- src/constraints.rt:56:13
+-- src/constraints.rt:57:13
 returns : tie.Need-returns Inv-loop μ-loop
-returns c = scope-low _ _ _ _ _ _ _ _ _ _ _ (c .before .before .before .loop .inv .1) _ (c .before .word .ensures .value) (c .before .before .loop-test .taken) (c .if1 .taken)
+returns c = scope-low _ _ _ _ _ _ _ _ _ _ _ (c .before .before .before .loop .inv .1) _ (c .before .word-at .ensures) (c .before .before .loop-test .taken) (c .if1 .taken)
 
--- src/constraints.rt:59:13
+-- src/constraints.rt:60:13
 returns-2 : tie.Need-returns-2 Inv-loop μ-loop
-returns-2 c = scope-high _ _ _ _ _ _ _ _ _ _ _ (c .before .before .before .before .loop .inv .1) _ (c .before .before .word .ensures .value) (c .before .before .before .loop-test .taken) (c .if2 .taken)
+returns-2 c = scope-high _ _ _ _ _ _ _ _ _ _ _ (c .before .before .before .before .loop .inv .1) _ (c .before .before .word-at .ensures) (c .before .before .before .loop-test .taken) (c .if2 .taken)
 
--- src/constraints.rt:61:9
+-- src/constraints.rt:62:9
 touch-requires : tie.Need-touch-requires Inv-loop μ-loop
 touch-requires c κs = (c .before .before .before .before .before .before .before .pre .3, omega (arith, c .before .if2 .left, c .before .before .before .before .before .before .before .pre .2))
 
--- src/constraints.rt:62:27
+-- src/constraints.rt:63:27
 mul-packed : tie.Need-mul-packed Inv-loop μ-loop
-mul-packed c = omega (arith, part (c .before .before .before .before .word .result) (c .before .before .before .before .before .before .loop .unit) (omega (arith, c .before .before .if2 .left, c .before .before .before .before .before .before .before .before .pre .2)), unit-small (c .before .before .before .before .before .before .loop .i) (c .before .before .before .before .before .before .loop .unit) (omega (arith, c .before .before .before .before .before .loop-test .taken, c .before .before .before .before .before .before .before .before .pre .1)) (c .before .before .before .before .before .before .loop .inv .1 .power))
+mul-packed c = omega (arith, part (c .before .before .before .before .word-at .result) (c .before .before .before .before .before .before .loop .unit) (omega (arith, c .before .before .if2 .left, c .before .before .before .before .before .before .before .before .pre .2)), unit-small (c .before .before .before .before .before .before .loop .i) (c .before .before .before .before .before .before .loop .unit) (omega (arith, c .before .before .before .before .before .loop-test .taken, c .before .before .before .before .before .before .before .before .pre .1)) (c .before .before .before .before .before .before .loop .inv .1 .power))
 
--- src/constraints.rt:62:18
+-- src/constraints.rt:63:18
 add-packed : tie.Need-add-packed Inv-loop μ-loop
-add-packed c = omega (arith, c .before .before .before .before .before .before .loop .inv .1 .small, part (c .before .before .before .before .word .result) (c .before .before .before .before .before .before .loop .unit) (omega (arith, c .before .before .if2 .left, c .before .before .before .before .before .before .before .before .pre .2)), unit-small (c .before .before .before .before .before .before .loop .i) (c .before .before .before .before .before .before .loop .unit) (omega (arith, c .before .before .before .before .before .loop-test .taken, c .before .before .before .before .before .before .before .before .pre .1)) (c .before .before .before .before .before .before .loop .inv .1 .power))
+add-packed c = omega (arith, c .before .before .before .before .before .before .loop .inv .1 .small, part (c .before .before .before .before .word-at .result) (c .before .before .before .before .before .before .loop .unit) (omega (arith, c .before .before .if2 .left, c .before .before .before .before .before .before .before .before .pre .2)), unit-small (c .before .before .before .before .before .before .loop .i) (c .before .before .before .before .before .before .loop .unit) (omega (arith, c .before .before .before .before .before .loop-test .taken, c .before .before .before .before .before .before .before .before .pre .1)) (c .before .before .before .before .before .before .loop .inv .1 .power))
 
--- src/constraints.rt:63:16
+-- src/constraints.rt:64:16
 mul-unit : tie.Need-mul-unit Inv-loop μ-loop
 mul-unit c = omega (arith, unit-small (c .before .before .before .before .before .before .loop .i) (c .before .before .before .before .before .before .loop .unit) (omega (arith, c .before .before .before .before .before .loop-test .taken, c .before .before .before .before .before .before .before .before .pre .1)) (c .before .before .before .before .before .before .loop .inv .1 .power))
 
--- src/constraints.rt:64:17
+-- src/constraints.rt:65:17
 add-least : tie.Need-add-least Inv-loop μ-loop
-add-least c = omega (arith, c .before .before .before .before .word .ensures .small)
+add-least c = omega (arith, c .before .before .if2 .left, c .before .before .before .before .before .before .before .before .pre .2)
 
--- src/constraints.rt:65:9
+-- src/constraints.rt:66:9
 add-i : tie.Need-add-i Inv-loop μ-loop
 add-i c = omega (arith, c .before .before .before .before .before .loop-test .taken, c .before .before .before .before .before .before .before .before .pre .1)
 
--- src/constraints.rt:53:5
+-- src/constraints.rt:54:5
 loop-less : tie.Need-loop-less Inv-loop μ-loop
 loop-less c = omega (arith, c .before .before .before .before .before .loop-test .taken)
 
--- src/constraints.rt:53:5
+-- src/constraints.rt:54:5
 loop-again : tie.Need-loop-again Inv-loop μ-loop
-loop-again c = (omega (arith, c .before .before .before .before .before .loop-test .taken), scope-more _ _ _ _ _ _ _ _ _ _ _ (c .before .before .before .before .before .before .loop .inv .1) _ (c .before .before .before .before .word .ensures .value) _ (c .touch .ensures) (c .before .before .before .if1 .left) (c .before .before .if2 .left) (c .before .before .before .before .before .before .before .before .pre .2))
+loop-again c = (omega (arith, c .before .before .before .before .before .loop-test .taken), scope-more _ _ _ _ _ _ _ _ _ _ _ (c .before .before .before .before .before .before .loop .inv .1) _ (c .before .before .before .before .word-at .ensures) _ (c .touch .ensures) (c .before .before .before .if1 .left) (c .before .before .if2 .left) (c .before .before .before .before .before .before .before .before .pre .2))
 
--- src/constraints.rt:67:13
+-- src/constraints.rt:68:13
 add-numbers : tie.Need-add-numbers Inv-loop μ-loop
 add-numbers c = omega (arith, c .before .before .before .pre .3)
 
--- src/constraints.rt:67:5
+-- src/constraints.rt:68:5
 mul-numbers : tie.Need-mul-numbers Inv-loop μ-loop
 mul-numbers c = omega (arith, c .before .before .before .pre .3)
 
--- src/constraints.rt:67:5
+-- src/constraints.rt:68:5
 element-write-numbers : tie.Need-element-write-numbers Inv-loop μ-loop
 element-write-numbers c = omega (arith, c .before .before .before .pre .3)
 
--- src/constraints.rt:45:1
+-- src/constraints.rt:46:1
 returns-3 : tie.Need-returns-3 Inv-loop μ-loop
 returns-3 c = scope-end _ _ _ _ _ _ _ _ _ _ _ (c .before .loop .inv .1) (c .loop-test .left) (c .before .loop .inv .0)
 
@@ -93,9 +92,9 @@ scope-spec =
     Inv-loop
     μ-loop
     loop-holds
-    mul-word
-    add-word
-    word-requires
+    mul-word-at
+    add-word-at
+    word-at-requires
     returns
     returns-2
     touch-requires

@@ -15,70 +15,70 @@ use Rattle.sheet.proofs.heading.ask.Reads as heading-ask-reads
 use Rattle.sheet.proofs.read.Header.read.Reads as read-reads
 use Rattle.sheet.proofs.sets.ask.Reads as sets-ask-reads
 
--- src/form.rt:35:9
+-- src/form.rt:36:9
 ask-requires : tie.Need-ask-requires
 ask-requires c κs = search needs
 
 enum-told : tie.Need-enum-told
 enum-told c = search needs
 
--- src/form.rt:37:9
+-- src/form.rt:38:9
 enum-told-2 : tie.Need-enum-told-2
 enum-told-2 c = search needs
 
--- src/form.rt:37:9
+-- src/form.rt:38:9
 returns : tie.Need-returns
 returns c = form-heading _ _ _ _ _ _ (c .enum-told2 .given .1) (c .before .before .ask .ensures)
 
--- src/form.rt:39:9
+-- src/form.rt:40:9
 read-requires : tie.Need-read-requires
 read-requires c κs = (fit-of _ _ (c .enum-told .given .1) (c .before .before .ask .ensures)) .long
 
--- src/form.rt:40:9
+-- src/form.rt:41:9
 ask-requires-2 : tie.Need-ask-requires-2
 ask-requires-2 c κs = (fit-of _ _ (c .before .before .enum-told .given .1) (c .before .before .before .before .ask .ensures), ap (λ (x : Numbers). x .variables) (c .before .read .ensures), ap (λ (x : Numbers). x .values) (c .before .read .ensures), c .before .before .before .before .before .before .pre .0 .sized)
 
 enum-told-3 : tie.Need-enum-told-3
 enum-told-3 c = search needs
 
--- src/form.rt:42:9
+-- src/form.rt:43:9
 enum-told-4 : tie.Need-enum-told-4
 enum-told-4 c = search needs
 
--- src/form.rt:42:9
+-- src/form.rt:43:9
 returns-2 : tie.Need-returns-2
 returns-2 c = form-sets _ _ (c .before .before .before .before .before .enum-told .given .1) (c .before .before .before .before .before .before .before .ask .ensures) _ _ _ _ _ _ _ _ (c .enum-told4 .given .1) (c .before .before .ask2 .ensures)
 
--- src/form.rt:44:9
+-- src/form.rt:45:9
 ask-requires-3 : tie.Need-ask-requires-3
 ask-requires-3 c κs = (fit-of _ _ (c .before .before .before .before .before .before .before .enum-told .given .1) (c .before .before .before .before .before .before .before .before .before .ask .ensures), c .before .before .before .before .before .before .read .ensures)
 
 enum-told-5 : tie.Need-enum-told-5
 enum-told-5 c = search needs
 
--- src/form.rt:46:9
+-- src/form.rt:47:9
 enum-told-6 : tie.Need-enum-told-6
 enum-told-6 c = search needs
 
--- src/form.rt:46:9
+-- src/form.rt:47:9
 returns-3 : tie.Need-returns-3
 returns-3 c = form-constraints _ _ (c .before .before .before .before .before .before .before .before .before .before .enum-told .given .1) (c .before .before .before .before .before .before .before .before .before .before .before .before .ask .ensures) _ _ _ _ (c .before .before .before .before .before .enum-told3 .given .1) (c .before .before .before .before .before .before .before .ask2 .ensures) _ _ _ _ _ _ (c .enum-told6 .given .1) (c .before .before .ask3 .ensures)
 
--- src/form.rt:48:9
+-- src/form.rt:49:9
 tables-fit-requires : tie.Need-tables-fit-requires
 tables-fit-requires c κs =
     let f = fit-of _ _ (c .before .before .before .before .before .before .before .before .before .before .enum-told .given .1) (c .before .before .before .before .before .before .before .before .before .before .before .before .ask .ensures) in
     (omega (arith, f .few, ap (λ (x : Numbers). x .variables) (c .before .before .before .before .before .before .before .before .before .read .ensures)), omega (arith, f .sixteen, ap (λ (x : Numbers). x .values) (c .before .before .before .before .before .before .before .before .before .read .ensures)), omega (arith, f .symmetries, ap (λ (x : Numbers). x .symmetries) (c .before .before .before .before .before .before .before .before .before .read .ensures)), omega (arith, f .third, ap (λ (x : Numbers). x .third) (c .before .before .before .before .before .before .before .before .before .read .ensures), c .before .before .before .before .before .before .before .before .before .before .before .before .before .before .good))
 
--- src/form.rt:49:9
+-- src/form.rt:50:9
 returns-4 : tie.Need-returns-4
 returns-4 c = form-length _ _ (c .before .before .before .before .before .before .before .before .before .before .before .before .enum-told .given .1) (c .before .before .before .before .before .before .before .before .before .before .before .before .before .before .ask .ensures) _ _ _ _ (c .before .before .before .before .before .before .before .enum-told3 .given .1) (c .before .before .before .before .before .before .before .before .before .ask2 .ensures) _ _ _ _ (c .before .before .enum-told5 .given .1) (c .before .before .before .before .ask3 .ensures) _ (c .before .before .before .before .before .before .before .before .before .before .before .read .ensures) _ (c .before .tables-fit .ensures) (not-true _ (c .if1 .taken))
 
--- src/form.rt:54:5
+-- src/form.rt:55:5
 store-counts-requires : tie.Need-store-counts-requires
 store-counts-requires c κs = search needs
 
--- src/form.rt:31:1
+-- src/form.rt:32:1
 returns-5 : tie.Need-returns-5
 returns-5 c = form-whole _ _ (c .before .before .before .before .before .before .before .before .before .before .before .before .before .before .enum-told .given .1) (c .before .before .before .before .before .before .before .before .before .before .before .before .before .before .before .before .ask .ensures) _ _ _ _ (c .before .before .before .before .before .before .before .before .before .enum-told3 .given .1) (c .before .before .before .before .before .before .before .before .before .before .before .ask2 .ensures) _ _ _ _ (c .before .before .before .before .enum-told5 .given .1) (c .before .before .before .before .before .before .ask3 .ensures) _ (c .before .before .before .before .before .before .before .before .before .before .before .before .before .read .ensures) _ (c .before .before .before .tables-fit .ensures) _ (not-false _ (c .before .before .if1 .left)) (ap (λ (x : Numbers). x .variables) (c .before .before .before .before .before .before .before .before .before .before .before .before .before .read .ensures)) (c .before .before .before .before .before .before .before .before .before .before .before .before .before .before .before .before .before .before .pre .0) (c .before .before .before .before .before .before .before .before .before .before .before .before .before .before .before .before .before .before .pre .1) (c .store-counts .ensures)
 

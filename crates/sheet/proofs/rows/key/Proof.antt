@@ -6,7 +6,6 @@ use Rattle.sheet.proofs.rows.key.Statement.{statement}
 use Rattle.sheet.proofs.rows.key.Tie as tie
 use Rattle.sheet.proofs.rows.key.Reads as reads
 use Rattle.sheet.proofs.rows.key.Lts as lts
-use Rattle.sheet.proofs.read.word.Reads as word-reads
 
 abbrev Inv-loop : tie.InvT-loop
 Inv-loop sheet o a d key₀ i₀ key i = (i ≤ a) × KeyTo sheet o d i key
@@ -18,21 +17,21 @@ abbrev μ-loop : tie.MeasureT-loop
 loop-holds : tie.Need-loop-holds Inv-loop μ-loop
 loop-holds c = (omega arith, key-none _ _ _)
 
--- src/rows.rt:18:33
-mul-word : tie.Need-mul-word Inv-loop μ-loop
-mul-word c = omega arith
+-- src/rows.rt:18:36
+mul-word-at : tie.Need-mul-word-at Inv-loop μ-loop
+mul-word-at c = omega arith
 
--- src/rows.rt:18:29
-add-word : tie.Need-add-word Inv-loop μ-loop
-add-word c = omega arith
+-- src/rows.rt:18:32
+add-word-at : tie.Need-add-word-at Inv-loop μ-loop
+add-word-at c = omega arith
 
 -- src/rows.rt:18:13
-word-requires : tie.Need-word-requires Inv-loop μ-loop
-word-requires c κs = omega arith
+word-at-requires : tie.Need-word-at-requires Inv-loop μ-loop
+word-at-requires c κs = omega arith
 
 -- src/rows.rt:20:13
 returns : tie.Need-returns Inv-loop μ-loop
-returns c = key-bad _ _ _ _ _ _ (c .before .before .loop-test .taken) (c .if1 .taken) (c .before .word .ensures .value)
+returns c = key-bad _ _ _ _ _ _ (c .before .before .loop-test .taken) (c .if1 .taken) (c .before .word-at .ensures)
 
 -- src/rows.rt:22:15
 mul-key : tie.Need-mul-key Inv-loop μ-loop
@@ -40,7 +39,7 @@ mul-key c = omega (arith, key-small _ _ _ _ _ (omega (arith, c .before .before .
 
 -- src/rows.rt:22:15
 add-key : tie.Need-add-key Inv-loop μ-loop
-add-key c = omega (arith, key-small _ _ _ _ _ (omega (arith, c .before .before .before .loop .inv .0, c .before .before .before .before .before .pre .0)) (c .before .before .before .loop .inv .1), c .before .word .ensures .small)
+add-key c = omega (arith, key-small _ _ _ _ _ (omega (arith, c .before .before .before .loop .inv .0, c .before .before .before .before .before .pre .0)) (c .before .before .before .loop .inv .1), c .if1 .left, c .before .before .before .before .before .pre .1)
 
 -- src/rows.rt:23:9
 add-i : tie.Need-add-i Inv-loop μ-loop
@@ -52,7 +51,7 @@ loop-less c = omega arith
 
 -- src/rows.rt:17:5
 loop-again : tie.Need-loop-again Inv-loop μ-loop
-loop-again c = (omega (arith, c .before .before .loop-test .taken), key-more _ _ _ _ _ _ (c .before .before .before .before .before .pre .1) (c .if1 .left) (c .before .word .ensures .value) (c .before .before .before .loop .inv .1))
+loop-again c = (omega (arith, c .before .before .loop-test .taken), key-more _ _ _ _ _ _ (c .before .before .before .before .before .pre .1) (c .if1 .left) (c .before .word-at .ensures) (c .before .before .before .loop .inv .1))
 
 -- src/rows.rt:11:1
 returns-2 : tie.Need-returns-2 Inv-loop μ-loop
@@ -65,9 +64,9 @@ key-spec =
     Inv-loop
     μ-loop
     loop-holds
-    mul-word
-    add-word
-    word-requires
+    mul-word-at
+    add-word-at
+    word-at-requires
     returns
     mul-key
     add-key

@@ -11,7 +11,6 @@ use Rattle.sheet.proofs.sets.ask.Statement.{statement}
 use Rattle.sheet.proofs.sets.ask.Tie as tie
 use Rattle.sheet.proofs.sets.ask.Reads as reads
 use Rattle.sheet.proofs.sets.ask.Lts as lts
-use Rattle.sheet.proofs.read.word.Reads as word-reads
 use Rattle.sheet.proofs.sets.fill_unused.Reads as fill-unused-reads
 use Rattle.sheet.proofs.sets.is_set.Reads as is-set-reads
 use Rattle.sheet.proofs.sets.limit.Reads as limit-reads
@@ -22,70 +21,70 @@ Inv-loop sheet n d numbers₀ limit x₀ numbers x = (x ≤ n) × (limit ≡ 2 ^
 abbrev μ-loop : tie.MeasureT-loop
 μ-loop sheet n d numbers₀ limit x₀ numbers x = n - x
 
--- src/sets.rt:43:9
+-- src/sets.rt:44:9
 limit-requires : tie.Need-limit-requires Inv-loop μ-loop
 limit-requires c κs = omega (arith, c .before .pre .0 .sixteen, c .before .pre .2)
 
--- src/sets.rt:45:5
+-- src/sets.rt:46:5
 loop-holds : tie.Need-loop-holds Inv-loop μ-loop
 loop-holds c = (omega arith, c .limit .ensures, passed-none _ _ _, initial-none _ _ (c .before .before .pre .3))
 
--- src/sets.rt:46:34
-mul-word : tie.Need-mul-word Inv-loop μ-loop
-mul-word c = omega (arith, c .loop-test .taken, c .before .before .before .before .pre .0 .few, c .before .before .before .before .pre .1)
+-- src/sets.rt:47:37
+mul-word-at : tie.Need-mul-word-at Inv-loop μ-loop
+mul-word-at c = omega (arith, c .loop-test .taken, c .before .before .before .before .pre .0 .few, c .before .before .before .before .pre .1)
 
--- src/sets.rt:46:29
-add-word : tie.Need-add-word Inv-loop μ-loop
-add-word c = omega (arith, c .loop-test .taken, c .before .before .before .before .pre .0 .few, c .before .before .before .before .pre .1)
-
--- src/sets.rt:46:13
-word-requires : tie.Need-word-requires Inv-loop μ-loop
-word-requires c κs = omega (arith, c .before .before .before .before .pre, c .before .before .before .before .pre .0 .second, c .before .before .before .before .pre .0 .ordered, c .before .before .before .before .pre .0 .third)
+-- src/sets.rt:47:32
+add-word-at : tie.Need-add-word-at Inv-loop μ-loop
+add-word-at c = omega (arith, c .loop-test .taken, c .before .before .before .before .pre .0 .few, c .before .before .before .before .pre .1)
 
 -- src/sets.rt:47:13
+word-at-requires : tie.Need-word-at-requires Inv-loop μ-loop
+word-at-requires c κs = omega (arith, c .before .before .before .before .pre, c .before .before .before .before .pre .0 .second, c .before .before .before .before .pre .0 .ordered, c .before .before .before .before .pre .0 .third)
+
+-- src/sets.rt:48:13
 is-set-requires : tie.Need-is-set-requires Inv-loop μ-loop
 is-set-requires c κs = tt
 
--- src/sets.rt:48:13
+-- src/sets.rt:49:13
 returns : tie.Need-returns Inv-loop μ-loop
 returns c =
     sets-refused _ _ _ _ _ (c .before .before .before .before .before .before .before .pre .1)
-    (passed-not _ _ _ _ (c .before .before .before .loop-test .taken) (c .before .before .before .before .loop .inv .2) (set-test _ _ _ _ _ _ _ _ (c .before .is-set .ensures) (c .before .before .word .ensures .value) (c .before .before .before .before .loop .inv .1) (c .before .before .before .before .before .before .before .pre .2) (not-true _ (c .if1 .taken))))
+    (passed-not _ _ _ _ (c .before .before .before .loop-test .taken) (c .before .before .before .before .loop .inv .2) (set-test _ _ _ _ _ _ _ _ (c .before .is-set .ensures) (c .before .before .word-at .ensures) (c .before .before .before .before .loop .inv .1) (c .before .before .before .before .before .before .before .pre .2) (not-true _ (c .if1 .taken))))
 
--- src/sets.rt:50:17
+-- src/sets.rt:51:17
 add-numbers : tie.Need-add-numbers Inv-loop μ-loop
 add-numbers c = omega (arith, c .before .before .before .loop-test .taken, c .before .before .before .before .before .before .before .pre .0 .few, c .before .before .before .before .before .before .before .pre .1)
 
--- src/sets.rt:50:9
+-- src/sets.rt:51:9
 mul-numbers : tie.Need-mul-numbers Inv-loop μ-loop
 mul-numbers c = omega (arith, c .before .before .before .loop-test .taken, c .before .before .before .before .before .before .before .pre .0 .few, c .before .before .before .before .before .before .before .pre .1)
 
--- src/sets.rt:50:9
+-- src/sets.rt:51:9
 element-write-numbers : tie.Need-element-write-numbers Inv-loop μ-loop
 element-write-numbers c = omega (arith, c .before .before .before .loop-test .taken, c .before .before .before .before .before .before .before .pre .0 .few, c .before .before .before .before .before .before .before .pre .1)
 
--- src/sets.rt:51:9
+-- src/sets.rt:52:9
 add-x : tie.Need-add-x Inv-loop μ-loop
 add-x c = omega (arith, c .before .before .before .loop-test .taken, c .before .before .before .before .before .before .before .pre .0 .few, c .before .before .before .before .before .before .before .pre .1)
 
--- src/sets.rt:45:5
+-- src/sets.rt:46:5
 loop-less : tie.Need-loop-less Inv-loop μ-loop
 loop-less c = omega (arith, c .before .before .before .loop-test .taken)
 
--- src/sets.rt:45:5
+-- src/sets.rt:46:5
 loop-again : tie.Need-loop-again Inv-loop μ-loop
 loop-again c = (
   omega (arith, c .before .before .before .loop-test .taken),
   c .before .before .before .before .loop .inv .1,
-  passed-more _ _ _ _ (c .before .before .before .loop-test .taken) (c .before .before .before .before .loop .inv .2) (set-test _ _ _ _ _ _ _ _ (c .before .is-set .ensures) (c .before .before .word .ensures .value) (c .before .before .before .before .loop .inv .1) (c .before .before .before .before .before .before .before .pre .2) (not-false _ (c .if1 .left))),
-  initial-more _ _ _ _ _ (omega (arith, c .before .before .before .loop-test .taken, c .before .before .before .before .before .before .before .pre .0 .few, c .before .before .before .before .before .before .before .pre .1)) (c .before .before .word .ensures .value) (c .before .before .before .before .loop .inv .3),
+  passed-more _ _ _ _ (c .before .before .before .loop-test .taken) (c .before .before .before .before .loop .inv .2) (set-test _ _ _ _ _ _ _ _ (c .before .is-set .ensures) (c .before .before .word-at .ensures) (c .before .before .before .before .loop .inv .1) (c .before .before .before .before .before .before .before .pre .2) (not-false _ (c .if1 .left))),
+  initial-more _ _ _ _ _ (omega (arith, c .before .before .before .loop-test .taken, c .before .before .before .before .before .before .before .pre .0 .few, c .before .before .before .before .before .before .before .pre .1)) (c .before .before .word-at .ensures) (c .before .before .before .before .loop .inv .3),
 )
 
--- src/sets.rt:53:5
+-- src/sets.rt:54:5
 fill-unused-requires : tie.Need-fill-unused-requires Inv-loop μ-loop
 fill-unused-requires c κs = (omega (arith, c .before .before .before .before .before .pre .0 .few, c .before .before .before .before .before .pre .1), c .before .before .loop .inv .3 .sized)
 
--- src/sets.rt:39:1
+-- src/sets.rt:40:1
 returns-2 : tie.Need-returns-2 Inv-loop μ-loop
 returns-2 c =
     sets-accepted _ _ _ _ (c .before .before .before .before .before .before .pre .1) (passed-all _ _ _ _ (c .before .before .loop-test .left) (c .before .before .before .loop .inv .2))
@@ -99,9 +98,9 @@ ask-spec =
     μ-loop
     limit-requires
     loop-holds
-    mul-word
-    add-word
-    word-requires
+    mul-word-at
+    add-word-at
+    word-at-requires
     is-set-requires
     returns
     add-numbers

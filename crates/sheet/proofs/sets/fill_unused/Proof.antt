@@ -14,35 +14,35 @@ Inv-loop n numbers₀ x₀ numbers x = (n ≤ x) × (x ≤ 16) × Unused n x num
 abbrev μ-loop : tie.MeasureT-loop
 μ-loop n numbers₀ x₀ numbers x = 16 - x
 
--- src/sets.rt:33:5
+-- src/sets.rt:34:5
 loop-holds : tie.Need-loop-holds Inv-loop μ-loop
 loop-holds c = (omega arith, omega arith, unused-none _ _ (c .pre .1))
 
--- src/sets.rt:34:17
+-- src/sets.rt:35:17
 add-numbers : tie.Need-add-numbers Inv-loop μ-loop
 add-numbers c = omega arith
 
--- src/sets.rt:34:9
+-- src/sets.rt:35:9
 mul-numbers : tie.Need-mul-numbers Inv-loop μ-loop
 mul-numbers c = omega arith
 
--- src/sets.rt:34:9
+-- src/sets.rt:35:9
 element-write-numbers : tie.Need-element-write-numbers Inv-loop μ-loop
 element-write-numbers c = omega arith
 
--- src/sets.rt:35:9
+-- src/sets.rt:36:9
 add-x : tie.Need-add-x Inv-loop μ-loop
 add-x c = omega arith
 
--- src/sets.rt:33:5
+-- src/sets.rt:34:5
 loop-less : tie.Need-loop-less Inv-loop μ-loop
 loop-less c = omega arith
 
--- src/sets.rt:33:5
+-- src/sets.rt:34:5
 loop-again : tie.Need-loop-again Inv-loop μ-loop
 loop-again c = (omega arith, omega arith, unused-more _ _ _ _ (c .before .loop .inv .0) (c .loop-test .taken) (c .before .loop .inv .2))
 
--- src/sets.rt:28:1
+-- src/sets.rt:29:1
 returns : tie.Need-returns Inv-loop μ-loop
 returns c = unused-all _ _ _ _ (c .loop-test .left) (c .before .loop .inv .1) (c .before .loop .inv .2)
 

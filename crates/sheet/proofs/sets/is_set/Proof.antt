@@ -4,11 +4,11 @@ use Rattle.sheet.proofs.sets.is_set.Tie as tie
 use Rattle.sheet.proofs.sets.is_set.Reads as reads
 use Rattle.sheet.proofs.sets.is_set.Lts as lts
 
--- src/sets.rt:20:1
+-- src/sets.rt:22:1
 returns : tie.Need-returns
 returns c = simp (lt-ltb _ _ (c .if1 .taken))
 
--- src/sets.rt:20:1
+-- src/sets.rt:22:1
 returns-2 : tie.Need-returns-2
 returns-2 c = simp (le-ltb _ _ (c .if1 .left))
 

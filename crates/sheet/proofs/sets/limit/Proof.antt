@@ -6,11 +6,11 @@ use Rattle.sheet.proofs.sets.limit.Tie as tie
 use Rattle.sheet.proofs.sets.limit.Reads as reads
 use Rattle.sheet.proofs.sets.limit.Lts as lts
 
--- src/sets.rt:17:5
+-- src/sets.rt:19:5
 shl-result : tie.Need-shl-result
 shl-result c = search needs
 
--- src/sets.rt:13:1
+-- src/sets.rt:15:1
 returns : tie.Need-returns
 returns c = one-bit _ (omega arith)
 

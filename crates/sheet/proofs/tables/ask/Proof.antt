@@ -16,56 +16,56 @@ Inv-loop sheet numbers supports g size at₀ e₀ at e = (e ≤ g) × TablesTo s
 abbrev μ-loop : tie.MeasureT-loop
 μ-loop sheet numbers supports g size at₀ e₀ at e = g - e
 
--- src/tables.rt:23:21
+-- src/tables.rt:22:21
 mul-size : tie.Need-mul-size Inv-loop μ-loop
 mul-size c =
     let f = left (c .before .before .args .sheet .now) (c .before .before .pre .0 .passed) .fits in
     omega (arith, pair-room (c .before .before .args .h .variables) (c .before .before .args .h .values) (omega (arith, f .few, ap (λ (x : Numbers). x .variables) (c .before .before .pre .1))) (omega (arith, f .sixteen, ap (λ (x : Numbers). x .values) (c .before .before .pre .1))))
 
--- src/tables.rt:23:16
+-- src/tables.rt:22:16
 mul-size-2 : tie.Need-mul-size-2 Inv-loop μ-loop
 mul-size-2 c =
     let f = left (c .before .before .args .sheet .now) (c .before .before .pre .0 .passed) .fits in
     omega (arith, pair-room (c .before .before .args .h .variables) (c .before .before .args .h .values) (omega (arith, f .few, ap (λ (x : Numbers). x .variables) (c .before .before .pre .1))) (omega (arith, f .sixteen, ap (λ (x : Numbers). x .values) (c .before .before .pre .1))))
 
--- src/tables.rt:26:5
+-- src/tables.rt:25:5
 loop-holds : tie.Need-loop-holds Inv-loop μ-loop
 loop-holds c = (omega arith, tables-none _ _ (ap (λ (x : Numbers). x .third) (c .before .before .pre .1)))
 
--- src/tables.rt:27:13
+-- src/tables.rt:26:13
 table-question-requires : tie.Need-table-question-requires Inv-loop μ-loop
 table-question-requires c κs = (problemOf (c .before .before .before .before .args .sheet .now), table-asked _ _ _ _ _ (c .before .before .before .before .pre .0) (c .before .loop .inv .1) (subst (λ (x : ℕ). c .before .loop .e < x) (ap (λ (x : Numbers). x .symmetries) (c .before .before .before .before .pre .1)) (c .loop-test .taken)))
 
--- src/tables.rt:29:13
+-- src/tables.rt:28:13
 returns : tie.Need-returns Inv-loop μ-loop
 returns c =
     tables-no _ _ _ (c .before .before .before .loop .inv .1) (subst (λ (x : ℕ). c .before .before .before .loop .e < x) (ap (λ (x : Numbers). x .symmetries) (c .before .before .before .before .before .before .pre .1)) (c .before .before .loop-test .taken)) _ (c .before .table-question .ensures _ (table-asked _ _ _ _ _ (c .before .before .before .before .before .before .pre .0) (c .before .before .before .loop .inv .1) (subst (λ (x : ℕ). c .before .before .before .loop .e < x) (ap (λ (x : Numbers). x .symmetries) (c .before .before .before .before .before .before .pre .1)) (c .before .before .loop-test .taken)))) (c .if1 .taken)
 
--- src/tables.rt:31:14
+-- src/tables.rt:30:14
 add-at : tie.Need-add-at Inv-loop μ-loop
 add-at c =
     let f = left (c .before .before .before .before .before .before .args .sheet .now) (c .before .before .before .before .before .before .pre .0 .passed) in
     let l : c .before .before .before .loop .e < _ = subst (λ (x : ℕ). c .before .before .before .loop .e < x) (ap (λ (x : Numbers). x .symmetries) (c .before .before .before .before .before .before .pre .1)) (c .before .before .loop-test .taken) in
     omega (arith, c .before .before .before .loop .inv .1 .here, table-room (c .before .before .before .before .before .before .args .sheet .now) (c .before .before .before .loop .e) (f .filled) l, same-size (c .before .before .before .before .before .before .args .h .variables) (c .before .before .before .before .before .before .args .h .values) _ _ (ap (λ (x : Numbers). x .variables) (c .before .before .before .before .before .before .pre .1)) (ap (λ (x : Numbers). x .values) (c .before .before .before .before .before .before .pre .1)), c .before .before .before .before .before .before .good)
 
--- src/tables.rt:32:9
+-- src/tables.rt:31:9
 add-e : tie.Need-add-e Inv-loop μ-loop
 add-e c =
     let f = left (c .before .before .before .before .before .before .args .sheet .now) (c .before .before .before .before .before .before .pre .0 .passed) .fits in
     omega (arith, subst (λ (x : ℕ). c .before .before .before .loop .e < x) (ap (λ (x : Numbers). x .symmetries) (c .before .before .before .before .before .before .pre .1)) (c .before .before .loop-test .taken), f .symmetries)
 
--- src/tables.rt:26:5
+-- src/tables.rt:25:5
 loop-less : tie.Need-loop-less Inv-loop μ-loop
 loop-less c = omega (arith, c .before .before .loop-test .taken)
 
--- src/tables.rt:26:5
+-- src/tables.rt:25:5
 loop-again : tie.Need-loop-again Inv-loop μ-loop
 loop-again c = (
   omega (arith, c .before .before .loop-test .taken),
   tables-more _ _ _ (c .before .before .before .loop .inv .1) (subst (λ (x : ℕ). c .before .before .before .loop .e < x) (ap (λ (x : Numbers). x .symmetries) (c .before .before .before .before .before .before .pre .1)) (c .before .before .loop-test .taken)) _ (c .before .table-question .ensures _ (table-asked _ _ _ _ _ (c .before .before .before .before .before .before .pre .0) (c .before .before .before .loop .inv .1) (subst (λ (x : ℕ). c .before .before .before .loop .e < x) (ap (λ (x : Numbers). x .symmetries) (c .before .before .before .before .before .before .pre .1)) (c .before .before .loop-test .taken)))) _ _ (ap (λ (x : Numbers). x .variables) (c .before .before .before .before .before .before .pre .1)) (ap (λ (x : Numbers). x .values) (c .before .before .before .before .before .before .pre .1)) (c .if1 .left),
 )
 
--- src/tables.rt:18:1
+-- src/tables.rt:17:1
 returns-2 : tie.Need-returns-2 Inv-loop μ-loop
 returns-2 c = tables-end _ _ _ (c .before .loop .inv .1) (omega (arith, c .loop-test .left, ap (λ (x : Numbers). x .symmetries) (c .before .before .before .before .pre .1)))
 

@@ -6,15 +6,15 @@ use Rattle.symmetry.proofs.forbidden.arity.Reads as reads
 use Rattle.symmetry.proofs.forbidden.arity.Lts as lts
 use Rattle.symmetry.proofs.table.number.Reads as number-reads
 
--- src/forbidden.rt:25:21
+-- src/forbidden.rt:27:21
 add-number : tie.Need-add-number
 add-number c = search needs
 
--- src/forbidden.rt:25:5
+-- src/forbidden.rt:27:5
 number-requires : tie.Need-number-requires
 number-requires c κs = search needs
 
--- src/forbidden.rt:21:1
+-- src/forbidden.rt:23:1
 returns : tie.Need-returns
 returns c = λ p f h. at-arity p _ f _ _ h (c .number .ensures)
 

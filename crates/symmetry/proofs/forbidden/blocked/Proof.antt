@@ -24,66 +24,66 @@ Inv-loop numbers supports short a b e left₀ left = (p : Problem) → Triple p 
 abbrev μ-loop : tie.MeasureT-loop
 μ-loop numbers supports short a b e left₀ left = left
 
--- src/forbidden.rt:125:8
+-- src/forbidden.rt:126:8
 clash-requires : tie.Need-clash-requires Inv-loop μ-loop
 clash-requires c κs = tt
 
--- src/forbidden.rt:126:9
+-- src/forbidden.rt:127:9
 returns : tie.Need-returns Inv-loop μ-loop
 returns c = λ p t. first-clash p _ _ _ _ _ _ t (sym (c .before .clash .ensures) ∙ c .if1 .taken)
 
--- src/forbidden.rt:128:8
+-- src/forbidden.rt:129:8
 clash-requires-2 : tie.Need-clash-requires-2 Inv-loop μ-loop
 clash-requires-2 c κs = tt
 
--- src/forbidden.rt:129:9
+-- src/forbidden.rt:130:9
 returns-2 : tie.Need-returns-2 Inv-loop μ-loop
 returns-2 c = λ p t. second-clash p _ _ _ _ _ _ t (sym (c .before .clash2 .ensures) ∙ c .if2 .taken)
 
--- src/forbidden.rt:131:8
+-- src/forbidden.rt:132:8
 clash-requires-3 : tie.Need-clash-requires-3 Inv-loop μ-loop
 clash-requires-3 c κs = tt
 
--- src/forbidden.rt:132:9
+-- src/forbidden.rt:133:9
 returns-3 : tie.Need-returns-3 Inv-loop μ-loop
 returns-3 c = λ p t. third-clash p _ _ _ _ _ _ t (sym (c .before .clash3 .ensures) ∙ c .if3 .taken)
 
--- src/forbidden.rt:134:9
+-- src/forbidden.rt:135:9
 candidates-requires : tie.Need-candidates-requires Inv-loop μ-loop
 candidates-requires c κs = let h = c .before .before .before .before .before .before .pre in variables-small (h .0) _ _ _ _ _ _ (h .1)
 
--- src/forbidden.rt:135:5
+-- src/forbidden.rt:136:5
 loop-holds : tie.Need-loop-holds Inv-loop μ-loop
 loop-holds c = λ p t. left-start p _ _ _ _ _ _ t _ (c .candidates .ensures p (t .ready .framed) (t .shorts))
 
--- src/forbidden.rt:136:17
+-- src/forbidden.rt:137:17
 cast-k : tie.Need-cast-k Inv-loop μ-loop
 cast-k c = record { fits = lt-of-le-of-lt (trailing-le 64 _) (lit< tt) }
 
--- src/forbidden.rt:137:12
+-- src/forbidden.rt:138:12
 refused-requires : tie.Need-refused-requires Inv-loop μ-loop
 refused-requires c κs = let h = c .before .before .before .before .before .before .before .before .before .pre in (h .0, h .1 .ready, left-next (h .0) _ _ _ _ _ _ (h .1) _ (c .before .loop .inv (h .0) (h .1)) (c .loop-test .taken))
 
 asked : (c : tie.After-refused Inv-loop μ-loop) (p : Problem) (t : Triple p (now (c .before .before .before .before .before .before .before .before .before .before .args .numbers)) (now (c .before .before .before .before .before .before .before .before .before .before .args .supports)) (c .before .before .before .before .before .before .before .before .before .before .args .short) (c .before .before .before .before .before .before .before .before .before .before .args .a) (c .before .before .before .before .before .before .before .before .before .before .args .b) (c .before .before .before .before .before .before .before .before .before .before .args .e)) → c .refused .result ≡ refusedBy (constraintAt p (trailingZeros 64 (c .before .before .loop .left))) (c .before .before .before .before .before .before .before .before .before .before .args .a) (c .before .before .before .before .before .before .before .before .before .before .args .b) (c .before .before .before .before .before .before .before .before .before .before .args .e)
 asked c p t = c .refused .ensures p (t .ready) (left-next p _ _ _ _ _ _ t _ (c .before .before .loop .inv p t) (c .before .loop-test .taken))
 
--- src/forbidden.rt:138:13
+-- src/forbidden.rt:139:13
 returns-4 : tie.Need-returns-4 Inv-loop μ-loop
 returns-4 c = λ p t. left-stop p _ _ _ _ _ _ t _ (c .before .before .before .loop .inv p t) (c .before .before .loop-test .taken) (sym (asked (c .before) p t) ∙ c .if4 .taken)
 
--- src/forbidden.rt:140:24
+-- src/forbidden.rt:141:24
 sub-left : tie.Need-sub-left Inv-loop μ-loop
 sub-left c = let n = c .before .before .loop-test .taken in omega arith
 
--- src/forbidden.rt:135:5
+-- src/forbidden.rt:136:5
 loop-less : tie.Need-loop-less Inv-loop μ-loop
 loop-less c = rest-less _ (c .before .before .loop-test .taken)
 
--- src/forbidden.rt:135:5
+-- src/forbidden.rt:136:5
 loop-again : tie.Need-loop-again Inv-loop μ-loop
 loop-again c = λ p t. left-rest p _ _ _ _ _ _ t _ (c .before .before .before .loop .inv p t) (c .before .before .loop-test .taken) (sym (asked (c .before) p t) ∙ c .if4 .left)
 
--- src/forbidden.rt:114:1
+-- src/forbidden.rt:115:1
 returns-5 : tie.Need-returns-5 Inv-loop μ-loop
 returns-5 c = λ p t. left-none p _ _ _ _ _ _ t _ (c .before .loop .inv p t) (c .loop-test .left) (sym (c .before .before .before .before .before .before .before .before .clash .ensures) ∙ c .before .before .before .before .before .before .before .if1 .left) (sym (c .before .before .before .before .before .before .clash2 .ensures) ∙ c .before .before .before .before .before .if2 .left) (sym (c .before .before .before .before .clash3 .ensures) ∙ c .before .before .before .if3 .left)
 

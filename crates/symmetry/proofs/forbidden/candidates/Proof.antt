@@ -6,19 +6,19 @@ use Rattle.symmetry.proofs.forbidden.candidates.Reads as reads
 use Rattle.symmetry.proofs.forbidden.candidates.Lts as lts
 use Rattle.symmetry.proofs.table.number.Reads as number-reads
 
--- src/forbidden.rt:57:9
+-- src/forbidden.rt:59:9
 number-requires : tie.Need-number-requires
 number-requires c κs = search needs
 
--- src/forbidden.rt:58:9
+-- src/forbidden.rt:60:9
 number-requires-2 : tie.Need-number-requires-2
 number-requires-2 c κs = search needs
 
--- src/forbidden.rt:59:9
+-- src/forbidden.rt:61:9
 number-requires-3 : tie.Need-number-requires-3
 number-requires-3 c κs = search needs
 
--- src/forbidden.rt:53:1
+-- src/forbidden.rt:55:1
 returns : tie.Need-returns
 returns c = λ p f s.
     rw (c .before .before .number .ensures, c .before .number2 .ensures, c .number3 .ensures)

@@ -4,11 +4,11 @@ use Rattle.symmetry.proofs.forbidden.clash.Tie as tie
 use Rattle.symmetry.proofs.forbidden.clash.Reads as reads
 use Rattle.symmetry.proofs.forbidden.clash.Lts as lts
 
--- src/forbidden.rt:64:1
+-- src/forbidden.rt:66:1
 returns : tie.Need-returns
 returns c = rw (eq-eqb _ _ (c .if1 .taken))
 
--- src/forbidden.rt:64:1
+-- src/forbidden.rt:66:1
 returns-2 : tie.Need-returns-2
 returns-2 c = rw (ne-eqb _ _ (c .if1 .left))
 

@@ -23,11 +23,11 @@ Inv-loop numbers supports k a b e count key₀ i₀ key i = (p : Problem) → Re
 abbrev μ-loop : tie.MeasureT-loop
 μ-loop numbers supports k a b e count key₀ i₀ key i = count - i
 
--- src/forbidden.rt:99:9
+-- src/forbidden.rt:100:9
 arity-requires : tie.Need-arity-requires Inv-loop μ-loop
 arity-requires c κs = let h = c .pre in (h .0, h .1 .framed, h .2)
 
--- src/forbidden.rt:102:5
+-- src/forbidden.rt:103:5
 loop-holds : tie.Need-loop-holds Inv-loop μ-loop
 loop-holds c = λ p r h. looked-none (constraintAt p _) _ _ _
 
@@ -46,55 +46,55 @@ over c p r h = omega (arith, c .before .before .arity .ensures p (r .framed) h, 
 place : (c : tie.After-loop Inv-loop μ-loop) → 256 * c .before .before .before .args .k + c .before .loop .key / 16 < 8192
 place c = let h = c .before .before .before .pre in looked-place (h .0) _ _ (h .1) _ (h .2) _ _ _ _ _ (c .before .loop .inv (h .0) (h .1) (h .2)) (over c (h .0) (h .1) (h .2))
 
--- src/forbidden.rt:103:35
+-- src/forbidden.rt:104:35
 scope-at-requires : tie.Need-scope-at-requires Inv-loop μ-loop
 scope-at-requires c κs = let h = c .before .before .before .pre in (h .0, h .1 .framed, h .2, inside c (h .0) (h .1) (h .2))
 
--- src/forbidden.rt:103:13
+-- src/forbidden.rt:104:13
 value-in-requires : tie.Need-value-in-requires Inv-loop μ-loop
 value-in-requires c κs = tt
 
--- src/forbidden.rt:105:13
+-- src/forbidden.rt:106:13
 returns : tie.Need-returns Inv-loop μ-loop
 returns c = λ p r h. looked-stop _ _ _ _ _ _ (c .before .before .before .before .loop .inv p r h) _ _ (inside (c .before .before .before) p r h) (c .before .before .scope-at .ensures p (r .framed) h (inside (c .before .before .before) p r h)) (c .before .value-in .ensures) (c .if1 .taken)
 
--- src/forbidden.rt:107:15
+-- src/forbidden.rt:108:15
 mul-key : tie.Need-mul-key Inv-loop μ-loop
 mul-key c = omega (arith, small (c .before .before .before))
 
--- src/forbidden.rt:107:15
+-- src/forbidden.rt:108:15
 add-key : tie.Need-add-key Inv-loop μ-loop
 add-key c = omega (arith, small (c .before .before .before), c .if1 .left)
 
--- src/forbidden.rt:108:9
+-- src/forbidden.rt:109:9
 add-i : tie.Need-add-i Inv-loop μ-loop
 add-i c = omega (arith, few (c .before .before .before))
 
--- src/forbidden.rt:102:5
+-- src/forbidden.rt:103:5
 loop-less : tie.Need-loop-less Inv-loop μ-loop
 loop-less c = omega arith
 
--- src/forbidden.rt:102:5
+-- src/forbidden.rt:103:5
 loop-again : tie.Need-loop-again Inv-loop μ-loop
 loop-again c = λ p r h. looked-more _ _ _ _ _ _ (c .before .before .before .before .loop .inv p r h) _ _ (inside (c .before .before .before) p r h) (c .before .before .scope-at .ensures p (r .framed) h (inside (c .before .before .before) p r h)) (c .before .value-in .ensures) (c .if1 .left)
 
--- src/forbidden.rt:110:24
+-- src/forbidden.rt:111:24
 mul-support : tie.Need-mul-support Inv-loop μ-loop
 mul-support c = omega (arith, place c)
 
--- src/forbidden.rt:110:24
+-- src/forbidden.rt:111:24
 add-support : tie.Need-add-support Inv-loop μ-loop
 add-support c = omega (arith, place c)
 
--- src/forbidden.rt:110:6
+-- src/forbidden.rt:111:6
 support-requires : tie.Need-support-requires Inv-loop μ-loop
 support-requires c κs = place c
 
--- src/forbidden.rt:110:6
+-- src/forbidden.rt:111:6
 shr-result : tie.Need-shr-result Inv-loop μ-loop
 shr-result c = omega arith
 
--- src/forbidden.rt:88:1
+-- src/forbidden.rt:89:1
 returns-2 : tie.Need-returns-2 Inv-loop μ-loop
 returns-2 c = λ p r h. looked-all p _ _ r _ h _ _ _ _ _ (c .before .before .loop .inv p r h) (over (c .before) p r h) _ (c .support .ensures .0)
 

@@ -8,30 +8,30 @@ use Rattle.symmetry.proofs.forbidden.scope_at.Reads as reads
 use Rattle.symmetry.proofs.forbidden.scope_at.Lts as lts
 use Rattle.symmetry.proofs.table.number.Reads as number-reads
 
--- src/forbidden.rt:32:22
+-- src/forbidden.rt:34:22
 add-number : tie.Need-add-number
 add-number c = search needs
 
--- src/forbidden.rt:32:6
+-- src/forbidden.rt:34:6
 number-requires : tie.Need-number-requires
 number-requires c κs = search needs
 
 places : (c : tie.After-number) → c .before .args .i < 3
 places c = let h = c .before .pre in few-places (h .0) _ (h .1) _ _ (h .2) (h .3)
 
--- src/forbidden.rt:32:34
+-- src/forbidden.rt:34:34
 mul-result : tie.Need-mul-result
 mul-result c = omega (arith, places c)
 
--- src/forbidden.rt:32:34
+-- src/forbidden.rt:34:34
 add-result : tie.Need-add-result
 add-result c = omega (arith, places c)
 
--- src/forbidden.rt:32:6
+-- src/forbidden.rt:34:6
 shr-result : tie.Need-shr-result
 shr-result c = omega (arith, places c)
 
--- src/forbidden.rt:28:1
+-- src/forbidden.rt:30:1
 returns : tie.Need-returns
 returns c = λ p f h i. at-scope p _ f _ _ _ h i (c .number .ensures)
 

@@ -30,31 +30,31 @@ small c = let f = c .before .before .before .pre in few-constraints (f .0) _ (f 
 last : (c : tie.After-loop Inv-loop μ-loop) (p : Problem) → Framed p (now (c .before .before .before .args .numbers)) → (k : ℕ) → k < length (p .constraints) → k < c .before .loop .k
 last c p f k h = omega (arith, c .before .before .number .ensures, f .numbered .constraints, c .loop-test .left)
 
--- src/forbidden.rt:40:9
+-- src/forbidden.rt:42:9
 number-requires : tie.Need-number-requires Inv-loop μ-loop
 number-requires c κs = search needs
 
--- src/forbidden.rt:43:5
+-- src/forbidden.rt:45:5
 loop-holds : tie.Need-loop-holds Inv-loop μ-loop
 loop-holds c = λ p f. (omega arith, short-none p 0)
 
--- src/forbidden.rt:44:12
+-- src/forbidden.rt:46:12
 arity-requires : tie.Need-arity-requires Inv-loop μ-loop
 arity-requires c κs = let f = c .before .before .before .pre in (f .0, f .1, inside c (f .0) (f .1))
 
--- src/forbidden.rt:45:26
+-- src/forbidden.rt:47:26
 shl-set : tie.Need-shl-set Inv-loop μ-loop
 shl-set c = omega (arith, small (c .before .before))
 
--- src/forbidden.rt:47:9
+-- src/forbidden.rt:49:9
 add-k : tie.Need-add-k Inv-loop μ-loop
 add-k c = omega (arith, small (c .before .before))
 
--- src/forbidden.rt:43:5
+-- src/forbidden.rt:45:5
 loop-less : tie.Need-loop-less Inv-loop μ-loop
 loop-less c = omega arith
 
--- src/forbidden.rt:43:5
+-- src/forbidden.rt:45:5
 loop-again : tie.Need-loop-again Inv-loop μ-loop
 loop-again c =
     λ p f.
@@ -64,7 +64,7 @@ loop-again c =
       ⊎-elim {C = ShortTo p (c .if1 .set) (c .before .before .before .loop .k + 1)} (λ w. subst (λ (n : ℕ). ShortTo p n (c .before .before .before .loop .k + 1)) (sym (w .1)) (short-more p _ _ (omega (arith, small (c .before .before))) (i .1))) (λ w. subst (λ (n : ℕ). ShortTo p n (c .before .before .before .loop .k + 1)) (sym (w .1)) (short-same p _ _ (omega (arith, a, w .0 .left)) (i .1))) (c .if1 .came),
     )
 
--- src/forbidden.rt:36:1
+-- src/forbidden.rt:38:1
 returns : tie.Need-returns Inv-loop μ-loop
 returns c = λ p f k h. c .before .loop .inv p f .1 k (last c p f k h)
 

@@ -6,19 +6,19 @@ use Rattle.symmetry.proofs.forbidden.support.Reads as reads
 use Rattle.symmetry.proofs.forbidden.support.Lts as lts
 use Rattle.symmetry.proofs.table.wide16.Reads as wide16-reads
 
--- src/forbidden.rt:18:12
+-- src/forbidden.rt:19:12
 mul-wide16 : tie.Need-mul-wide16
 mul-wide16 c = search needs
 
--- src/forbidden.rt:18:12
+-- src/forbidden.rt:19:12
 element-copy-out-wide16 : tie.Need-element-copy-out-wide16
 element-copy-out-wide16 c = search needs
 
--- src/forbidden.rt:18:5
+-- src/forbidden.rt:19:5
 wide16-requires : tie.Need-wide16-requires
 wide16-requires c κs = search needs
 
--- src/forbidden.rt:14:1
+-- src/forbidden.rt:15:1
 returns : tie.Need-returns
 unfolding at
 returns c = (c .wide16 .ensures .0, c .wide16 .ensures .1)

@@ -6,15 +6,15 @@ use Rattle.symmetry.proofs.table.number.Tie as tie
 use Rattle.symmetry.proofs.table.number.Reads as reads
 use Rattle.symmetry.proofs.table.number.Lts as lts
 
--- src/table.rt:23:5
+-- src/table.rt:31:5
 mul-result : tie.Need-mul-result
 mul-result c = search needs
 
--- src/table.rt:23:5
+-- src/table.rt:31:5
 element-copy-out-result : tie.Need-element-copy-out-result
 element-copy-out-result c = search needs
 
--- src/table.rt:19:1
+-- src/table.rt:27:1
 returns : tie.Need-returns
 unfolding at
 returns c = refl

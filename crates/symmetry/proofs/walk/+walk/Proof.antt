@@ -1,6 +1,6 @@
 -- `walk` meets its contract. The measure is how many variables are left; the loop goes through the choices for the next one.
 -- Assumes nothing.
-use mathlib.Core.Path.{_≡_, _∙_, sym, ap}
+use mathlib.Core.Path.{_≡_, _∙_, ap}
 use mathlib.Core.List.{List, [], _∷_, _++_}
 use Prim.Native.Nat.{ℕ, _+_, _-_, _*_, _≤_, _<_}
 use native.Mathlib.Nat.{lt-of-le-of-lt}
@@ -17,13 +17,13 @@ use Rattle.model.specs.Problem.{Problem}
 use Rattle.layout.specs.Layout.{constraintAt}
 use Rattle.symmetry.specs.Forbidden.{Walking, Choices}
 use Rattle.symmetry.proofs.Laws.{rest-less}
-use Rattle.symmetry.proofs.Walks.{walked, walked-triple, choices-over, next-place, next-spot, next-key, next-walk, walk-stop, walk-rest}
+use Rattle.symmetry.proofs.Walks.{last-beside, last-all, choices-over, next-place, next-spot, next-key, next-walk, walk-stop, walk-rest}
 use Rattle.symmetry.proofs.walk.walk.Reads as walk
 use Rattle.symmetry.proofs.walk.walk.Kinds as walk-kinds
 use Rattle.symmetry.proofs.walk.+walk.Lts-walk as lts
 use Rattle.symmetry.proofs.forbidden.arity.Reads as arity
-use Rattle.symmetry.proofs.forbidden.blocked.Reads as blocked
 use Rattle.symmetry.proofs.forbidden.scope_at.Reads as scope-at
+use Rattle.symmetry.proofs.walk.all_blocked.Reads as all-blocked
 use Rattle.symmetry.proofs.walk.choices.Reads as choices
 use Rattle.symmetry.proofs.walk.code.Reads as code
 use Rattle.symmetry.proofs.walk.+walk.{statement}
@@ -40,63 +40,73 @@ walk-below t = and 3 walk-kinds.ps (falls 3 walk-kinds.ps _<_ μ-walk t) walk.Pr
 
 -- what the functions called ask and give, `walk` itself below the measure t
 abbrev claims : ℕ → lts.Claims
-claims t = (blocked.Asked, blocked.Learnt, arity.Asked, arity.Learnt, scope-at.Asked, scope-at.Learnt, choices.Asked, choices.Learnt, code.Asked, code.Learnt, walk-below t, walk.Post)
+claims t = (arity.Asked, arity.Learnt, scope-at.Asked, scope-at.Learnt, choices.Asked, choices.Learnt, all-blocked.Asked, all-blocked.Learnt, code.Asked, code.Learnt, walk-below t, walk.Post)
 
 abbrev Inv-loop : lts.InvT-loop
-Inv-loop numbers supports codes short k left key a b e x set₀ set =
-    (p : Problem) (vs : List ℕ) → Walking p vs numbers supports codes short k left key a b e → Choices p vs codes k left set
+Inv-loop numbers supports codes short k left key a b x set₀ set =
+    (p : Problem) (vs : List ℕ) (z : ℕ) → Walking p vs numbers supports codes short k left key z a b → (left ≡ 0 → ⊥) → Choices p vs codes k left set
 
 abbrev μ-loop : lts.MeasureT-loop
-μ-loop numbers supports codes short k left key a b e x set₀ set = set
+μ-loop numbers supports codes short k left key a b x set₀ set = set
 
 module _ (t : ℕ) where
   -- ---- what is known on the way
-  place : (c : lts.After-arity (claims t) (walk-at t) walk.Post Inv-loop μ-loop) (p : Problem) (vs : List ℕ) → Walking p vs (now (c .before .before .args .numbers)) (now (c .before .before .args .supports)) (now (c .before .before .args .codes)) (c .before .before .args .short) (c .before .before .args .k) (c .before .before .args .left) (c .before .before .args .key) (c .before .before .args .a) (c .before .before .args .b) (c .before .before .args .e) →
-      (c .before .before .args .left ≤ c .arity .result) × (c .arity .result - c .before .before .args .left ≡ length vs) × (c .arity .result - c .before .before .args .left < length (constraintAt p (c .before .before .args .k) .scope))
-  place c p vs s = next-place p vs _ _ _ _ _ _ _ _ _ _ s (c .before .if1 .left) _ (c .arity .ensures p (s .lent .ready .framed) (s .chosen .inside))
+  place : (c : lts.After-arity (claims t) (walk-at t) walk.Post Inv-loop μ-loop) (p : Problem) (vs : List ℕ) (z : ℕ) → Walking p vs (now (c .before .args .numbers)) (now (c .before .args .supports)) (now (c .before .args .codes)) (c .before .args .short) (c .before .args .k) (c .before .args .left) (c .before .args .key) z (c .before .args .a) (c .before .args .b) → (c .before .args .left ≡ 0 → ⊥) →
+      (c .before .args .left ≤ c .arity .result) × (c .arity .result - c .before .args .left ≡ length vs) × (c .arity .result - c .before .args .left < length (constraintAt p (c .before .args .k) .scope))
+  place c p vs z s n = next-place p vs _ _ _ _ _ _ _ _ _ _ s n _ (c .arity .ensures p (s .lent .ready .framed) (s .chosen .inside))
 
-  variable : (c : lts.After-scope-at (claims t) (walk-at t) walk.Post Inv-loop μ-loop) (p : Problem) (vs : List ℕ) → Walking p vs (now (c .before .before .before .args .numbers)) (now (c .before .before .before .args .supports)) (now (c .before .before .before .args .codes)) (c .before .before .before .args .short) (c .before .before .before .args .k) (c .before .before .before .args .left) (c .before .before .before .args .key) (c .before .before .before .args .a) (c .before .before .before .args .b) (c .before .before .before .args .e) → c .scope-at .result ≡ at (constraintAt p (c .before .before .before .args .k) .scope) (length vs)
-  variable c p vs s =
-      let h = place (c .before) p vs s in
-      c .scope-at .ensures p (s .lent .ready .framed) (s .chosen .inside) (h .2) ∙ ap (at (constraintAt p (c .before .before .before .args .k) .scope)) (h .1)
+  variable : (c : lts.After-scope-at (claims t) (walk-at t) walk.Post Inv-loop μ-loop) (p : Problem) (vs : List ℕ) (z : ℕ) → Walking p vs (now (c .before .before .args .numbers)) (now (c .before .before .args .supports)) (now (c .before .before .args .codes)) (c .before .before .args .short) (c .before .before .args .k) (c .before .before .args .left) (c .before .before .args .key) z (c .before .before .args .a) (c .before .before .args .b) → (c .before .before .args .left ≡ 0 → ⊥) → c .scope-at .result ≡ at (constraintAt p (c .before .before .args .k) .scope) (length vs)
+  variable c p vs z s n =
+      let h = place (c .before) p vs z s n in
+      c .scope-at .ensures p (s .lent .ready .framed) (s .chosen .inside) (h .2) ∙ ap (at (constraintAt p (c .before .before .args .k) .scope)) (h .1)
 
-  spot : (c : lts.In-loop (claims t) (walk-at t) walk.Post Inv-loop μ-loop) → 16 * c .before .before .before .scope-at .result + trailingZeros 64 (c .before .loop .set) < 256
-  spot c = let h = c .before .before .before .before .before .before .pre .1 in next-spot (h .0) (h .1) _ _ _ _ _ _ _ _ _ _ (h .2) (c .before .before .before .before .before .if1 .left) _ _ (variable (c .before .before .before) (h .0) (h .1) (h .2)) (c .before .loop .inv (h .0) (h .1) (h .2)) (c .loop-test .taken)
+  chosen : (c : lts.After-choices (claims t) (walk-at t) walk.Post Inv-loop μ-loop) (p : Problem) (vs : List ℕ) (z : ℕ) → Walking p vs (now (c .before .before .before .args .numbers)) (now (c .before .before .before .args .supports)) (now (c .before .before .before .args .codes)) (c .before .before .before .args .short) (c .before .before .before .args .k) (c .before .before .before .args .left) (c .before .before .before .args .key) z (c .before .before .before .args .a) (c .before .before .before .args .b) → (c .before .before .before .args .left ≡ 0 → ⊥) → Choices p vs (now (c .before .before .before .args .codes)) (c .before .before .before .args .k) (c .before .before .before .args .left) (c .choices .result)
+  chosen c p vs z s n = c .choices .ensures p vs _ (s .lent .ready) (s .chosen) n (variable (c .before) p vs z s n)
+
+  spot : (c : lts.In-loop (claims t) (walk-at t) walk.Post Inv-loop μ-loop) → 16 * c .before .before .before .before .scope-at .result + trailingZeros 64 (c .before .loop .set) < 256
+  spot c = let h = c .before .before .before .before .before .before .pre .1 in next-spot (h .0) (h .1) _ _ _ _ _ _ _ _ _ _ (h .3) (h .4) _ _ (variable (c .before .before .before .before) (h .0) (h .1) (h .2) (h .3) (h .4)) (c .before .loop .inv (h .0) (h .1) (h .2) (h .3) (h .4)) (c .loop-test .taken)
 
   key : (c : lts.In-loop (claims t) (walk-at t) walk.Post Inv-loop μ-loop) → 16 * c .before .before .before .before .before .before .args .key + trailingZeros 64 (c .before .loop .set) < 4096
-  key c = let h = c .before .before .before .before .before .before .pre .1 in next-key (h .0) (h .1) _ _ _ _ _ _ _ _ _ _ (h .2) (c .before .before .before .before .before .if1 .left) _ _ (variable (c .before .before .before) (h .0) (h .1) (h .2)) (c .before .loop .inv (h .0) (h .1) (h .2)) (c .loop-test .taken)
+  key c = let h = c .before .before .before .before .before .before .pre .1 in next-key (h .0) (h .1) _ _ _ _ _ _ _ _ _ _ (h .3) (h .4) _ _ (variable (c .before .before .before .before) (h .0) (h .1) (h .2) (h .3) (h .4)) (c .before .loop .inv (h .0) (h .1) (h .2) (h .3) (h .4)) (c .loop-test .taken)
 
-  further : (c : lts.After-code (claims t) (walk-at t) walk.Post Inv-loop μ-loop) (p : Problem) (vs : List ℕ) → Walking p vs (now (c .before .before .before .before .before .before .before .args .numbers)) (now (c .before .before .before .before .before .before .before .args .supports)) (now (c .before .before .before .before .before .before .before .args .codes)) (c .before .before .before .before .before .before .before .args .short) (c .before .before .before .before .before .before .before .args .k) (c .before .before .before .before .before .before .before .args .left) (c .before .before .before .before .before .before .before .args .key) (c .before .before .before .before .before .before .before .args .a) (c .before .before .before .before .before .before .before .args .b) (c .before .before .before .before .before .before .before .args .e) →
-      Walking p (vs ++ (trailingZeros 64 (c .before .before .loop .set) ∷ [])) (now (c .before .before .before .before .before .before .before .args .numbers)) (now (c .before .before .before .before .before .before .before .args .supports)) (now (c .before .before .before .before .before .before .before .args .codes)) (c .before .before .before .before .before .before .before .args .short) (c .before .before .before .before .before .before .before .args .k) (c .before .before .before .before .before .before .before .args .left - 1) (16 * c .before .before .before .before .before .before .before .args .key + trailingZeros 64 (c .before .before .loop .set)) (c .before .before .before .before .before .before .before .args .b) (c .before .before .before .before .before .before .before .args .e) (c .code .result)
-  further c p vs s = next-walk p vs _ _ _ _ _ _ _ _ _ _ s (c .before .before .before .before .before .before .if1 .left) _ _ (variable (c .before .before .before .before) p vs s) (c .before .before .loop .inv p vs s) (c .before .loop-test .taken) _ (c .code .ensures)
+  further : (c : lts.After-code (claims t) (walk-at t) walk.Post Inv-loop μ-loop) (p : Problem) (vs : List ℕ) (z : ℕ) → Walking p vs (now (c .before .before .before .before .before .before .before .args .numbers)) (now (c .before .before .before .before .before .before .before .args .supports)) (now (c .before .before .before .before .before .before .before .args .codes)) (c .before .before .before .before .before .before .before .args .short) (c .before .before .before .before .before .before .before .args .k) (c .before .before .before .before .before .before .before .args .left) (c .before .before .before .before .before .before .before .args .key) z (c .before .before .before .before .before .before .before .args .a) (c .before .before .before .before .before .before .before .args .b) → (c .before .before .before .before .before .before .before .args .left ≡ 0 → ⊥) →
+      Walking p (vs ++ (trailingZeros 64 (c .before .before .loop .set) ∷ [])) (now (c .before .before .before .before .before .before .before .args .numbers)) (now (c .before .before .before .before .before .before .before .args .supports)) (now (c .before .before .before .before .before .before .before .args .codes)) (c .before .before .before .before .before .before .before .args .short) (c .before .before .before .before .before .before .before .args .k) (c .before .before .before .before .before .before .before .args .left - 1) (16 * c .before .before .before .before .before .before .before .args .key + trailingZeros 64 (c .before .before .loop .set)) (c .before .before .before .before .before .before .before .args .a) (c .before .before .before .before .before .before .before .args .b) (c .code .result)
+  further c p vs z s n = next-walk p vs _ _ _ _ _ _ _ _ _ _ s n _ _ (variable (c .before .before .before .before .before) p vs z s n) (c .before .before .loop .inv p vs z s n) (c .before .loop-test .taken) _ (c .code .ensures)
+
+  -- more than one variable is left
+  more : (left : ℕ) → (left ≡ 0 → ⊥) → (left ≡ 1 → ⊥) → left - 1 ≡ 0 → ⊥
+  more left n m z = omega arith
 
   -- ---- the needs
-  blocked-requires : lts.Need-blocked-requires (claims t) (walk-at t) walk.Post Inv-loop μ-loop
-  blocked-requires c κs = let h = c .before .pre .1 in (h .0, walked-triple (h .0) (h .1) _ _ _ _ _ _ _ _ _ _ (h .2))
-
-  returns : lts.Need-returns (claims t) (walk-at t) walk.Post Inv-loop μ-loop
-  returns c = λ p vs s. c .blocked .ensures p (walked-triple p vs _ _ _ _ _ _ _ _ _ _ s) ∙ walked p vs _ _ _ _ _ _ _ _ _ _ s (c .before .if1 .taken)
-
   arity-requires : lts.Need-arity-requires (claims t) (walk-at t) walk.Post Inv-loop μ-loop
-  arity-requires c κs = let h = c .before .pre .1 in (h .0, h .2 .lent .ready .framed, h .2 .chosen .inside)
+  arity-requires c κs = let h = c .pre .1 in (h .0, h .3 .lent .ready .framed, h .3 .chosen .inside)
 
   sub-scope-at : lts.Need-sub-scope-at (claims t) (walk-at t) walk.Post Inv-loop μ-loop
-  sub-scope-at c = let h = c .before .before .pre .1 in place c (h .0) (h .1) (h .2) .0
+  sub-scope-at c = let h = c .before .pre .1 in place c (h .0) (h .1) (h .2) (h .3) (h .4) .0
 
   scope-at-requires : lts.Need-scope-at-requires (claims t) (walk-at t) walk.Post Inv-loop μ-loop
-  scope-at-requires c κs = let h = c .before .before .pre .1 in (h .0, h .2 .lent .ready .framed, h .2 .chosen .inside, place c (h .0) (h .1) (h .2) .2)
+  scope-at-requires c κs = let h = c .before .pre .1 in (h .0, h .3 .lent .ready .framed, h .3 .chosen .inside, place c (h .0) (h .1) (h .2) (h .3) (h .4) .2)
 
   choices-requires : lts.Need-choices-requires (claims t) (walk-at t) walk.Post Inv-loop μ-loop
-  choices-requires c κs = let h = c .before .before .before .pre .1 in (h .0, h .1, h .2 .lent .ready, h .2 .chosen, c .before .before .if1 .left, variable c (h .0) (h .1) (h .2))
+  choices-requires c κs = let h = c .before .before .pre .1 in (h .0, h .1, h .3 .lent .ready, h .3 .chosen, h .4, variable c (h .0) (h .1) (h .2) (h .3) (h .4))
+
+  all-blocked-requires : lts.Need-all-blocked-requires (claims t) (walk-at t) walk.Post Inv-loop μ-loop
+  all-blocked-requires c κs = let h = c .before .before .before .before .pre .1 in (h .0, last-beside (h .0) (h .1) _ _ _ _ _ _ _ _ _ _ _ _ (h .3) (c .if1 .taken) (variable (c .before .before) (h .0) (h .1) (h .2) (h .3) (h .4)) (chosen (c .before) (h .0) (h .1) (h .2) (h .3) (h .4)))
+
+  returns : lts.Need-returns (claims t) (walk-at t) walk.Post Inv-loop μ-loop
+  returns c = λ p vs z s n.
+      let x = variable (c .before .before .before) p vs z s n in
+      let h = chosen (c .before .before) p vs z s n in
+      last-all p vs _ _ _ _ _ _ _ _ _ _ _ _ s (c .before .if1 .taken) x h _ (c .all-blocked .ensures p (last-beside p vs _ _ _ _ _ _ _ _ _ _ _ _ s (c .before .if1 .taken) x h))
 
   loop-holds : lts.Need-loop-holds (claims t) (walk-at t) walk.Post Inv-loop μ-loop
-  loop-holds c = λ p vs s. c .choices .ensures p vs _ (s .lent .ready) (s .chosen) (c .before .before .before .if1 .left) (variable (c .before) p vs s)
+  loop-holds c = λ p vs z s n. chosen (c .before) p vs z s n
 
   cast-v : lts.Need-cast-v (claims t) (walk-at t) walk.Post Inv-loop μ-loop
   cast-v c = record { fits = lt-of-le-of-lt (trailing-le 64 _) (lit< tt) }
 
   sub-walk : lts.Need-sub-walk (claims t) (walk-at t) walk.Post Inv-loop μ-loop
-  sub-walk c = let n = c .before .before .before .before .before .if1 .left in omega arith
+  sub-walk c = let n = c .before .before .before .before .before .before .pre .1 .4 in omega arith
 
   mul-walk : lts.Need-mul-walk (claims t) (walk-at t) walk.Post Inv-loop μ-loop
   mul-walk c = omega (arith, key c)
@@ -114,10 +124,16 @@ module _ (t : ℕ) where
   code-requires c κs = spot c
 
   walk-requires : lts.Need-walk-requires (claims t) (walk-at t) walk.Post Inv-loop μ-loop
-  walk-requires c κs = let h = c .before .before .before .before .before .before .before .pre in (omega (arith, h .0, c .before .before .before .before .before .before .if1 .left), (h .1 .0, (h .1 .1) ++ (trailingZeros 64 (c .before .before .loop .set) ∷ []), further c (h .1 .0) (h .1 .1) (h .1 .2)))
+  walk-requires c κs =
+      let h = c .before .before .before .before .before .before .before .pre in (
+        omega (arith, h .0, h .1 .4),
+        (h .1 .0, (h .1 .1) ++ (trailingZeros 64 (c .before .before .loop .set) ∷ []), _, further c (h .1 .0) (h .1 .1) (h .1 .2) (h .1 .3) (h .1 .4), more _ (h .1 .4) (c .before .before .before .if1 .left)),
+      )
 
   returns-2 : lts.Need-returns-2 (claims t) (walk-at t) walk.Post Inv-loop μ-loop
-  returns-2 c = λ p vs s. walk-stop p vs _ _ _ _ _ _ _ _ _ _ s (c .before .before .before .before .before .before .before .before .if1 .left) _ _ (variable (c .before .before .before .before .before .before) p vs s) (c .before .before .before .before .loop .inv p vs s) (c .before .before .before .loop-test .taken) _ (c .before .walk .ensures p _ (further (c .before .before) p vs s)) (not-true _ (c .if2 .taken))
+  returns-2 c = λ p vs z s n.
+      walk-stop p vs _ _ _ _ _ _ _ _ _ _ s n _ _ (variable (c .before .before .before .before .before .before .before) p vs z s n) (c .before .before .before .before .loop .inv p vs z s n) (c .before .before .before .loop-test .taken) _
+      (c .before .walk .ensures p _ _ (further (c .before .before) p vs z s n) (more _ n (c .before .before .before .before .before .if1 .left))) (not-true _ (c .if2 .taken))
 
   sub-set : lts.Need-sub-set (claims t) (walk-at t) walk.Post Inv-loop μ-loop
   sub-set c = let n = c .before .before .before .loop-test .taken in omega arith
@@ -126,12 +142,14 @@ module _ (t : ℕ) where
   loop-less c = rest-less _ (c .before .before .before .loop-test .taken)
 
   loop-again : lts.Need-loop-again (claims t) (walk-at t) walk.Post Inv-loop μ-loop
-  loop-again c = λ p vs s. walk-rest p vs _ _ _ _ _ _ _ _ _ _ s (c .before .before .before .before .before .before .before .before .if1 .left) _ _ (variable (c .before .before .before .before .before .before) p vs s) (c .before .before .before .before .loop .inv p vs s) (c .before .before .before .loop-test .taken) _ (c .before .walk .ensures p _ (further (c .before .before) p vs s)) (not-false _ (c .if2 .left))
+  loop-again c = λ p vs z s n.
+      walk-rest p vs _ _ _ _ _ _ _ _ _ _ s n _ _ (variable (c .before .before .before .before .before .before .before) p vs z s n) (c .before .before .before .before .loop .inv p vs z s n) (c .before .before .before .loop-test .taken) _
+      (c .before .walk .ensures p _ _ (further (c .before .before) p vs z s n) (more _ n (c .before .before .before .before .before .if1 .left))) (not-false _ (c .if2 .left))
 
   returns-3 : lts.Need-returns-3 (claims t) (walk-at t) walk.Post Inv-loop μ-loop
-  returns-3 c = λ p vs s. choices-over p vs _ _ _ _ (c .before .loop .inv p vs s) (c .loop-test .left)
+  returns-3 c = λ p vs z s n. choices-over p vs _ _ _ _ (c .before .loop .inv p vs z s n) (c .loop-test .left)
 
 pub +walk-spec : {M : Type 1} → statement M
 +walk-spec =
     close μ-walk
-    (λ t. lts.spec (claims t) (walk-at t) walk.Post Inv-loop μ-loop (blocked-requires t) (returns t) (arity-requires t) (sub-scope-at t) (scope-at-requires t) (choices-requires t) (loop-holds t) (cast-v t) (sub-walk t) (mul-walk t) (add-walk t) (mul-code t) (add-code t) (code-requires t) (walk-requires t) (returns-2 t) (sub-set t) (loop-less t) (loop-again t) (returns-3 t))
+    (λ t. lts.spec (claims t) (walk-at t) walk.Post Inv-loop μ-loop (arity-requires t) (sub-scope-at t) (scope-at-requires t) (choices-requires t) (all-blocked-requires t) (returns t) (loop-holds t) (cast-v t) (sub-walk t) (mul-walk t) (add-walk t) (mul-code t) (add-code t) (code-requires t) (walk-requires t) (returns-2 t) (sub-set t) (loop-less t) (loop-again t) (returns-3 t))

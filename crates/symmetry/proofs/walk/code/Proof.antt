@@ -6,15 +6,15 @@ use Rattle.symmetry.proofs.walk.code.Reads as reads
 use Rattle.symmetry.proofs.walk.code.Lts as lts
 use Rattle.symmetry.proofs.table.wide.Reads as wide-reads
 
--- src/walk.rt:24:10
+-- src/walk.rt:25:10
 element-copy-out-wide : tie.Need-element-copy-out-wide
 element-copy-out-wide c = search needs
 
--- src/walk.rt:24:5
+-- src/walk.rt:25:5
 wide-requires : tie.Need-wide-requires
 wide-requires c κs = search needs
 
--- src/walk.rt:20:1
+-- src/walk.rt:21:1
 returns : tie.Need-returns
 unfolding at
 returns c = c .wide .ensures .0

@@ -11,6 +11,7 @@ use Rattle.model.specs.Lists.{all}
 use Rattle.model.specs.Problem.{Problem, Constraint}
 use Rattle.layout.specs.Layout.{constraintAt}
 use Rattle.symmetry.specs.Forbidden.{Lent, Walking, keeps}
+use Rattle.symmetry.proofs.Codes.{good}
 use Rattle.symmetry.proofs.Laws.{list-stop, list-rest, list-over}
 use Rattle.symmetry.proofs.Walks.{walk-start}
 use Rattle.symmetry.proofs.walk.constraints.Statement.{statement}
@@ -33,7 +34,7 @@ Inv-loop numbers supports codes short c k₀ k = (p : Problem) → Lent p number
 abbrev μ-loop : tie.MeasureT-loop
 μ-loop numbers supports codes short c k₀ k = c - k
 
--- src/walk.rt:99:9
+-- src/walk.rt:131:9
 number-requires : tie.Need-number-requires Inv-loop μ-loop
 number-requires c κs = search needs
 
@@ -43,38 +44,41 @@ inside c p l = omega (arith, c .before .before .number .ensures, l .ready .frame
 start : (c : tie.After-arity Inv-loop μ-loop) (p : Problem) → Lent p (now (c .before .before .before .before .args .numbers)) (now (c .before .before .before .before .args .supports)) (now (c .before .before .before .before .args .codes)) (c .before .before .before .before .args .short) → Walking p [] (now (c .before .before .before .before .args .numbers)) (now (c .before .before .before .before .args .supports)) (now (c .before .before .before .before .args .codes)) (c .before .before .before .before .args .short) (c .before .before .loop .k) (c .arity .result) 0 255 255 255
 start c p l = walk-start p _ _ _ _ _ _ l (inside (c .before) p l) (c .arity .ensures p (l .ready .framed) (inside (c .before) p l))
 
-answer : (c : tie.After-walk Inv-loop μ-loop) (p : Problem) → Lent p (now (c .before .before .before .before .before .args .numbers)) (now (c .before .before .before .before .before .args .supports)) (now (c .before .before .before .before .before .args .codes)) (c .before .before .before .before .before .args .short) → kept p (now (c .before .before .before .before .before .args .codes)) (constraintAt p (c .before .before .before .loop .k)) ≡ c .walk .result
-answer c p l = sym (c .walk .ensures p [] (start (c .before) p l))
+some : (c : tie.After-arity Inv-loop μ-loop) (p : Problem) → Lent p (now (c .before .before .before .before .args .numbers)) (now (c .before .before .before .before .args .supports)) (now (c .before .before .before .before .args .codes)) (c .before .before .before .before .args .short) → c .arity .result ≡ 0 → ⊥
+some c p l z = omega (arith, c .arity .ensures p (l .ready .framed) (inside (c .before) p l), good p (l .ready .framed .stated) _ (inside (c .before) p l) .some)
 
--- src/walk.rt:101:5
+answer : (c : tie.After-walk Inv-loop μ-loop) (p : Problem) → Lent p (now (c .before .before .before .before .before .args .numbers)) (now (c .before .before .before .before .before .args .supports)) (now (c .before .before .before .before .before .args .codes)) (c .before .before .before .before .before .args .short) → kept p (now (c .before .before .before .before .before .args .codes)) (constraintAt p (c .before .before .before .loop .k)) ≡ c .walk .result
+answer c p l = sym (c .walk .ensures p [] 255 (start (c .before) p l) (some (c .before) p l))
+
+-- src/walk.rt:133:5
 loop-holds : tie.Need-loop-holds Inv-loop μ-loop
 loop-holds c = λ p l. (omega arith, refl)
 
--- src/walk.rt:108:13
+-- src/walk.rt:140:13
 arity-requires : tie.Need-arity-requires Inv-loop μ-loop
 arity-requires c κs = let h = c .before .before .before .pre in (h .0, h .1 .ready .framed, inside c (h .0) (h .1))
 
 -- src/walk.rt:102:13
 walk-requires : tie.Need-walk-requires Inv-loop μ-loop
-walk-requires c κs = let h = c .before .before .before .before .pre in (h .0, [], start c (h .0) (h .1))
+walk-requires c κs = let h = c .before .before .before .before .pre in (h .0, [], 255, start c (h .0) (h .1), some c (h .0) (h .1))
 
--- src/walk.rt:114:13
+-- src/walk.rt:145:13
 returns : tie.Need-returns Inv-loop μ-loop
 returns c = λ p l. list-stop (kept p _) (p .constraints) none _ _ (c .before .before .before .before .loop .inv p l .1) (inside (c .before .before .before) p l) (answer (c .before) p l ∙ not-true _ (c .if1 .taken))
 
--- src/walk.rt:116:9
+-- src/walk.rt:147:9
 add-k : tie.Need-add-k Inv-loop μ-loop
 add-k c = let h = c .before .before .before .before .before .before .pre in omega (arith, inside (c .before .before .before) (h .0) (h .1), h .1 .ready .framed .stated .most)
 
--- src/walk.rt:101:5
+-- src/walk.rt:133:5
 loop-less : tie.Need-loop-less Inv-loop μ-loop
 loop-less c = omega arith
 
--- src/walk.rt:101:5
+-- src/walk.rt:133:5
 loop-again : tie.Need-loop-again Inv-loop μ-loop
 loop-again c = λ p l. (omega (arith, inside (c .before .before .before) p l), list-rest (kept p _) (p .constraints) none _ _ (c .before .before .before .before .loop .inv p l .1) (inside (c .before .before .before) p l) (answer (c .before) p l ∙ not-false _ (c .if1 .left)))
 
--- src/walk.rt:90:1
+-- src/walk.rt:122:1
 returns-2 : tie.Need-returns-2 Inv-loop μ-loop
 returns-2 c = λ p l. list-over (kept p _) (p .constraints) none (c .before .loop .k) _ (c .before .loop .inv p l .1) (omega (arith, c .before .before .number .ensures, l .ready .framed .numbered .constraints, c .loop-test .left, c .before .loop .inv p l .0))
 

@@ -27,7 +27,7 @@ Inv-loop numbers supports codes short n x₀ x = (p : Problem) → Lent p number
 abbrev μ-loop : tie.MeasureT-loop
 μ-loop numbers supports codes short n x₀ x = n - x
 
--- src/walk.rt:178:9
+-- src/walk.rt:188:9
 number-requires : tie.Need-number-requires Inv-loop μ-loop
 number-requires c κs = search needs
 
@@ -37,31 +37,31 @@ inside c p l = omega (arith, c .before .before .number .ensures, l .ready .frame
 answer : (c : tie.After-doubles Inv-loop μ-loop) (p : Problem) → Lent p (now (c .before .before .before .before .args .numbers)) (now (c .before .before .before .before .args .supports)) (now (c .before .before .before .before .args .codes)) (c .before .before .before .before .args .short) → kept p (now (c .before .before .before .before .args .codes)) (c .before .before .loop .x) ≡ c .doubles .result
 answer c p l = sym (c .doubles .ensures p l (inside (c .before) p l))
 
--- src/walk.rt:180:5
+-- src/walk.rt:190:5
 loop-holds : tie.Need-loop-holds Inv-loop μ-loop
 loop-holds c = λ p l. (omega arith, numbers-start (kept p _) (p .variables))
 
--- src/walk.rt:181:13
+-- src/walk.rt:191:13
 doubles-requires : tie.Need-doubles-requires Inv-loop μ-loop
 doubles-requires c κs = let h = c .before .before .before .pre in (h .0, h .1, inside c (h .0) (h .1))
 
--- src/walk.rt:182:13
+-- src/walk.rt:192:13
 returns : tie.Need-returns Inv-loop μ-loop
 returns c = λ p l. numbers-stop (kept p _) (p .variables) _ _ (c .before .before .before .loop .inv p l .1) (inside (c .before .before) p l) (answer (c .before) p l ∙ not-true _ (c .if1 .taken))
 
--- src/walk.rt:184:9
+-- src/walk.rt:194:9
 add-x : tie.Need-add-x Inv-loop μ-loop
 add-x c = let h = c .before .before .before .before .before .pre in omega (arith, inside (c .before .before) (h .0) (h .1), h .1 .ready .framed .stated .few)
 
--- src/walk.rt:180:5
+-- src/walk.rt:190:5
 loop-less : tie.Need-loop-less Inv-loop μ-loop
 loop-less c = omega arith
 
--- src/walk.rt:180:5
+-- src/walk.rt:190:5
 loop-again : tie.Need-loop-again Inv-loop μ-loop
 loop-again c = λ p l. (omega (arith, inside (c .before .before) p l), numbers-rest (kept p _) (p .variables) _ _ (c .before .before .before .loop .inv p l .1) (inside (c .before .before) p l) (answer (c .before) p l ∙ not-false _ (c .if1 .left)))
 
--- src/walk.rt:169:1
+-- src/walk.rt:184:1
 returns-2 : tie.Need-returns-2 Inv-loop μ-loop
 returns-2 c = λ p l. numbers-over (kept p _) (p .variables) _ _ (c .before .loop .inv p l .1) (omega (arith, c .before .before .number .ensures, l .ready .framed .numbered .variables, c .loop-test .left))
 

@@ -1,0 +1,319 @@
+-- Numbers of eight lanes of eight bits: shifts, and the three functions over them. Assumes nothing.
+use mathlib.Core.Path.{_≡_, refl, sym, ap, ap₂, _∙_, subst}
+use mathlib.Core.Bool.{Bool, true, false}
+use mathlib.Core.Logic.{_⊎_, inl, inr, ⊎-elim}
+use Prim.Native.Nat.{ℕ, zero, suc, _+_, _*_, _/_, _%_, _^_, _≤_, _<_}
+use native.Mathlib.Nat.{lt-of-le-of-lt}
+use native.Mathlib.Omega.{arith}
+use lib.Dec.{T, eqb, ltb, lit<, lit≤}
+use lib.Bits.{bitAnd, bitOr, and-le-r, and-mask, shifted-half, shifted-even}
+use lib.Pow.{shl-shr, shl-exact}
+use borrow.Author.Tests.{ltb-true, ltb-false}
+use Rattle.model.specs.Lists.{both, either}
+use Rattle.model.specs.ValueSets.{has}
+use Rattle.model.proofs.Lists.{either-l, either-r, either-e}
+use Rattle.model.proofs.Sets.{has-zero, has-suc, has-none, has-out, has-lt, mask-ext}
+use Rattle.model.proofs.Masks.{has-and, has-or, has-shr, byte-has, byte-lt}
+use Rattle.model.proofs.Members.{both-no, both-yes, either-no}
+use Rattle.constraints.specs.Lanes.{FullLanes, LaneUnion, Product}
+
+cases8 : (P : ℕ → Type 0) → P 0 → P 1 → P 2 → P 3 → P 4 → P 5 → P 6 → P 7 → (j : ℕ) → j < 8 → P j
+cases8 P a b c d e f g h zero l = a
+cases8 P a b c d e f g h (suc zero) l = b
+cases8 P a b c d e f g h (suc (suc zero)) l = c
+cases8 P a b c d e f g h (suc (suc (suc zero))) l = d
+cases8 P a b c d e f g h (suc (suc (suc (suc zero)))) l = e
+cases8 P a b c d e f g h (suc (suc (suc (suc (suc zero))))) l = f
+cases8 P a b c d e f g h (suc (suc (suc (suc (suc (suc zero)))))) l = g
+cases8 P a b c d e f g h (suc (suc (suc (suc (suc (suc (suc zero))))))) l = h
+cases8 P a b c d e f g h (suc (suc (suc (suc (suc (suc (suc (suc j)))))))) l = absurd (omega arith)
+
+-- ---- shifts
+has-shl : (x s i : ℕ) → has (x * 2 ^ s) (s + i) ≡ has x i
+has-shl x s i = sym (has-shr (x * 2 ^ s) s i) ∙ ap (λ (n : ℕ). has n i) (shl-shr x s)
+
+shl-none : (x s i : ℕ) → i < s → has (x * 2 ^ s) i ≡ false
+shl-none x zero i h = absurd (omega arith)
+shl-none x (suc s) zero h = has-zero (x * 2 ^ suc s) ∙ ap (λ (n : ℕ). eqb n 1) (shifted-even x s)
+shl-none x (suc s) (suc i) h = has-suc (x * 2 ^ suc s) i ∙ ap (λ (n : ℕ). has n i) (shifted-half x s) ∙ shl-none x s i (omega arith)
+
+-- ---- the bits of a mask
+masked : (x k i : ℕ) → has k i ≡ true → has (bitAnd x k) i ≡ has x i
+masked x k i h = has-and x k i ∙ ap (both (has x i)) h ∙ both-yes (has x i)
+
+out : (x k i : ℕ) → has k i ≡ false → has (bitAnd x k) i ≡ false
+out x k i h = has-and x k i ∙ ap (both (has x i)) h ∙ both-no (has x i)
+
+-- a bit of x | y under a mask, where one of the two lacks it
+left : (x y k i : ℕ) → has k i ≡ true → has y i ≡ false → has (bitAnd (bitOr x y) k) i ≡ has x i
+left x y k i h n = masked (bitOr x y) k i h ∙ has-or x y i ∙ ap (either (has x i)) n ∙ either-no (has x i)
+
+right : (x y k i : ℕ) → has k i ≡ true → has x i ≡ false → has (bitAnd (bitOr x y) k) i ≡ has y i
+right x y k i h n = masked (bitOr x y) k i h ∙ has-or x y i ∙ ap (λ (b : Bool). either b (has y i)) n
+
+-- x is m under the mask l: one step folds it by s onto the mask k
+module _ (m l k s i : ℕ) (h : has k i ≡ true) where
+  abbrev x : ℕ
+  x = bitAnd m l
+
+  stays : has l (s + i) ≡ false → has (bitAnd (bitOr (bitAnd m l) (bitAnd m l / 2 ^ s)) k) i ≡ has (bitAnd m l) i
+  stays n = left x (x / 2 ^ s) k i h (has-shr x s i ∙ out m l (s + i) n)
+
+  comes : has l i ≡ false → has (bitAnd (bitOr (bitAnd m l) (bitAnd m l / 2 ^ s)) k) i ≡ has (bitAnd m l) (s + i)
+  comes n = right x (x / 2 ^ s) k i h (out m l i n) ∙ has-shr x s i
+
+-- ---- three doublings: the union of eight bits that stand u apart
+abbrev twice : ℕ → ℕ → ℕ
+twice x s = bitOr x (x / 2 ^ s)
+
+abbrev eight : ℕ → ℕ → ℕ
+eight u x = twice (twice (twice x (4 * u)) (2 * u)) u
+
+twice-e : (x s i : ℕ) → T (has (twice x s) i) → T (has x i) ⊎ T (has x (s + i))
+twice-e x s i t = ⊎-elim inl (λ q. inr (subst T (has-shr x s i) q)) (either-e (has x i) (has (x / 2 ^ s) i) (subst T (has-or x (x / 2 ^ s) i) t))
+
+twice-l : (x s i : ℕ) → T (has x i) → T (has (twice x s) i)
+twice-l x s i t = subst T (sym (has-or x (x / 2 ^ s) i)) (either-l (has x i) (has (x / 2 ^ s) i) t)
+
+twice-r : (x s i : ℕ) → T (has x (s + i)) → T (has (twice x s) i)
+twice-r x s i t = subst T (sym (has-or x (x / 2 ^ s) i)) (either-r (has x i) (has (x / 2 ^ s) i) (subst T (sym (has-shr x s i)) t))
+
+module _ (u x i : ℕ) where
+  abbrev Some : Type 0
+  Some = (w : ℕ) × (w < 8) × T (has x (i + u * w))
+
+  spot : (w n : ℕ) → n ≡ i + u * w → w < 8 → T (has x n) → Some
+  spot w n e h t = (w, h, subst (λ (z : ℕ). T (has x z)) e t)
+
+  eight-e : T (has (eight u x) i) → (w : ℕ) × (w < 8) × T (has x (i + u * w))
+  eight-e t =
+      ⊎-elim
+      (λ p. ⊎-elim
+      (λ q. ⊎-elim (spot 0 i (omega arith) (lit< tt)) (spot 4 (4 * u + i) (omega arith) (lit< tt)) (twice-e x (4 * u) i q))
+      (λ q. ⊎-elim (spot 2 (2 * u + i) (omega arith) (lit< tt)) (spot 6 (4 * u + (2 * u + i)) (omega arith) (lit< tt)) (twice-e x (4 * u) (2 * u + i) q))
+      (twice-e (twice x (4 * u)) (2 * u) i p))
+      (λ p. ⊎-elim
+      (λ q. ⊎-elim (spot 1 (u + i) (omega arith) (lit< tt)) (spot 5 (4 * u + (u + i)) (omega arith) (lit< tt)) (twice-e x (4 * u) (u + i) q))
+      (λ q. ⊎-elim (spot 3 (2 * u + (u + i)) (omega arith) (lit< tt)) (spot 7 (4 * u + (2 * u + (u + i))) (omega arith) (lit< tt)) (twice-e x (4 * u) (2 * u + (u + i)) q))
+      (twice-e (twice x (4 * u)) (2 * u) (u + i) p))
+      (twice-e (twice (twice x (4 * u)) (2 * u)) u i t)
+
+  eight-i : (w : ℕ) → w < 8 → T (has x (i + u * w)) → T (has (eight u x) i)
+  eight-i =
+      cases8 (λ w. T (has x (i + u * w)) → T (has (eight u x) i))
+      (λ t. twice-l b u i (twice-l a (2 * u) i (twice-l x (4 * u) i (here 0 i (omega arith) t))))
+      (λ t. twice-r b u i (twice-l a (2 * u) (u + i) (twice-l x (4 * u) (u + i) (here 1 (u + i) (omega arith) t))))
+      (λ t. twice-l b u i (twice-r a (2 * u) i (twice-l x (4 * u) (2 * u + i) (here 2 (2 * u + i) (omega arith) t))))
+      (λ t. twice-r b u i (twice-r a (2 * u) (u + i) (twice-l x (4 * u) (2 * u + (u + i)) (here 3 (2 * u + (u + i)) (omega arith) t))))
+      (λ t. twice-l b u i (twice-l a (2 * u) i (twice-r x (4 * u) i (here 4 (4 * u + i) (omega arith) t))))
+      (λ t. twice-r b u i (twice-l a (2 * u) (u + i) (twice-r x (4 * u) (u + i) (here 5 (4 * u + (u + i)) (omega arith) t))))
+      (λ t. twice-l b u i (twice-r a (2 * u) i (twice-r x (4 * u) (2 * u + i) (here 6 (4 * u + (2 * u + i)) (omega arith) t))))
+      (λ t. twice-r b u i (twice-r a (2 * u) (u + i) (twice-r x (4 * u) (2 * u + (u + i)) (here 7 (4 * u + (2 * u + (u + i))) (omega arith) t))))
+    where
+      a : ℕ
+      a = twice x (4 * u)
+
+      b : ℕ
+      b = twice (twice x (4 * u)) (2 * u)
+
+      here : (w n : ℕ) → n ≡ i + u * w → T (has x (i + u * w)) → T (has x n)
+      here w n e t = subst (λ (z : ℕ). T (has x z)) (sym e) t
+
+-- ---- the lanes that are not empty
+abbrev ones : ℕ
+ones = 72340172838076673
+
+abbrev pairs : ℕ
+pairs = 844437815230467
+
+abbrev fours : ℕ
+fours = 64424509455
+
+abbrev gather : ℕ → ℕ
+gather c = bitAnd (twice (bitAnd (twice (bitAnd (twice c 7) pairs) 14) fours) 28) 255
+
+-- the first bits of the lanes, side by side
+module _ (m : ℕ) where
+  abbrev g : ℕ
+  g = twice (bitAnd m ones) 7
+
+  abbrev f : ℕ
+  f = twice (bitAnd (twice (bitAnd m ones) 7) pairs) 14
+
+  gathered : (j : ℕ) → j < 8 → has (gather (bitAnd m ones)) j ≡ has (bitAnd m ones) (8 * j)
+  unfolding has
+  gathered =
+      cases8 (λ j. has (gather (bitAnd m ones)) j ≡ has (bitAnd m ones) (8 * j))
+      (stays f fours 255 28 0 refl refl ∙ stays g pairs fours 14 0 refl refl ∙ stays m ones pairs 7 0 refl refl)
+      (stays f fours 255 28 1 refl refl ∙ stays g pairs fours 14 1 refl refl ∙ comes m ones pairs 7 1 refl refl)
+      (stays f fours 255 28 2 refl refl ∙ comes g pairs fours 14 2 refl refl ∙ stays m ones pairs 7 16 refl refl)
+      (stays f fours 255 28 3 refl refl ∙ comes g pairs fours 14 3 refl refl ∙ comes m ones pairs 7 17 refl refl)
+      (comes f fours 255 28 4 refl refl ∙ stays g pairs fours 14 32 refl refl ∙ stays m ones pairs 7 32 refl refl)
+      (comes f fours 255 28 5 refl refl ∙ stays g pairs fours 14 33 refl refl ∙ comes m ones pairs 7 33 refl refl)
+      (comes f fours 255 28 6 refl refl ∙ comes g pairs fours 14 34 refl refl ∙ stays m ones pairs 7 48 refl refl)
+      (comes f fours 255 28 7 refl refl ∙ comes g pairs fours 14 35 refl refl ∙ comes m ones pairs 7 49 refl refl)
+
+ones-at : (j : ℕ) → j < 8 → has ones (8 * j) ≡ true
+unfolding has
+ones-at = cases8 (λ j. has ones (8 * j) ≡ true) refl refl refl refl refl refl refl refl
+
+byte : (w : ℕ) → w < 8 → has 255 w ≡ true
+unfolding has
+byte = cases8 (λ w. has 255 w ≡ true) refl refl refl refl refl refl refl refl
+
+pub byte-fits : (x : ℕ) → bitAnd x 255 < 2 ^ 16
+byte-fits x = lt-of-le-of-lt (and-le-r x 255) (lit< tt)
+
+at-spot : (x a b : ℕ) → a ≡ b → T (has x a) → T (has x b)
+at-spot x a b e t = subst (λ (z : ℕ). T (has x z)) e t
+
+pub full-lanes : (x : ℕ) → FullLanes x (gather (bitAnd (eight 1 x) ones))
+full-lanes x = record {
+  full-i = λ j w h l t. subst T (sym (first j h)) (eight-i 1 x (8 * j) w l (at-spot x (8 * j + w) (8 * j + 1 * w) (omega arith) t));
+  full-e = λ j t. let h : j < 8 = has-lt 8 (gather (bitAnd (eight 1 x) ones)) j (byte-lt (twice (bitAnd (twice (bitAnd (twice (bitAnd (eight 1 x) ones) 7) pairs) 14) fours) 28)) t in
+      let r = eight-e 1 x (8 * j) (subst T (first j h) t) in
+      (h, (r .0, r .1, at-spot x (8 * j + 1 * r .0) (8 * j + r .0) (omega arith) (r .2)));
+}
+  where
+    first : (j : ℕ) → j < 8 → has (gather (bitAnd (eight 1 x) ones)) j ≡ has (eight 1 x) (8 * j)
+    first j h = gathered (eight 1 x) j h ∙ masked (eight 1 x) ones (8 * j) (ones-at j h)
+
+-- ---- the union of the lanes
+pub lane-union : (x : ℕ) → LaneUnion x (bitAnd (eight 8 x) 255)
+lane-union x = record {
+  union-i = λ j w h l t. subst T (sym (first w l)) (eight-i 8 x w j h (at-spot x (8 * j + w) (w + 8 * j) (omega arith) t));
+  union-e = λ w t. let h : w < 8 = has-lt 8 (bitAnd (eight 8 x) 255) w (byte-lt (eight 8 x)) t in
+      let r = eight-e 8 x w (subst T (first w h) t) in
+      (h, (r .0, r .1, at-spot x (w + 8 * r .0) (8 * r .0 + w) (omega arith) (r .2)));
+}
+  where
+    first : (w : ℕ) → w < 8 → has (bitAnd (eight 8 x) 255) w ≡ has (eight 8 x) w
+    first w h = byte-has (eight 8 x) w h
+
+-- ---- the set e in every lane of b
+-- the lane j by itself
+lane-0 : (y w : ℕ) → w < 8 → has y w ≡ has (y % 256) w
+lane-0 y w h = sym (byte-has y w h) ∙ ap (λ (n : ℕ). has n w) (and-mask y 8)
+
+lane : (y j w : ℕ) → w < 8 → has y (8 * j + w) ≡ has (y / 2 ^ (8 * j) % 256) w
+lane y j w h = sym (has-shr y (8 * j) w) ∙ lane-0 (y / 2 ^ (8 * j)) w h
+
+copied : (e j w : ℕ) → e < 256 → j < 8 → w < 8 → has (e * ones) (8 * j + w) ≡ has e w
+copied e j w h l k =
+    lane (e * ones) j w k ∙ ap (λ (n : ℕ). has n w) (cases8 (λ j. e * ones / 2 ^ (8 * j) % 256 ≡ e)
+    (let a : e * ones / 2 ^ 0 ≡ e * 72340172838076673 = omega arith in let b : e * 72340172838076673 % 256 ≡ e = omega arith in ap (λ (n : ℕ). n % 256) a ∙ b)
+    (let a : e * ones / 2 ^ 8 ≡ e * 282578800148737 = omega arith in let b : e * 282578800148737 % 256 ≡ e = omega arith in ap (λ (n : ℕ). n % 256) a ∙ b)
+    (let a : e * ones / 2 ^ 16 ≡ e * 1103823438081 = omega arith in let b : e * 1103823438081 % 256 ≡ e = omega arith in ap (λ (n : ℕ). n % 256) a ∙ b)
+    (let a : e * ones / 2 ^ 24 ≡ e * 4311810305 = omega arith in let b : e * 4311810305 % 256 ≡ e = omega arith in ap (λ (n : ℕ). n % 256) a ∙ b)
+    (let a : e * ones / 2 ^ 32 ≡ e * 16843009 = omega arith in let b : e * 16843009 % 256 ≡ e = omega arith in ap (λ (n : ℕ). n % 256) a ∙ b)
+    (let a : e * ones / 2 ^ 40 ≡ e * 65793 = omega arith in let b : e * 65793 % 256 ≡ e = omega arith in ap (λ (n : ℕ). n % 256) a ∙ b)
+    (let a : e * ones / 2 ^ 48 ≡ e * 257 = omega arith in let b : e * 257 % 256 ≡ e = omega arith in ap (λ (n : ℕ). n % 256) a ∙ b)
+    (let a : e * ones / 2 ^ 56 ≡ e * 1 = omega arith in let b : e * 1 % 256 ≡ e = omega arith in ap (λ (n : ℕ). n % 256) a ∙ b)
+    j l)
+
+-- a number with bits at the start of lanes alone, with all bits of those lanes
+abbrev Firsts : ℕ → Type 0
+Firsts s = (i w : ℕ) → w < 8 → 0 < w → has s (8 * i + w) ≡ false
+
+small : (s : ℕ) → Firsts s → s % 256 < 2
+small s f = let e : s % 256 ≡ s % 2 = mask-ext 8 (s % 256) (s % 2) (omega arith) (omega arith) (λ v h. sym (lane-0 s v h) ∙ go v h) in omega arith
+  where
+    go : (v : ℕ) → v < 8 → has s v ≡ has (s % 2) v
+    go zero h = let e : s % 2 ≡ s % 2 % 2 = omega arith in has-zero s ∙ ap (λ (n : ℕ). eqb n 1) e ∙ sym (has-zero (s % 2))
+    go (suc v) h = let e : suc v ≡ 8 * 0 + suc v = omega arith in ap (has s) e ∙ f 0 (suc v) h (omega arith) ∙ sym (has-out 1 (s % 2) (suc v) (omega arith) (omega arith))
+
+after : (s : ℕ) → Firsts s → Firsts (s / 256)
+after s f i w h l = let e : 8 + (8 * i + w) ≡ 8 * suc i + w = omega arith in has-shr s 8 (8 * i + w) ∙ ap (has s) e ∙ f (suc i) w h l
+
+filled : (j s w : ℕ) → Firsts s → w < 8 → has (s * 255) (8 * j + w) ≡ has s (8 * j)
+filled zero s w f h = lane (s * 255) 0 w h ∙ go (ltb (s % 256) 1) refl
+  where
+    go : (b : Bool) → ltb (s % 256) 1 ≡ b → has (s * 255 / 2 ^ 0 % 256) w ≡ has s 0
+    go true q =
+        let z : s % 256 ≡ 0 = omega (arith, ltb-true (s % 256) 1 q) in
+        let t : s * 255 / 2 ^ 0 / 256 ≡ s / 256 * 255 = omega arith in
+        let a : s * 255 / 2 ^ 0 % 256 ≡ 0 = omega arith in
+        let u : s / 2 ≡ s / 256 * 128 = omega arith in
+        let b : s % 2 ≡ 0 = omega arith in
+        ap (λ (n : ℕ). has n w) a ∙ has-none w ∙ sym (has-zero s ∙ ap (λ (n : ℕ). eqb n 1) b)
+    go false q =
+        let z : s % 256 ≡ 1 = omega (arith, ltb-false (s % 256) 1 q, small s f) in
+        let t : s * 255 / 2 ^ 0 / 256 ≡ s / 256 * 255 = omega arith in
+        let a : s * 255 / 2 ^ 0 % 256 ≡ 255 = omega arith in
+        let u : s / 2 ≡ s / 256 * 128 = omega arith in
+        let b : s % 2 ≡ 1 = omega arith in
+        ap (λ (n : ℕ). has n w) a ∙ byte w h ∙ sym (has-zero s ∙ ap (λ (n : ℕ). eqb n 1) b)
+filled (suc j) s w f h =
+    let a : 8 * suc j + w ≡ 8 + (8 * j + w) = omega arith in
+    let b : s * 255 / 2 ^ 8 ≡ s / 256 * 255 = omega (arith, small s f) in
+    let c : 8 + 8 * j ≡ 8 * suc j = omega arith in
+    ap (has (s * 255)) a ∙ sym (has-shr (s * 255) 8 (8 * j + w)) ∙ ap (λ (n : ℕ). has n (8 * j + w)) b ∙ filled j (s / 256) w (after s f) h ∙ has-shr s 8 (8 * j) ∙ ap (has s) c
+
+-- one step upwards: a bit of x under the mask k that stays, and one that goes s places up
+module _ (x s k j : ℕ) (l : x < 2 ^ j) (m : j + s ≤ 64) where
+  abbrev y : ℕ
+  y = x * 2 ^ s % 2 ^ 64
+
+  exact : x * 2 ^ s % 2 ^ 64 ≡ x * 2 ^ s
+  exact = shl-exact j s 64 l m
+
+  up : (i : ℕ) → has k (s + i) ≡ true → has x (s + i) ≡ false → has (bitAnd (bitOr x (x * 2 ^ s % 2 ^ 64)) k) (s + i) ≡ has x i
+  up i h n = right x y k (s + i) h n ∙ ap (λ (z : ℕ). has z (s + i)) exact ∙ has-shl x s i
+
+  low : (i : ℕ) → i < s → has k i ≡ true → has (bitAnd (bitOr x (x * 2 ^ s % 2 ^ 64)) k) i ≡ has x i
+  low i h t = left x y k i t (ap (λ (z : ℕ). has z i) exact ∙ shl-none x s i h)
+
+  high : (i : ℕ) → has k (s + i) ≡ true → has x i ≡ false → has (bitAnd (bitOr x (x * 2 ^ s % 2 ^ 64)) k) (s + i) ≡ has x (s + i)
+  high i h n = left x y k (s + i) h (ap (λ (z : ℕ). has z (s + i)) exact ∙ has-shl x s i ∙ n)
+
+-- the bits of b at the starts of the lanes
+module _ (b : ℕ) (l : b < 2 ^ 8) where
+  abbrev q : ℕ
+  q = bitAnd (bitOr b (b * 2 ^ 28 % 2 ^ 64)) fours
+
+  abbrev r : ℕ
+  r = bitAnd (bitOr q (q * 2 ^ 14 % 2 ^ 64)) pairs
+
+  abbrev s : ℕ
+  s = bitAnd (bitOr r (r * 2 ^ 7 % 2 ^ 64)) ones
+
+  q-lt : q < 2 ^ 36
+  q-lt = lt-of-le-of-lt (and-le-r (bitOr b (b * 2 ^ 28 % 2 ^ 64)) fours) (lit< tt)
+
+  r-lt : r < 2 ^ 50
+  r-lt = lt-of-le-of-lt (and-le-r (bitOr q (q * 2 ^ 14 % 2 ^ 64)) pairs) (lit< tt)
+
+  q-out : (i : ℕ) → has fours i ≡ false → has q i ≡ false
+  q-out i h = out (bitOr b (b * 2 ^ 28 % 2 ^ 64)) fours i h
+
+  r-out : (i : ℕ) → has pairs i ≡ false → has r i ≡ false
+  r-out i h = out (bitOr q (q * 2 ^ 14 % 2 ^ 64)) pairs i h
+
+  spread : (j : ℕ) → j < 8 → has s (8 * j) ≡ has b j
+  unfolding has
+  spread =
+      cases8 (λ j. has s (8 * j) ≡ has b j)
+      (low r 7 ones 50 r-lt (lit≤ tt) 0 (lit< tt) refl ∙ low q 14 pairs 36 q-lt (lit≤ tt) 0 (lit< tt) refl ∙ low b 28 fours 8 l (lit≤ tt) 0 (lit< tt) refl)
+      (up r 7 ones 50 r-lt (lit≤ tt) 1 refl (r-out 8 refl) ∙ low q 14 pairs 36 q-lt (lit≤ tt) 1 (lit< tt) refl ∙ low b 28 fours 8 l (lit≤ tt) 1 (lit< tt) refl)
+      (high r 7 ones 50 r-lt (lit≤ tt) 9 refl (r-out 9 refl) ∙ up q 14 pairs 36 q-lt (lit≤ tt) 2 refl (q-out 16 refl) ∙ low b 28 fours 8 l (lit≤ tt) 2 (lit< tt) refl)
+      (up r 7 ones 50 r-lt (lit≤ tt) 17 refl (r-out 24 refl) ∙ up q 14 pairs 36 q-lt (lit≤ tt) 3 refl (q-out 17 refl) ∙ low b 28 fours 8 l (lit≤ tt) 3 (lit< tt) refl)
+      (high r 7 ones 50 r-lt (lit≤ tt) 25 refl (r-out 25 refl) ∙ high q 14 pairs 36 q-lt (lit≤ tt) 18 refl (q-out 18 refl) ∙ up b 28 fours 8 l (lit≤ tt) 4 refl (has-out 8 b 32 l (lit≤ tt)))
+      (up r 7 ones 50 r-lt (lit≤ tt) 33 refl (r-out 40 refl) ∙ high q 14 pairs 36 q-lt (lit≤ tt) 19 refl (q-out 19 refl) ∙ up b 28 fours 8 l (lit≤ tt) 5 refl (has-out 8 b 33 l (lit≤ tt)))
+      (high r 7 ones 50 r-lt (lit≤ tt) 41 refl (r-out 41 refl) ∙ up q 14 pairs 36 q-lt (lit≤ tt) 34 refl (q-out 48 refl) ∙ up b 28 fours 8 l (lit≤ tt) 6 refl (has-out 8 b 34 l (lit≤ tt)))
+      (up r 7 ones 50 r-lt (lit≤ tt) 49 refl (r-out 56 refl) ∙ up q 14 pairs 36 q-lt (lit≤ tt) 35 refl (q-out 49 refl) ∙ up b 28 fours 8 l (lit≤ tt) 7 refl (has-out 8 b 35 l (lit≤ tt)))
+
+  ones-out : (i w : ℕ) → i < 8 → w < 8 → 0 < w → has ones (8 * i + w) ≡ false
+  ones-out i w h k n = lane ones i w k ∙ ap (λ (n : ℕ). has n w) (cases8 (λ i. ones / 2 ^ (8 * i) % 256 ≡ 1) refl refl refl refl refl refl refl refl i h) ∙ has-out 1 1 w (lit< tt) n
+
+  starts : Firsts s
+  starts i w h n = go (ltb i 8) refl
+    where
+      go : (t : Bool) → ltb i 8 ≡ t → has s (8 * i + w) ≡ false
+      go true e = out (bitOr r (r * 2 ^ 7 % 2 ^ 64)) ones (8 * i + w) (ones-out i w (ltb-true i 8 e) h n)
+      go false e = has-out 64 s (8 * i + w) (lt-of-le-of-lt (and-le-r (bitOr r (r * 2 ^ 7 % 2 ^ 64)) ones) (lit< tt)) (omega (arith, ltb-false i 8 e))
+
+  pub product-is : (e : ℕ) → e < 256 → Product b e (bitAnd (s * 255) (e * ones))
+  product-is e h j w i k = has-and (s * 255) (e * ones) (8 * j + w) ∙ ap₂ both (filled j s w starts k ∙ spread j i) (copied e j w h i k)
+
+  pub s-lt : s * 255 < 2 ^ 64
+  s-lt = omega (arith, and-le-r (bitOr r (r * 2 ^ 7 % 2 ^ 64)) ones)

@@ -1,0 +1,16 @@
+use Rattle.constraints.proofs.Lanes.{product-is, s-lt}
+use borrow.Author.Needs.{needs}
+use Rattle.constraints.proofs.product.Statement.{statement}
+use Rattle.constraints.proofs.product.Tie as tie
+
+mul-result : tie.Need-mul-result
+mul-result c = search (needs, s-lt)
+
+mul-result-2 : tie.Need-mul-result-2
+mul-result-2 c = search needs
+
+returns : tie.Need-returns
+returns c = product-is _ (search needs) _ (search needs)
+
+pub product-spec : {M : Type 1} → statement M
+product-spec = tie.close (tie.spec mul-result mul-result-2 returns)

@@ -1,0 +1,11 @@
+pub mod Stores
+pub mod Bits
+pub mod Lanes
+pub mod Drawn
+pub mod Pictured
+pub mod Gathering
+pub mod Scopes
+pub mod Linked
+pub mod Rowed
+pub mod Refusing
+pub mod Assembled

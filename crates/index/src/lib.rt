@@ -1,0 +1,28 @@
+// The search's tables, made once from the compiled problem: constraints on two variables by variable, constraints on three in numbers of eight lanes,
+// and for each symmetry and pair the images of the smaller values.
+ghost use Rattle.model.specs.Problem.{Problem};
+ghost use Rattle.index.specs.Index.{Compact, Made};
+
+mod links;
+mod loose;
+mod pictures;
+mod rows;
+mod sets;
+mod words;
+
+pub fn index(
+    numbers: &mut [u64; 384],
+    supports: &[u16; 8192],
+    images: &[u8; 26112],
+    tables: &mut [u16; 55296],
+)
+    requires { ⌜ ((p : Problem) × Compact p (now numbers) (now supports) (now images) (now tables)) ⌝ }
+    ensures { λ _. ⌜ ((p : Problem) → Compact p (now (numbers .entry)) (now (supports .entry)) (now (images .entry)) (now (tables .entry)) → Made p (now (numbers .entry)) (now (supports .entry)) (now (tables .entry)) (now (numbers .exit)) (now (tables .exit))) ⌝ }
+{
+    links::links(numbers);
+    rows::rows(numbers, supports, tables);
+    let set = loose::loose(numbers, tables);
+    numbers[88] = set;
+    words::words(numbers, supports);
+    pictures::pictures(numbers, images, tables);
+}

@@ -1,0 +1,125 @@
+-- The loop that cuts the first twelve sets down to the cover. Assumes nothing.
+use mathlib.Core.Path.{_≡_, refl, sym, ap, _∙_, subst}
+use mathlib.Core.Bool.{false}
+use mathlib.Core.Logic.{_⊎_, inl, inr}
+use mathlib.Core.List.{List}
+use Prim.Native.Nat.{ℕ, _+_, _*_, _%_, _^_, _≤_, _<_}
+use native.Mathlib.Omega.{arith}
+use native.Mathlib.Decide.{ℕ-discrete}
+use lib.Dec.{T, eqb, eqb→eq, eqb-refl}
+use lib.ListN.{length, set, length-set}
+use lib.Bits.{bitAnd, bitOr}
+use Rattle.model.specs.Lists.{at}
+use Rattle.model.specs.ValueSets.{has}
+use Rattle.model.proofs.Lists.{not-of, of-not, at-set, at-set-other}
+use Rattle.model.proofs.Members.{has-0, or-i, or-e, one-has}
+use Rattle.links.specs.Steps.{Cut}
+
+-- y sets are cut so far
+pub record Cutting (ds cover es : List ℕ) (changed y : ℕ) : Type 0 where
+  pub few : y ≤ 12
+  pub sized : length es ≡ 16
+  pub met : (i : ℕ) → i < y → at es i ≡ bitAnd (at ds i) (at cover i)
+  pub rest : (i : ℕ) → y ≤ i → at es i ≡ at ds i
+  pub kept : (i : ℕ) → has changed i ≡ false → at es i ≡ at ds i
+  pub moved : (i : ℕ) → T (has changed i) → (i < y) × (at es i ≡ at ds i → ⊥) × (at es i ≡ 0 → ⊥)
+
+pub cutting-begin : (ds cover : List ℕ) → length ds ≡ 16 → Cutting ds cover ds 0 0
+cutting-begin ds cover l = record {
+  few = omega arith;
+  sized = l;
+  met = λ i h. absurd (omega arith);
+  rest = λ i h. refl;
+  kept = λ i e. refl;
+  moved = λ i t. absurd (has-0 i t);
+}
+
+pub is-dead : T (has 65536 16)
+unfolding has
+is-dead = tt
+
+pub cutting-end : {ds cover es : List ℕ} {changed y : ℕ} → Cutting ds cover es changed y → 12 ≤ y → Cut ds cover es changed
+cutting-end {ds} {cover} {es} {changed} {y} c h = record {
+  dead = λ e. absurd (let q = c .moved 16 (subst (λ (n : ℕ). T (has n 16)) (sym e) is-dead) in omega (arith, q .0, c .few));
+  sized = c .sized;
+  met = λ n i l. c .met i (omega arith);
+  rest = λ i l. c .rest i (omega (arith, c .few));
+  kept = λ n i e. c .kept i e;
+  changed = λ n i t. let q = c .moved i t in (omega (arith, q .0, c .few), q .1, q .2);
+}
+
+-- one turn, whose set has the same values in the cover, fewer, or none
+module _ {ds cover es : List ℕ} {changed y : ℕ} (c : Cutting ds cover es changed y) (h : y < 12) where
+  abbrev new : ℕ
+  new = bitAnd (at es y) (at cover y)
+
+  here : at es y ≡ at ds y
+  here = c .rest y (omega arith)
+
+  met-here : bitAnd (at es y) (at cover y) ≡ bitAnd (at ds y) (at cover y)
+  met-here = ap (λ (s : ℕ). bitAnd s (at cover y)) here
+
+  pub cutting-same : new ≡ at es y → Cutting ds cover es changed (y + 1)
+  cutting-same e = record {
+    few = omega arith;
+    sized = c .sized;
+    met = λ i l. met i l (ℕ-discrete i y);
+    rest = λ i l. c .rest i (omega arith);
+    kept = c .kept;
+    moved = λ i t. let q = c .moved i t in (omega (arith, q .0), q .1, q .2);
+  }
+    where
+      met : (i : ℕ) → i < y + 1 → Dec (i ≡ y) → at es i ≡ bitAnd (at ds i) (at cover i)
+      met i l (yes q) = subst (λ (j : ℕ). at es j ≡ bitAnd (at ds j) (at cover j)) (sym q) (sym e ∙ met-here)
+      met i l (no n) = c .met i (omega arith)
+
+  pub cutting-dead : (new ≡ at es y → ⊥) → new ≡ 0 → Cut ds cover es 65536
+  cutting-dead n e = record {
+    dead = λ q. (y, h, sym met-here ∙ e, λ z. n (e ∙ sym (here ∙ z)));
+    sized = c .sized;
+    met = λ f. absurd (f refl);
+    rest = λ i l. c .rest i (omega arith);
+    kept = λ f. absurd (f refl);
+    changed = λ f. absurd (f refl);
+  }
+
+  pub cutting-less : (new ≡ at es y → ⊥) → (new ≡ 0 → ⊥) → Cutting ds cover (set es y new) (bitOr changed (1 * 2 ^ y % 2 ^ 64)) (y + 1)
+  cutting-less n z = record {
+    few = omega arith;
+    sized = length-set es y new ∙ c .sized;
+    met = λ i l. met i l (ℕ-discrete i y);
+    rest = λ i l. there i (λ e. omega arith) ∙ c .rest i (omega arith);
+    kept = λ i e. there i (λ q. of-not (has more i) e (or-i changed one i (inr (subst T (sym (one-has 64 y i (omega arith))) (subst (λ (j : ℕ). T (eqb i j)) q (eqb-refl i))))))
+        ∙ c .kept i (not-of (has changed i) (λ t. of-not (has more i) e (or-i changed one i (inl t))));
+    moved = λ i t. moved i (or-e changed one i t);
+  }
+    where
+      one : ℕ
+      one = 1 * 2 ^ y % 2 ^ 64
+
+      more : ℕ
+      more = bitOr changed one
+
+      now : at (set es y new) y ≡ new
+      now = at-set es y new (omega (arith, c .sized))
+
+      there : (i : ℕ) → (i ≡ y → ⊥) → at (set es y new) i ≡ at es i
+      there i q = at-set-other es y new i q
+
+      met : (i : ℕ) → i < y + 1 → Dec (i ≡ y) → at (set es y new) i ≡ bitAnd (at ds i) (at cover i)
+      met i l (yes q) = subst (λ (j : ℕ). at (set es y new) j ≡ bitAnd (at ds j) (at cover j)) (sym q) (now ∙ met-here)
+      met i l (no m) = there i m ∙ c .met i (omega arith)
+
+      moved : (i : ℕ) → T (has changed i) ⊎ T (has one i) → (i < y + 1) × (at (set es y new) i ≡ at ds i → ⊥) × (at (set es y new) i ≡ 0 → ⊥)
+      moved i (inl t) = let q = c .moved i t in
+          (omega (arith, q .0), λ e. q .1 (sym (there i (λ f. omega (arith, q .0))) ∙ e), λ e. q .2 (sym (there i (λ f. omega (arith, q .0))) ∙ e))
+      moved i (inr t) =
+          subst (λ (j : ℕ). (j < y + 1) × (at (set es y new) j ≡ at ds j → ⊥) × (at (set es y new) j ≡ 0 → ⊥)) (sym (eqb→eq i y (subst T (one-has 64 y i (omega arith)) t)))
+          (omega arith, λ e. n (sym now ∙ e ∙ sym here), λ e. z (sym now ∙ e))
+
+  -- the set is stored, or stays
+  pub cutting-stored : {fs : List ℕ} {r : ℕ} → (new ≡ at es y → ⊥) → (new ≡ 0 → ⊥) → fs ≡ set es y new → r ≡ bitOr changed (1 * 2 ^ y % 2 ^ 64) → Cutting ds cover fs r (y + 1)
+  cutting-stored {fs} {r} n z e q = subst (λ (l : List ℕ). Cutting ds cover l r (y + 1)) (sym e) (subst (λ (k : ℕ). Cutting ds cover (set es y new) k (y + 1)) (sym q) (cutting-less n z))
+
+  pub cutting-stayed : {fs : List ℕ} {r : ℕ} → new ≡ at es y → fs ≡ es → r ≡ changed → Cutting ds cover fs r (y + 1)
+  cutting-stayed {fs} {r} n e q = subst (λ (l : List ℕ). Cutting ds cover l r (y + 1)) (sym e) (subst (λ (k : ℕ). Cutting ds cover es k (y + 1)) (sym q) (cutting-same n))

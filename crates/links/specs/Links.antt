@@ -1,0 +1,27 @@
+-- Pruning by the constraints on two variables, by variable: what the crate's function asks and leaves.
+-- No reader has to believe this: it stands between proved functions.
+use mathlib.Core.Path.{_≡_}
+use mathlib.Core.Bool.{false}
+use mathlib.Core.List.{List}
+use Prim.Native.Nat.{ℕ, _<_}
+use lib.Dec.{T}
+use Rattle.model.specs.ValueSets.{has}
+use Rattle.model.specs.Problem.{Problem}
+use Rattle.model.proofs.WellFormed.{WellFormed}
+use Rattle.layout.specs.Tables.{Linked, Rows}
+use Rattle.layout.specs.Pruning.{Given, Lessened, Ended, Arc, setsOf}
+
+-- only the variables of `dirty` may have a set that refuses a value of another
+pub record Waiting (p : Problem) (numbers tables sets : List ℕ) (dirty : ℕ) : Type 0 where
+  pub given : Given p sets
+  pub wellFormed : WellFormed p
+  pub linked : Linked p numbers
+  pub rowed : Rows p tables
+  pub known : (x : ℕ) → T (has dirty x) → x < p .variables
+  pub arcs : (x : ℕ) → x < p .variables → has dirty x ≡ false → Arc p (setsOf p sets) x
+
+-- the answer is 65536 at a dead end, else the variables whose sets changed
+pub record Linking (p : Problem) (sets sets′ : List ℕ) (r : ℕ) : Type 0 where
+  pub ended : r ≡ 65536 → Ended p sets
+  pub lessened : (r ≡ 65536 → ⊥) → Lessened p sets sets′ r
+  pub arcs : (r ≡ 65536 → ⊥) → (x : ℕ) → x < p .variables → Arc p (setsOf p sets′) x

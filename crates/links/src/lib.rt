@@ -1,0 +1,116 @@
+// Pruning by the constraints on two variables (paper 01, "The search"), by variable: a changed set cuts all other sets at once.
+ghost use mathlib.Core.Path.{_≡_};
+ghost use mathlib.Core.Bool.{false};
+ghost use Prim.Native.Nat.{ℕ, _+_, _*_, _≤_, _<_};
+ghost use lib.ListN.{length};
+ghost use Rattle.model.specs.Problem.{Problem};
+ghost use Rattle.model.proofs.Sets.{Sets};
+ghost use Rattle.links.specs.Links.{Waiting, Linking};
+ghost use Rattle.links.specs.Steps.{Narrow, Added, Cover, Covered, Cut, Ready, CutBy};
+use layout::DEAD;
+
+// Where `numbers` has the loose variables.
+const LOOSE: usize = 88;
+
+// Adds sixteen sets of the tables, from a place on, to the cover.
+fn add(cover: &mut [u16; 16], tables: &[u16; 55296], base: usize)
+    requires { ⌜ (base + 16 ≤ 55296) × Narrow (now tables) base 16 × Sets 16 (now cover) ⌝ }
+    ensures { λ _. ⌜ Added (now (cover .entry)) (now (tables .entry)) base (now (cover .exit)) ⌝ }
+{
+    let mut y = 0;
+    while y < 16 {
+        cover[y] = cover[y] | tables[base + y];
+        y += 1;
+    }
+}
+
+// The values that go together with some value of the set of x: sixteen sets.
+fn cover_of(tables: &[u16; 55296], x: usize, set: u16) -> [u16; 16]
+    requires { ⌜ (x < 12) × Narrow (now tables) (256 * x) 256 ⌝ }
+    ensures { λ r. ⌜ Cover (now (tables .entry)) x set r ⌝ }
+{
+    let mut cover = [0u16; 16];
+    let mut m = set;
+    while m != 0 {
+        add(
+            &mut cover,
+            tables,
+            256 * x + 16 * (u16::trailing_zeros(m) as usize),
+        );
+        m = m & (m - 1);
+    }
+    cover
+}
+
+// Whether some set has a value outside the cover.
+fn exceeds(sets: &[u16; 16], cover: &[u16; 16]) -> bool
+    requires { ⌜ Sets 16 (now sets) × Sets 16 (now cover) ⌝ }
+    ensures { λ r. ⌜ (r ≡ false → Covered (now (sets .entry)) (now (cover .entry))) ⌝ }
+{
+    let mut over = 0u16;
+    let mut y = 0;
+    while y < 16 {
+        over = over | (sets[y] & !cover[y]);
+        y += 1;
+    }
+    over != 0
+}
+
+// Cuts the sets down to the cover; the variables whose sets changed, or that one is left with nothing.
+fn cut(sets: &mut [u16; 16], cover: &[u16; 16]) -> u64
+    requires { ⌜ length (now sets) ≡ 16 ⌝ }
+    ensures { λ r. ⌜ Cut (now (sets .entry)) (now (cover .entry)) (now (sets .exit)) r ⌝ }
+{
+    let mut changed = 0u64;
+    let mut y = 0;
+    while y < 12 {
+        let old = sets[y];
+        let new = old & cover[y];
+        if new != old {
+            if new == 0 {
+                return DEAD;
+            }
+            sets[y] = new;
+            changed = changed | (1u64 << y);
+        }
+        y += 1;
+    }
+    changed
+}
+
+// Cuts by the set of x: nothing to do where x is loose and has two values.
+fn cut_by(sets: &mut [u16; 16], tables: &[u16; 55296], loose: u64, x: usize) -> u64
+    requires { ⌜ ((p : Problem) × Ready p (now tables) (now sets) loose x) ⌝ }
+    ensures { λ r. ⌜ ((p : Problem) → Ready p (now (tables .entry)) (now (sets .entry)) loose x → CutBy p (now (sets .entry)) (now (sets .exit)) x r) ⌝ }
+{
+    let set = sets[x];
+    if set & (set - 1) != 0 {
+        if (loose >> x) & 1 == 1 {
+            return 0;
+        }
+    }
+    let cover = cover_of(tables, x, set);
+    if exceeds(sets, &cover) {
+        return cut(sets, &cover);
+    }
+    0
+}
+
+// Cuts by the sets of the dirty variables, and again by those that changed, until nothing moves.
+pub fn arcs(sets: &mut [u16; 16], tables: &[u16; 55296], numbers: &[u64; 384], dirty: u64) -> u64
+    requires { ⌜ ((p : Problem) × Waiting p (now numbers) (now tables) (now sets) dirty) ⌝ }
+    ensures { λ r. ⌜ ((p : Problem) → Waiting p (now (numbers .entry)) (now (tables .entry)) (now (sets .entry)) dirty → Linking p (now (sets .entry)) (now (sets .exit)) r) ⌝ }
+{
+    let mut left = dirty;
+    let mut all = 0u64;
+    while left != 0 {
+        let x = u64::trailing_zeros(left) as usize;
+        let changed = cut_by(sets, tables, numbers[LOOSE], x);
+        if changed == DEAD {
+            return DEAD;
+        }
+        all = all | changed;
+        left = (left & (left - 1)) | changed;
+    }
+    all
+}

@@ -1,0 +1,124 @@
+-- `search::prepare` meets its contract: proofs/Whole. Assumes nothing.
+use mathlib.Core.Path.{refl, sym, ap, _∙_}
+use native.Mathlib.Omega.{arith}
+use denote.Ref.{now}
+use Rattle.model.specs.Lists.{at}
+use Rattle.model.specs.Sheet.{problemOf}
+use Rattle.sheet.specs.Meaning.{means}
+use Rattle.search.proofs.Whole.{some-variables, compact, ready, prepared-dead, prepared-live, prepared-refused}
+use borrow.Author.Needs.{needs}
+use Rattle.search.proofs.prepare.Statement.{statement}
+use Rattle.search.proofs.prepare.Tie as tie
+
+compile-requires : tie.Need-compile-requires
+compile-requires c κs = search needs
+
+enum-told : tie.Need-enum-told
+enum-told c = search needs
+
+element-copy-out-n : tie.Need-element-copy-out-n
+element-copy-out-n c = search needs
+
+div-room : tie.Need-div-room
+unfolding at
+div-room c =
+    let q = c .before .enum-told .given .1 in
+    some-variables (now (c .before .before .before .before .before .before .before .before .args .sheet)) (sym (c .before .before .before .compile .ensures .answers) ∙ ap means q) _ _ _ (c .before .before .before .compile .ensures .compiled q)
+
+put-bounds-requires : tie.Need-put-bounds-requires
+put-bounds-requires c κs = search needs
+
+index-requires : tie.Need-index-requires
+unfolding at
+index-requires c κs =
+    let a = c .before .before .before .before .before .before .before .before .before .before .before .before .before .before in
+    let b = now (a .args .sheet) in
+    let q = c .before .before .before .before .before .before .before .enum-told .given .1 in
+    let v = sym (c .before .before .before .before .before .before .before .before .before .compile .ensures .answers) ∙ ap means q in
+    let h = c .before .before .before .before .before .before .before .before .before .compile .ensures .compiled q in
+    let w = a .fits .limit .fits in
+    let l = c .before .before .before .before .before .put-bounds-arg .given .0 .1 in
+    let s = c .before .before .before .before .put-bounds .ensures in
+    (problemOf b, compact b v _ _ _ h (a .args .limit) w (a .args .size) _ refl l _ s _ (a .pre .tables-length))
+
+root-requires : tie.Need-root-requires
+unfolding at
+root-requires c κs =
+    let a = c .before .before .before .before .before .before .before .before .before .before .before .before .before .before .before .before .before .before .before .before in
+    let b = now (a .args .sheet) in
+    let q = c .before .before .before .before .before .before .before .before .before .before .before .before .before .enum-told .given .1 in
+    let v = sym (c .before .before .before .before .before .before .before .before .before .before .before .before .before .before .before .compile .ensures .answers) ∙ ap means q in
+    let h = c .before .before .before .before .before .before .before .before .before .before .before .before .before .before .before .compile .ensures .compiled q in
+    let w = a .fits .limit .fits in
+    let l = c .before .before .before .before .before .before .before .before .before .before .before .put-bounds-arg .given .0 .1 in
+    let s = c .before .before .before .before .before .before .before .before .before .before .put-bounds .ensures in
+    let m = c .before .before .before .before .before .index .ensures (problemOf b) (compact b v _ _ _ h (a .args .limit) w (a .args .size) _ refl l _ s _ (a .pre .tables-length)) in
+    (problemOf b, ready b v _ _ _ h (a .args .limit) w (a .args .size) _ refl l _ s _ _ _ m _ _ (a .pre .stack-length) (a .pre .work-blank .sized))
+
+enum-known-verdict : tie.Need-enum-known-verdict
+enum-known-verdict c = search needs
+
+cast-work : tie.Need-cast-work
+cast-work c = search needs
+
+element-write-work : tie.Need-element-write-work
+element-write-work c = search needs
+
+element-write-work-2 : tie.Need-element-write-work-2
+element-write-work-2 c = search needs
+
+returns : tie.Need-returns
+unfolding at
+returns c =
+    let a = c .before .before .before .before .before .before .before .before .before .before .before .before .before .before .before .before .before .before .before .before .before .before in
+    let b = now (a .args .sheet) in
+    let q = c .before .before .before .before .before .before .before .before .before .before .before .before .before .before .before .enum-told .given .1 in
+    let v = sym (c .before .before .before .before .before .before .before .before .before .before .before .before .before .before .before .before .before .compile .ensures .answers) ∙ ap means q in
+    let h = c .before .before .before .before .before .before .before .before .before .before .before .before .before .before .before .before .before .compile .ensures .compiled q in
+    let w = a .fits .limit .fits in
+    let l = c .before .before .before .before .before .before .before .before .before .before .before .before .before .put-bounds-arg .given .0 .1 in
+    let s = c .before .before .before .before .before .before .before .before .before .before .before .before .put-bounds .ensures in
+    let m = c .before .before .before .before .before .before .before .index .ensures (problemOf b) (compact b v _ _ _ h (a .args .limit) w (a .args .size) _ refl l _ s _ (a .pre .tables-length)) in
+    let r = c .before .root .ensures (problemOf b) (ready b v _ _ _ h (a .args .limit) w (a .args .size) _ refl l _ s _ _ _ m _ _ (a .pre .stack-length) (a .pre .work-blank .sized)) in
+    prepared-dead b v _ _ _ h (a .args .limit) w (a .args .size) _ refl l _ s _ _ _ m _ _ _ _ _ (a .pre .stack-length) (a .pre .work-blank) r (c .if1 .taken)
+
+returns-2 : tie.Need-returns-2
+unfolding at
+returns-2 c =
+    let a = c .before .before .before .before .before .before .before .before .before .before .before .before .before .before .before .before .before .before .before .before .before .before in
+    let b = now (a .args .sheet) in
+    let q = c .before .before .before .before .before .before .before .before .before .before .before .before .before .before .before .enum-told .given .1 in
+    let v = sym (c .before .before .before .before .before .before .before .before .before .before .before .before .before .before .before .before .before .compile .ensures .answers) ∙ ap means q in
+    let h = c .before .before .before .before .before .before .before .before .before .before .before .before .before .before .before .before .before .compile .ensures .compiled q in
+    let w = a .fits .limit .fits in
+    let l = c .before .before .before .before .before .before .before .before .before .before .before .before .before .put-bounds-arg .given .0 .1 in
+    let s = c .before .before .before .before .before .before .before .before .before .before .before .before .put-bounds .ensures in
+    let m = c .before .before .before .before .before .before .before .index .ensures (problemOf b) (compact b v _ _ _ h (a .args .limit) w (a .args .size) _ refl l _ s _ (a .pre .tables-length)) in
+    let r = c .before .root .ensures (problemOf b) (ready b v _ _ _ h (a .args .limit) w (a .args .size) _ refl l _ s _ _ _ m _ _ (a .pre .stack-length) (a .pre .work-blank .sized)) in
+    prepared-live b v _ _ _ h (a .args .limit) w (a .args .size) _ refl l _ s _ _ _ m _ _ _ _ _ (a .pre .stack-length) (a .pre .work-blank) r (c .if1 .left)
+
+returns-3 : tie.Need-returns-3
+returns-3 c =
+    let a = c .before .before .before .before .before .before .before .before in
+    let g = c .before .verdict .given in
+    let v = sym (c .before .before .before .compile .ensures .answers) ∙ ap means (g .1) in
+    prepared-refused (now (a .args .sheet)) (a .args .limit) (a .args .size) (g .0 .0) (g .0 .1 .0) _ (now (a .args .work)) _ _ _ v (omega arith) (a .pre .work-blank .sized)
+
+pub prepare-spec : {M : Type 1} → statement M
+prepare-spec =
+    tie.close
+    (tie.spec
+    compile-requires
+    enum-told
+    element-copy-out-n
+    div-room
+    put-bounds-requires
+    index-requires
+    root-requires
+    enum-known-verdict
+    cast-work
+    element-write-work
+    element-write-work-2
+    returns
+    returns-2
+    returns-3)

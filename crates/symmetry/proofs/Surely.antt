@@ -1,0 +1,291 @@
+-- Values of a variable that a constraint on it and the variables of two pairs refuses with them. Assumes nothing.
+use mathlib.Core.Path.{_≡_, refl, sym, ap, ap₂, _∙_, subst}
+use mathlib.Core.Bool.{Bool, true, false, not}
+use mathlib.Core.List.{List, [], _∷_, List·Memᴰ, List·Memᴰ·head, List·Memᴰ·tail, List·Memᴰ·not-nil, Memᴰ·cast}
+use mathlib.Core.Logic.{_⊎_, inl, inr}
+use Prim.Native.Nat.{ℕ, zero, suc, _+_, _-_, _*_, _/_, _%_, _^_, _≤_, _<_}
+use native.Mathlib.Nat.{mul-comm, mul-le-mul-right, lt-of-le-of-lt, not-suc-le-zero, le-of-suc-le-suc}
+use native.Mathlib.Omega.{arith}
+use lib.Dec.{T, T-not, eqb, ltb, eqb→eq, ltb→lt}
+use lib.ListN.{length}
+use lib.Bits.{bitAnd, bitOr, and-le-l}
+use lib.Count.{trailingZeros}
+use borrow.Author.Tests.{eq-eqb, eqb-true}
+use Rattle.model.specs.Lists.{any, at, same, both, either, ascending}
+use Rattle.model.specs.ValueSets.{has, least}
+use Rattle.model.specs.Problem.{Problem, pairsAt}
+use Rattle.model.proofs.Lists.{T-of, of-T, both-l, both-r, any-e}
+use Rattle.model.proofs.Sets.{has-lt, has-none}
+use Rattle.model.proofs.Masks.{has-and, has-or, has-not, has-one}
+use Rattle.model.proofs.Pairs.{forbidden-excluded}
+use Rattle.model.proofs.WellFormed.{GoodConstraint}
+use Rattle.layout.specs.Layout.{constraintAt}
+use Rattle.symmetry.specs.Table.{Stated, Ready}
+use Rattle.symmetry.specs.Forbidden.{blocked, numberOf, PairCode, MaybePair, Begun, Lacking, On, Sure, packed, packedOn}
+use Rattle.symmetry.proofs.Codes.{good, init-16, constraint-in, variable-lt}
+use Rattle.symmetry.proofs.Frames.{shl-64}
+use Rattle.symmetry.proofs.Keys.{Digits, row-test}
+use Rattle.symmetry.proofs.Blocks.{three, excluded-i, blocked-i, blocked-more}
+use Rattle.symmetry.proofs.Laws.{has-lowest, trailing-least}
+use Rattle.symmetry.proofs.Scopes.{Among, first-two, ascends}
+
+-- ---- a scope that has three variables
+-- three ascending numbers among three that do not fall are these
+module _ (u v w x y z : ℕ) (l : u ≤ v) (m : v ≤ w) (h : x < y) (k : y < z) where
+  bottom : (q : ℕ) → Among u v w q → u ≤ q
+  bottom q (inl e) = omega arith
+  bottom q (inr (inl e)) = omega arith
+  bottom q (inr (inr e)) = omega arith
+
+  top : (q : ℕ) → Among u v w q → q ≤ w
+  top q (inl e) = omega arith
+  top q (inr (inl e)) = omega arith
+  top q (inr (inr e)) = omega arith
+
+  second : Among u v w y → u ≤ x → z ≤ w → v ≡ y
+  second (inl e) i j = absurd (omega arith)
+  second (inr (inl e)) i j = sym e
+  second (inr (inr e)) i j = absurd (omega arith)
+
+  first : Among u v w x → v ≡ y → z ≤ w → u ≡ x
+  first (inl e) i j = sym e
+  first (inr (inl e)) i j = absurd (omega arith)
+  first (inr (inr e)) i j = absurd (omega arith)
+
+  third : Among u v w z → v ≡ y → u ≤ x → w ≡ z
+  third (inl e) i j = absurd (omega arith)
+  third (inr (inl e)) i j = absurd (omega arith)
+  third (inr (inr e)) i j = sym e
+
+  all-three : Among u v w x → Among u v w y → Among u v w z → (u ≡ x) × (v ≡ y) × (w ≡ z)
+  all-three a b c =
+      let i = bottom x a in
+      let j = top z c in
+      let e = second b i j in
+      (first a e j, e, third c e i)
+
+member : (x : ℕ) (l : List ℕ) → T (any (eqb x) l) → List·Memᴰ x l
+member x l t = let r = any-e (eqb x) l t in Memᴰ·cast (eqb→eq x (r .0) (r .2)) (r .1)
+
+one : (u q : ℕ) → List·Memᴰ q (u ∷ []) → Among u u u q
+one u q (List·Memᴰ·head e) = inl e
+one u q (List·Memᴰ·tail m) = absurd (List·Memᴰ·not-nil m)
+
+two : (u v q : ℕ) → List·Memᴰ q (u ∷ v ∷ []) → Among u v v q
+two u v q (List·Memᴰ·head e) = inl e
+two u v q (List·Memᴰ·tail (List·Memᴰ·head e)) = inr (inl e)
+two u v q (List·Memᴰ·tail (List·Memᴰ·tail m)) = absurd (List·Memᴰ·not-nil m)
+
+pub whole-scope : (x y z : ℕ) (scope : List ℕ) → length scope ≤ 3 → T (ascending scope) → x < y → y < z →
+    T (any (eqb x) scope) → T (any (eqb y) scope) → T (any (eqb z) scope) → scope ≡ x ∷ y ∷ z ∷ []
+unfolding ascending
+whole-scope x y z [] l o h k a b c = absurd (List·Memᴰ·not-nil (member x [] a))
+whole-scope x y z (u ∷ []) l o h k a b c =
+    let r = all-three u u u x y z (omega arith) (omega arith) h k (one u x (member x _ a)) (one u y (member y _ b)) (one u z (member z _ c)) in
+    absurd (omega (arith, r .0, r .1))
+whole-scope x y z (u ∷ v ∷ []) l o h k a b c =
+    let i : u < v = ltb→lt u v (first-two (ltb u v) true o .0) in
+    let r = all-three u v v x y z (omega arith) (omega arith) h k (two u v x (member x _ a)) (two u v y (member y _ b)) (two u v z (member z _ c)) in
+    absurd (omega (arith, r .1, r .2))
+whole-scope x y z (u ∷ v ∷ w ∷ []) l o h k a b c =
+    let i = ascends u v w o in
+    let r = all-three u v w x y z (omega (arith, i .0)) (omega (arith, i .1)) h k (three u v w x (member x _ a)) (three u v w y (member y _ b)) (three u v w z (member z _ c)) in
+    cc
+whole-scope x y z (u ∷ v ∷ w ∷ s ∷ r) l o h k a b c = absurd (omega arith)
+
+-- ---- three pairs of the variables of a constraint, whose values are no row
+module _ (p : Problem) (w : Stated p) where
+  -- a pair, where its variable is below another
+  real : (a : ℕ) → MaybePair p a → a / 16 < p .variables → PairCode p a
+  real a (inl e) h = absurd (omega (arith, w .few))
+  real a (inr c) h = c
+
+  no-row : (k a b e : ℕ) → k < length (p .constraints) → constraintAt p k .scope ≡ a / 16 ∷ b / 16 ∷ e / 16 ∷ [] → PairCode p a → PairCode p b → PairCode p e →
+      (T (any (same (a % 16 ∷ b % 16 ∷ e % 16 ∷ [])) (constraintAt p k .rows)) → ⊥) → T (blocked p (numberOf p a ∷ numberOf p b ∷ numberOf p e ∷ []))
+  unfolding pairsAt
+  no-row k a b e h s ca cb ce n =
+      let c = constraintAt p k in
+      let vs = a % 16 ∷ b % 16 ∷ e % 16 ∷ [] in
+      blocked-i p _ (pairsAt p (c .scope) vs)
+      (forbidden-excluded p c _ (constraint-in p w k h)
+      (excluded-i p c vs (λ x v m t. init-16 p w x v (good p w k h .inside x m) t) (sym (ap length s)) (subst (λ (xs : List ℕ). Begun p xs vs) (sym s) (ca .1, (cb .1, (ce .1, tt)))) n))
+      (λ q m. subst (λ (xs : List ℕ). List·Memᴰ q (pairsAt p xs vs)) s m)
+
+two-digits : (u v : ℕ) → u < 16 → v < 16 → Digits (u ∷ v ∷ [])
+unfolding at
+two-digits u v h l zero i = h
+two-digits u v h l (suc zero) i = l
+two-digits u v h l (suc (suc j)) i = absurd (not-suc-le-zero (le-of-suc-le-suc (le-of-suc-le-suc i)))
+
+-- ---- the order of three pairs
+module _ (p : Problem) (x y z : ℕ) where
+  first-two-turned : T (blocked p (x ∷ y ∷ z ∷ [])) → T (blocked p (y ∷ x ∷ z ∷ []))
+  first-two-turned = blocked-more p _ _ go
+    where
+      go : (q : ℕ) → List·Memᴰ q (x ∷ y ∷ z ∷ []) → List·Memᴰ q (y ∷ x ∷ z ∷ [])
+      go q (List·Memᴰ·head e) = List·Memᴰ·tail (List·Memᴰ·head e)
+      go q (List·Memᴰ·tail (List·Memᴰ·head e)) = List·Memᴰ·head e
+      go q (List·Memᴰ·tail (List·Memᴰ·tail m)) = List·Memᴰ·tail (List·Memᴰ·tail m)
+
+  last-two-turned : T (blocked p (x ∷ y ∷ z ∷ [])) → T (blocked p (x ∷ z ∷ y ∷ []))
+  last-two-turned = blocked-more p _ _ go
+    where
+      go : (q : ℕ) → List·Memᴰ q (x ∷ y ∷ z ∷ []) → List·Memᴰ q (x ∷ z ∷ y ∷ [])
+      go q (List·Memᴰ·head e) = List·Memᴰ·head e
+      go q (List·Memᴰ·tail (List·Memᴰ·head e)) = List·Memᴰ·tail (List·Memᴰ·tail (List·Memᴰ·head e))
+      go q (List·Memᴰ·tail (List·Memᴰ·tail (List·Memᴰ·head e))) = List·Memᴰ·tail (List·Memᴰ·head e)
+      go q (List·Memᴰ·tail (List·Memᴰ·tail (List·Memᴰ·tail m))) = absurd (List·Memᴰ·not-nil m)
+
+-- ---- values that a set lacks, one after another
+pub lacking-place : (base step v : ℕ) → base + 15 * step < 8192 → v < 16 → base + step * v < 8192
+lacking-place base step v h l = let m : v ≤ 15 = omega arith in omega (arith, mul-le-mul-right step m, mul-comm step v)
+
+pub lacking-none : (supports : List ℕ) (base step w : ℕ) → Lacking supports base step w 0 0
+lacking-none supports base step w v t = absurd (subst T (has-none v) t)
+
+module _ (supports : List ℕ) (base step w n set : ℕ) (l : Lacking supports base step w n set) where
+  pub lacking-same : (new : ℕ) → new ≡ set → Lacking supports base step w (n + 1) new
+  lacking-same new e v t = let r = l v (subst (λ (m : ℕ). T (has m v)) e t) in (omega (arith, r .0), r .1)
+
+  -- with n, as the code adds it
+  pub lacking-more : (new s : ℕ) → n < 64 → new ≡ bitOr set (1 * 2 ^ n % 2 ^ 64) → s ≡ at supports (base + step * n) → s / 2 ^ w % 2 ≡ 0 → Lacking supports base step w (n + 1) new
+  unfolding has
+  lacking-more new s small f e z v t = go (eqb v n) refl
+    where
+      clear : (m : ℕ) → m ≡ 0 → T (eqb m 1) → ⊥
+      clear m q h = omega (arith, eqb→eq m 1 h)
+
+      lacks : T (has (at supports (base + step * n)) w) → ⊥
+      lacks h = clear (s / 2 ^ w % 2) z (subst (λ (m : ℕ). T (eqb (m / 2 ^ w % 2) 1)) (sym e) h)
+
+      split : has new v ≡ either (has set v) (eqb v n)
+      split = ap (λ (m : ℕ). has m v) (f ∙ ap (bitOr set) (shl-64 n small)) ∙ has-or set (2 ^ n) v ∙ ap (either (has set v)) (has-one n v)
+
+      left : (b : Bool) → T (either b false) → T b
+      left true h = h
+      left false h = h
+
+      go : (b : Bool) → eqb v n ≡ b → (v < n + 1) × (T (has (at supports (base + step * v)) w) → ⊥)
+      go true q = let r : v ≡ n = eqb-true v n q in (omega arith, λ h. lacks (subst (λ (m : ℕ). T (has (at supports (base + step * m)) w)) r h))
+      go false q = lacking-same set refl v (left (has set v) (subst T (split ∙ ap (either (has set v)) q) t))
+
+pub lacking-all : (supports : List ℕ) (base step w n set : ℕ) → 16 ≤ n → n ≤ 16 → Lacking supports base step w n set → Lacking supports base step w 16 set
+lacking-all supports base step w n set h k l v t = let r = l v t in (omega (arith, r .0), r .1)
+
+-- ---- as the code finds them
+pub sure-none : (p : Problem) (a b y : ℕ) → Sure p a b y 0
+sure-none p a b y e q c t = absurd (subst T (has-none (e % 16)) t)
+
+pub sure-turned : (p : Problem) (a b y set : ℕ) → Sure p b a y set → Sure p a b y set
+sure-turned p a b y set s e f c t = first-two-turned p _ _ _ (s e f c t)
+
+-- a constraint on the three variables
+module _ (p : Problem) (numbers supports : List ℕ) (k a b y : ℕ) (o : On p numbers supports k a b y) (h : a / 16 < b / 16) where
+  w : Stated p
+  w = o .ready .framed .stated
+
+  g : GoodConstraint p (constraintAt p k)
+  g = good p w k (o .inside)
+
+  -- pairs of it in order, whose values are no row
+  in-order : (c d e : ℕ) → constraintAt p k .scope ≡ c / 16 ∷ d / 16 ∷ e / 16 ∷ [] → PairCode p c → PairCode p d → PairCode p e →
+      (T (has (at supports (256 * k + (16 * (c % 16) + d % 16))) (e % 16)) → ⊥) → T (blocked p (numberOf p c ∷ numberOf p d ∷ numberOf p e ∷ []))
+  unfolding packedOn
+  in-order c d e s cc cd ce n =
+      let place : 16 * (c % 16) + d % 16 ≡ packed (c % 16 ∷ d % 16 ∷ []) = omega arith in
+      let row : has (at supports (256 * k + (16 * (c % 16) + d % 16))) (e % 16) ≡ any (same (c % 16 ∷ d % 16 ∷ e % 16 ∷ [])) (constraintAt p k .rows) =
+      ap (λ (m : ℕ). has (at supports (256 * k + m)) (e % 16)) place
+      ∙ row-test p supports (o .ready .supported) k (o .inside) (c % 16 ∷ d % 16 ∷ []) (e % 16) (sym (ap length s)) (omega arith) (two-digits (c % 16) (d % 16) (omega arith) (omega arith)) (omega arith) in
+      no-row p w k c d e (o .inside) s cc cd ce (λ t. n (subst T (sym row) t))
+
+  -- the two pairs are pairs
+  variable-in : (x : ℕ) → T (any (eqb x) (constraintAt p k .scope)) → x < p .variables
+  variable-in x t = g .inside x (member x (constraintAt p k .scope) t)
+
+  pair-a : PairCode p a
+  pair-a = real p w a (o .first) (variable-in (a / 16) (o .has-first))
+
+  pair-b : PairCode p b
+  pair-b = real p w b (o .second) (variable-in (b / 16) (o .has-second))
+
+  module _ (e : ℕ) (f : e / 16 ≡ y) (c : PairCode p e) where
+    has-e : T (any (eqb (e / 16)) (constraintAt p k .scope))
+    has-e = subst (λ (x : ℕ). T (any (eqb x) (constraintAt p k .scope))) (sym f) (o .has-third)
+
+    after : b / 16 < y → (T (has (at supports (256 * k + (16 * (a % 16) + b % 16))) (e % 16)) → ⊥) → T (blocked p (numberOf p a ∷ numberOf p b ∷ numberOf p e ∷ []))
+    after i n =
+        in-order a b e (whole-scope (a / 16) (b / 16) (e / 16) (constraintAt p k .scope) (g .few) (g .ordered) h (omega arith) (o .has-first) (o .has-second) has-e)
+        pair-a pair-b c n
+
+    before : y < a / 16 → (T (has (at supports (256 * k + (16 * (e % 16) + a % 16))) (b % 16)) → ⊥) → T (blocked p (numberOf p a ∷ numberOf p b ∷ numberOf p e ∷ []))
+    before i n =
+        last-two-turned p _ _ _ (first-two-turned p _ _ _
+        (in-order e a b (whole-scope (e / 16) (a / 16) (b / 16) (constraintAt p k .scope) (g .few) (g .ordered) (omega arith) h has-e (o .has-first) (o .has-second))
+        c pair-a pair-b n))
+
+    between : a / 16 < y → y < b / 16 → (T (has (at supports (256 * k + (16 * (a % 16) + e % 16))) (b % 16)) → ⊥) → T (blocked p (numberOf p a ∷ numberOf p b ∷ numberOf p e ∷ []))
+    between i j n =
+        last-two-turned p _ _ _
+        (in-order a e b (whole-scope (a / 16) (e / 16) (b / 16) (constraintAt p k .scope) (g .few) (g .ordered) (omega arith) (omega arith) (o .has-first) has-e (o .has-second))
+        pair-a c pair-b n)
+
+  pub sure-after : b / 16 < y → (s : ℕ) → s ≡ at supports (256 * k + 16 * (a % 16) + b % 16) → s < 65536 → Sure p a b y (65535 - s)
+  sure-after i s q m e f c t =
+      let place : 256 * k + 16 * (a % 16) + b % 16 ≡ 256 * k + (16 * (a % 16) + b % 16) = omega arith in
+      after e f c i (λ z. T-not (has s (e % 16)) (subst T (has-not 16 s (e % 16) m (omega arith)) t) (subst (λ (n : ℕ). T (has n (e % 16))) (sym (q ∙ ap (at supports) place)) z))
+
+  pub sure-before : y < a / 16 → (set : ℕ) → Lacking supports (256 * k + a % 16) 16 (b % 16) 16 set → Sure p a b y set
+  sure-before i set l e f c t =
+      let place : 256 * k + (16 * (e % 16) + a % 16) ≡ 256 * k + a % 16 + 16 * (e % 16) = omega arith in
+      before e f c i (λ z. l (e % 16) t .1 (subst (λ (n : ℕ). T (has (at supports n) (b % 16))) place z))
+
+  pub sure-between : a / 16 < y → y < b / 16 → (set : ℕ) → Lacking supports (256 * k + 16 * (a % 16)) 1 (b % 16) 16 set → Sure p a b y set
+  sure-between i j set l e f c t =
+      let place : 256 * k + (16 * (a % 16) + e % 16) ≡ 256 * k + 16 * (a % 16) + 1 * (e % 16) = omega arith in
+      between e f c i j (λ z. l (e % 16) t .1 (subst (λ (n : ℕ). T (has (at supports n) (b % 16))) place z))
+
+-- the lowest of the constraints on three variables
+module _ (p : Problem) (numbers supports : List ℕ) (r : Ready p numbers supports) (a b y : ℕ) (ma : MaybePair p a) (mb : MaybePair p b) (l : y < 16) (set : ℕ) (es : set ≡ bitAnd (bitAnd (at numbers (a / 16)) (at numbers (b / 16))) (at numbers y)) (n : set ≡ 0 → ⊥) where
+  few : set < 2 ^ length (p .constraints)
+  few = subst (λ (s : ℕ). s < 2 ^ length (p .constraints)) (sym es) (lt-of-le-of-lt (and-le-l _ (at numbers y)) (lt-of-le-of-lt (and-le-l _ (at numbers (b / 16))) (r .framed .numbered .touching-few (a / 16) (variable-lt p (r .framed .stated) a ma))))
+
+  low-is : trailingZeros 64 set ≡ least (length (p .constraints)) (has set)
+  low-is = trailing-least 64 (length (p .constraints)) set (omega (arith, r .framed .stated .most)) few n
+
+  low-in : T (has set (trailingZeros 64 set))
+  low-in = subst (λ (k : ℕ). T (has set k)) (sym low-is) (has-lowest (length (p .constraints)) set few n)
+
+  low-lt : trailingZeros 64 set < length (p .constraints)
+  low-lt = has-lt (length (p .constraints)) set _ few low-in
+
+  pub on-small : trailingZeros 64 set < 32
+  on-small = omega (arith, low-lt, r .framed .stated .most)
+
+  pub on-lowest : On p numbers supports (trailingZeros 64 set) a b y
+  on-lowest =
+      let k = trailingZeros 64 set in
+      let st = r .framed .stated in
+      let t = subst T (ap (λ (s : ℕ). has s k) es ∙ has-and _ (at numbers y) k) low-in in
+      let ab = subst T (has-and (at numbers (a / 16)) (at numbers (b / 16)) k) (both-l (has (bitAnd (at numbers (a / 16)) (at numbers (b / 16))) k) (has (at numbers y) k) t) in
+      record {
+        ready = r;
+        inside = low-lt;
+        first = ma;
+        second = mb;
+        has-first = subst T (r .framed .numbered .touching (a / 16) k (variable-lt p st a ma) low-lt) (both-l (has (at numbers (a / 16)) k) (has (at numbers (b / 16)) k) ab);
+        has-second = subst T (r .framed .numbered .touching (b / 16) k (variable-lt p st b mb) low-lt) (both-r (has (at numbers (a / 16)) k) (has (at numbers (b / 16)) k) ab);
+        has-third = subst T (r .framed .numbered .touching y k l low-lt) (both-r (has (bitAnd (at numbers (a / 16)) (at numbers (b / 16))) k) (has (at numbers y) k) t);
+      }
+
+pub on-turned : (p : Problem) (numbers supports : List ℕ) (k a b y : ℕ) → On p numbers supports k a b y → On p numbers supports k b a y
+on-turned p numbers supports k a b y o =
+    record { ready = o .ready; inside = o .inside; first = o .second; second = o .first; has-first = o .has-second; has-second = o .has-first; has-third = o .has-third }
+
+-- those of the same variable
+pub sure-same : (p : Problem) (a b y z known : ℕ) → y ≡ z → Sure p a b z known → Sure p a b y known
+sure-same p a b y z known q s e h = s e (h ∙ q)
+
+-- a value that is among those known
+pub sure-blocked : (p : Problem) (a b e sure : ℕ) → Sure p a b (e / 16) sure → PairCode p e → sure / 2 ^ (e % 16) % 2 ≡ 1 → true ≡ blocked p (numberOf p a ∷ numberOf p b ∷ numberOf p e ∷ [])
+unfolding has
+sure-blocked p a b e sure s c q = sym (of-T _ (s e refl c (T-of (has sure (e % 16)) (eq-eqb (sure / 2 ^ (e % 16) % 2) 1 q))))

@@ -1,0 +1,105 @@
+// Pairs that are blocked with two others by one constraint on three variables, found for all values of a variable at once.
+use super::forbidden::blocked;
+use super::forbidden::support;
+use super::table::number;
+use crate::Numbers;
+ghost use mathlib.Core.Path.{_≡_};
+ghost use mathlib.Core.List.{List, [], _∷_};
+ghost use Prim.Native.Nat.{ℕ, _+_, _*_, _/_, _<_};
+ghost use Rattle.model.specs.Problem.{Problem};
+ghost use Rattle.symmetry.specs.Table.{Ready};
+ghost use Rattle.symmetry.specs.Forbidden.{PairCode, MaybePair, Triple, Lacking, On, Sure, blocked as blockedBy, numberOf};
+
+// The values v for which the set at base + step * v lacks a value w.
+fn lacking(supports: &[u16; 8192], base: usize, step: usize, w: usize) -> usize
+    requires { ⌜ (base + 15 * step < 8192) × (w < 16) ⌝ }
+    ensures { λ r. ⌜ Lacking (now (supports .entry)) base step w 16 r ⌝ }
+{
+    let mut set = 0usize;
+    let mut v = 0;
+    while v < 16 {
+        if (support(supports, base + step * v) >> w) % 2 == 0 {
+            set = set | (1usize << v);
+        }
+        v += 1;
+    }
+    set
+}
+
+// Values of variable y with which the pairs a and b are no row of constraint k, which is on the three variables.
+fn missing(supports: &[u16; 8192], k: usize, a: usize, b: usize, y: usize) -> usize
+    requires { ⌜ k < 32 ⌝ }
+    ensures { λ r. ⌜ ((p : Problem) (numbers : List ℕ) → On p numbers (now (supports .entry)) k a b y → a / 16 < b / 16 → Sure p a b y r) ⌝ }
+{
+    let first = 256 * k + 16 * (a % 16);
+    if b / 16 < y {
+        return 65535 - support(supports, first + b % 16);
+    }
+    if y < a / 16 {
+        return lacking(supports, 256 * k + a % 16, 16, b % 16);
+    }
+    if a / 16 < y {
+        if y < b / 16 {
+            return lacking(supports, first, 1, b % 16);
+        }
+    }
+    0
+}
+
+// Values of variable y whose pairs are surely blocked with the pairs a and b, by a constraint on the three variables.
+fn surely(numbers: &Numbers, supports: &[u16; 8192], a: usize, b: usize, y: usize) -> usize
+    requires { ⌜ ((p : Problem) × Ready p (now numbers) (now supports) × MaybePair p a × MaybePair p b × (y < 16)) ⌝ }
+    ensures { λ r. ⌜ ((p : Problem) → Ready p (now (numbers .entry)) (now (supports .entry)) → MaybePair p a → MaybePair p b → Sure p a b y r) ⌝ }
+{
+    let set = number(numbers, a / 16) & number(numbers, b / 16) & number(numbers, y);
+    if set == 0 {
+        return 0;
+    }
+    let k = usize::trailing_zeros(set) as usize;
+    if a / 16 < b / 16 {
+        return missing(supports, k, a, b, y);
+    }
+    if b / 16 < a / 16 {
+        return missing(supports, k, b, a, y);
+    }
+    0
+}
+
+// The same, where those of variable z are known.
+pub fn surely_after(
+    numbers: &Numbers,
+    supports: &[u16; 8192],
+    a: usize,
+    b: usize,
+    y: usize,
+    z: usize,
+    known: usize,
+) -> usize
+    requires { ⌜ ((p : Problem) × Ready p (now numbers) (now supports) × MaybePair p a × MaybePair p b × (y < 16)) ⌝ }
+    ensures { λ r. ⌜ ((p : Problem) → Ready p (now (numbers .entry)) (now (supports .entry)) → MaybePair p a → MaybePair p b → Sure p a b z known → Sure p a b y r) ⌝ }
+{
+    if y == z {
+        known
+    } else {
+        surely(numbers, supports, a, b, y)
+    }
+}
+
+// Whether some forbidden set lies among three pairs, where values of the third's variable are known that are surely blocked.
+pub fn third_blocked(
+    numbers: &Numbers,
+    supports: &[u16; 8192],
+    short: usize,
+    a: usize,
+    b: usize,
+    e: usize,
+    sure: usize,
+) -> bool
+    requires { ⌜ ((p : Problem) × Triple p (now numbers) (now supports) short a b e) ⌝ }
+    ensures { λ r. ⌜ ((p : Problem) → Triple p (now (numbers .entry)) (now (supports .entry)) short a b e → PairCode p e → Sure p a b (e / 16) sure → r ≡ blockedBy p (numberOf p a ∷ numberOf p b ∷ numberOf p e ∷ [])) ⌝ }
+{
+    if (sure >> (e % 16)) % 2 == 1 {
+        return true;
+    }
+    blocked(numbers, supports, short, a, b, e)
+}
