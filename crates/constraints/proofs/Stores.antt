@@ -375,6 +375,17 @@ module _ {c : Constraint} {supports : List ℕ} {k x y z : ℕ} (p : Scoped c su
       (moves-more ds (set ds x first) m y second n o (moves-one ds x first m q lx-3) ly-3 (at-set-other ds x first y (λ e. omega (arith, x<y-3, e)))) lz-3
       (at-set-other (set ds x first) y second z (λ e. omega (arith, y<z-3, e)) ∙ at-set-other ds x first z (λ e. omega (arith, x<y-3, y<z-3, e))))
 
+  -- nothing is lost
+  pub three-same : first ≡ at ds x → second ≡ at ds y → last ≡ at ds z → (last ≡ 0 → ⊥) → Revision c ds ds 0
+  three-same i o a e =
+      subst (λ (l : List ℕ). Revision c ds l 0)
+      (ap (λ (v : ℕ). set (set (set ds x v) y second) z last) i ∙ ap (λ (l : List ℕ). set (set l y second) z last) (set-at ds x) ∙ ap (λ (v : ℕ). set (set ds y v) z last) o
+      ∙ ap (λ (l : List ℕ). set l z last) (set-at ds y) ∙ ap (set ds z) a ∙ set-at ds z)
+      (three 0 0 0 (none first (at ds x) x i) (none second (at ds y) y o) (none last (at ds z) z a) e)
+    where
+      none : (v w u : ℕ) → v ≡ w → 0 ≡ oneIf (not (eqb v w)) u
+      none v w u q = sym (ap (λ (b : Bool). oneIf (not b) u) (eq-eqb v w q))
+
   pub three-dead : last ≡ 0 → Revision c ds ds 65536
   three-dead e = dead p ds s z mz-3 (set (set (set ds x first) y second) z last) three-sets (at-z-3 ∙ e)
 

@@ -225,6 +225,9 @@ fn revise_three(
     if r.last == 0 {
         return DEAD;
     }
+    if ((r.first ^ a) | (r.second ^ b) | (r.last ^ e)) == 0 {
+        return 0;
+    }
     sets[x] = r.first;
     sets[y] = r.second;
     sets[z] = r.last;

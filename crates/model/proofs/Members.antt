@@ -6,7 +6,7 @@ use Prim.Native.Nat.{ℕ, zero, suc, _-_, _*_, _/_, _%_, _^_, _<_}
 use native.Mathlib.Nat.{mod-eq-of-lt, lt-of-le-of-lt}
 use native.Mathlib.Omega.{arith}
 use lib.Dec.{T, eqb, eqb·suc-suc, eqb·suc-zero}
-use lib.Bits.{bitAnd, bitOr, and-step, and-self, and-le-l, and-le-r, or-add-and}
+use lib.Bits.{bitAnd, bitOr, and-step, and-self, and-le-l, and-le-r, or-add-and, bitXor, xor-add-and}
 use lib.Count.{trailingZeros, under}
 use lib.Pow.{pow-lt}
 use borrow.Author.Tests.{eq-eqb, eqb-true, eqb-false}
@@ -156,6 +156,10 @@ and-e a b v t = let q = subst T (has-and a b v) t in (both-l (has a v) (has b v)
 
 pub or-zero-e : (a b : ℕ) → bitOr a b ≡ 0 → (a ≡ 0) × (b ≡ 0)
 or-zero-e a b e = (omega (arith, or-add-and a b, and-le-r a b), omega (arith, or-add-and a b, and-le-l a b))
+
+-- numbers without a difference are the same
+pub xor-zero-e : (a b : ℕ) → bitXor a b ≡ 0 → a ≡ b
+xor-zero-e a b e = omega (arith, xor-add-and a b, and-le-l a b, and-le-r a b, e)
 
 -- one turn: s is what the lowest member gives
 pub union-turn : (R : ℕ → ℕ → Type 0) (k a m acc s : ℕ) → Rest k a m → (m ≡ 0 → ⊥) → Union R a m acc →

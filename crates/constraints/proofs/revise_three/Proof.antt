@@ -4,7 +4,8 @@ use Prim.Native.Nat.{_<_}
 use native.Mathlib.Omega.{arith}
 use Rattle.model.specs.Lists.{at}
 use lib.Count.{trailingZeros}
-use Rattle.constraints.proofs.Stores.{three, three-dead, three-last, u-has, v-has}
+use Rattle.model.proofs.Members.{or-zero-e, xor-zero-e}
+use Rattle.constraints.proofs.Stores.{three, three-same, three-dead, three-last, u-has, v-has}
 use borrow.Author.Needs.{needs}
 use Rattle.constraints.proofs.revise_three.Statement.{statement}
 use Rattle.constraints.proofs.revise_three.Tie as tie
@@ -91,36 +92,43 @@ returns-2 : tie.Need-returns-2
 unfolding at
 returns-2 c = λ d q. three-dead q _ (c .before .before .before .before .before .before .before .pre .0) _ _ _ (search needs) (search needs) (search needs) (c .before .before .together .ensures) (c .if2 .taken)
 
-mul-sets : tie.Need-mul-sets
-mul-sets c = omega (arith, x-lt (c .before .before .before .before .before .before .before))
-
-element-write-sets : tie.Need-element-write-sets
-element-write-sets c = x-lt (c .before .before .before .before .before .before .before)
-
-mul-sets-2 : tie.Need-mul-sets-2
-mul-sets-2 c = omega (arith, y-lt (c .before .before .before .before .before .before .before))
-
-element-write-sets-2 : tie.Need-element-write-sets-2
-element-write-sets-2 c = y-lt (c .before .before .before .before .before .before .before)
-
-mul-sets-3 : tie.Need-mul-sets-3
-mul-sets-3 c = omega (arith, z-lt (c .before .before .before .before .before .before .before))
-
-element-write-sets-3 : tie.Need-element-write-sets-3
-element-write-sets-3 c = z-lt (c .before .before .before .before .before .before .before)
-
-moved-requires : tie.Need-moved-requires
-moved-requires c κs = x-lt (c .before .before .before .before .before .before .before)
-
-moved-requires-2 : tie.Need-moved-requires-2
-moved-requires-2 c κs = y-lt (c .before .before .before .before .before .before .before .before)
-
-moved-requires-3 : tie.Need-moved-requires-3
-moved-requires-3 c κs = z-lt (c .before .before .before .before .before .before .before .before .before)
-
 returns-3 : tie.Need-returns-3
 unfolding at
-returns-3 c = λ d q. three q _ (c .before .before .before .before .before .before .before .before .before .before .pre .0) _ _ _ (search needs) (search needs) (search needs) (c .before .before .before .before .before .together .ensures) _ _ _ (c .before .before .moved .ensures) (c .before .moved2 .ensures) (c .moved3 .ensures) (c .before .before .before .if2 .left)
+returns-3 c =
+    let o = or-zero-e _ _ (c .if3 .taken) in
+    let i = or-zero-e _ _ (o .0) in
+    λ d q. three-same q _ (c .before .before .before .before .before .before .before .before .before .before .before .pre .0) _ _ _ (search needs) (search needs) (search needs) (c .before .before .before .before .before .before .together .ensures) (xor-zero-e _ _ (i .0)) (xor-zero-e _ _ (i .1)) (xor-zero-e _ _ (o .1)) (c .before .before .before .before .if2 .left)
+
+mul-sets : tie.Need-mul-sets
+mul-sets c = omega (arith, x-lt (c .before .before .before .before .before .before .before .before .before .before .before))
+
+element-write-sets : tie.Need-element-write-sets
+element-write-sets c = x-lt (c .before .before .before .before .before .before .before .before .before .before .before)
+
+mul-sets-2 : tie.Need-mul-sets-2
+mul-sets-2 c = omega (arith, y-lt (c .before .before .before .before .before .before .before .before .before .before .before))
+
+element-write-sets-2 : tie.Need-element-write-sets-2
+element-write-sets-2 c = y-lt (c .before .before .before .before .before .before .before .before .before .before .before)
+
+mul-sets-3 : tie.Need-mul-sets-3
+mul-sets-3 c = omega (arith, z-lt (c .before .before .before .before .before .before .before .before .before .before .before))
+
+element-write-sets-3 : tie.Need-element-write-sets-3
+element-write-sets-3 c = z-lt (c .before .before .before .before .before .before .before .before .before .before .before)
+
+moved-requires : tie.Need-moved-requires
+moved-requires c κs = x-lt (c .before .before .before .before .before .before .before .before .before .before .before)
+
+moved-requires-2 : tie.Need-moved-requires-2
+moved-requires-2 c κs = y-lt (c .before .before .before .before .before .before .before .before .before .before .before .before)
+
+moved-requires-3 : tie.Need-moved-requires-3
+moved-requires-3 c κs = z-lt (c .before .before .before .before .before .before .before .before .before .before .before .before .before)
+
+returns-4 : tie.Need-returns-4
+unfolding at
+returns-4 c = λ d q. three q _ (c .before .before .before .before .before .before .before .before .before .before .before .before .before .before .pre .0) _ _ _ (search needs) (search needs) (search needs) (c .before .before .before .before .before .before .before .before .before .together .ensures) _ _ _ (c .before .before .moved .ensures) (c .before .moved2 .ensures) (c .moved3 .ensures) (c .before .before .before .before .before .before .before .if2 .left)
 
 pub revise-three-spec : {M : Type 1} → statement M
 revise-three-spec =
@@ -144,6 +152,7 @@ revise-three-spec =
     element-copy-out-e
     together-requires
     returns-2
+    returns-3
     mul-sets
     element-write-sets
     mul-sets-2
@@ -153,4 +162,4 @@ revise-three-spec =
     moved-requires
     moved-requires-2
     moved-requires-3
-    returns-3)
+    returns-4)
