@@ -6,13 +6,8 @@ use lib.Dec.{eqb}
 use lib.Bits.{bitAnd}
 use Rattle.model.specs.Lists.{both}
 use Rattle.model.specs.ValueSets.{has}
-use Rattle.constraints.specs.Steps.{oneIf}
 use Rattle.model.proofs.Sets.{has-none}
 use Rattle.model.proofs.Masks.{has-and, has-not, has-one}
-
-pub has-oneIf : (b : Bool) (u v : ℕ) → has (oneIf b u) v ≡ both b (eqb v u)
-has-oneIf true u v = has-one u v
-has-oneIf false u v = has-none v
 
 -- a set without the members of another, by the complement of that
 pub without-has : (w a m j : ℕ) → m < 2 ^ w → j < w → has (bitAnd a ((2 ^ w - 1) - m)) j ≡ both (has a j) (not (has m j))

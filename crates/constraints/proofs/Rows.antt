@@ -13,7 +13,8 @@ use Rattle.model.specs.ValueSets.{has, maskOf}
 use Rattle.model.specs.Problem.{Constraint}
 use Rattle.model.specs.Search.{rowWith, supported}
 use Rattle.model.proofs.Lists.{T-of, of-T, of-not, both-i, both-l, both-r, any-i, any-e, among-i, among-e, Sorted, at-tabulate, length-tabulate, at-out}
-use Rattle.model.proofs.Sets.{has-none, has-lt, member, mask-i, mask-e, mask-lt, mask-ext, Sets, Inside, inside-antisym, has-at-lt}
+use Rattle.model.proofs.Sets.{has-none, has-lt, member, mask-i, mask-e, mask-lt, mask-ext, inside-antisym, has-at-lt}
+use Rattle.model.specs.Pruning.{Sets, Inside}
 use Rattle.model.proofs.Prune as Prune
 use Rattle.layout.specs.Pruning.{Fixed}
 use Rattle.constraints.specs.Revised.{revised}

@@ -14,17 +14,17 @@ use lib.Bits.{bitAnd, bitOr, and-le-l, or-lt}
 use lib.Pow.{pow-lt}
 use borrow.Author.Tests.{eq-eqb, ne-eqb}
 use Rattle.model.specs.Lists.{both, either, any, at, same, ascending}
-use Rattle.model.specs.ValueSets.{has}
+use Rattle.model.specs.ValueSets.{has, oneIf}
 use Rattle.model.specs.Problem.{Constraint}
 use Rattle.model.specs.Search.{supported}
 use Rattle.model.proofs.Lists.{T-of, of-T, of-not, any-i, any-e, among-i, among-e, same-eq, same-refl, Sorted, ascending-sorted, at-set, at-set-other, set-at}
-use Rattle.model.proofs.Sets.{has-lt, mask-i, mask-e, member, Sets, set-sets}
-use Rattle.model.proofs.Masks.{has-or}
+use Rattle.model.proofs.Sets.{has-lt, mask-i, mask-e, member, set-sets}
+use Rattle.model.specs.Pruning.{Sets}
+use Rattle.model.proofs.Masks.{has-or, has-oneIf}
 use Rattle.model.proofs.Members.{both-no, both-yes, either-no, low-has, rest-i, has-0, and-i, and-e, or-zero-e}
 use Rattle.layout.specs.Layout.{place}
 use Rattle.constraints.specs.Revised.{revised, Revision}
-use Rattle.constraints.specs.Steps.{oneIf, Met, Joined, Met3, Joined3, Scoped, Nonempty, Cut}
-use Rattle.constraints.proofs.Bits.{has-oneIf}
+use Rattle.constraints.specs.Steps.{Met, Joined, Met3, Joined3, Scoped, Nonempty, Cut}
 use Rattle.constraints.proofs.Rows.{RowIn, PairIn, alive, pair-has, supported-e, supported-i, supported-out, revised-is}
 
 -- ---- the sets that changed

@@ -17,12 +17,13 @@ use Rattle.model.specs.Lists.{both, any, at}
 use Rattle.model.specs.ValueSets.{has}
 use Rattle.model.specs.Problem.{Problem, Constraint}
 use Rattle.model.proofs.Lists.{T-of, of-T, not-of, of-not, both-i, among-i, among-e, ascending-sorted}
-use Rattle.model.proofs.Sets.{has-none, has-lt, Sets, Inside, inside-antisym, size, size-inside, size-strict}
+use Rattle.model.proofs.Sets.{has-none, has-lt, inside-antisym, size, size-inside, size-strict}
+use Rattle.model.specs.Pruning.{Sets, Inside, Prunes}
 use Rattle.model.proofs.Masks.{has-one}
 use Rattle.model.proofs.Members.{low-has, rest-e, rest-i, rest-less, one-bit, one-has, has-0, or-i, or-e, and-e}
 use Rattle.model.proofs.Firsts.{take-full, take-empty, full-take}
-use Rattle.model.proofs.Prune.{Way}
-use Rattle.model.proofs.WellFormed.{GoodConstraint}
+use Rattle.model.proofs.Prunes.{prunes-none, prunes-then}
+use Rattle.model.specs.WellFormed.{GoodConstraint}
 use Rattle.layout.specs.Layout.{constraintAt}
 use Rattle.layout.specs.Tables.{Linked, byRows}
 use Rattle.layout.specs.Pruning.{Fixed, setsOf}
@@ -31,7 +32,7 @@ use Rattle.constraints.specs.Revised.{revised, Revision, Waiting, Constr
 use Rattle.constraints.specs.Steps.{Holding, Nonempty, Gathered}
 use Rattle.constraints.proofs.Bits.{without-has}
 use Rattle.constraints.proofs.Rows.{revised-sets, revised-inside, revised-fixed, revised-out, fixed-kept}
-use Rattle.constraints.proofs.Ways.{fixed-take, fixed-all, revised-way}
+use Rattle.constraints.proofs.Ways.{fixed-take, fixed-all, revised-prunes}
 
 -- ---- what a revision changed
 module _ (c : Constraint) (ds es : List ℕ) (changed : ℕ) (s : Sets 16 ds) (r : Revision c ds es changed) (l : changed ≡ 65536 → ⊥) where
@@ -86,7 +87,7 @@ pub record Turning (p : Problem) (numbers supports ds es : List ℕ) (left next 
   pub full : (x : ℕ) → x < p .variables → at es x ≡ 0 → ⊥
   pub known : (k : ℕ) → T (has left k) ⊎ T (has next k) → k < length (p .constraints)
   pub others : (k : ℕ) → k < length (p .constraints) → has left k ≡ false → has next k ≡ false → byRows p k ≡ false → Fixed es (constraintAt p k)
-  pub ways : (prefix : List ℕ) → Way p prefix (setsOf p ds) → Way p prefix (setsOf p es)
+  pub ways : (prefix : List ℕ) → Prunes p prefix (setsOf p ds) (setsOf p es)
   pub less : Inside es ds
   pub kept : (x : ℕ) → has all x ≡ false → at es x ≡ at ds x
   pub few : (x : ℕ) → T (has all x) → x < p .variables
@@ -104,7 +105,7 @@ module _ (p : Problem) (numbers supports ds : List ℕ) where
     full = full-take (p .variables) ds (w .given .sixteen) (omega (arith, w .wellFormed .few)) (w .given .full);
     known = λ k. ⊎-elim (w .known k) (λ q. absurd (has-0 k q));
     others = λ k l e f b. fixed-all (p .variables) ds (w .given .sixteen) (omega (arith, w .wellFormed .few)) (constraintAt p k) (good (w .wellFormed) k l .inside) (w .others k l e b);
-    ways = λ prefix y. y;
+    ways = λ prefix. prunes-none p prefix (setsOf p ds);
     less = λ x v q. q;
     kept = λ x e. refl;
     few = λ x t. absurd (has-0 x t);
@@ -178,8 +179,8 @@ module _ {p : Problem} {numbers supports ds es : List ℕ} {left next all : ℕ}
   others-i = rest-i 64 left (omega arith) (t .wide)
 
   module _ {fs : List ℕ} {changed : ℕ} (r : Revision (constraintAt p (trailingZeros 64 left)) es fs changed) where
-    way : (prefix : List ℕ) → Way p prefix (setsOf p ds) → Way p prefix (setsOf p (revised es (constraintAt p (trailingZeros 64 left))))
-    way prefix y = revised-way p (t .held .wellFormed) c (is-one p k k-lt) es (t .sixteen) prefix (t .ways prefix y)
+    way : (prefix : List ℕ) → Prunes p prefix (setsOf p ds) (setsOf p (revised es (constraintAt p (trailingZeros 64 left))))
+    way prefix = prunes-then p prefix (setsOf p ds) (setsOf p es) (setsOf p (revised es c)) (t .ways prefix) (revised-prunes p (t .held .wellFormed) c (is-one p k k-lt) es (t .sixteen) prefix)
 
     -- a set would be empty
     pub turning-dead : (gs : List ℕ) → changed ≡ 65536 → Constrained p ds gs 65536
@@ -242,7 +243,7 @@ module _ {p : Problem} {numbers supports ds es : List ℕ} {left next all : ℕ}
           full = turn-full;
           known = turn-known;
           others = turn-others;
-          ways = λ prefix y. subst (λ (l : List ℕ). Way p prefix (setsOf p l)) (sym (r .sets l)) (way prefix y);
+          ways = λ prefix. subst (λ (l : List ℕ). Prunes p prefix (setsOf p ds) (setsOf p l)) (sym (r .sets l)) (way prefix);
           less = λ x v q. t .less x v (inside c es fs changed (t .sixteen) r l x v q);
           kept = turn-kept;
           few = turn-few;

@@ -10,14 +10,14 @@ use lib.Bits.{bitAnd, bitOr, and-le-l, and-le-r, or-add-and}
 use lib.Count.{trailingZeros}
 use borrow.Author.Tests.{eq-eqb, ne-eqb}
 use Rattle.model.specs.Lists.{at}
-use Rattle.model.specs.ValueSets.{has}
+use Rattle.model.specs.ValueSets.{has, oneIf}
 use Rattle.model.proofs.Lists.{T-of, both-i, both-l, both-r}
 use Rattle.model.proofs.Sets.{has-lt}
 use Rattle.model.proofs.Members.{low-has, Rest, rest-begin, rest-turn, has-0, Union, union-begin, union-turn, union-end, and-i, and-e}
 use Rattle.layout.specs.Tables.{Words}
-use Rattle.constraints.specs.Steps.{oneIf, Met, Joined, Met3, Met8, Joined3, Gathered}
+use Rattle.constraints.specs.Steps.{Met, Joined, Met3, Met8, Joined3, Gathered}
 use Rattle.constraints.specs.Lanes.{FullLanes, LaneUnion, Product}
-use Rattle.constraints.proofs.Bits.{has-oneIf}
+use Rattle.model.proofs.Masks.{has-oneIf}
 
 -- a bound of a union of three sets is one of each
 pub parts-lt : (n a b e : ℕ) → bitOr (bitOr a b) e < n → (a < n) × (b < n) × (e < n)

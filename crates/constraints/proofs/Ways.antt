@@ -6,11 +6,12 @@ use native.Mathlib.Omega.{arith}
 use lib.ListN.{take}
 use Rattle.model.specs.Lists.{at}
 use Rattle.model.specs.Problem.{Problem, Constraint}
-use Rattle.model.proofs.Sets.{has-lt, Sets}
+use Rattle.model.proofs.Sets.{has-lt}
+use Rattle.model.specs.Pruning.{Sets, Prunes}
 use Rattle.model.proofs.Firsts.{take-at, take-sets, take-e, take-i, take-inside}
-use Rattle.model.proofs.Prune.{supported-mono, Way, way-removal}
-use Rattle.model.proofs.Tree.{well-sized}
-use Rattle.model.proofs.WellFormed.{WellFormed}
+use Rattle.model.proofs.Prune.{supported-mono}
+use Rattle.model.proofs.Prunes.{removal-prunes}
+use Rattle.model.specs.WellFormed.{WellFormed}
 use Rattle.layout.specs.Pruning.{Fixed}
 use Rattle.constraints.specs.Revised.{revised}
 use Rattle.constraints.proofs.Rows.{revised-e, revised-i, revised-sets, fixed-kept}
@@ -31,8 +32,8 @@ module _ (p : Problem) (w : WellFormed p) (c : Constraint) (m : List·Memᴰ c (
   after : Sets 16 (revised ds c)
   after = revised-sets ds c 16 (s .0)
 
-  pub revised-way : (prefix : List ℕ) → Way p prefix (take (p .variables) ds) → Way p prefix (take (p .variables) (revised ds c))
-  revised-way prefix y = way-removal p prefix (well-sized p w) (take (p .variables) ds) (take (p .variables) (revised ds c)) y record {
+  pub revised-prunes : (prefix : List ℕ) → Prunes p prefix (take (p .variables) ds) (take (p .variables) (revised ds c))
+  revised-prunes prefix = removal-prunes p prefix (take (p .variables) ds) (take (p .variables) (revised ds c)) record {
     sets = take-sets (p .variables) (revised ds c) after few;
     less = λ x v t. let r = take-e (p .variables) (revised ds c) after few x v t in take-i (p .variables) ds s few x v (r .0) (revised-e ds c x v (r .1) .0);
     spared = λ x v t k.

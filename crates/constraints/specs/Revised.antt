@@ -9,7 +9,7 @@ use Rattle.model.specs.Lists.{both, at, tabulate}
 use Rattle.model.specs.ValueSets.{has, maskOf}
 use Rattle.model.specs.Problem.{Problem, Constraint}
 use Rattle.model.specs.Search.{supported}
-use Rattle.model.proofs.WellFormed.{WellFormed}
+use Rattle.model.specs.WellFormed.{WellFormed}
 use Rattle.model.proofs.Sets.{size}
 use Rattle.layout.specs.Layout.{Numbers, Supports, constraintAt}
 use Rattle.layout.specs.Tables.{Linked, Words, byRows}

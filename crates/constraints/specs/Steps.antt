@@ -6,16 +6,11 @@ use Prim.Native.Nat.{ℕ, suc, _+_, _*_, _^_, _≤_, _<_}
 use lib.Dec.{T, eqb}
 use lib.ListN.{length, set}
 use Rattle.model.specs.Lists.{any, at, same, ascending}
-use Rattle.model.specs.ValueSets.{has, maskOf}
+use Rattle.model.specs.ValueSets.{has, maskOf, oneIf}
 use Rattle.model.specs.Problem.{Problem, Constraint}
-use Rattle.model.proofs.WellFormed.{WellFormed}
+use Rattle.model.specs.WellFormed.{WellFormed}
 use Rattle.layout.specs.Layout.{Numbers, Supports, place}
 use Rattle.layout.specs.Tables.{Words}
-
--- the set of v, or the empty set
-abbrev pub oneIf : Bool → ℕ → ℕ
-oneIf true v = 2 ^ v
-oneIf false v = 0
 
 -- v of a and w of b go together: w is in the set of the table that stands v after the base
 abbrev pub Met : List ℕ → ℕ → ℕ → ℕ → ℕ → ℕ → Type 0

@@ -9,11 +9,12 @@ ghost use lib.Bits.{bitAnd};
 ghost use lib.ListN.{length};
 ghost use Rattle.model.specs.Lists.{at};
 ghost use Rattle.model.specs.Problem.{Problem, Constraint};
-ghost use Rattle.model.proofs.Sets.{Sets};
+ghost use Rattle.model.specs.Pruning.{Sets};
 ghost use Rattle.layout.specs.Layout.{constraintAt};
 ghost use Rattle.layout.specs.Tables.{Words};
 ghost use Rattle.constraints.specs.Revised.{Revision, Waiting, Constrained};
-ghost use Rattle.constraints.specs.Steps.{oneIf, Joined, Met3, Met8, Joined3, Scoped, Nonempty, Holding, Cut, Gathered};
+ghost use Rattle.constraints.specs.Steps.{Joined, Met3, Met8, Joined3, Scoped, Nonempty, Holding, Cut, Gathered};
+ghost use Rattle.model.specs.ValueSets.{oneIf};
 ghost use Rattle.constraints.specs.Lanes.{FullLanes, LaneUnion, Product};
 
 // Bits of a number of eight lanes: the first of each lane, the first two of each second, the first four of each fourth.

@@ -12,7 +12,7 @@ use borrow.Author.Tests.{ltb-true, ltb-false}
 use Rattle.model.specs.Lists.{at, either}
 use Rattle.model.specs.ValueSets.{has}
 use Rattle.model.specs.Problem.{Problem}
-use Rattle.model.proofs.WellFormed.{WellFormed}
+use Rattle.model.specs.WellFormed.{WellFormed}
 use Rattle.model.proofs.Lists.{at-set, at-set-other}
 use Rattle.model.proofs.Sets.{has-lt, has-mask, has-at-lt}
 use Rattle.layout.specs.Layout.{Numbers}
@@ -20,7 +20,7 @@ use Rattle.layout.specs.Tables.{goes, Rows, Linked}
 use Rattle.index.specs.Index.{Compact, Made}
 use Rattle.index.specs.Steps.{Filled, Lanes, Symmetries, Linking, Links, Ground, LooseTo, LooseSet}
 use Rattle.index.proofs.Lanes.{worded}
-use Rattle.index.proofs.Pictured.{pictured}
+use Rattle.index.proofs.Pictured.{imageTables}
 
 -- ---- what the numbers before a place say, where these stay
 pub numbers-kept : (p : Problem) (old new : List ℕ) → WellFormed p → length (p .constraints) ≤ 32 → ((j : ℕ) → j < 70 → at new j ≡ at old j) → Numbers p old → Numbers p new
@@ -114,7 +114,7 @@ module _ (p : Problem) (n0 supports images t0 : List ℕ) (c : Compact p n0 supp
         linked = linked;
         rowed = λ x v y hx hv hy. drawn .kept .low (256 * x + 16 * v + y) (omega arith) ∙ rows .1 p ground x v y hx hv hy;
         worded = worded (set n1 88 r) n3 supports words;
-        pictured = pictured p n3 images t1 t2 (c .wellFormed) numbered (c .compiled .imaged) drawn;
+        imageTables = imageTables p n3 images t1 t2 (c .wellFormed) numbered (c .compiled .imaged) drawn;
       };
       kept = kept;
       numbers-length = words .size ∙ length-set n1 88 r ∙ l .size;

@@ -9,12 +9,6 @@ use Rattle.model.specs.Lists.{both}
 use Rattle.model.specs.ValueSets.{has}
 use Rattle.model.proofs.Sets.{has-zero, has-suc, has-none, pow2}
 use Rattle.model.proofs.Masks.{has-one, has-shr}
-use Rattle.index.specs.Steps.{oneIf}
-
--- ---- one member, or none
-pub has-oneIf : (b : Bool) (u v : ℕ) → has (oneIf b u) v ≡ both b (eqb v u)
-has-oneIf true u v = has-one u v
-has-oneIf false u v = has-none v
 
 -- ---- the bits below a place, and those from it on
 pub low-bits : (k a b w : ℕ) → w < k → has (2 ^ k * a + b) w ≡ has b w

@@ -7,12 +7,12 @@ use lib.Bits.{bitOr}
 use lib.Dec.{T, ltb}
 use borrow.Author.Tests.{lt-ltb, ltb-true}
 use Rattle.model.specs.Lists.{both}
-use Rattle.model.specs.ValueSets.{has, maskOf}
+use Rattle.model.specs.ValueSets.{has, maskOf, oneIf}
 use Rattle.model.proofs.Lists.{of-T, both-l}
-use Rattle.model.proofs.Masks.{is-mask}
+use Rattle.model.proofs.Masks.{is-mask, has-oneIf}
 use Rattle.model.proofs.Filling.{gathered-begin, gathered-turn}
-use Rattle.index.specs.Steps.{oneIf, Gathered}
-use Rattle.index.proofs.Bits.{has-oneIf, low-bits}
+use Rattle.index.specs.Steps.{Gathered}
+use Rattle.index.proofs.Bits.{low-bits}
 
 pub gather-begin : (f : ℕ → Bool) → Gathered f 0 0
 gather-begin f = record { has-is = gathered-begin f }

@@ -12,7 +12,7 @@ use borrow.Author.Tests.{ne-eqb}
 use Rattle.model.specs.Lists.{any, at, both}
 use Rattle.model.specs.ValueSets.{has}
 use Rattle.model.specs.Problem.{Problem}
-use Rattle.model.proofs.WellFormed.{WellFormed}
+use Rattle.model.specs.WellFormed.{WellFormed}
 use Rattle.model.proofs.Lists.{T-of, among-e, at-set, at-set-other}
 use Rattle.model.proofs.Masks.{has-and, has-not}
 use Rattle.model.proofs.Members.{has-0, and-i}

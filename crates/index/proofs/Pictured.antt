@@ -8,12 +8,12 @@ use lib.ListN.{length}
 use Rattle.model.specs.Lists.{any, at, keep}
 use Rattle.model.specs.ValueSets.{has, members}
 use Rattle.model.specs.Problem.{Problem}
-use Rattle.model.proofs.WellFormed.{WellFormed}
+use Rattle.model.specs.WellFormed.{WellFormed}
 use Rattle.model.proofs.Lists.{T-ext, any-i, any-e, keep-e}
 use Rattle.model.proofs.Sets.{has-mask, mask-lt, mask-ext, members-e}
 use Rattle.model.proofs.Pairs
 use Rattle.layout.specs.Layout.{Numbers, Images}
-use Rattle.layout.specs.Tables.{imageOf, Pictures}
+use Rattle.layout.specs.Tables.{imageOf, ImageTables}
 use Rattle.index.specs.Steps.{smallerOf, Point, Symmetries}
 
 -- the images of members are all that counts
@@ -39,8 +39,8 @@ module _ (p : Problem) (numbers images old new : List ℕ) (wf : WellFormed p) (
   image-is : (e x u : ℕ) → e < length (p .symmetries) → x < p .variables → T (has (at (p .initial) x) u) → at images (192 * e + 16 * x + u) ≡ imageOf p e x u
   image-is e x u k l t = im e x u k l (Pairs.init-lt p wf x u l t)
 
-  pub pictured : Pictures p new
-  pictured = record {
+  pub imageTables : ImageTables p new
+  imageTables = record {
     cuts = λ e x v y k l t h.
         (let a : 3072 + 3072 * e + 256 * x + 16 * v + y ≡ 3072 + 16 * (192 * e + 16 * x + v) + y = omega arith in
         ap (at new) a ∙ point e x v k l t .cut y h

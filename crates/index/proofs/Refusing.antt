@@ -11,12 +11,11 @@ use lib.Bits.{bitAnd, bitOr}
 use lib.Dec.{T, eqb, eqb→eq}
 use borrow.Author.Tests.{eqb-true, not-false}
 use Rattle.model.specs.Lists.{at, both, either}
-use Rattle.model.specs.ValueSets.{has}
+use Rattle.model.specs.ValueSets.{has, oneIf}
 use Rattle.model.proofs.Lists.{of-T, of-not, both-l, both-r, either-e}
-use Rattle.model.proofs.Masks.{has-and}
+use Rattle.model.proofs.Masks.{has-and, has-oneIf}
 use Rattle.model.proofs.Members.{has-0, and-i, or-i, or-e}
-use Rattle.index.specs.Steps.{oneIf, Refused, Twice, LooseTo, LooseSet}
-use Rattle.index.proofs.Bits.{has-oneIf}
+use Rattle.index.specs.Steps.{Refused, Twice, LooseTo, LooseSet}
 
 -- ---- one value
 pub refused-none : (tables : List ℕ) (m from v : ℕ) → has m v ≡ false → Refused tables m from v 0

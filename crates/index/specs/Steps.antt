@@ -8,14 +8,9 @@ use lib.ListN.{length}
 use Rattle.model.specs.Lists.{any, at, keep, same, both, either}
 use Rattle.model.specs.ValueSets.{has, maskOf, members}
 use Rattle.model.specs.Problem.{Problem}
-use Rattle.model.proofs.WellFormed.{WellFormed}
+use Rattle.model.specs.WellFormed.{WellFormed}
 use Rattle.layout.specs.Layout.{constraintAt, Numbers, Supports}
 use Rattle.layout.specs.Tables.{linkOf, byRows}
-
--- the set of v, or the empty set
-abbrev pub oneIf : Bool → ℕ → ℕ
-oneIf true v = 2 ^ v
-oneIf false v = 0
 
 -- numbers were stored at the first i of some places, and nowhere else
 pub record Filled (place : ℕ → ℕ) (P : ℕ → ℕ → Type 0) (i : ℕ) (old new : List ℕ) : Type 0 where

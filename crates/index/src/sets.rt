@@ -2,8 +2,7 @@
 ghost use mathlib.Core.Path.{_≡_};
 ghost use mathlib.Core.Bool.{not};
 ghost use Prim.Native.Nat.{ℕ, _<_};
-ghost use Rattle.model.specs.ValueSets.{has};
-ghost use Rattle.index.specs.Steps.{oneIf};
+ghost use Rattle.model.specs.ValueSets.{has, oneIf};
 
 // The member test, of a number of 64 bits and of a set of sixteen values.
 pub fn contains(s: u64, v: usize) -> bool

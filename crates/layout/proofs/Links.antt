@@ -10,7 +10,7 @@ use Rattle.model.specs.Lists.{both, either, any, at, same, ascending}
 use Rattle.model.specs.Problem.{Problem, Constraint}
 use Rattle.model.proofs.Lists.{T-of, both-l, same-eq, mem-getD, ascending-2}
 use Rattle.model.proofs.Masks.{least-is}
-use Rattle.model.proofs.WellFormed.{WellFormed, GoodConstraint}
+use Rattle.model.specs.WellFormed.{WellFormed, GoodConstraint}
 use Rattle.layout.specs.Layout.{constraintAt}
 use Rattle.layout.specs.Tables.{linkOf, byRows, allowed, goes}
 

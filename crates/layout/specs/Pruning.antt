@@ -10,8 +10,7 @@ use Rattle.model.specs.Lists.{at}
 use Rattle.model.specs.ValueSets.{has, anyEmpty}
 use Rattle.model.specs.Problem.{Problem, Constraint}
 use Rattle.model.specs.Search.{supported}
-use Rattle.model.proofs.Sets.{Sets, Inside}
-use Rattle.model.proofs.Prune.{Way}
+use Rattle.model.specs.Pruning.{Sets, Inside, Prunes}
 use Rattle.layout.specs.Tables.{goes}
 
 -- the sets of p's variables among the sixteen
@@ -26,7 +25,7 @@ pub record Given (p : Problem) (sets : List ℕ) : Type 0 where
 
 -- the sets after some pruning: only values went that a round takes too, at any prefix; all that changed are in `changed`; none is empty
 pub record Lessened (p : Problem) (sets sets′ : List ℕ) (changed : ℕ) : Type 0 where
-  pub ways : (prefix : List ℕ) → Way p prefix (setsOf p sets) → Way p prefix (setsOf p sets′)
+  pub ways : (prefix : List ℕ) → Prunes p prefix (setsOf p sets) (setsOf p sets′)
   pub sixteen : Sets 16 sets′
   pub full : anyEmpty (setsOf p sets′) ≡ false
   pub less : Inside sets′ sets
@@ -35,7 +34,7 @@ pub record Lessened (p : Problem) (sets sets′ : List ℕ) (changed : ℕ) : Ty
 
 -- a dead end: values that a round takes too went, and a set is empty
 abbrev pub Ended : Problem → List ℕ → Type 0
-Ended p sets = (es : List ℕ) × (((prefix : List ℕ) → Way p prefix (setsOf p sets) → Way p prefix es) × T (anyEmpty es))
+Ended p sets = (es : List ℕ) × (((prefix : List ℕ) → Prunes p prefix (setsOf p sets) es) × T (anyEmpty es))
 
 -- the constraint takes nothing from the sets
 abbrev pub Fixed : List ℕ → Constraint → Type 0

@@ -8,8 +8,9 @@ use lib.ListN.{length}
 use lib.Dec.{T, eqb, ltb, leb}
 use Rattle.model.specs.Lists.{any, at, keep, same, both, either}
 use Rattle.model.specs.ValueSets.{has, maskOf, members, least}
-use Rattle.model.specs.Problem.{Problem, pair}
-use Rattle.layout.specs.Layout.{constraintAt, symmetryAt, Numbers, Supports}
+use Rattle.model.specs.Problem.{Problem}
+use Rattle.layout.specs.Places.{LINKED, BY-ROWS, OTHERS, LOOSE, LANES, SMALLER, OWN}
+use Rattle.layout.specs.Layout.{constraintAt, symmetryAt, imageCode, Numbers, Supports}
 
 -- ---- constraints on two variables, by variable
 -- the first constraint on x and y, x below y; the number of constraints where there is none
@@ -34,38 +35,38 @@ goes p x v y w = elim (ltb x y) [ true ↦ allowed p (linkOf p x y) v w | false 
 abbrev pub Rows : Problem → List ℕ → Type 0
 Rows p tables = (x v y : ℕ) → x < 12 → v < 16 → y < 16 → at tables (256 * x + 16 * v + y) ≡ maskOf (goes p x v y)
 
--- `numbers`: at 70 the variables in a constraint that is pruned by variable, at 71 those constraints, from 72 on for each variable the other
--- constraints that have it in their scope, and at 88 the loose variables: no value of another variable is refused by two of a loose variable's values
+-- `numbers`: the variables in a constraint that is pruned by variable, those constraints, for each variable the other constraints that have it in
+-- their scope, and the loose variables: no value of another variable is refused by two of a loose variable's values
 pub record Linked (p : Problem) (numbers : List ℕ) : Type 0 where
-  pub by-rows : (k : ℕ) → k < length (p .constraints) → has (at numbers 71) k ≡ byRows p k
-  pub linked : (x k : ℕ) → k < length (p .constraints) → T (byRows p k) → T (any (eqb x) (constraintAt p k .scope)) → T (has (at numbers 70) x)
-  pub linked-few : (x : ℕ) → T (has (at numbers 70) x) → x < p .variables
-  pub touching : (x k : ℕ) → x < 16 → k < length (p .constraints) → has (at numbers (72 + x)) k ≡ both (any (eqb x) (constraintAt p k .scope)) (not (byRows p k))
-  pub touching-few : (x : ℕ) → x < 16 → at numbers (72 + x) < 2 ^ length (p .constraints)
-  pub loose : (x u v y w : ℕ) → T (has (at numbers 88) x) → T (has (at (p .initial) x) u) → T (has (at (p .initial) x) v) → (u ≡ v → ⊥) →
+  pub by-rows : (k : ℕ) → k < length (p .constraints) → has (at numbers BY-ROWS) k ≡ byRows p k
+  pub linked : (x k : ℕ) → k < length (p .constraints) → T (byRows p k) → T (any (eqb x) (constraintAt p k .scope)) → T (has (at numbers LINKED) x)
+  pub linked-few : (x : ℕ) → T (has (at numbers LINKED) x) → x < p .variables
+  pub touching : (x k : ℕ) → x < 16 → k < length (p .constraints) → has (at numbers (OTHERS + x)) k ≡ both (any (eqb x) (constraintAt p k .scope)) (not (byRows p k))
+  pub touching-few : (x : ℕ) → x < 16 → at numbers (OTHERS + x) < 2 ^ length (p .constraints)
+  pub loose : (x u v y w : ℕ) → T (has (at numbers LOOSE) x) → T (has (at (p .initial) x) u) → T (has (at (p .initial) x) v) → (u ≡ v → ⊥) →
       T (has (at (p .initial) y) w) → T (either (goes p x u y w) (goes p x v y w))
 
 -- ---- constraints on three variables, for sets of values below 8
--- from 128 on eight numbers for each constraint and each of eight first values: bit 8 v + w says that w is in the support set of v
+-- `numbers`: eight for each constraint and each of eight first values: bit 8 v + w says that w is in the support set of v
 abbrev pub Words : List ℕ → List ℕ → Type 0
 Words numbers supports =
-    (k u v w : ℕ) → k < 32 → u < 8 → v < 8 → w < 8 → has (at numbers (128 + 8 * k + u)) (8 * v + w) ≡ has (at supports (256 * k + 16 * u + v)) w
+    (k u v w : ℕ) → k < 32 → u < 8 → v < 8 → w < 8 → has (at numbers (LANES + 8 * k + u)) (8 * v + w) ≡ has (at supports (256 * k + 16 * u + v)) w
 
 -- ---- symmetries
--- the image of the pair (x, v), as 16 times its variable plus its value
+-- the code of the image of the pair (x, v) under symmetry e
 abbrev pub imageOf : Problem → ℕ → ℕ → ℕ → ℕ
-imageOf p e x v = 16 * (at (symmetryAt p e) (pair p x v) / p .values) + at (symmetryAt p e) (pair p x v) % p .values
+imageOf p e x v = imageCode p (symmetryAt p e) x v
 
 -- the values of y that are in images of the smaller values of x's initial set
 abbrev pub smaller : Problem → ℕ → ℕ → ℕ → ℕ → ℕ
 smaller p e x v y = maskOf (λ w. any (λ u. eqb (imageOf p e x u) (16 * y + w)) (keep (λ u. ltb u v) (members (at (p .initial) x))))
 
--- `tables` from 3072 on: for each of sixteen symmetries, each variable x and each value v of its initial set sixteen sets, those of the smaller values;
--- from 52224 on the image of each pair
-pub record Pictures (p : Problem) (tables : List ℕ) : Type 0 where
+-- `tables`: for each of sixteen symmetries, each variable x and each value v of its initial set sixteen sets, those of the smaller values; and the
+-- code of the image of each pair
+pub record ImageTables (p : Problem) (tables : List ℕ) : Type 0 where
   pub cuts : (e x v y : ℕ) → e < length (p .symmetries) → x < p .variables → T (has (at (p .initial) x) v) → y < 16 →
-      at tables (3072 + 3072 * e + 256 * x + 16 * v + y) ≡ smaller p e x v y
-  pub own : (e x v : ℕ) → e < length (p .symmetries) → x < p .variables → T (has (at (p .initial) x) v) → at tables (52224 + 192 * e + 16 * x + v) ≡ imageOf p e x v
+      at tables (SMALLER + 3072 * e + 256 * x + 16 * v + y) ≡ smaller p e x v y
+  pub own : (e x v : ℕ) → e < length (p .symmetries) → x < p .variables → T (has (at (p .initial) x) v) → at tables (OWN + 192 * e + 16 * x + v) ≡ imageOf p e x v
 
 pub record Indexed (p : Problem) (numbers supports tables : List ℕ) : Type 0 where
   pub numbered : Numbers p numbers
@@ -73,4 +74,4 @@ pub record Indexed (p : Problem) (numbers supports tables : List ℕ) : Type 0 w
   pub linked : Linked p numbers
   pub rowed : Rows p tables
   pub worded : Words numbers supports
-  pub pictured : Pictures p tables
+  pub imageTables : ImageTables p tables

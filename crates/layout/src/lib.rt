@@ -1,4 +1,75 @@
-// The layout of the compiled problem: definitions (specs/), and the numbers by which the parts of the search name an outcome.
+// The layout of the compiled problem: definitions (specs/), where the arrays have what, and the numbers by which the parts of the search name
+// an outcome. specs/Places.antt has the same names.
 
+// ---- `numbers`
+// From here on for each variable the set of the constraints on it, the initial sets, and the packed scopes of the constraints.
+pub const TOUCHING: usize = 0;
+
+pub const INITIAL: usize = 16;
+
+pub const SCOPES: usize = 32;
+
+// How many variables, values, constraints and symmetries there are.
+pub const VARIABLES: usize = 64;
+
+pub const VALUES: usize = 65;
+
+pub const CONSTRAINTS: usize = 66;
+
+pub const SYMMETRIES: usize = 67;
+
+// The node limit, and how many plans the list has room for.
+pub const LIMIT: usize = 68;
+
+pub const ROOM: usize = 69;
+
+// The variables in a constraint that is pruned by variable, and those constraints; from OTHERS on each variable's other constraints.
+pub const LINKED: usize = 70;
+
+pub const BY_ROWS: usize = 71;
+
+pub const OTHERS: usize = 72;
+
+// The loose variables.
+pub const LOOSE: usize = 88;
+
+// From here on the constraints on three variables in lanes.
+pub const LANES: usize = 128;
+
+// ---- `tables`
+// From here on the images of the smaller values of each pair, and the image of each pair; at the front the values that go with each pair.
+pub const SMALLER: usize = 3072;
+
+pub const OWN: usize = 52224;
+
+// ---- `work`, after the values of the prefix
+// The plans listed, and the number and item of a refusal.
+pub const PLANS: usize = 12;
+
+pub const NUMBER: usize = 13;
+
+pub const ITEM: usize = 14;
+
+// From here on the marks of the symmetries at each depth.
+pub const MARKS: usize = 16;
+
+// ---- marks
+// The nogoods of the symmetry are obeyed for good; in place of a mark: no assignment obeys them.
+pub const OBEYED: u64 = 15;
+
+pub const FAILED: u64 = 16;
+
+// ---- outcomes
 // In place of the set of the changed variables: a set is empty.
 pub const DEAD: u64 = 65536;
+
+// How a part of the search ends: nothing is left of it, the run is spent, the run is full; the next variable is to be settled; the sheet is refused.
+pub const ALL: u8 = 0;
+
+pub const SPENT: u8 = 1;
+
+pub const FULL: u8 = 2;
+
+pub const DEEPER: u8 = 3;
+
+pub const REFUSED: u8 = 4;

@@ -13,7 +13,8 @@ use Rattle.model.specs.ValueSets.{has, withoutMask}
 use Rattle.model.specs.Problem.{Problem}
 use Rattle.model.specs.Nogood.{Entry, disequality}
 use Rattle.model.proofs.Lists.{of-not, both-l, both-r, at-set, at-take, set-each}
-use Rattle.model.proofs.Sets.{Inside, inside-refl, has-at-lt, mask-e}
+use Rattle.model.proofs.Sets.{inside-refl, has-at-lt, mask-e}
+use Rattle.model.specs.Pruning.{Inside}
 use Rattle.nogood.specs.declared.entry.Step.{Step}
 use Rattle.nogood.specs.Scan.{after, Right, Stepped, None, Some, Passed, Left}
 use Rattle.nogood.specs.Marks.{Settled}
@@ -21,7 +22,7 @@ use Rattle.nogood.proofs.Marks.{settled-equality}
 use Rattle.nogood.proofs.Front
 use Rattle.levels.specs.Levels.{cutOf, keepOf, levels, ownAt, Held, Ready, Fork, forkEntries, Came, dead, done, ended, forked, forcedBy, Parting}
 use Rattle.levels.proofs.Levels.{levels-fork}
-use Rattle.levels.proofs.Pictures.{image-inside, image-asks, image-is}
+use Rattle.levels.proofs.ImageTables.{image-inside, image-asks, image-is}
 
 own-right : {p : Problem} {ss work tables : List ℕ} {e k j : ℕ} → Fork p ss work tables e k j → Right (p .variables) (keepOf (ownAt p work e j))
 own-right {p} {ss} {work} {tables} {e} {k} {j} w = (image-inside (w .tabled) j (at work j) (omega (arith, w .inside, w .prefix .bound)) (w .prefix .drawn j (w .inside)), omega arith)

@@ -11,7 +11,7 @@ use Rattle.model.specs.Problem.{Problem, pair}
 use Rattle.model.specs.Nogood.{Entry, equality, disequality}
 use Rattle.model.specs.Search.{entriesAt, nogoodsOf}
 use Rattle.model.proofs.Lists.{map-ext, map-append, flat-append, below-e, upFrom-add}
-use Rattle.model.proofs.WellFormed.{WellFormed}
+use Rattle.model.specs.WellFormed.{WellFormed}
 use Rattle.layout.specs.Layout.{symmetryAt}
 use Rattle.layout.specs.Tables.{imageOf}
 use Rattle.levels.specs.Levels.{cutOf, keepOf, lower, cuts, levelOf, levels, ownAt}

@@ -1,7 +1,7 @@
 pub mod Levels
 pub mod Thinned
 pub mod Cuts
-pub mod Pictures
+pub mod ImageTables
 pub mod Turns
 pub mod Forks
 pub mod Nogoods

@@ -12,7 +12,7 @@ use Rattle.model.specs.ValueSets.{anyEmpty}
 use Rattle.model.specs.Problem.{Problem}
 use Rattle.model.specs.Nogood.{Entry, filtered}
 use Rattle.model.specs.Search.{nogoodsOf}
-use Rattle.model.proofs.Sets.{Sets, Inside}
+use Rattle.model.specs.Pruning.{Sets, Inside}
 use Rattle.model.proofs.Tree.{nogoods-append}
 use Rattle.layout.specs.Layout.{symmetryAt}
 use Rattle.nogood.specs.Marks.{Idle, Settled}

@@ -32,7 +32,7 @@ module _ {p : Problem} {sets work tables : List ℕ} {e k start : ℕ} (w : Leve
   pub ready : Ready p sets work tables e k start
   ready =
       record {
-        tabled = record { pictured = w .pictured; wellFormed = w .wellFormed; few = w .few; symmetry = w .symmetry };
+        tabled = record { imageTables = w .imageTables; wellFormed = w .wellFormed; few = w .few; symmetry = w .symmetry };
         held = record { live = w .live; unused = w .unused };
         prefix = record { bound = w .bound; drawn = w .drawn };
         begun = w .begun;

@@ -18,7 +18,7 @@ use Rattle.layout.specs.Tables.{imageOf}
 use Rattle.levels.specs.Levels.{keepOf, cuts, levelOf, levels, Thinned, Freed, Doomed, Held, Level, Cut, Met, Ready, Came, dead, done, ended, forked}
 use Rattle.levels.proofs.Levels.{levels-none, levels-append, levels-one}
 use Rattle.levels.proofs.Thinned.{same-length, idle-thinned, equality-next, equality-free, thinned-live, thinned-on, freed-on, doomed-on, freed-more, doomed-more}
-use Rattle.levels.proofs.Pictures.{image-inside, image-is}
+use Rattle.levels.proofs.ImageTables.{image-inside, image-is}
 
 -- ---- a level: its cuts, then its own pair
 module _ {p : Problem} {ss tables : List ℕ} {e x v : ℕ} (w : Level p ss tables e x v) where

@@ -14,10 +14,10 @@ use Rattle.model.specs.ValueSets.{has, members, anyEmpty}
 use Rattle.model.specs.Problem.{Problem}
 use Rattle.model.specs.Nogood.{Entry, equality, disequality, filtered}
 use Rattle.model.specs.Search.{nogoodsOf}
-use Rattle.model.proofs.Sets.{Inside}
-use Rattle.model.proofs.WellFormed.{WellFormed}
+use Rattle.model.specs.Pruning.{Inside}
+use Rattle.model.specs.WellFormed.{WellFormed}
 use Rattle.layout.specs.Layout.{symmetryAt}
-use Rattle.layout.specs.Tables.{Pictures, imageOf}
+use Rattle.layout.specs.Tables.{ImageTables, imageOf}
 use Rattle.nogood.specs.declared.entry.Step.{Step}
 use Rattle.nogood.specs.declared.entry.Step.the-variants as step
 use Rattle.nogood.specs.Scan.{stepOf, None, Live, Passed, Left}
@@ -37,7 +37,7 @@ Mark p ds prefix e m = MarkBy (eqb m 15) p ds prefix e m
 -- the tables hold p's symmetries; the first k numbers of `work` are values of the initial sets of variables 0 to k - 1;
 -- of sixteen sets the first n are p's variables', none of them empty, and the others are {0}; the levels before `start` say nothing more
 pub record Levelled (p : Problem) (sets work tables : List ℕ) (e k start : ℕ) : Type 0 where
-  pub pictured : Pictures p tables
+  pub imageTables : ImageTables p tables
   pub wellFormed : WellFormed p
   pub few : length (p .symmetries) ≤ 16
   pub symmetry : e < length (p .symmetries)
@@ -109,7 +109,7 @@ Doomed n ss es = (fs : List Entry) → None n ss (es ++ fs)
 -- ---- one level
 -- the tables hold p's symmetries, and e is one of them
 pub record Tabled (p : Problem) (tables : List ℕ) (e : ℕ) : Type 0 where
-  pub pictured : Pictures p tables
+  pub imageTables : ImageTables p tables
   pub wellFormed : WellFormed p
   pub few : length (p .symmetries) ≤ 16
   pub symmetry : e < length (p .symmetries)

@@ -15,11 +15,13 @@ use Rattle.model.specs.Lists.{both, at, tabulate}
 use Rattle.model.specs.ValueSets.{has}
 use Rattle.model.specs.Problem.{Problem}
 use Rattle.model.proofs.Lists.{T-of, T-ext, both-l, both-r, either-e, at-out, at-ext, at-tabulate, length-tabulate}
-use Rattle.model.proofs.Sets.{has-lt, has-at-lt, mask-ext, member, Sets, Inside, empty-i}
+use Rattle.model.proofs.Sets.{has-lt, has-at-lt, mask-ext, member, empty-i}
+use Rattle.model.specs.Pruning.{Sets, Inside, Prunes}
 use Rattle.model.proofs.Masks.{contains-op}
 use Rattle.model.proofs.Members.{has-0, and-i, and-e, low-has, rest-has}
 use Rattle.model.proofs.Firsts.{take-length, take-at, take-e, take-i, take-full, full-take}
-use Rattle.model.proofs.Prune.{Removal, Way, way-removal}
+use Rattle.model.proofs.Prune.{Removal}
+use Rattle.model.proofs.Prunes.{prunes-none, removal-prunes}
 use Rattle.model.proofs.Tree.{well-sized}
 use Rattle.layout.specs.Tables.{goes}
 use Rattle.layout.specs.Pruning.{Lessened, Ended, Arc, setsOf}
@@ -65,7 +67,7 @@ module _ {p : Problem} {tables ds : List ℕ} {loose x : ℕ} (r : Ready p table
   stays a = record {
     ended = λ e. absurd (omega arith);
     lessened = λ e. record {
-      ways = λ prefix w. w;
+      ways = λ prefix. prunes-none p prefix (setsOf p ds);
       sixteen = s;
       full = r .given .full;
       less = λ y v t. t;
@@ -171,8 +173,8 @@ module _ {p : Problem} {tables ds : List ℕ} {loose x : ℕ} (r : Ready p table
           (and-i (at ds y) (at cover y) w (q .1) (covers (g .0) y w (omega (arith, q .0, few)) (v .1) (q .1) (g .1 .1)));
     }
 
-    ways : (prefix : List ℕ) → Way p prefix (setsOf p ds) → Way p prefix fs
-    ways prefix w = way-removal p prefix (well-sized p (r .wellFormed)) (setsOf p ds) fs w (removal prefix)
+    ways : (prefix : List ℕ) → Prunes p prefix (setsOf p ds) fs
+    ways prefix = removal-prunes p prefix (setsOf p ds) fs (removal prefix)
 
     module _ {es : List ℕ} {a : ℕ} (k : Cut ds cover es a) where
       ended : a ≡ 65536 → Ended p ds
@@ -243,7 +245,7 @@ module _ {p : Problem} {tables ds : List ℕ} {loose x : ℕ} (r : Ready p table
 
         lessened : Lessened p ds es a
         lessened = record {
-          ways = λ prefix w. subst (Way p prefix) (sym is-cut) (ways prefix w);
+          ways = λ prefix. subst (Prunes p prefix (setsOf p ds)) (sym is-cut) (ways prefix);
           sixteen = es-sets;
           full = take-full n es es-sets sixteen es-full;
           less = es-less;

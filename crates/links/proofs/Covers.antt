@@ -14,7 +14,8 @@ use borrow.Author.Tests.{eqb-true, not-false}
 use Rattle.model.specs.Lists.{at}
 use Rattle.model.specs.ValueSets.{has}
 use Rattle.model.proofs.Lists.{T-of, T-dec, not-of, at-out, at-set, at-set-other, at-replicate}
-use Rattle.model.proofs.Sets.{has-lt, Sets, set-sets}
+use Rattle.model.proofs.Sets.{has-lt, set-sets}
+use Rattle.model.specs.Pruning.{Sets}
 use Rattle.model.proofs.Masks.{has-not}
 use Rattle.model.proofs.Members.{has-0, or-i, and-i, Rest, rest-begin, rest-turn, Union, union-begin, union-turn, union-end}
 use Rattle.links.specs.Steps.{Narrow, Goes, Added, Cover, Covered}

@@ -17,7 +17,7 @@ use Rattle.model.specs.Search.{rowWith, supported}
 use Rattle.model.proofs.Lists.{of-T, both-l, both-r, either-r, any-i, any-e, same-refl}
 use Rattle.model.proofs.Sets.{mask-i, mask-e, mask-lt}
 use Rattle.model.proofs.Prune.{supported-e}
-use Rattle.model.proofs.WellFormed.{WellFormed}
+use Rattle.model.specs.WellFormed.{WellFormed}
 use Rattle.layout.specs.Layout.{constraintAt}
 use Rattle.layout.specs.Tables.{linkOf, allowed, goes, Rows}
 use Rattle.layout.proofs.Links.{is-one, good, scope-order, link-scope, allowed-none}

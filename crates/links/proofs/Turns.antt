@@ -14,9 +14,11 @@ use Rattle.model.specs.Lists.{at}
 use Rattle.model.specs.ValueSets.{has}
 use Rattle.model.specs.Problem.{Problem}
 use Rattle.model.proofs.Lists.{T-dec, not-of, of-not}
-use Rattle.model.proofs.Sets.{has-none, mask-ext, Inside, inside-antisym, size, size-strict}
+use Rattle.model.proofs.Sets.{has-none, mask-ext, inside-antisym, size, size-strict}
+use Rattle.model.specs.Pruning.{Inside}
 use Rattle.model.proofs.Members.{has-0, or-i, or-e, low-has, rest-e, rest-i, rest-less}
 use Rattle.model.proofs.Firsts.{take-e, take-i}
+use Rattle.model.proofs.Prunes.{prunes-none, prunes-then}
 use Rattle.layout.specs.Pruning.{Given, Lessened, Arc, setsOf}
 use Rattle.links.specs.Links.{Waiting, Linking}
 use Rattle.links.specs.Steps.{Ready, CutBy}
@@ -41,7 +43,7 @@ module _ {p : Problem} {numbers tables ds : List ℕ} {dirty : ℕ} (w : Waiting
     wide = h;
     given = w .given;
     lessened = record {
-      ways = λ prefix y. y;
+      ways = λ prefix. prunes-none p prefix (setsOf p ds);
       sixteen = w .given .sixteen;
       full = w .given .full;
       less = λ x v t. t;
@@ -83,7 +85,7 @@ module _ {p : Problem} {numbers tables ds : List ℕ} {dirty : ℕ} (w : Waiting
     turning-dead k e =
         let d = k .ended e in
         record {
-          ended = λ q. (d .0, (λ prefix y. d .1 .0 prefix (t .lessened .ways prefix y), d .1 .1));
+          ended = λ q. (d .0, (λ prefix. prunes-then p prefix (setsOf p ds) (setsOf p es) (d .0) (t .lessened .ways prefix) (d .1 .0 prefix), d .1 .1));
           lessened = λ q. absurd (q refl);
           arcs = λ q. absurd (q refl);
         }
@@ -105,7 +107,7 @@ module _ {p : Problem} {numbers tables ds : List ℕ} {dirty : ℕ} (w : Waiting
 
       turn-lessened : Lessened p ds fs (bitOr all changed)
       turn-lessened = record {
-        ways = λ prefix y. l .ways prefix (t .lessened .ways prefix y);
+        ways = λ prefix. prunes-then p prefix (setsOf p ds) (setsOf p es) (setsOf p fs) (t .lessened .ways prefix) (l .ways prefix);
         sixteen = l .sixteen;
         full = l .full;
         less = λ y v q. t .lessened .less y v (l .less y v q);

@@ -10,8 +10,8 @@ use lib.ListN.{length}
 use Rattle.model.specs.Lists.{at, either}
 use Rattle.model.specs.ValueSets.{has}
 use Rattle.model.specs.Problem.{Problem}
-use Rattle.model.proofs.Sets.{Sets}
-use Rattle.model.proofs.WellFormed.{WellFormed}
+use Rattle.model.specs.Pruning.{Sets}
+use Rattle.model.specs.WellFormed.{WellFormed}
 use Rattle.layout.specs.Tables.{goes, Rows}
 use Rattle.layout.specs.Pruning.{Given, Lessened, Ended, Arc, setsOf}
 

@@ -4,7 +4,7 @@ ghost use mathlib.Core.Bool.{false};
 ghost use Prim.Native.Nat.{ℕ, _+_, _*_, _≤_, _<_};
 ghost use lib.ListN.{length};
 ghost use Rattle.model.specs.Problem.{Problem};
-ghost use Rattle.model.proofs.Sets.{Sets};
+ghost use Rattle.model.specs.Pruning.{Sets};
 ghost use Rattle.links.specs.Links.{Waiting, Linking};
 ghost use Rattle.links.specs.Steps.{Narrow, Added, Cover, Covered, Cut, Ready, CutBy};
 use layout::DEAD;

@@ -12,7 +12,7 @@ use Rattle.model.specs.Lists.{all, both, below, at, ascending, rowsAscen
 use Rattle.model.specs.Problem.{Problem, Constraint, respects}
 use Rattle.model.specs.Verdict.{Verdict, ask, isAccepted}
 use Rattle.model.specs.Sheet.{Header, word, words, headerOf, setsVerdict, scopeAt, rowsAt, afterAt, constraintsVerdict, constraintsFrom, tableAt, problemOf, permutesPairs, symmetriesVerdict, verdictOf}
-use Rattle.model.proofs.WellFormed.{WellFormed, GoodConstraint}
+use Rattle.model.specs.WellFormed.{WellFormed, GoodConstraint, Respected}
 use Rattle.model.proofs.Lists.{both-l, both-r, T-of, all-e, below-i, length-below, at-below}
 
 -- a question that was passed
@@ -108,6 +108,7 @@ pub record Passed (b : List ℕ) : Type 0 where
   -- what the questions on the constraints were asked of
   pub walked : (v : Verdict) × T (isAccepted (constraintsVerdict b (headerOf b) (headerOf b .constraints) 0 (headerOf b .second) v))
   pub well : WellFormed (problemOf b)
+  pub respected : Respected (problemOf b)
 
 pub passed : (b : List ℕ) → T (isAccepted (verdictOf b)) → Passed b
 unfolding verdictOf problemOf tableAt
@@ -162,9 +163,9 @@ passed b t =
         symmetric = λ g m. record {
           sized = (let r = Memᴰ·of-map (tableAt b h) (below (h .symmetries)) m in ap length (sym (r .2)) ∙ length-words b (h .third + 2 * (r .0 * (n * d))) (n * d));
           permutes = q15 g m .0;
-          respectful = q15 g m .1;
         };
       };
+      respected = record { respectful = λ g m. q15 g m .1 };
     }
 
 pub well-formed : (b : List ℕ) → T (isAccepted (verdictOf b)) → WellFormed (problemOf b)

@@ -10,7 +10,8 @@ use Rattle.model.specs.Lists.{at, earlier}
 use Rattle.model.specs.ValueSets.{has, members}
 use Rattle.model.specs.Problem.{assignments}
 use Rattle.model.proofs.Lists.{of-not, flat-i, flat-e, Sorted, sorted-flat-map, earlier-lt, earlier-eq}
-use Rattle.model.proofs.Sets.{has-none, member, has-lt, members-i, members-e, members-sorted, Inside}
+use Rattle.model.proofs.Sets.{has-none, member, has-lt, members-i, members-e, members-sorted}
+use Rattle.model.specs.Pruning.{Inside}
 
 -- ---- membership: one value of each set
 pub assign-i : (ds a : List ℕ) → length a ≡ length ds → ((x : ℕ) → x < length ds → List·Memᴰ (at a x) (members (at ds x))) → List·Memᴰ a (assignments ds)

@@ -10,7 +10,7 @@ use lib.Dec.{T, not-T, T-prop}
 use lib.ListN.{length}
 use Rattle.model.specs.Lists.{both, any, at, earlier}
 use Rattle.model.specs.Problem.{Problem, isSolution, assignments, takes}
-use Rattle.model.proofs.WellFormed.{WellFormed}
+use Rattle.model.specs.WellFormed.{WellFormed}
 use Rattle.model.specs.Claims.{isLeader, leaders, Chain, here, step}
 use Rattle.model.proofs.Lists.{both-i, both-l, both-r, T-dec, stable, any-e, keep-i, keep-e, earlier-e}
 use Rattle.model.proofs.Tree.{solution-e}

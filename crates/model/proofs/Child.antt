@@ -15,10 +15,11 @@ use Rattle.model.specs.Problem.{Problem}
 use Rattle.model.specs.Nogood.{Entry, obeys}
 use Rattle.model.specs.Search.{nogoodsOf, narrowed, setsAt}
 use Rattle.model.proofs.Lists.{at-append, at-seam}
-use Rattle.model.proofs.Sets.{has-lt, has-at-lt, Inside}
+use Rattle.model.proofs.Sets.{has-lt, has-at-lt}
+use Rattle.model.specs.Pruning.{Inside, closed, Way}
 use Rattle.model.proofs.Masks.{has-one}
 use Rattle.model.proofs.Filter.{filtered-i, filtered-e, obeys-front}
-use Rattle.model.proofs.Prune.{Kept, fixed-i, fixed-e, narrowed-i, narrowed-e, Sized, closed, start-sets, Largest, largest, Way, setsAt-live, value-live, setsAt-mono}
+use Rattle.model.proofs.Prune.{Kept, fixed-i, fixed-e, narrowed-i, narrowed-e, Sized, start-sets, Largest, largest, setsAt-live, value-live, setsAt-mono}
 use Rattle.model.proofs.Tree.{nogoods-append}
 
 -- ---- a longer prefix

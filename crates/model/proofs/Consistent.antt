@@ -13,9 +13,10 @@ use Rattle.model.specs.Nogood.{Entry, filtered}
 use Rattle.model.specs.Search.{nogoodsOf, pruned, narrowed, setsAt, isLive}
 use Rattle.model.specs.Claims.{Consistent}
 use Rattle.model.proofs.Lists.{T-of, not-of, of-not}
-use Rattle.model.proofs.Sets.{has-lt, Sets, Inside, inside-antisym, empty-inside}
+use Rattle.model.proofs.Sets.{has-lt, inside-antisym, empty-inside}
+use Rattle.model.specs.Pruning.{Sets, Inside, closed}
 use Rattle.model.proofs.Filter.{filtered-sets, filtered-inside}
-use Rattle.model.proofs.Prune.{supported-i, supported-e, Kept, fixed-i, fixed-e, narrowed-i, narrowed-e, Sized, closed, Largest, largest, setsAt-live, setsAt-none, live-is, live-closed}
+use Rattle.model.proofs.Prune.{supported-i, supported-e, Kept, fixed-i, fixed-e, narrowed-i, narrowed-e, Sized, Largest, largest, setsAt-live, setsAt-none, live-is, live-closed}
 
 -- a filter that keeps each value takes nothing away
 filter-same : (n : ℕ) (ds : List ℕ) (es : List Entry) → Sets n ds → ((x v : ℕ) → T (has (at ds x) v) → T (has (at (filtered ds es) x) v)) → filtered ds es ≡ ds

@@ -13,13 +13,13 @@ use Rattle.model.specs.Verdict.{Verdict, accepted, refused, isAccepted}
 use Rattle.model.specs.Sheet.{verdictOf, problemOf}
 use Rattle.model.specs.Run.{Ending, finished, spent, full, plansIn, nodesIn, resultOf, ended, answerFor, answerOf, written, listFor, listOf, listedPlans}
 use Rattle.model.specs.Claims.{Sets-largest, isLeader, leaders, plansHeld, Lists-leaders, Leaders-ascend, First-part, CountsAt, Counts, Ends, Chains, Nothing-listed, OneMore, Fewer, Finishes-too}
-use Rattle.model.proofs.WellFormed.{WellFormed}
+use Rattle.model.specs.WellFormed.{WellFormed, Respected}
 use Rattle.model.proofs.Lists.{keep-ext, keep-i, keep-e, sorted-keep, rowsAscend-of}
 use Rattle.model.proofs.Assignments.{assignments-sorted}
 use Rattle.model.proofs.Prune.{Sized}
 use Rattle.model.proofs.Consistent.{live-consistent, consistent-inside, dead-none}
 use Rattle.model.proofs.Tree.{solution-e, planTest, plans-of-tree, well-sized}
-use Rattle.model.proofs.Accepted.{well-formed}
+use Rattle.model.proofs.Accepted.{Passed, passed, well-formed}
 use Rattle.model.proofs.Leaders.{sol-drawn, leader-is, leader-i, leader-e}
 use Rattle.model.proofs.OneMore.{one-more}
 use Rattle.model.proofs.More.{FewerIn}
@@ -53,8 +53,8 @@ ran b limit out e h = let r = go (verdictOf b) h in record { good = r .0; so = r
     go (refused number item) h = absurd (let z : _≡_ {A = ℕ} 0 1 = cc in omega arith)
 
 -- an accepted sheet states a well-formed problem
-of-accepted : (b : List ℕ) → verdictOf b ≡ accepted → WellFormed (problemOf b)
-of-accepted b h = well-formed b (subst (λ (v : Verdict). T (isAccepted v)) (sym h) tt)
+of-accepted : (b : List ℕ) → verdictOf b ≡ accepted → Passed b
+of-accepted b h = passed b (subst (λ (v : Verdict). T (isAccepted v)) (sym h) tt)
 
 module _ (b : List ℕ) (limit : ℕ) (out : List ℕ) (e : Ending) (h : answerOf b limit out ≡ ended e) where
   abbrev p : Problem
@@ -62,6 +62,9 @@ module _ (b : List ℕ) (limit : ℕ) (out : List ℕ) (e : Ending) (h : answerO
 
   pub well : WellFormed (problemOf b)
   well = well-formed b (ran b limit out e h .good)
+
+  pub respected : Respected (problemOf b)
+  respected = passed b (ran b limit out e h .good) .respected
 
   pub held : plansHeld b limit out e ≡ resultOf (problemOf b) limit (length out) .rows
   unfolding written
@@ -76,34 +79,37 @@ pub sets-largest : Sets-largest
 sets-largest b prefix h = (live-consistent (problemOf b) prefix s, consistent-inside (problemOf b) prefix s, dead-none (problemOf b) prefix s)
   where
     s : Sized (problemOf b)
-    s = well-sized (problemOf b) (of-accepted b h)
+    s = well-sized (problemOf b) (of-accepted b h .well)
 
 -- ---- demand 2
 -- the plans of the tree are the leaders
-same-test : (p : Problem) → WellFormed p → keep (planTest p) (assignments (p .initial)) ≡ leaders p
-same-test p w = keep-ext (planTest p) (isLeader p) (assignments (p .initial)) (λ s m. sym (leader-is p w s))
+same-test : (p : Problem) → WellFormed p → Respected p → keep (planTest p) (assignments (p .initial)) ≡ leaders p
+same-test p w r = keep-ext (planTest p) (isLeader p) (assignments (p .initial)) (λ s m. sym (leader-is p w r s))
 
 pub lists-leaders : Lists-leaders
 lists-leaders b limit out plans made h =
     let p = problemOf b in
     let w = well b limit out (finished plans made) h in
-    held b limit out (finished plans made) h ∙ R.finished-rows p limit (length out) plans made (ran b limit out (finished plans made) h .so) .0 ∙ plans-of-tree p w ∙ same-test p w
+    held b limit out (finished plans made) h ∙ R.finished-rows p limit (length out) plans made (ran b limit out (finished plans made) h .so) .0 ∙ plans-of-tree p w ∙ same-test p w (respected b limit out (finished plans made) h)
 
 pub first-part : First-part
 first-part b limit out e h =
     let p = problemOf b in
     let w = well b limit out e h in
     held b limit out e h ∙ R.rows-first p limit (length out)
-    ∙ ap₂ (λ (n : ℕ) (l : List (List ℕ)). take n l) (sym (R.rows-counted p limit (length out)) ∙ ap plansIn (ran b limit out e h .so)) (plans-of-tree p w ∙ same-test p w)
+    ∙ ap₂ (λ (n : ℕ) (l : List (List ℕ)). take n l) (sym (R.rows-counted p limit (length out)) ∙ ap plansIn (ran b limit out e h .so)) (plans-of-tree p w ∙ same-test p w (respected b limit out e h))
 
 pub leaders-ascend : Leaders-ascend
 leaders-ascend b h = (
   rowsAscend-of (leaders (problemOf b)) (sorted-keep (λ (x y : List ℕ). T (earlier x y)) (isLeader (problemOf b)) (assignments (problemOf b .initial)) (assignments-sorted (problemOf b .initial))),
-  λ s. (λ m. leader-e p w s (keep-e (isLeader p) (assignments (p .initial)) s m .1), λ l. keep-i (isLeader p) (assignments (p .initial)) s (sol-drawn p w s (l .solves)) (leader-i p w s l)),
+  λ s. (λ m. leader-e p w r s (keep-e (isLeader p) (assignments (p .initial)) s m .1), λ l. keep-i (isLeader p) (assignments (p .initial)) s (sol-drawn p w s (l .solves)) (leader-i p w r s l)),
 )
   where
     w : WellFormed (problemOf b)
-    w = of-accepted b h
+    w = of-accepted b h .well
+
+    r : Respected (problemOf b)
+    r = of-accepted b h .respected
 
     p : Problem
     p = problemOf b

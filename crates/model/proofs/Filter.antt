@@ -11,7 +11,8 @@ use Rattle.model.specs.ValueSets.{anyEmpty, has, maskOf}
 use Rattle.model.specs.Problem.{assignments}
 use Rattle.model.specs.Nogood.{Entry, equality, disequality, is, obeysFrom, obeys, obeying, used, filtered}
 use Rattle.model.proofs.Lists.{of-not, both-i, both-l, both-r, keep-i, keep-e, any-i, any-e, at-tabulate, length-tabulate, getD-at, at-out}
-use Rattle.model.proofs.Sets.{empty-i, mask-i, mask-e, mask-lt, members-e, Sets, Inside, inside-antisym, has-at-lt}
+use Rattle.model.proofs.Sets.{empty-i, mask-i, mask-e, mask-lt, members-e, inside-antisym, has-at-lt}
+use Rattle.model.specs.Pruning.{Sets, Inside}
 use Rattle.model.proofs.Assignments.{drawn-through, assign-e, drawn-i, drawn-e, assign-mono}
 
 -- ---- obeying: the entries in front

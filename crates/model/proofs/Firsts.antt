@@ -11,7 +11,8 @@ use borrow.Author.Tests.{ltb-true, ltb-false}
 use Rattle.model.specs.Lists.{at}
 use Rattle.model.specs.ValueSets.{has, anyEmpty}
 use Rattle.model.proofs.Lists.{at-out, not-of}
-use Rattle.model.proofs.Sets.{Sets, Inside, has-at-lt, empty-i, empty-e}
+use Rattle.model.proofs.Sets.{has-at-lt, empty-i, empty-e}
+use Rattle.model.specs.Pruning.{Sets, Inside}
 
 module _ (n : ℕ) (ds : List ℕ) (s : Sets 16 ds) (h : n ≤ 16) where
   pub take-length : length (take n ds) ≡ n

@@ -8,14 +8,14 @@ use lib.ListN.{length}
 use lib.Seq.{ext-getD}
 use Rattle.model.specs.Lists.{at}
 use Rattle.model.specs.Problem.{Problem, pair, takes, assignments, isSolution}
-use Rattle.model.proofs.WellFormed.{WellFormed}
+use Rattle.model.specs.WellFormed.{WellFormed, Respected}
 use Rattle.model.proofs.Tree.{solution-e}
 use Rattle.model.proofs.Counting.{pos, pos-lt, pos-same, twice}
 use Rattle.model.proofs.Pairs as P
 use Rattle.model.proofs.Symmetry as S
 use Rattle.model.proofs.Leaders as H
 
-module _ (p : Problem) (w : WellFormed p) (g : List ℕ) (m : List·Memᴰ g (p .symmetries)) where
+module _ (p : Problem) (w : WellFormed p) (r : Respected p) (g : List ℕ) (m : List·Memᴰ g (p .symmetries)) where
   -- where a symmetry takes a solution is one assignment
   pub one-image : (t s r : List ℕ) → T (takes p g t s) → T (takes p g t r) → T (isSolution p r) → length s ≡ p .variables → ((x : ℕ) → x < p .variables → at s x < p .values) → s ≡ r
   unfolding at
@@ -31,11 +31,11 @@ module _ (p : Problem) (w : WellFormed p) (g : List ℕ) (m : List·Memᴰ g (p 
   -- the solution, its preimage, the preimage of that, ..
   run : Sol → ℕ → Sol
   run s zero = s
-  run s (suc i) = let r = run s i in let q = S.preimage p w g m (r .0) (r .1) in (q .0, q .1)
+  run s (suc i) = let s′ = run s i in let q = S.preimage p w r g m (s′ .0) (s′ .1) in (q .0, q .1)
 
   run-takes : (s : Sol) (i : ℕ) → T (takes p g (run s (suc i) .0) (run s i .0))
   unfolding run
-  run-takes s i = let r = run s i in S.preimage p w g m (r .0) (r .1) .2
+  run-takes s i = let s′ = run s i in S.preimage p w r g m (s′ .0) (s′ .1) .2
 
   back-one : (s : Sol) (i j : ℕ) → run s (suc i) .0 ≡ run s (suc j) .0 → run s i .0 ≡ run s j .0
   back-one s i j e =

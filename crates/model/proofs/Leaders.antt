@@ -13,7 +13,7 @@ use Rattle.model.specs.ValueSets.{has, members}
 use Rattle.model.specs.Problem.{Problem, pair, isPair, pairsOf, within, takes, assignments, isSolution}
 use Rattle.model.specs.Nogood.{is, obeys}
 use Rattle.model.specs.Search.{nogoodsOf}
-use Rattle.model.proofs.WellFormed.{WellFormed, GoodSymmetry}
+use Rattle.model.specs.WellFormed.{WellFormed, GoodSymmetry, Respected}
 use Rattle.model.specs.Claims.{Leader, isLeader}
 use Rattle.model.proofs.Lists.{not-any, both-i, both-l, both-r, T-ext, T-of, stable, all-i, all-e, any-i, any-e, keep-i, keep-e, getD-at}
 use Rattle.model.proofs.Sets.{members-i, members-e}
@@ -50,6 +50,7 @@ module _ (p : Problem) (w : WellFormed p) where
       let h = solution-e p a s in
       drawn-i (p .initial) a (well-sized p w .1) (h .sized ∙ sym (w .sized), λ x l. h .drawn x (subst (λ (k : ℕ). x < k) (w .sized) l))
 
+module _ (p : Problem) (w : WellFormed p) (respected : Respected p) where
   -- an entry of the list holds of s exactly if its number is one of the pairs of s
   module _ (s : List ℕ) (sol : T (isSolution p s)) where
     meets-i : (q : ℕ) → List·Memᴰ q (pairsOf p s) → T (is s (q / p .values) (q % p .values))
@@ -93,7 +94,7 @@ module _ (p : Problem) (w : WellFormed p) where
           let lj : j < p .variables = subst (λ (k : ℕ). j < k) (solution-e p s sol .sized) (f .1 .1) in
           let met : (x : ℕ) → x < p .variables → T (O.meets p g s x (at t x)) = λ x l. meets-i (at g (pair p x (at t x))) (takes-in p g t s tk (pair p x (at t x)) (P.pairs-i p t x l)) in
           O.obeys-e p g s h j (at t j) (f .1 .1) (λ i l. subst (λ (v : ℕ). T (O.meets p g s i v)) (f .1 .2 i l) (met i (omega arith)))
-          (keep-i (λ v. ltb v (at s j)) (members (at (p .initial) j)) (at t j) (members-i (at (p .initial) j) (at t j) (sol-small t st j lj) (solution-e p t st .drawn j lj)) (lt→ltb (at t j) (at s j) (f .1 .3)))
+          (keep-i (λ v. ltb v (at s j)) (members (at (p .initial) j)) (at t j) (members-i (at (p .initial) j) (at t j) (sol-small p w t st j lj) (solution-e p t st .drawn j lj)) (lt→ltb (at t j) (at s j) (f .1 .3)))
           (met j lj)
 
       -- and a broken nogood gives one: the preimage of s reads earlier
@@ -106,7 +107,7 @@ module _ (p : Problem) (w : WellFormed p) where
           let n = solution-e p s sol .sized in
           let lj : j < p .variables = subst (λ (k : ℕ). j < k) n (r .2) in
           let k = keep-e (λ u. ltb u (at s j)) (members (at (p .initial) j)) v (r .4) in
-          let pre = S.preimage p w g m s sol in
+          let pre = S.preimage p w respected g m s sol in
           let t = pre .0 in
           let nt = solution-e p t (pre .1) .sized in
           let ej : at t j ≡ v = sent t (pre .1) (pre .2) j v lj (members-e (at (p .initial) j) v (k .0) .1) (r .5) in
@@ -127,7 +128,7 @@ module _ (p : Problem) (w : WellFormed p) where
           let b = both-r (isSolution p (r .0)) (both (earlier (r .0) s) (takes p g (r .0) s)) (r .2) in
           obeys-none h (r .0) (both-l (isSolution p (r .0)) (both (earlier (r .0) s) (takes p g (r .0) s)) (r .2)) (both-l (earlier (r .0) s) (takes p g (r .0) s) b) (both-r (earlier (r .0) s) (takes p g (r .0) s) b)))
           (λ h. none-obeys (λ t st e tk. T-not (any beaten (assignments (p .initial))) h
-          (any-i beaten (assignments (p .initial)) t (sol-drawn t st) (both-i (isSolution p t) (both (earlier t s) (takes p g t s)) st (both-i (earlier t s) (takes p g t s) e tk)))))
+          (any-i beaten (assignments (p .initial)) t (sol-drawn p w t st) (both-i (isSolution p t) (both (earlier t s) (takes p g t s)) st (both-i (earlier t s) (takes p g t s) e tk)))))
 
   -- a leader is a solution that obeys the nogoods of every symmetry
   pub leader-is : (s : List ℕ) → isLeader p s ≡ both (isSolution p s) (all (λ g. obeys s (nogoodsOf p g s)) (p .symmetries))

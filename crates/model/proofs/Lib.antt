@@ -1,5 +1,6 @@
 -- The laws, in the order of the argument.
 pub mod Lists
+pub mod Written
 pub mod Counting
 pub mod Sets
 pub mod Masks
@@ -8,13 +9,14 @@ pub mod Firsts
 pub mod Filling
 pub mod Assignments
 pub mod Filter
-pub mod WellFormed
 pub mod Accepted
 pub mod Prune
+pub mod Prunes
 pub mod Consistent
 pub mod Tree
 pub mod Child
 pub mod Runs
+pub mod Room
 pub mod Pairs
 pub mod Symmetry
 pub mod Obey

@@ -10,7 +10,7 @@ use lib.Pow.{pow-pos, pow-lt, shr-shr}
 use lib.Count.{trailingZeros, under}
 use borrow.Author.Tests.{eq-eqb, ne-eqb, lt-ltb, le-ltb}
 use Rattle.model.specs.Lists.{both, either}
-use Rattle.model.specs.ValueSets.{has, maskOf, fullMask, withoutMask, onlyMask, unionMask, commonMask, least, leastStep}
+use Rattle.model.specs.ValueSets.{has, maskOf, fullMask, withoutMask, onlyMask, unionMask, commonMask, least, leastStep, oneIf}
 use Rattle.model.proofs.Sets.{has-zero, has-suc, has-none, has-mask, mask-lt, mask-ext, pow2}
 
 -- ---- what the code's operations do to members
@@ -77,6 +77,10 @@ has-one zero (suc v) = has-suc 1 v ∙ has-none v ∙ sym (eqb·suc-zero v)
 has-one (suc u) zero = step-zero (2 ^ suc u) 0 (omega (arith, pow2 u)) ∙ sym (eqb·zero-suc u)
 has-one (suc u) (suc v) =
     step-suc (2 ^ suc u) (2 ^ u) v (omega (arith, pow2 u)) ∙ has-one u v ∙ sym (eqb·suc-suc v u)
+
+pub has-oneIf : (b : Bool) (u v : ℕ) → has (oneIf b u) v ≡ both b (eqb v u)
+has-oneIf true u v = has-one u v
+has-oneIf false u v = has-none v
 
 -- ---- the laws of the least value
 pub least-none : (k : ℕ) (f : ℕ → Bool) → ((j : ℕ) → j < k → f j ≡ false) → least k f ≡ k

@@ -12,8 +12,9 @@ use Rattle.model.specs.Nogood.{Entry, filtered}
 use Rattle.model.specs.Search.{entriesAt, nogoodsOf, pruned, setsAt, isLive, nodesBelow, nodes, isPlan}
 use Rattle.model.specs.Run.{finished, resultOf}
 use Rattle.model.proofs.Lists.{both-i, both-l, both-r, sublist-keep, sublist-length, sublist-flat-map}
-use Rattle.model.proofs.Sets.{Inside, inside-antisym, members-sub}
-use Rattle.model.proofs.Prune.{Kept, pruned-i, pruned-e, pruned-inside, pruned-sets, Sized, closed, largest, setsAt-mono, live-mono}
+use Rattle.model.proofs.Sets.{inside-antisym, members-sub}
+use Rattle.model.specs.Pruning.{Inside, closed}
+use Rattle.model.proofs.Prune.{Kept, pruned-i, pruned-e, pruned-inside, pruned-sets, Sized, largest, setsAt-mono, live-mono}
 use Rattle.model.proofs.Runs.{finished-rows, finished-fits, finishes}
 
 -- the problem with other symmetries

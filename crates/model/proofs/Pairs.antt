@@ -10,7 +10,7 @@ use lib.Dec.{T, T-not, not-T, eqb, ltb, eqb→eq, eqb-refl, ltb→lt, lt→ltb}
 use Rattle.model.specs.Lists.{any, keep, flat, below, at, same}
 use Rattle.model.specs.ValueSets.{has, members}
 use Rattle.model.specs.Problem.{pairsAt, Problem, Constraint, pair, isPair, pairsOf, within, assignments, excluded, doubled, forbidden, valuesAt, satisfies, isSolution}
-use Rattle.model.proofs.WellFormed.{WellFormed}
+use Rattle.model.specs.WellFormed.{WellFormed}
 use Rattle.model.proofs.Lists.{both-i, both-l, both-r, all-e, all-i, any-e, any-i, keep-e, keep-i, flat-i, flat-e, below-i, below-e}
 use Rattle.model.proofs.Sets.{has-lt, members-i, members-e}
 use Rattle.model.proofs.Assignments.{Drawn, drawn-e}

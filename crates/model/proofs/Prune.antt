@@ -16,7 +16,8 @@ use Rattle.model.specs.Problem.{Problem, Constraint}
 use Rattle.model.specs.Nogood.{filtered}
 use Rattle.model.specs.Search.{nogoodsOf, rowWith, supported, pruned, narrowed, rounds, setsAt, isLive}
 use Rattle.model.proofs.Lists.{T-of, of-T, not-of, of-not, both-i, both-l, both-r, all-i, all-e, any-i, any-e, at-tabulate, length-tabulate, at-out, same-eq, same-refl}
-use Rattle.model.proofs.Sets.{has-lt, has-none, mask-i, mask-e, mask-lt, Sets, Inside, inside-refl, inside-antisym, has-at-lt, size, size-le, size-strict, empty-inside, at-zeros, zeros-empty, zeros-replicate}
+use Rattle.model.proofs.Sets.{has-lt, has-none, mask-i, mask-e, mask-lt, inside-refl, inside-antisym, has-at-lt, size, size-le, size-strict, empty-inside, at-zeros, zeros-empty, zeros-replicate}
+use Rattle.model.specs.Pruning.{Sets, Inside, closed, Way}
 use Rattle.model.proofs.Filter.{filtered-mono, filtered-sets, filtered-inside}
 
 -- ---- a row inside the sets
@@ -200,10 +201,6 @@ narrowed-e (v ∷ vs) (s ∷ ds) (suc x) w t = let r = narrowed-e vs ds x w t in
 abbrev pub Sized : Problem → Type 0
 Sized p = Sets (p .variables) (p .initial)
 
--- the sets at a prefix, before the rule that one empty set empties all
-abbrev pub closed : Problem → List ℕ → List ℕ
-closed p prefix = rounds p prefix (p .variables * 16) (narrowed prefix (p .initial))
-
 -- the sets ds are the largest inside the initial ones, given the prefix, that a round leaves as they are
 pub record Largest (p : Problem) (prefix ds : List ℕ) : Type 0 where
   pub sets : Sets (p .variables) ds
@@ -286,12 +283,7 @@ filter-removal p prefix ds s g m = record {
   spared = λ x v t k. k .filters g m;
 }
 
--- what is known of the sets on the way
-pub record Way (p : Problem) (prefix es : List ℕ) : Type 0 where
-  pub sets : Sets (p .variables) es
-  pub inside : Inside es (narrowed prefix (p .initial))
-  pub over : Inside (closed p prefix) es
-
+-- ---- sets on the way to the largest ones
 pub way-start : (p : Problem) (prefix : List ℕ) → Sized p → Way p prefix (narrowed prefix (p .initial))
 way-start p prefix s = record { sets = start-sets p prefix s; inside = inside-refl (narrowed prefix (p .initial)); over = largest p prefix s .inside }
 

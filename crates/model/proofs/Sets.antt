@@ -12,6 +12,7 @@ use lib.ListN.{length, set, length-set}
 use borrow.Author.Tests.{eq-eqb, ne-eqb}
 use Rattle.model.specs.Lists.{keep, below, at}
 use Rattle.model.specs.ValueSets.{bit, has, maskBelow, maskOf, members, anyEmpty}
+use Rattle.model.specs.Pruning.{Sets, Inside}
 use Rattle.model.proofs.Lists.{T-of, not-of, of-not, T-ext, keep-i, keep-e, keep-none, below-i, below-e, Sorted, sorted-keep, sorted-below, at-out, at-ext, mem-at, at-mem, set-each, any-i, any-e, sublist-keep}
 
 -- ---- the member test, bit by bit
@@ -120,13 +121,7 @@ member s h p = go (members s) (λ v. members-e s v) (λ v l t. members-i s v l t
     go [] f g = absurd (p (mask-ext 16 s 0 h (omega arith) (λ v l. not-of (has s v) (λ t. List·Memᴰ·not-nil (g v l t)) ∙ sym (has-none v))))
     go (v ∷ l) f g = let m = f v (List·Memᴰ·head refl) in (v, m .0, m .1)
 
--- ---- lists of sets: n of them, each of sixteen bits; one inside another
-abbrev pub Sets : ℕ → List ℕ → Type 0
-Sets n ds = (length ds ≡ n) × ((x : ℕ) → at ds x < 2 ^ 16)
-
-abbrev pub Inside : List ℕ → List ℕ → Type 0
-Inside ds es = (x v : ℕ) → T (has (at ds x) v) → T (has (at es x) v)
-
+-- ---- lists of sets
 pub inside-refl : (ds : List ℕ) → Inside ds ds
 inside-refl ds x v t = t
 

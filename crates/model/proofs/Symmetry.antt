@@ -13,7 +13,7 @@ use Rattle.model.specs.Lists.{all, any, below, at, same}
 use Rattle.model.specs.ValueSets.{has, members}
 use Rattle.model.specs.Problem.{pairsAt, assignments, Problem, Constraint, pair, isPair, pairsOf, within, takes, forbidden, respects, valuesAt, satisfies, isSolution}
 use Rattle.model.specs.Sheet.{permutesPairs, distinct}
-use Rattle.model.proofs.WellFormed.{WellFormed, GoodSymmetry}
+use Rattle.model.specs.WellFormed.{WellFormed, GoodSymmetry, Respected}
 use Rattle.model.proofs.Lists.{both-i, both-l, both-r, stable, T-dec, all-e, any-e, below-i, below-e, length-below, at-below, at-map, mem-at}
 use Rattle.model.proofs.Counting.{idx, idx-spec, distinct-at, distinct-below, onto}
 use Rattle.model.proofs.Sets.{members-i}
@@ -97,147 +97,151 @@ module _ (p : Problem) where
         l : q < size
         l = P.isPair-lt p w q t
 
-    respected : (f : List ℕ) → List·Memᴰ f (forbidden p) → (h : List ℕ) × List·Memᴰ h (forbidden p) × ((q : ℕ) → List·Memᴰ q h → List·Memᴰ q (map (at g) f))
-    unfolding respects
-    respected f m =
-        let r = any-e (λ h. within h (map (at g) f)) (forbidden p) (all-e (λ f. any (λ h. within h (map (at g) f)) (forbidden p)) (forbidden p) (good .respectful) f m) in
-        (r .0, r .1, P.within-e (r .0) (map (at g) f) (r .2))
+    module _ (respectful : T (respects p g)) where
+      respected : (f : List ℕ) → List·Memᴰ f (forbidden p) → (h : List ℕ) × List·Memᴰ h (forbidden p) × ((q : ℕ) → List·Memᴰ q h → List·Memᴰ q (map (at g) f))
+      unfolding respects
+      respected f m =
+          let r = any-e (λ h. within h (map (at g) f)) (forbidden p) (all-e (λ f. any (λ h. within h (map (at g) f)) (forbidden p)) (forbidden p) respectful f m) in
+          (r .0, r .1, P.within-e (r .0) (map (at g) f) (r .2))
 
-    -- a forbidden set whose image lies in a solution
-    never : (s : List ℕ) → T (isSolution p s) → (f : List ℕ) → List·Memᴰ f (forbidden p) → ((q : ℕ) → List·Memᴰ q f → List·Memᴰ (at g q) (pairsOf p s)) → ⊥
-    never s sol f m i =
-        let r = respected f m in
-        P.no-forbidden p w s sol (r .0) (r .1) (λ q k. let z = Memᴰ·of-map (at g) f (r .2 q k) in Memᴰ·cast (sym (z .2)) (i (z .0) (z .1)))
+      -- a forbidden set whose image lies in a solution
+      never : (s : List ℕ) → T (isSolution p s) → (f : List ℕ) → List·Memᴰ f (forbidden p) → ((q : ℕ) → List·Memᴰ q f → List·Memᴰ (at g q) (pairsOf p s)) → ⊥
+      never s sol f m i =
+          let r = respected f m in
+          P.no-forbidden p w s sol (r .0) (r .1) (λ q k. let z = Memᴰ·of-map (at g) f (r .2 q k) in Memᴰ·cast (sym (z .2)) (i (z .0) (z .1)))
 
-    module _ (s : List ℕ) (sol : T (isSolution p s)) where
-      abbrev n : ℕ
-      n = p .variables
+      module _ (s : List ℕ) (sol : T (isSolution p s)) where
+        abbrev n : ℕ
+        n = p .variables
 
-      -- the pair that g sends to the solution's pair at x, and its variable
-      abbrev r : ℕ → ℕ
-      r x = back (pair p x (at s x))
+        -- the pair that g sends to the solution's pair at x, and its variable
+        abbrev r : ℕ → ℕ
+        r x = back (pair p x (at s x))
 
-      abbrev var : ℕ → ℕ
-      var x = r x / p .values
+        abbrev var : ℕ → ℕ
+        var x = r x / p .values
 
-      s-pair : (x : ℕ) → x < n → T (isPair p (pair p x (at s x)))
-      s-pair x h = P.sol-pair p w s sol (pair p x (at s x)) (P.pairs-i p s x h)
+        s-pair : (x : ℕ) → x < n → T (isPair p (pair p x (at s x)))
+        s-pair x h = P.sol-pair p w s sol (pair p x (at s x)) (P.pairs-i p s x h)
 
-      r-pair : (x : ℕ) → x < n → T (isPair p (r x))
-      r-pair x h = back-pair (pair p x (at s x)) (s-pair x h)
+        r-pair : (x : ℕ) → x < n → T (isPair p (r x))
+        r-pair x h = back-pair (pair p x (at s x)) (s-pair x h)
 
-      r-at : (x : ℕ) → x < n → at g (r x) ≡ pair p x (at s x)
-      r-at x h = back-at (pair p x (at s x)) (P.isPair-lt p w _ (s-pair x h))
+        r-at : (x : ℕ) → x < n → at g (r x) ≡ pair p x (at s x)
+        r-at x h = back-at (pair p x (at s x)) (P.isPair-lt p w _ (s-pair x h))
 
-      -- two of them share no variable
-      clash : (x y : ℕ) → x < n → y < n → var x ≡ var y → r x < r y → ⊥
-      clash x y h k e l =
-          let z = var x in
-          let v = r x % p .values in
-          let u = r y % p .values in
-          let ex : pair p z v ≡ r x = P.pair-of p w (r x) in
-          let ey : pair p z u ≡ r y = ap (λ (j : ℕ). pair p j u) e ∙ P.pair-of p w (r y) in
-          let f = pair p z v ∷ pair p z u ∷ [] in
-          let hu : T (has (at (p .initial) z) u) = subst (λ (j : ℕ). T (has (at (p .initial) j) u)) (sym e) (P.isPair-has p w (r y) (r-pair y k)) in
-          let small : u < 16 = lt-of-lt-of-le (P.mod-small p w (r y)) (w .sixteen) in
-          never s sol f
-          (P.forbidden-doubled p z f (P.isPair-var p w (r x) (r-pair x h)) (P.doubled-i p z v u (less (r x) (r y) e l) small (P.isPair-has p w (r x) (r-pair x h)) hu))
-          (λ q m. ⊎-elim {C = List·Memᴰ (at g q) (pairsOf p s)} (λ c. Memᴰ·cast (ap (at g) (c ∙ ex) ∙ r-at x h) (P.pairs-i p s x h))
-          (λ j. Memᴰ·cast (ap (at g) (List·Memᴰ·eq-of-singleton j ∙ ey) ∙ r-at y k) (P.pairs-i p s y k)) (List·Memᴰ·cases-cons m))
-        where
-          less : (a b : ℕ) → a / p .values ≡ b / p .values → a < b → a % p .values < b % p .values
-          less a b c d =
-              let ea = div-add-mod' a (p .values) in
-              let eb = div-add-mod' b (p .values) in
-              let ec : a / p .values * p .values ≡ b / p .values * p .values = ap (λ (j : ℕ). j * p .values) c in
-              omega arith
+        -- two of them share no variable
+        clash : (x y : ℕ) → x < n → y < n → var x ≡ var y → r x < r y → ⊥
+        clash x y h k e l =
+            let z = var x in
+            let v = r x % p .values in
+            let u = r y % p .values in
+            let ex : pair p z v ≡ r x = P.pair-of p w (r x) in
+            let ey : pair p z u ≡ r y = ap (λ (j : ℕ). pair p j u) e ∙ P.pair-of p w (r y) in
+            let f = pair p z v ∷ pair p z u ∷ [] in
+            let hu : T (has (at (p .initial) z) u) = subst (λ (j : ℕ). T (has (at (p .initial) j) u)) (sym e) (P.isPair-has p w (r y) (r-pair y k)) in
+            let small : u < 16 = lt-of-lt-of-le (P.mod-small p w (r y)) (w .sixteen) in
+            never s sol f
+            (P.forbidden-doubled p z f (P.isPair-var p w (r x) (r-pair x h)) (P.doubled-i p z v u (less (r x) (r y) e l) small (P.isPair-has p w (r x) (r-pair x h)) hu))
+            (λ q m. ⊎-elim {C = List·Memᴰ (at g q) (pairsOf p s)} (λ c. Memᴰ·cast (ap (at g) (c ∙ ex) ∙ r-at x h) (P.pairs-i p s x h))
+            (λ j. Memᴰ·cast (ap (at g) (List·Memᴰ·eq-of-singleton j ∙ ey) ∙ r-at y k) (P.pairs-i p s y k)) (List·Memᴰ·cases-cons m))
+          where
+            less : (a b : ℕ) → a / p .values ≡ b / p .values → a < b → a % p .values < b % p .values
+            less a b c d =
+                let ea = div-add-mod' a (p .values) in
+                let eb = div-add-mod' b (p .values) in
+                let ec : a / p .values * p .values ≡ b / p .values * p .values = ap (λ (j : ℕ). j * p .values) c in
+                omega arith
 
-      var-inj : (x y : ℕ) → x < n → y < n → var x ≡ var y → x ≡ y
-      var-inj x y h k e = go (ℕ-discrete (r x) (r y)) (decLt (r x) (r y))
-        where
-          go : Dec (r x ≡ r y) → Dec (r x < r y) → x ≡ y
-          go (yes c) d = P.pair-first p w x (at s x) y (at s y) (P.sol-lt p w s sol x h) (P.sol-lt p w s sol y k) (sym (r-at x h) ∙ ap (at g) c ∙ r-at y k)
-          go (no c) (yes d) = absurd (clash x y h k e d)
-          go (no c) (no d) = absurd (clash y x k h (sym e) (omega arith))
+        var-inj : (x y : ℕ) → x < n → y < n → var x ≡ var y → x ≡ y
+        var-inj x y h k e = go (ℕ-discrete (r x) (r y)) (decLt (r x) (r y))
+          where
+            go : Dec (r x ≡ r y) → Dec (r x < r y) → x ≡ y
+            go (yes c) d = P.pair-first p w x (at s x) y (at s y) (P.sol-lt p w s sol x h) (P.sol-lt p w s sol y k) (sym (r-at x h) ∙ ap (at g) c ∙ r-at y k)
+            go (no c) (yes d) = absurd (clash x y h k e d)
+            go (no c) (no d) = absurd (clash y x k h (sym e) (omega arith))
 
-      -- so every variable is the variable of one
-      vars : List ℕ
-      vars = map var (below n)
+        -- so every variable is the variable of one
+        vars : List ℕ
+        vars = map var (below n)
 
-      in-vars : (z : ℕ) → z < n → List·Memᴰ z vars
-      unfolding vars
-      in-vars z h =
-          onto vars n (length-below var n) (distinct-below var n var-inj)
-          (λ x m. let c = Memᴰ·of-map var (below n) m in let l = below-e n (c .0) (c .1) in subst (λ (j : ℕ). j < n) (c .2) (P.isPair-var p w (r (c .0)) (r-pair (c .0) l))) z h
+        in-vars : (z : ℕ) → z < n → List·Memᴰ z vars
+        unfolding vars
+        in-vars z h =
+            onto vars n (length-below var n) (distinct-below var n var-inj)
+            (λ x m. let c = Memᴰ·of-map var (below n) m in let l = below-e n (c .0) (c .1) in subst (λ (j : ℕ). j < n) (c .2) (P.isPair-var p w (r (c .0)) (r-pair (c .0) l))) z h
 
-      who : ℕ → ℕ
-      who z = idx z vars
+        who : ℕ → ℕ
+        who z = idx z vars
 
-      who-lt : (z : ℕ) → z < n → who z < n
-      unfolding who vars
-      who-lt z h = subst (λ (j : ℕ). who z < j) (length-below var n) (idx-spec z vars (in-vars z h) .1)
+        who-lt : (z : ℕ) → z < n → who z < n
+        unfolding who vars
+        who-lt z h = subst (λ (j : ℕ). who z < j) (length-below var n) (idx-spec z vars (in-vars z h) .1)
 
-      who-var : (z : ℕ) → z < n → var (who z) ≡ z
-      unfolding who vars
-      who-var z h = sym (at-below var n (who z) (who-lt z h)) ∙ idx-spec z vars (in-vars z h) .0
+        who-var : (z : ℕ) → z < n → var (who z) ≡ z
+        unfolding who vars
+        who-var z h = sym (at-below var n (who z) (who-lt z h)) ∙ idx-spec z vars (in-vars z h) .0
 
-      -- the preimage
-      pub source : List ℕ
-      source = map (λ z. r (who z) % p .values) (below n)
+        -- the preimage
+        pub source : List ℕ
+        source = map (λ z. r (who z) % p .values) (below n)
 
-      source-length : length source ≡ n
-      unfolding source
-      source-length = length-below (λ z. r (who z) % p .values) n
+        source-length : length source ≡ n
+        unfolding source
+        source-length = length-below (λ z. r (who z) % p .values) n
 
-      source-at : (z : ℕ) → z < n → at source z ≡ r (who z) % p .values
-      unfolding source
-      source-at z h = at-below (λ z. r (who z) % p .values) n z h
+        source-at : (z : ℕ) → z < n → at source z ≡ r (who z) % p .values
+        unfolding source
+        source-at z h = at-below (λ z. r (who z) % p .values) n z h
 
-      source-pair : (z : ℕ) → z < n → pair p z (at source z) ≡ r (who z)
-      source-pair z h = ap₂ (pair p) (sym (who-var z h)) (source-at z h) ∙ P.pair-of p w (r (who z))
+        source-pair : (z : ℕ) → z < n → pair p z (at source z) ≡ r (who z)
+        source-pair z h = ap₂ (pair p) (sym (who-var z h)) (source-at z h) ∙ P.pair-of p w (r (who z))
 
-      source-image : (z : ℕ) → z < n → at g (pair p z (at source z)) ≡ pair p (who z) (at s (who z))
-      source-image z h = ap (at g) (source-pair z h) ∙ r-at (who z) (who-lt z h)
+        source-image : (z : ℕ) → z < n → at g (pair p z (at source z)) ≡ pair p (who z) (at s (who z))
+        source-image z h = ap (at g) (source-pair z h) ∙ r-at (who z) (who-lt z h)
 
-      image-in : (q : ℕ) → List·Memᴰ q (pairsOf p source) → List·Memᴰ (at g q) (pairsOf p s)
-      image-in q m =
-          let c = P.pairs-e p source q m in
-          Memᴰ·cast (ap (at g) (c .2) ∙ source-image (c .0) (c .1)) (P.pairs-i p s (who (c .0)) (who-lt (c .0) (c .1)))
+        image-in : (q : ℕ) → List·Memᴰ q (pairsOf p source) → List·Memᴰ (at g q) (pairsOf p s)
+        image-in q m =
+            let c = P.pairs-e p source q m in
+            Memᴰ·cast (ap (at g) (c .2) ∙ source-image (c .0) (c .1)) (P.pairs-i p s (who (c .0)) (who-lt (c .0) (c .1)))
 
-      image-on : (q : ℕ) → List·Memᴰ q (pairsOf p s) → List·Memᴰ q (map (at g) (pairsOf p source))
-      image-on q m =
-          let c = P.pairs-e p s q m in
-          let x = c .0 in
-          let z = var x in
-          let l : z < n = P.isPair-var p w (r x) (r-pair x (c .1)) in
-          let e : who z ≡ x = var-inj (who z) x (who-lt z l) (c .1) (who-var z l) in
-          Memᴰ·cast (c .2 ∙ ap (λ (j : ℕ). pair p j (at s j)) (sym e) ∙ sym (source-image z l))
-          (Memᴰ·map (at g) (P.pairs-i p source z l))
+        image-on : (q : ℕ) → List·Memᴰ q (pairsOf p s) → List·Memᴰ q (map (at g) (pairsOf p source))
+        image-on q m =
+            let c = P.pairs-e p s q m in
+            let x = c .0 in
+            let z = var x in
+            let l : z < n = P.isPair-var p w (r x) (r-pair x (c .1)) in
+            let e : who z ≡ x = var-inj (who z) x (who-lt z l) (c .1) (who-var z l) in
+            Memᴰ·cast (c .2 ∙ ap (λ (j : ℕ). pair p j (at s j)) (sym e) ∙ sym (source-image z l))
+            (Memᴰ·map (at g) (P.pairs-i p source z l))
 
-      source-has : (z : ℕ) → z < n → T (has (at (p .initial) z) (at source z))
-      source-has z h =
-          subst T (ap₂ (λ (j u : ℕ). has (at (p .initial) j) u) (who-var z h) (sym (source-at z h)))
-          (P.isPair-has p w (r (who z)) (r-pair (who z) (who-lt z h)))
+        source-has : (z : ℕ) → z < n → T (has (at (p .initial) z) (at source z))
+        source-has z h =
+            subst T (ap₂ (λ (j u : ℕ). has (at (p .initial) j) u) (who-var z h) (sym (source-at z h)))
+            (P.isPair-has p w (r (who z)) (r-pair (who z) (who-lt z h)))
 
-      source-row : (c : Constraint) → List·Memᴰ c (p .constraints) → T (satisfies source c)
-      unfolding satisfies
-      source-row c m =
-          stable (any (same (valuesAt source (c .scope))) (c .rows))
-          (λ no-row. let l = w .constrained c m .inside in
-          let d = scope-drawn source (c .scope) (λ x k. (lt-of-lt-of-le (P.init-lt p w x (at source x) (l x k) (source-has x (l x k))) (w .sixteen), source-has x (l x k))) in
-          let f = pairsAt p (c .scope) (valuesAt source (c .scope)) in
-          never s sol f (P.forbidden-excluded p c f m (P.excluded-i p c (valuesAt source (c .scope)) d no-row))
-          (λ q k. image-in q (scope-pairs source (c .scope) l q k)))
+        source-row : (c : Constraint) → List·Memᴰ c (p .constraints) → T (satisfies source c)
+        unfolding satisfies
+        source-row c m =
+            stable (any (same (valuesAt source (c .scope))) (c .rows))
+            (λ no-row. let l = w .constrained c m .inside in
+            let d = scope-drawn source (c .scope) (λ x k. (lt-of-lt-of-le (P.init-lt p w x (at source x) (l x k) (source-has x (l x k))) (w .sixteen), source-has x (l x k))) in
+            let f = pairsAt p (c .scope) (valuesAt source (c .scope)) in
+            never s sol f (P.forbidden-excluded p c f m (P.excluded-i p c (valuesAt source (c .scope)) d no-row))
+            (λ q k. image-in q (scope-pairs source (c .scope) l q k)))
 
-      pub source-solution : T (isSolution p source)
-      source-solution = solution-i p source record { sized = source-length; drawn = source-has; satisfied = source-row }
+        pub source-solution : T (isSolution p source)
+        source-solution = solution-i p source record { sized = source-length; drawn = source-has; satisfied = source-row }
 
-      pub source-takes : T (takes p g source s)
-      unfolding takes
-      source-takes =
-          both-i (within (map (at g) (pairsOf p source)) (pairsOf p s)) (within (pairsOf p s) (map (at g) (pairsOf p source)))
-          (P.within-i (map (at g) (pairsOf p source)) (pairsOf p s) (λ q m. let c = Memᴰ·of-map (at g) (pairsOf p source) m in Memᴰ·cast (sym (c .2)) (image-in (c .0) (c .1))))
-          (P.within-i (pairsOf p s) (map (at g) (pairsOf p source)) image-on)
+        pub source-takes : T (takes p g source s)
+        unfolding takes
+        source-takes =
+            both-i (within (map (at g) (pairsOf p source)) (pairsOf p s)) (within (pairsOf p s) (map (at g) (pairsOf p source)))
+            (P.within-i (map (at g) (pairsOf p source)) (pairsOf p s) (λ q m. let c = Memᴰ·of-map (at g) (pairsOf p source) m in Memᴰ·cast (sym (c .2)) (image-in (c .0) (c .1))))
+            (P.within-i (pairsOf p s) (map (at g) (pairsOf p source)) image-on)
 
-pub preimage : (p : Problem) → WellFormed p → (g : List ℕ) → List·Memᴰ g (p .symmetries) → (s : List ℕ) → T (isSolution p s) → (t : List ℕ) × T (isSolution p t) × T (takes p g t s)
-preimage p w g m s sol = let good = w .symmetric g m in (source p w g good s sol, source-solution p w g good s sol, source-takes p w g good s sol)
+pub preimage : (p : Problem) → WellFormed p → Respected p → (g : List ℕ) → List·Memᴰ g (p .symmetries) → (s : List ℕ) → T (isSolution p s) → (t : List ℕ) × T (isSolution p t) × T (takes p g t s)
+preimage p w r g m s sol =
+    let good = w .symmetric g m in
+    let respectful = r .respectful g m in
+    (source p w g good respectful s sol, source-solution p w g good respectful s sol, source-takes p w g good respectful s sol)

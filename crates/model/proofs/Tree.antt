@@ -15,12 +15,13 @@ use Rattle.model.specs.ValueSets.{has, members, anyEmpty}
 use Rattle.model.specs.Problem.{Problem, Constraint, assignments, valuesAt, satisfies, isSolution}
 use Rattle.model.specs.Nogood.{Entry, obeys}
 use Rattle.model.specs.Search.{entriesAt, nogoodsOf, rowWith, supported, pruned, narrowed, setsAt, isLive, nodesBelow, nodes, isPlan}
-use Rattle.model.proofs.WellFormed.{WellFormed, GoodConstraint}
+use Rattle.model.specs.WellFormed.{WellFormed, GoodConstraint}
 use Rattle.model.proofs.Lists.{map-flat-map, drop-at, not-of, of-not, T-ext, both-i, both-l, both-r, all-i, all-e, any-i, any-e, keep-no, keep-none, keep-ext, keep-flat-map, flat-pick, below-i, below-e, upFrom-add, flat-append, map-append, map-ext, at-ext, at-out, at-append, at-seam, same-eq, same-refl}
-use Rattle.model.proofs.Sets.{has-lt, has-none, Sets, Inside, has-at-lt, member, empty-i, empty-e}
+use Rattle.model.proofs.Sets.{has-lt, has-none, has-at-lt, member, empty-i, empty-e}
+use Rattle.model.specs.Pruning.{Sets, Inside, closed}
 use Rattle.model.proofs.Assignments.{Drawn, drawn-i, drawn-e}
 use Rattle.model.proofs.Filter.{filtered-i, filtered-e, obeys-front}
-use Rattle.model.proofs.Prune.{supported-e, Kept, pruned-i, pruned-sets, rounds-ind, narrowed-i, narrowed-e, Sized, closed, Largest, largest, start-sets, fixed-e, setsAt-live, live-closed, value-live}
+use Rattle.model.proofs.Prune.{supported-e, Kept, pruned-i, pruned-sets, rounds-ind, narrowed-i, narrowed-e, Sized, Largest, largest, start-sets, fixed-e, setsAt-live, live-closed, value-live}
 
 -- ---- the nogoods of a longer prefix begin with those of the shorter
 same-entries : (p : Problem) (g a b : List ℕ) (j : ℕ) → j < length a → entriesAt p g (a ++ b) j ≡ entriesAt p g a j

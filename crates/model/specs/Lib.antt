@@ -1,12 +1,17 @@
 -- The definitions of paper 01, in its order, then the demands as statements and the starred examples.
 pub mod Lists
+pub mod Bytes
+pub mod Written
 pub mod ValueSets
 pub mod Problem
 pub mod Verdict
 pub mod Sheet
+pub mod WellFormed
 pub mod Nogood
 pub mod Search
+pub mod Pruning
 pub mod Run
+pub mod Room
 pub mod Report
 pub mod Claims
 pub mod Examples

@@ -14,6 +14,11 @@ either true b = true
 either false b = b
 
 module _ {A : Type 0} where
+  -- a where the test holds, else b
+  abbrev pub choose : Bool → A → A → A
+  choose true a b = a
+  choose false a b = b
+
   unfoldable pub all : (A → Bool) → List A → Bool
   all p [] = true
   all p (x ∷ xs) = elim (p x) [ true ↦ all p xs | false ↦ false ]

@@ -37,6 +37,11 @@ unionMask s t = maskOf (λ v. either (has s v) (has t v))
 abbrev pub commonMask : ℕ → ℕ → ℕ
 commonMask s t = maskOf (λ v. both (has s v) (has t v))
 
+-- the set of v where the test holds, else the empty set
+abbrev pub oneIf : Bool → ℕ → ℕ
+oneIf true v = 2 ^ v
+oneIf false v = 0
+
 -- the first number below k that f takes to true, and k where there is none
 abbrev pub leastStep : Bool → ℕ → ℕ
 leastStep true m = 0

@@ -14,7 +14,8 @@ use Rattle.model.specs.ValueSets.{has, maskOf, withoutMask, onlyMask, anyEmpty}
 use Rattle.model.specs.Problem.{assignments}
 use Rattle.model.specs.Nogood.{Entry, equality, disequality, entryBy, entryOf, entryOk, mark, is, obeysFrom, obeys, obeying, used, filtered}
 use Rattle.model.proofs.Lists.{T-of, of-T, not-of, of-not, both-i, both-l, both-r, either-e, keep-ext, getD-at}
-use Rattle.model.proofs.Sets.{Inside, has-none, has-lt, mask-i}
+use Rattle.model.proofs.Sets.{has-none, has-lt, mask-i}
+use Rattle.model.specs.Pruning.{Inside}
 use Rattle.model.proofs.Members.{both-no, either-no}
 use Rattle.model.proofs.Assignments.{assign-mono, drawn-e}
 use Rattle.model.proofs.Filter

@@ -7,8 +7,8 @@ use native.Mathlib.Omega.{arith}
 use lib.ListN.{length, take, getD, set, length-set, drop-of-length-le}
 use lib.Seq.{take-suc, ext-getD, getD-set-same, getD-set-other}
 use borrow.Author.Count.{below-more}
-use Rattle.report.specs.Text.{Written}
-use Rattle.report.proofs.Placed.{written-byte, written-then, fronted}
+use Rattle.model.specs.Written.{Written}
+use Rattle.model.proofs.Written.{written-byte, written-then, fronted}
 use Rattle.planner.specs.Exported.{setsIn, bytesOf, fourBytes, threeNumbers}
 
 -- ---- reading

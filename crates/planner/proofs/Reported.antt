@@ -19,7 +19,8 @@ use Rattle.model.specs.Claims.{plansAmong}
 use Rattle.model.proofs.Accepted.{passed}
 use Rattle.model.proofs.Demands.{ran, held}
 use Rattle.model.proofs.Runs.{rows-counted, nodes-allowed, rows-fit, counts, Counted as Tree·counted}
-use Rattle.report.specs.Text.{Fronted, endedText, room}
+use Rattle.report.specs.Text.{endedText, room}
+use Rattle.model.specs.Written.{Fronted}
 use Rattle.planner.specs.Exported.{wrongLength, answerBytes, runCode, runList, runAnswer, reportLength, reportBytes}
 use Rattle.planner.specs.Inner.{Sized, Listed, Counted}
 

@@ -5,7 +5,7 @@ ghost use mathlib.Core.List.{[], _∷_};
 ghost use Prim.Native.Nat.{_+_, _*_, _/_, _%_, _^_, _≤_, _<_};
 ghost use lib.ListN.{length};
 ghost use Rattle.model.specs.Run.{ended};
-ghost use Rattle.report.specs.Text.{Written};
+ghost use Rattle.model.specs.Written.{Written};
 ghost use Rattle.planner.specs.Exported.{setsIn, bytesOf, fourBytes, threeNumbers, answerBytes};
 ghost use Rattle.planner.specs.Inner.{Counted};
 ghost use Rattle.search.specs.Meaning.{endingOf};

@@ -6,7 +6,8 @@ ghost use Prim.Native.Nat.{_*_, _≤_};
 ghost use lib.ListN.{length};
 ghost use Rattle.model.specs.Sheet.{verdictOf};
 ghost use Rattle.model.specs.Report.{reportFor};
-ghost use Rattle.report.specs.Text.{Fronted, endedText, room};
+ghost use Rattle.report.specs.Text.{endedText, room};
+ghost use Rattle.model.specs.Written.{Fronted};
 ghost use Rattle.planner.specs.Inner.{Sized, Listed, Stop};
 ghost use Rattle.search.specs.Meaning.{endingOf};
 

@@ -15,8 +15,8 @@ use Rattle.model.specs.ValueSets.{has}
 use Rattle.model.specs.Problem.{Problem, Constraint}
 use Rattle.model.specs.Search.{supported}
 use Rattle.model.proofs.Lists.{of-T, of-not, both-i, any-e, among-i, same-eq, list-2, ascending-sorted}
-use Rattle.model.proofs.Sets.{Inside}
-use Rattle.model.proofs.WellFormed.{GoodConstraint}
+use Rattle.model.specs.Pruning.{Inside}
+use Rattle.model.specs.WellFormed.{GoodConstraint}
 use Rattle.layout.specs.Layout.{constraintAt}
 use Rattle.layout.specs.Tables.{linkOf, byRows, allowed, goes, Linked}
 use Rattle.layout.specs.Pruning.{Fixed, Arc}

@@ -10,11 +10,10 @@ use lib.ListN.{length, set}
 use lib.Bits.{bitOr}
 use borrow.Author.Tests.{ltb-true, lt-ltb}
 use Rattle.model.specs.Lists.{both, at}
-use Rattle.model.specs.ValueSets.{has}
+use Rattle.model.specs.ValueSets.{has, oneIf}
 use Rattle.model.proofs.Lists.{T-of, of-T, both-l}
 use Rattle.model.proofs.Filling as filling
-use Rattle.constraints.specs.Steps.{oneIf}
-use Rattle.constraints.proofs.Bits.{has-oneIf}
+use Rattle.model.proofs.Masks.{has-oneIf}
 use Rattle.prune.specs.Steps.{Differ, Loaded, Stored}
 
 -- ---- i numbers stored from a base on

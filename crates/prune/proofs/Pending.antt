@@ -14,11 +14,12 @@ use Rattle.model.specs.Lists.{both, either, any, at}
 use Rattle.model.specs.ValueSets.{has, anyEmpty}
 use Rattle.model.specs.Problem.{Problem, Constraint}
 use Rattle.model.proofs.Lists.{T-of, of-T, not-of, of-not, both-i, both-l, both-r, either-l, either-r, either-e, among-i}
-use Rattle.model.proofs.Sets.{has-none, has-lt, member, Sets, Inside, size, size-inside}
+use Rattle.model.proofs.Sets.{has-none, has-lt, member, size, size-inside}
+use Rattle.model.specs.Pruning.{Sets, Inside, Prunes}
 use Rattle.model.proofs.Masks.{has-or, has-and}
 use Rattle.model.proofs.Members.{low-has}
 use Rattle.model.proofs.Firsts.{take-at, take-e, take-i, full-take}
-use Rattle.model.proofs.Prune.{Way}
+use Rattle.model.proofs.Prunes.{prunes-none, prunes-then}
 use Rattle.layout.specs.Layout.{constraintAt}
 use Rattle.layout.specs.Tables.{byRows}
 use Rattle.layout.proofs.Links.{good}
@@ -32,24 +33,24 @@ use Rattle.prune.proofs.Arcs.{arc-kept, arc-free, arcs-fixed}
 
 -- ---- what has happened to the sets before a turn
 pub record Reaching (p : Problem) (ds es : List ℕ) : Type 0 where
-  pub ways : (prefix : List ℕ) → Way p prefix (setsOf p ds) → Way p prefix (setsOf p es)
+  pub ways : (prefix : List ℕ) → Prunes p prefix (setsOf p ds) (setsOf p es)
   pub less : Inside es ds
   pub unused : (x : ℕ) → p .variables ≤ x → at es x ≡ at ds x
   pub length-is : length es ≡ length ds
 
 pub reaching-none : (p : Problem) (ds : List ℕ) → Reaching p ds ds
-reaching-none p ds = record { ways = λ prefix w. w; less = λ x v t. t; unused = λ x h. refl; length-is = refl }
+reaching-none p ds = record { ways = λ prefix. prunes-none p prefix (setsOf p ds); less = λ x v t. t; unused = λ x h. refl; length-is = refl }
 
 pub reaching-more : (p : Problem) (ds es fs : List ℕ) (changed : ℕ) → length fs ≡ length es → Reaching p ds es → Lessened p es fs changed → Reaching p ds fs
 reaching-more p ds es fs changed e r l = record {
-  ways = λ prefix w. l .ways prefix (r .ways prefix w);
+  ways = λ prefix. prunes-then p prefix (setsOf p ds) (setsOf p es) (setsOf p fs) (r .ways prefix) (l .ways prefix);
   less = λ x v t. r .less x v (l .less x v t);
   unused = λ x h. l .kept x (not-of (has changed x) (λ t. let i = l .few x t in omega arith)) ∙ r .unused x h;
   length-is = e ∙ r .length-is;
 }
 
 pub ended-more : (p : Problem) (ds es : List ℕ) → Reaching p ds es → Ended p es → Ended p ds
-ended-more p ds es r e = (e .0, (λ prefix w. e .1 .0 prefix (r .ways prefix w), e .1 .1))
+ended-more p ds es r e = (e .0, (λ prefix. prunes-then p prefix (setsOf p ds) (setsOf p es) (e .0) (r .ways prefix) (e .1 .0 prefix), e .1 .1))
 
 pub steady-dead : (p : Problem) (ds es : List ℕ) → Ended p ds → SteadyOr p ds es true
 steady-dead p ds es e = record { ended = λ q. e; steady = λ q. absurd (subst T q tt) }

@@ -13,10 +13,12 @@ use Rattle.model.specs.ValueSets.{has, anyEmpty}
 use Rattle.model.specs.Problem.{Problem, Constraint}
 use Rattle.model.specs.Search.{nogoodsOf, pruned, setsAt, isLive, supported}
 use Rattle.model.proofs.Lists.{T-of, of-T, not-of, of-not, at-ext, both-l, place-of}
-use Rattle.model.proofs.Sets.{has-none, mask-ext, empty-inside, Sets, Inside, inside-antisym, size, size-inside, size-strict}
+use Rattle.model.proofs.Sets.{has-none, mask-ext, empty-inside, inside-antisym, size, size-inside, size-strict}
+use Rattle.model.specs.Pruning.{Sets, Inside, closed, Way}
 use Rattle.model.proofs.Masks.{has-and}
 use Rattle.model.proofs.Firsts.{take-sets}
-use Rattle.model.proofs.Prune.{Sized, Kept, fixed-i, closed, largest, Way, live-is, way-live, way-end}
+use Rattle.model.proofs.Prunes.{way-prunes}
+use Rattle.model.proofs.Prune.{Sized, Kept, fixed-i, largest, live-is, way-live, way-end}
 use Rattle.model.proofs.Tree.{well-sized}
 use Rattle.layout.specs.Pruning.{Given, Ended, setsOf}
 use Rattle.constraints.specs.Steps.{Gathered}
@@ -80,7 +82,7 @@ module _ {p : Problem} {supports tables numbers : List ℕ} (st : Stage p suppor
   kept-self = record { before = λ j i. refl; size = refl }
 
   pub constrained-dead : (es : List ℕ) → Ended p ds → Arrived p k work work es true
-  constrained-dead es e = dead p k work work es kept-self (not-live p (take k work) (e .0) (e .1 .0 (take k work) (n .way)) (well-sized p (st .wellFormed)) (e .1 .1))
+  constrained-dead es e = dead p k work work es kept-self (not-live p (take k work) (e .0) (way-prunes p (take k work) (well-sized p (st .wellFormed)) (setsOf p ds) (e .0) (e .1 .0 (take k work)) (n .way)) (well-sized p (st .wellFormed)) (e .1 .1))
 
   module _ {es : List ℕ} (c : Steady p ds es) where
     pub constrained-live : Live p es
@@ -92,14 +94,14 @@ module _ {p : Problem} {supports tables numbers : List ℕ} (st : Stage p suppor
         (take-less st ds es (n .live .sixteen) (c .given .sixteen) (c .less)) (n .marking e l)
 
     way-1 : Way p (take k work) (setsOf p es)
-    way-1 = c .ways (take k work) (n .way)
+    way-1 = way-prunes p (take k work) (well-sized p (st .wellFormed)) (setsOf p ds) (setsOf p es) (c .ways (take k work)) (n .way)
 
     pub sifted-dead : (work′ fs : List ℕ) → steps.Kept work work′ k → EndedAt p (take k work) es → Arrived p k work work′ fs true
-    sifted-dead work′ fs r e = dead p k work work′ fs r (not-live p (take k work) (e .0) (e .1 .0 way-1) (well-sized p (st .wellFormed)) (e .1 .1))
+    sifted-dead work′ fs r e = dead p k work work′ fs r (not-live p (take k work) (e .0) (way-prunes p (take k work) (well-sized p (st .wellFormed)) (setsOf p es) (e .0) (e .1 .0) way-1) (well-sized p (st .wellFormed)) (e .1 .1))
 
     module _ {work′ fs : List ℕ} (s : AllSifted p (take k work) es fs) (m : Marking p (setsOf p fs) (take k work) work′ k) (r : steps.Kept work work′ k) {changed : ℕ} (d : Differ es fs changed) where
       way-2 : Way p (take k work) (setsOf p fs)
-      way-2 = s .way way-1
+      way-2 = way-prunes p (take k work) (well-sized p (st .wellFormed)) (setsOf p es) (setsOf p fs) (s .way) way-1
 
       -- nothing moved: no constraint and no filter takes anything
       pub settled : changed ≡ 0 → Arrived p k work work′ fs false

@@ -15,10 +15,12 @@ use Rattle.model.specs.Problem.{Problem}
 use Rattle.model.specs.Nogood.{filtered}
 use Rattle.model.specs.Search.{nogoodsOf}
 use Rattle.model.proofs.Lists.{T-of, at-ext, at-set, at-set-other, at-take, mem-getD, place-of}
-use Rattle.model.proofs.Sets.{Sets, Inside, inside-antisym, has-at-lt}
+use Rattle.model.proofs.Sets.{inside-antisym, has-at-lt}
+use Rattle.model.specs.Pruning.{Sets, Inside, Prunes}
 use Rattle.model.proofs.Firsts.{take-sets, take-e, take-i, full-take}
 use Rattle.model.proofs.Filter.{filtered-inside}
-use Rattle.model.proofs.Prune.{Way, way-removal, filter-removal}
+use Rattle.model.proofs.Prune.{filter-removal}
+use Rattle.model.proofs.Prunes.{prunes-none, prunes-then, removal-prunes}
 use Rattle.model.proofs.Tree.{well-sized}
 use Rattle.layout.specs.Layout.{symmetryAt}
 use Rattle.layout.specs.Pruning.{setsOf}
@@ -55,14 +57,14 @@ take-take work j k l h f =
 pub record Sifting (p : Problem) (k : ℕ) (work₀ ds work es : List ℕ) (e : ℕ) : Type 0 where
   pub live : Live p es
   pub less : Inside es ds
-  pub way : Way p (take k work₀) (setsOf p ds) → Way p (take k work₀) (setsOf p es)
+  pub way : Prunes p (take k work₀) (setsOf p ds) (setsOf p es)
   pub fixed : es ≡ ds → (i : ℕ) → i < e → filtered (setsOf p ds) (nogoodsOf p (symmetryAt p i) (take k work₀)) ≡ setsOf p ds
   pub marking : Marking p (setsOf p es) (take k work₀) work k
   pub kept : Kept work₀ work k
 
 module _ {p : Problem} {supports tables numbers : List ℕ} (st : Stage p supports tables numbers) {work₀ : List ℕ} {k : ℕ} (g : Ground p work₀ k) (ds : List ℕ) where
   pub sifting-begin : Live p ds → Marking p (setsOf p ds) (take k work₀) work₀ k → Sifting p k work₀ ds work₀ ds 0
-  sifting-begin l m = record { live = l; less = λ x v t. t; way = λ y. y; fixed = λ q i h. absurd (omega arith); marking = m; kept = kept-none work₀ k }
+  sifting-begin l m = record { live = l; less = λ x v t. t; way = prunes-none p (take k work₀) (setsOf p ds); fixed = λ q i h. absurd (omega arith); marking = m; kept = kept-none work₀ k }
 
   pub sifting-end : (work es : List ℕ) (e : ℕ) → at numbers 67 ≤ e → Sifting p k work₀ ds work es e → AllSiftedOr p k work₀ ds work es false
   sifting-end work es e h s = record { ended = λ q. absurd (subst T (sym q) tt); sifted = λ q. sifted; marking = λ q. s .marking; kept = s .kept }
@@ -135,7 +137,7 @@ module _ {p : Problem} {supports tables numbers : List ℕ} (st : Stage p suppor
 
       pub levelled : Levelled p es work tables e k (at work (16 * k + 16 + e))
       levelled = record {
-        pictured = st .indexed .pictured;
+        imageTables = st .indexed .imageTables;
         wellFormed = st .wellFormed;
         few = st .symmetries;
         symmetry = e-lt;
@@ -153,10 +155,10 @@ module _ {p : Problem} {supports tables numbers : List ℕ} (st : Stage p suppor
       leaves-is : leaves p es work e k ≡ filtered (setsOf p es) (nogoodsOf p (symmetryAt p e) (take k work₀))
       leaves-is = ap (λ (z : List ℕ). filtered (setsOf p es) (nogoodsOf p (symmetryAt p e) z)) prefix-is
 
-      left-way : Way p (take k work₀) (setsOf p ds) → Way p (take k work₀) (filtered (setsOf p es) (nogoodsOf p (symmetryAt p e) (take k work₀)))
-      left-way y =
-          way-removal p (take k work₀) (well-sized p (st .wellFormed)) (setsOf p es) (filtered (setsOf p es) (nogoodsOf p (symmetryAt p e) (take k work₀))) (s .way y)
-          (filter-removal p (take k work₀) (setsOf p es) es-sets (symmetryAt p e) (mem-getD (p .symmetries) e [] e-lt))
+      left-way : Prunes p (take k work₀) (setsOf p ds) (filtered (setsOf p es) (nogoodsOf p (symmetryAt p e) (take k work₀)))
+      left-way =
+          prunes-then p (take k work₀) (setsOf p ds) (setsOf p es) (filtered (setsOf p es) (nogoodsOf p (symmetryAt p e) (take k work₀))) (s .way)
+          (removal-prunes p (take k work₀) (setsOf p es) (filtered (setsOf p es) (nogoodsOf p (symmetryAt p e) (take k work₀))) (filter-removal p (take k work₀) (setsOf p es) es-sets (symmetryAt p e) (mem-getD (p .symmetries) e [] e-lt)))
 
       module _ {fs : List ℕ} {r : ℕ} (f : Sifted p es work e k fs r) where
         pub sifting-dead : r ≡ 16 → AllSiftedOr p k work₀ ds work fs true
@@ -210,7 +212,7 @@ module _ {p : Problem} {supports tables numbers : List ℕ} (st : Stage p suppor
           sifting-turn = record {
             live = turn-live;
             less = λ x v t. s .less x v (turn-less x v t);
-            way = λ y. subst (Way p (take k work₀)) (sym here) (left-way y);
+            way = subst (Prunes p (take k work₀) (setsOf p ds)) (sym here) left-way;
             fixed = fixed-turn fs sixteen turn-less here;
             marking = marking-turn;
             kept = kept-set work₀ work k (16 * k + 16 + e) r (omega arith) (s .kept);

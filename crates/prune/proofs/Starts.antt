@@ -18,14 +18,15 @@ use Rattle.model.specs.ValueSets.{has, anyEmpty}
 use Rattle.model.specs.Problem.{Problem, Constraint}
 use Rattle.model.specs.Search.{narrowed, setsAt, isLive}
 use Rattle.model.proofs.Lists.{T-of, of-T, not-of, of-not, at-ext, at-out, both-i, both-l, among-i, mem-at, at-set, at-set-other, at-take}
-use Rattle.model.proofs.Sets.{has-none, has-lt, member, empty-i, Sets, Inside, inside-refl, set-sets}
+use Rattle.model.proofs.Sets.{has-none, has-lt, member, empty-i, inside-refl, set-sets}
+use Rattle.model.specs.Pruning.{Sets, Inside, closed, Way}
 use Rattle.model.proofs.Masks.{has-and, has-not, has-one}
 use Rattle.model.proofs.Members.{one-bit}
 use Rattle.model.proofs.Firsts.{take-at, take-e, take-i, take-sets, take-length, take-full}
-use Rattle.model.proofs.Prune.{Kept, narrowed-e, closed, Largest, largest, fixed-e, Way, way-start, setsAt-live, setsAt-sets, live-closed}
+use Rattle.model.proofs.Prune.{Kept, narrowed-e, Largest, largest, fixed-e, way-start, setsAt-live, setsAt-sets, live-closed}
 use Rattle.model.proofs.Child.{child-start}
 use Rattle.model.proofs.Tree.{well-sized}
-use Rattle.model.proofs.WellFormed.{GoodConstraint}
+use Rattle.model.specs.WellFormed.{GoodConstraint}
 use Rattle.layout.specs.Layout.{constraintAt}
 use Rattle.layout.specs.Tables.{byRows}
 use Rattle.layout.proofs.Links.{is-one, good}

@@ -10,9 +10,8 @@ use Rattle.model.specs.ValueSets.{has, anyEmpty}
 use Rattle.model.specs.Problem.{Problem}
 use Rattle.model.specs.Nogood.{filtered}
 use Rattle.model.specs.Search.{nogoodsOf, setsAt, isLive}
-use Rattle.model.proofs.Sets.{Sets, Inside}
-use Rattle.model.proofs.Prune.{Way}
-use Rattle.model.proofs.WellFormed.{WellFormed}
+use Rattle.model.specs.Pruning.{Sets, Inside, Way, Prunes}
+use Rattle.model.specs.WellFormed.{WellFormed}
 use Rattle.layout.specs.Layout.{constraintAt}
 use Rattle.layout.specs.Tables.{Indexed, byRows}
 use Rattle.layout.specs.Pruning.{Given, Ended, Fixed, Arc, setsOf}
@@ -36,7 +35,7 @@ pub record Pending (p : Problem) (numbers sets : List ℕ) (todo dirty : ℕ) : 
 
 -- no constraint takes anything; on the way only values went that a round of pruning takes too, at any prefix
 pub record Steady (p : Problem) (sets sets′ : List ℕ) : Type 0 where
-  pub ways : (prefix : List ℕ) → Way p prefix (setsOf p sets) → Way p prefix (setsOf p sets′)
+  pub ways : (prefix : List ℕ) → Prunes p prefix (setsOf p sets) (setsOf p sets′)
   pub given : Given p sets′
   pub less : Inside sets′ sets
   pub unused : (x : ℕ) → p .variables ≤ x → at sets′ x ≡ at sets x
@@ -68,12 +67,12 @@ Marking p ds prefix work k = (e : ℕ) → e < length (p .symmetries) → Mark p
 pub record AllSifted (p : Problem) (prefix sets sets′ : List ℕ) : Type 0 where
   pub live : Live p sets′
   pub less : Inside sets′ sets
-  pub way : Way p prefix (setsOf p sets) → Way p prefix (setsOf p sets′)
+  pub way : Prunes p prefix (setsOf p sets) (setsOf p sets′)
   pub fixed : sets′ ≡ sets → (g : List ℕ) → List·Memᴰ g (p .symmetries) → filtered (setsOf p sets) (nogoodsOf p g prefix) ≡ setsOf p sets
 
 -- a dead end at a prefix: values that no round keeps went, and a set is empty
 abbrev pub EndedAt : Problem → List ℕ → List ℕ → Type 0
-EndedAt p prefix sets = (es : List ℕ) × ((Way p prefix (setsOf p sets) → Way p prefix es) × T (anyEmpty es))
+EndedAt p prefix sets = (es : List ℕ) × (Prunes p prefix (setsOf p sets) es × T (anyEmpty es))
 
 -- nothing of `work` is changed but the marks of depth k and what comes after them
 pub record Kept (work work′ : List ℕ) (k : ℕ) : Type 0 where

@@ -10,8 +10,8 @@ use borrow.Author.Tests.{lt-ltb, le-ltb, ltb-true, ltb-false}
 use lib.Dec.{ltb}
 use lib.ListN.{length, length-append}
 use Rattle.model.specs.Report.{digits, decimal}
-use Rattle.report.specs.Text.{Written}
-use Rattle.report.proofs.Placed.{written-then}
+use Rattle.model.specs.Written.{Written}
+use Rattle.model.proofs.Written.{written-then}
 
 pub below-ten : (n : ℕ) → (n < 10) ⊎ (10 ≤ n)
 below-ten n = go (ltb n 10) refl

@@ -1,3 +1,2 @@
-pub mod Placed
 pub mod Digits
 pub mod Lines

@@ -11,8 +11,9 @@ use Rattle.model.specs.Lists.{flat}
 use Rattle.model.specs.Run.{Ending, plansIn, listedPlans}
 use Rattle.model.specs.Report.{line, planWord, endingLine, resultText}
 use Rattle.model.proofs.Lists.{flat-append}
-use Rattle.report.specs.Text.{Written, Fronted, field, fields, endedText}
-use Rattle.report.proofs.Placed.{written-then, fronted}
+use Rattle.report.specs.Text.{field, fields, endedText}
+use Rattle.model.specs.Written.{Written, Fronted}
+use Rattle.model.proofs.Written.{written-then, fronted}
 use Rattle.report.proofs.Digits.{decimal-most, decimal-below}
 
 -- ---- fields

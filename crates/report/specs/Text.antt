@@ -1,4 +1,4 @@
--- Text in a lent buffer: what a routine wrote, where it ends, and that all other bytes are as they came.
+-- The text of an ending, in parts.
 use mathlib.Core.Path.{_≡_}
 use mathlib.Core.List.{List, _∷_, _++_, map}
 use Prim.Native.Nat.{ℕ, _+_}
@@ -6,20 +6,6 @@ use lib.ListN.{length, take, drop}
 use Rattle.model.specs.Lists.{flat}
 use Rattle.model.specs.Run.{Ending, listedPlans, plansIn}
 use Rattle.model.specs.Report.{decimal, resultText}
-
--- a buffer with a text at a place
-unfoldable pub placed : List ℕ → ℕ → List ℕ → List ℕ
-placed d at t = take at d ++ t ++ drop (at + length t) d
-
--- the text was put at a place of the buffer d, which is `after` now; next is the place after the text
-pub record Written (d : List ℕ) (at : ℕ) (t after : List ℕ) (next : ℕ) : Type 0 where
-  pub bytes : after ≡ placed d at t
-  pub ends : next ≡ at + length t
-
--- the text stands at the front of the buffer d, which is `after` now, and n is its length
-pub record Fronted (d t after : List ℕ) (n : ℕ) : Type 0 where
-  pub bytes : after ≡ t ++ drop (length t) d
-  pub count : n ≡ length t
 
 -- a field: a space and a number
 abbrev pub field : ℕ → List ℕ

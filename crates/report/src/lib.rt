@@ -6,7 +6,8 @@ ghost use lib.ListN.{length};
 ghost use Rattle.model.specs.Lists.{flat};
 ghost use Rattle.model.specs.Run.{finished, spent, full, listedPlans};
 ghost use Rattle.model.specs.Report.{decimal, line, planWord, refusedWord};
-ghost use Rattle.report.specs.Text.{Written, Fronted, field, fields, endedText, room};
+ghost use Rattle.report.specs.Text.{field, fields, endedText, room};
+ghost use Rattle.model.specs.Written.{Written, Fronted};
 
 // The room that every report fits.
 pub const REPORT_ROOM: usize = 217160;

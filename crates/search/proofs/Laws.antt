@@ -17,8 +17,9 @@ use Rattle.model.specs.Search.{setsAt, isLive, nodesBelow}
 use Rattle.model.proofs.Lists.{keep-yes, keep-no, keep-ext, upFrom-e, of-not}
 use Rattle.model.proofs.Sets.{has-zero, has-suc, members-of-none, member, at-zeros, empty-i, pow2}
 use Rattle.model.proofs.Masks.{least-below, has-and}
-use Rattle.model.proofs.Prune.{closed, setsAt-live, setsAt-dead, setsAt-sets, largest, narrowed-e}
-use Rattle.model.proofs.WellFormed.{WellFormed}
+use Rattle.model.proofs.Prune.{setsAt-live, setsAt-dead, setsAt-sets, largest, narrowed-e}
+use Rattle.model.specs.Pruning.{closed}
+use Rattle.model.specs.WellFormed.{WellFormed}
 use Rattle.model.proofs.Tree.{well-sized}
 
 -- ---- a set without its lowest member

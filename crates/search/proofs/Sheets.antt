@@ -12,7 +12,7 @@ use Rattle.model.specs.Verdict.{Verdict, accepted, refused, isAccepted}
 use Rattle.model.specs.Sheet.{verdictOf, problemOf, headerOf, constraintsFrom, afterAt, tableAt}
 use Rattle.model.specs.Run.{refusal, answerFor, answerOf, listFor, listOf}
 use Rattle.model.proofs.Accepted.{passed}
-use Rattle.model.proofs.WellFormed.{WellFormed}
+use Rattle.model.specs.WellFormed.{WellFormed}
 use Rattle.sheet.specs.Form.{Zeros}
 
 length-constraints : (b : List ℕ) (k o : ℕ) → length (constraintsFrom b k o) ≡ k

@@ -17,7 +17,7 @@ use Rattle.model.specs.Problem.{Problem}
 use Rattle.model.specs.Search.{setsAt, isLive, nodesBelow}
 use Rattle.model.proofs.Lists.{T-of, both-l}
 use Rattle.model.proofs.Masks.{lowest-op}
-use Rattle.model.proofs.WellFormed.{WellFormed}
+use Rattle.model.specs.WellFormed.{WellFormed}
 use Rattle.prune.specs.Node.{Ready, Holds, Marked, AtNode, Reached, longer}
 use Rattle.prune.proofs.Marks.{marked-on}
 use Rattle.search.specs.Walk.{State, listed, counted, walk, nodesFor}

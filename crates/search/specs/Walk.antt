@@ -6,7 +6,7 @@ use mathlib.Core.List.{List, [], _∷_, _++_, map}
 use Prim.Native.Nat.{ℕ, suc, _+_, _*_}
 use lib.ListN.{length, take, drop}
 use lib.Dec.{leb, eqb}
-use Rattle.model.specs.Lists.{flat}
+use Rattle.model.specs.Lists.{flat, choose}
 use Rattle.model.specs.ValueSets.{members}
 use Rattle.model.specs.Problem.{Problem}
 use Rattle.model.specs.Search.{isPlan, nodesBelow}
@@ -23,14 +23,10 @@ pub record State : Type 0 where
 unfoldable pub overwritten : ℕ → List ℕ → List ℕ → List ℕ
 overwritten i row list = take i list ++ row ++ drop (i + length row) list
 
-abbrev pub pick : Bool → State → State → State
-pick true a b = a
-pick false a b = b
-
 -- a plan was found: full where n bytes more have no room, else it is listed
 unfoldable pub listed : ℕ → List ℕ → State → State
 listed n row s =
-    pick (leb (suc (s .plans) * n) (length (s .list)))
+    choose (leb (suc (s .plans) * n) (length (s .list)))
     (record { made = s .made; plans = suc (s .plans); stop = 0; list = overwritten (s .plans * n) row (s .list) })
     (record { made = s .made; plans = s .plans; stop = 2; list = s .list })
 
@@ -43,9 +39,9 @@ exhausted s = record { made = s .made; plans = s .plans; stop = 1; list = s .lis
 -- one node: nothing once the run has stopped; spent where the nodes made equal the limit; else one node more, and a plan is listed
 unfoldable pub visit : Problem → ℕ → List ℕ → State → State
 visit p limit t s =
-    pick (eqb (s .stop) 0)
-    (pick (eqb (s .made) limit) (exhausted s)
-    (pick (isPlan p t) (listed (p .variables) t (counted s)) (counted s)))
+    choose (eqb (s .stop) 0)
+    (choose (eqb (s .made) limit) (exhausted s)
+    (choose (isPlan p t) (listed (p .variables) t (counted s)) (counted s)))
     s
 
 unfoldable pub walk : Problem → ℕ → List (List ℕ) → State → State

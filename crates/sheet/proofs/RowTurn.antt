@@ -10,9 +10,9 @@ use lib.Bits.{bitOr}
 use lib.ListN.{set, getD}
 use lib.Dec.{T, ltb, ltb→lt, lt→ltb, eqb}
 use borrow.Author.Tests.{eqb-true, eqb-false}
-use Rattle.model.specs.Lists.{all, at}
+use Rattle.model.specs.Lists.{all, at, choose}
 use Rattle.model.specs.Sheet.{word, words}
-use Rattle.sheet.specs.Fill.{pick, keyTo, rowKey, rowFits, leastKey, order, support, supported, RowRead, RowsAsked}
+use Rattle.sheet.specs.Fill.{keyTo, rowKey, rowFits, leastKey, order, support, supported, RowRead, RowsAsked}
 use Rattle.model.proofs.Masks.{shl-one}
 use Rattle.sheet.proofs.Words.{words-all-i, words-all-e}
 
@@ -109,7 +109,7 @@ module _ (b : List ℕ) (from a d base : ℕ) (old : List ℕ) (i : ℕ) (new : 
         passed = λ q. absurd (q refl);
       }
 
-  pub rows-more : (key next-refused : ℕ) (stored : List ℕ) → key < 4096 → RowRead b next a d key → next-refused ≡ pick (ltb key least) 13 refused → stored ≡ support base key new →
+  pub rows-more : (key next-refused : ℕ) (stored : List ℕ) → key < 4096 → RowRead b next a d key → next-refused ≡ choose (ltb key least) 13 refused → stored ≡ support base key new →
       RowsTo b from a d base old (i + 1) stored next-refused (key + 1) (next + 2 * a)
   unfolding leastKey order supported
   rows-more key q stored l r e es =
@@ -118,7 +118,7 @@ module _ (b : List ℕ) (from a d base : ℕ) (old : List ℕ) (i : ℕ) (new : 
       record {
         here = (let w : suc i * a ≡ i * a + a = suc-mul i a in let v : (i + 1) * a ≡ i * a + a = ap (λ (n : ℕ). n * a) (add-one i) ∙ w in omega (arith, t .here));
         floor = ap (λ (n : ℕ). n + 1) (k .0) ∙ ap (leastKey b from a) z;
-        ordered = e ∙ ap₂ (λ (x y : ℕ). pick (ltb x y) 13 refused) (k .0) (t .floor) ∙ ap (pick (ltb (rowKey b from a i) (leastKey b from a i)) 13) (t .ordered) ∙ ap (order b from a) z;
+        ordered = e ∙ ap₂ (λ (x y : ℕ). choose (ltb x y) 13 refused) (k .0) (t .floor) ∙ ap (choose (ltb (rowKey b from a i) (leastKey b from a i)) 13) (t .ordered) ∙ ap (order b from a) z;
         fits = λ j h. below j h (eqb j i) refl (k .1);
         stored = es ∙ ap₂ (λ (n : ℕ) (x : List ℕ). support base n x) (k .0) (t .stored) ∙ ap (λ (n : ℕ). supported b from a base n old) z;
       }
@@ -132,7 +132,7 @@ module _ (b : List ℕ) (from a d base : ℕ) (old : List ℕ) (i : ℕ) (new : 
   order-not zero e = omega arith
   order-not (suc n) e = go (order-not n) (ltb (rowKey b from a n) (leastKey b from a n)) e
     where
-      go : (order b from a n ≡ 12 → ⊥) → (u : Bool) → pick u 13 (order b from a n) ≡ 12 → ⊥
+      go : (order b from a n ≡ 12 → ⊥) → (u : Bool) → choose u 13 (order b from a n) ≡ 12 → ⊥
       go ih true q = omega arith
       go ih false q = ih q
 

@@ -8,11 +8,11 @@ use native.Mathlib.Omega.{arith}
 use lib.Dec.{T, eqb, ltb, ltb→lt, lt→ltb}
 use lib.ListN.{length}
 use borrow.Author.Tests.{ltb-true, ltb-false, lt-ltb, eqb-true, eqb-false}
-use Rattle.model.specs.Lists.{all, below, earlier, rowsAscend}
+use Rattle.model.specs.Lists.{all, below, earlier, rowsAscend, choose}
 use Rattle.model.specs.Sheet.{word, words, rowsAt}
 use Rattle.model.proofs.Lists.{T-of, of-T, not-of}
 use Rattle.model.proofs.Accepted.{length-words}
-use Rattle.sheet.specs.Fill.{pick, keyTo, rowKey, rowFits, leastKey, order}
+use Rattle.sheet.specs.Fill.{keyTo, rowKey, rowFits, leastKey, order}
 use Rattle.sheet.proofs.Words.{map-all-i, map-all-e, words-all-i, words-all-e}
 use Rattle.sheet.proofs.Keys.{keyFrom, Digits, key-earlier, key-words}
 use Rattle.sheet.proofs.Ascend.{rows-i, rows-e}
@@ -39,7 +39,7 @@ module _ (b : List ℕ) (from a d : ℕ) (d16 : d ≤ 16) where
   order-e (suc n) e j l = go (order-e n) (ltb (rowKey b from a n) (leastKey b from a n)) refl e (eqb j n) refl
     where
       go : (order b from a n ≡ 0 → (j : ℕ) → j < n → leastKey b from a j ≤ rowKey b from a j) → (t : Bool) → ltb (rowKey b from a n) (leastKey b from a n) ≡ t →
-          pick t 13 (order b from a n) ≡ 0 → (s : Bool) → eqb j n ≡ s → leastKey b from a j ≤ rowKey b from a j
+          choose t 13 (order b from a n) ≡ 0 → (s : Bool) → eqb j n ≡ s → leastKey b from a j ≤ rowKey b from a j
       go ih true u q s v = absurd (omega arith)
       go ih false u q true v = subst (λ (k : ℕ). leastKey b from a k ≤ rowKey b from a k) (sym (eqb-true j n v)) (ltb-false (rowKey b from a n) (leastKey b from a n) u)
       go ih false u q false v = let w : j ≡ n → ⊥ = eqb-false j n v in ih q j (omega arith)
@@ -49,7 +49,7 @@ module _ (b : List ℕ) (from a d : ℕ) (d16 : d ≤ 16) where
   order-i zero h = refl
   order-i (suc n) h = go (order-i n (λ j l. h j (omega arith))) (ltb (rowKey b from a n) (leastKey b from a n)) refl
     where
-      go : order b from a n ≡ 0 → (t : Bool) → ltb (rowKey b from a n) (leastKey b from a n) ≡ t → pick t 13 (order b from a n) ≡ 0
+      go : order b from a n ≡ 0 → (t : Bool) → ltb (rowKey b from a n) (leastKey b from a n) ≡ t → choose t 13 (order b from a n) ≡ 0
       go ih true u = absurd (let w : rowKey b from a n < leastKey b from a n = ltb-true (rowKey b from a n) (leastKey b from a n) u in omega (arith, h n (omega arith)))
       go ih false u = ih
 
@@ -58,7 +58,7 @@ module _ (b : List ℕ) (from a d : ℕ) (d16 : d ≤ 16) where
   order-two zero = inl refl
   order-two (suc n) = go (order-two n) (ltb (rowKey b from a n) (leastKey b from a n))
     where
-      go : (order b from a n ≡ 0) ⊎ (order b from a n ≡ 13) → (t : Bool) → (pick t 13 (order b from a n) ≡ 0) ⊎ (pick t 13 (order b from a n) ≡ 13)
+      go : (order b from a n ≡ 0) ⊎ (order b from a n ≡ 13) → (t : Bool) → (choose t 13 (order b from a n) ≡ 0) ⊎ (choose t 13 (order b from a n) ≡ 13)
       go ih true = inr refl
       go ih false = ih
 

@@ -11,7 +11,7 @@ use Rattle.model.specs.Verdict.{Verdict, accepted, ask, isAccepted}
 use Rattle.model.specs.Problem.{Problem, Constraint}
 use Rattle.model.specs.Sheet.{headerOf, word, words, scopeAt, rowsAt, problemOf}
 use Rattle.model.proofs.Lists.{all-e, below-e}
-use Rattle.model.proofs.WellFormed.{GoodConstraint}
+use Rattle.model.specs.WellFormed.{GoodConstraint}
 use Rattle.model.proofs.Accepted.{asked, length-words, at-words}
 use Rattle.symmetry.specs.Table.{Stated}
 use Rattle.sheet.specs.Parts.{headerAsked, headerVerdict, setsAsked, tablesFit, formVerdict, Fit}

@@ -6,12 +6,8 @@ use Prim.Native.Nat.{ℕ, zero, suc, _+_, _*_, _/_, _%_, _^_, _≤_, _<_}
 use lib.ListN.{length, set}
 use lib.Bits.{bitOr}
 use lib.Dec.{T, ltb}
-use Rattle.model.specs.Lists.{at, all, both, ascending}
+use Rattle.model.specs.Lists.{at, all, both, ascending, choose}
 use Rattle.model.specs.Sheet.{word, words}
-
-abbrev pub pick : Bool → ℕ → ℕ → ℕ
-pick true a b = a
-pick false a b = b
 
 -- ---- scopes
 -- constraint k touches variable x
@@ -55,7 +51,7 @@ leastKey b from a (suc i) = rowKey b from a i + 1
 -- question 13 to the first i rows
 unfoldable pub order : List ℕ → ℕ → ℕ → ℕ → ℕ
 order b from a zero = 0
-order b from a (suc i) = pick (ltb (rowKey b from a i) (leastKey b from a i)) 13 (order b from a i)
+order b from a (suc i) = choose (ltb (rowKey b from a i) (leastKey b from a i)) 13 (order b from a i)
 
 -- a key goes to the support sets from a base on
 unfoldable pub support : ℕ → ℕ → List ℕ → List ℕ

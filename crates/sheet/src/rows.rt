@@ -4,7 +4,8 @@ ghost use Prim.Native.Nat.{_+_, _*_, _≤_, _<_};
 ghost use mathlib.Core.Path.{_≡_};
 ghost use lib.ListN.{length};
 ghost use lib.Dec.{ltb};
-ghost use Rattle.sheet.specs.Fill.{pick, support as supportAt, RowRead, RowsAsked};
+ghost use Rattle.sheet.specs.Fill.{support as supportAt, RowRead, RowsAsked};
+ghost use Rattle.model.specs.Lists.{choose};
 
 // The row of a values at an offset as one number, a hexadecimal digit for each value; 4096 where one is not below d.
 // Rows in their order have keys in theirs.
@@ -27,7 +28,7 @@ fn key(sheet: &[u8], o: usize, a: usize, d: usize) -> usize
 
 // 13 where a key is below the least that it may be.
 fn ordered(key: usize, least: usize, refused: u8) -> u8
-    ensures { λ r. ⌜ r ≡ pick (ltb key least) 13 refused ⌝ }
+    ensures { λ r. ⌜ r ≡ choose (ltb key least) 13 refused ⌝ }
 {
     if key < least { 13 } else { refused }
 }

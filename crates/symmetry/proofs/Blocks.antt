@@ -9,7 +9,7 @@ use native.Mathlib.Omega.{arith}
 use lib.Dec.{T, T-not, not-T, eqb, ltb, eqb-refl, ltb→lt, lt→ltb}
 use lib.ListN.{length, getD}
 use borrow.Author.Tests.{eqb-true, eqb-false, eq-eqb, ne-eqb, ltb-true, ltb-false}
-use Rattle.model.specs.Lists.{all, any, keep, flat, below, at, same, both}
+use Rattle.model.specs.Lists.{all, any, keep, flat, below, at, same, both, choose}
 use Rattle.model.specs.ValueSets.{has, members}
 use Rattle.model.specs.Problem.{Problem, Constraint, pair, pairsAt, within, assignments, excluded, doubled, forbidden}
 use Rattle.model.proofs.Lists.{T-of, of-T, T-ext, not-of, of-not, both-i, both-l, both-r, all-e, all-i, all-cons, any-e, any-i, keep-e, keep-i, flat-i, flat-e}
@@ -17,7 +17,7 @@ use Rattle.model.proofs.Sets.{members-i, members-e}
 use Rattle.model.proofs.Pairs.{within-i, within-e, doubled-e, doubled-i, forbidden-e, forbidden-doubled, forbidden-excluded}
 use Rattle.layout.specs.Layout.{constraintAt}
 use Rattle.symmetry.specs.Table.{Stated}
-use Rattle.symmetry.specs.Forbidden.{blocked, numberOf, PairCode, MaybePair, Begun, clashes, pick, valueIn, refusedBy}
+use Rattle.symmetry.specs.Forbidden.{blocked, numberOf, PairCode, MaybePair, Begun, clashes, valueIn, refusedBy}
 use Rattle.symmetry.proofs.Codes.{good, init-lt, init-16, pair-lt, pair-div, pair-mod, code-value, code-is, none-out, code-lt, constraint-in}
 
 -- ---- lists

@@ -15,7 +15,7 @@ use Rattle.model.specs.Problem.{Problem, Constraint, pair, isPair}
 use Rattle.model.specs.Sheet.{permutesPairs, distinct}
 use Rattle.model.proofs.Lists.{both-i, both-l, both-r, all-e, below-i}
 use Rattle.model.proofs.Sets.{has-lt}
-use Rattle.model.proofs.WellFormed.{GoodConstraint}
+use Rattle.model.specs.WellFormed.{GoodConstraint}
 use Rattle.layout.specs.Layout.{constraintAt}
 use Rattle.symmetry.specs.Table.{Stated}
 use Rattle.symmetry.specs.Forbidden.{numberOf, PairCode, MaybePair, Decoded, Coded}

@@ -13,7 +13,7 @@ use Rattle.model.specs.Lists.{all, any, at, same, both}
 use Rattle.model.specs.ValueSets.{has}
 use Rattle.model.specs.Problem.{Problem, Constraint}
 use Rattle.model.proofs.Lists.{of-T, not-of, both-l, all-i, all-e, at-mem, mem-at, map-append}
-use Rattle.model.proofs.WellFormed.{GoodConstraint}
+use Rattle.model.specs.WellFormed.{GoodConstraint}
 use Rattle.layout.specs.Layout.{constraintAt, Supports}
 use Rattle.symmetry.specs.Table.{Ready}
 use Rattle.symmetry.specs.Forbidden.{packed, valueIn, refusedBy, LookedUp}

@@ -15,7 +15,7 @@ use Rattle.model.specs.ValueSets.{has}
 use Rattle.model.specs.Problem.{Problem, Constraint}
 use Rattle.model.proofs.Lists.{both-i, either-l, either-r, all-e, any-e, any-i}
 use Rattle.model.proofs.Masks.{has-and, has-or}
-use Rattle.model.proofs.WellFormed.{GoodConstraint}
+use Rattle.model.specs.WellFormed.{GoodConstraint}
 use Rattle.layout.specs.Layout.{constraintAt, Numbers}
 use Rattle.symmetry.specs.Table.{Stated, Framed}
 use Rattle.symmetry.specs.Forbidden.{Short, Candidates}

@@ -18,7 +18,7 @@ use Rattle.model.proofs.Lists.{T-of, of-T, both-l, both-r, any-e}
 use Rattle.model.proofs.Sets.{has-lt, has-none}
 use Rattle.model.proofs.Masks.{has-and, has-or, has-not, has-one}
 use Rattle.model.proofs.Pairs.{forbidden-excluded}
-use Rattle.model.proofs.WellFormed.{GoodConstraint}
+use Rattle.model.specs.WellFormed.{GoodConstraint}
 use Rattle.layout.specs.Layout.{constraintAt}
 use Rattle.symmetry.specs.Table.{Stated, Ready}
 use Rattle.symmetry.specs.Forbidden.{blocked, numberOf, PairCode, MaybePair, Begun, Lacking, On, Sure, packed, packedOn}

@@ -8,14 +8,14 @@ use native.Mathlib.Omega.{arith}
 use lib.Dec.{T, T-not, not-T, eqb, ltb, eqb-refl, ltb→lt, lt→ltb}
 use lib.ListN.{length, getD}
 use borrow.Author.Tests.{eqb-true, eqb-false, eq-eqb, ne-eqb}
-use Rattle.model.specs.Lists.{all, any, at, same, both}
+use Rattle.model.specs.Lists.{all, any, at, same, both, choose}
 use Rattle.model.specs.ValueSets.{has}
 use Rattle.model.specs.Problem.{Problem, Constraint, pair, pairsAt, forbidden}
 use Rattle.model.proofs.Lists.{T-of, of-T, T-ext, both-i, both-l, both-r, all-e, all-i, any-i}
 use Rattle.model.proofs.Pairs.{doubled-e, forbidden-e, forbidden-excluded}
 use Rattle.layout.specs.Layout.{constraintAt}
 use Rattle.symmetry.specs.Table.{Stated}
-use Rattle.symmetry.specs.Forbidden.{blocked, numberOf, PairCode, MaybePair, Begun, clashes, pick, valueIn, refusedBy}
+use Rattle.symmetry.specs.Forbidden.{blocked, numberOf, PairCode, MaybePair, Begun, clashes, valueIn, refusedBy}
 use Rattle.symmetry.proofs.Codes.{good, init-lt, init-16, pair-lt, code-is, constraint-in}
 use Rattle.symmetry.proofs.Blocks.{mem-index, three, excluded-e, excluded-i, blocked-i, blocked-e, clash-no}
 
@@ -31,7 +31,7 @@ pub found : (a b e x : ℕ) → valueIn a b e x < 16 → OneGives a b e x (value
 found a b e x h = go (eqb (a / 16) x) refl (eqb (b / 16) x) refl (eqb (e / 16) x) refl h
   where
     go : (i : Bool) → eqb (a / 16) x ≡ i → (j : Bool) → eqb (b / 16) x ≡ j → (k : Bool) → eqb (e / 16) x ≡ k →
-        pick i (a % 16) (pick j (b % 16) (pick k (e % 16) 16)) < 16 → OneGives a b e x (pick i (a % 16) (pick j (b % 16) (pick k (e % 16) 16)))
+        choose i (a % 16) (choose j (b % 16) (choose k (e % 16) 16)) < 16 → OneGives a b e x (choose i (a % 16) (choose j (b % 16) (choose k (e % 16) 16)))
     go true p j q k r l = inl (eqb-true (a / 16) x p, refl)
     go false p true q k r l = inr (inl (eqb-true (b / 16) x q, refl))
     go false p false q true r l = inr (inr (eqb-true (e / 16) x r, refl))
@@ -42,7 +42,7 @@ pub found-is : (a b e x v : ℕ) → (a / 16 ≡ b / 16 → a ≡ b) → (a / 16
 found-is a b e x v ab ae be g = go (eqb (a / 16) x) refl (eqb (b / 16) x) refl (eqb (e / 16) x) refl g
   where
     go : (i : Bool) → eqb (a / 16) x ≡ i → (j : Bool) → eqb (b / 16) x ≡ j → (k : Bool) → eqb (e / 16) x ≡ k → OneGives a b e x v →
-        pick i (a % 16) (pick j (b % 16) (pick k (e % 16) 16)) ≡ v
+        choose i (a % 16) (choose j (b % 16) (choose k (e % 16) 16)) ≡ v
     go true p j q k r (inl g) = g .1
     go true p j q k r (inr (inl g)) = ap (λ (z : ℕ). z % 16) (ab (eqb-true (a / 16) x p ∙ sym (g .0))) ∙ g .1
     go true p j q k r (inr (inr g)) = ap (λ (z : ℕ). z % 16) (ae (eqb-true (a / 16) x p ∙ sym (g .0))) ∙ g .1

@@ -18,7 +18,7 @@ use Rattle.model.specs.Problem.{Problem, Constraint}
 use Rattle.model.proofs.Lists.{T-of, of-T, T-ext, not-of, of-not, both-i, both-l, both-r, all-e, all-i, mem-at, either-l, T-dec}
 use Rattle.model.proofs.Sets.{members-i, members-e}
 use Rattle.model.proofs.Masks.{has-and, has-not}
-use Rattle.model.proofs.WellFormed.{GoodConstraint}
+use Rattle.model.specs.WellFormed.{GoodConstraint}
 use Rattle.layout.specs.Layout.{constraintAt, Supports}
 use Rattle.symmetry.specs.Table.{Stated, Framed, Ready}
 use Rattle.symmetry.specs.Forbidden.{blocked, numberOf, PairCode, MaybePair, Coded, Begun, codesAt, keeps, packed, lastThree, Lent, Chosen, Walking, Choices, Triple, Beside, allBlocked}

@@ -6,7 +6,7 @@ use mathlib.Core.Logic.{_⊎_}
 use Prim.Native.Nat.{ℕ, _+_, _*_, _^_, _/_, _%_, _≤_, _<_, suc}
 use lib.ListN.{length, take, drop}
 use lib.Dec.{T, eqb, ltb}
-use Rattle.model.specs.Lists.{all, any, at, same, both, either, below}
+use Rattle.model.specs.Lists.{all, any, at, same, both, either, below, choose}
 use Rattle.model.specs.ValueSets.{has, members}
 use Rattle.model.specs.Problem.{Problem, Constraint, pair, forbidden, within}
 use Rattle.layout.specs.Layout.{constraintAt}
@@ -48,13 +48,9 @@ packed vs = packedOn 0 vs
 abbrev pub clashes : ℕ → ℕ → Bool
 clashes a b = both (eqb (a / 16) (b / 16)) (not (eqb a b))
 
-abbrev pub pick : Bool → ℕ → ℕ → ℕ
-pick true v w = v
-pick false v w = w
-
 -- the value that the first of three pairs with this variable gives to it, 16 where none has it
 abbrev pub valueIn : ℕ → ℕ → ℕ → ℕ → ℕ
-valueIn a b e x = pick (eqb (a / 16) x) (a % 16) (pick (eqb (b / 16) x) (b % 16) (pick (eqb (e / 16) x) (e % 16) 16))
+valueIn a b e x = choose (eqb (a / 16) x) (a % 16) (choose (eqb (b / 16) x) (b % 16) (choose (eqb (e / 16) x) (e % 16) 16))
 
 -- the scope lies among the variables of three pairs, whose values are no row
 unfoldable pub refusedBy : Constraint → ℕ → ℕ → ℕ → Bool

@@ -8,7 +8,7 @@ use Rattle.model.specs.Lists.{at}
 use Rattle.model.specs.Problem.{Problem, Constraint, respects}
 use Rattle.model.specs.Sheet.{words, permutesPairs}
 use Rattle.model.specs.Verdict.{Verdict, refused}
-use Rattle.model.proofs.WellFormed.{GoodConstraint}
+use Rattle.model.specs.WellFormed.{GoodConstraint}
 use Rattle.layout.specs.Layout.{Numbers, Supports}
 
 -- what questions 1 to 14 show of the problem

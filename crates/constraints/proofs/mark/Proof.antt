@@ -1,7 +1,7 @@
 use mathlib.Core.Path.{sym, ap, _∙_}
 use mathlib.Core.Bool.{Bool, not}
 use borrow.Author.Tests.{eq-eqb, ne-eqb}
-use Rattle.constraints.specs.Steps.{oneIf}
+use Rattle.model.specs.ValueSets.{oneIf}
 use Rattle.model.proofs.Members.{one-bit}
 use borrow.Author.Needs.{needs}
 use Rattle.constraints.proofs.mark.Statement.{statement}

@@ -1,7 +1,7 @@
 -- Nothing is stored where no set has a value of the table's. Assumes nothing.
 use mathlib.Core.Path.{refl}
 use native.Mathlib.Omega.{arith}
-use Rattle.levels.proofs.Pictures.{first-lt, cut-missed, cut-taken}
+use Rattle.levels.proofs.ImageTables.{first-lt, cut-missed, cut-taken}
 use borrow.Author.Needs.{needs}
 use Rattle.levels.proofs.cut.Statement.{statement}
 use Rattle.levels.proofs.cut.Tie as tie

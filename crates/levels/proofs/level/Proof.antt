@@ -1,5 +1,5 @@
 -- The cuts are made, then the own pair is looked at. Assumes nothing.
-use Rattle.levels.proofs.Pictures.{first-lt}
+use Rattle.levels.proofs.ImageTables.{first-lt}
 use Rattle.levels.proofs.Turns.{level-dead, own-asks, level-met}
 use borrow.Author.Needs.{needs}
 use Rattle.levels.proofs.level.Statement.{statement}

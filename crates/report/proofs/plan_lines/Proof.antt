@@ -10,8 +10,8 @@ use lib.ListN.{length, drop, length-take}
 use Rattle.model.specs.Lists.{flat}
 use Rattle.model.specs.Run.{listedPlans}
 use Rattle.model.specs.Report.{line, planWord}
-use Rattle.report.specs.Text.{Written}
-use Rattle.report.proofs.Placed.{written-none}
+use Rattle.model.specs.Written.{Written}
+use Rattle.model.proofs.Written.{written-none}
 use Rattle.report.proofs.Lines.{row-inside, plans-turn}
 use Rattle.report.proofs.plan_lines.Statement.{statement}
 use Rattle.report.proofs.plan_lines.Tie as tie

@@ -8,8 +8,8 @@ use native.Mathlib.Omega.{arith}
 use borrow.Author.Needs.{needs}
 use lib.ListN.{length, getD, set, length-set}
 use lib.Seq.{paste, paste-zero, paste-suc}
-use Rattle.report.specs.Text.{Written}
-use Rattle.report.proofs.Placed.{written-paste}
+use Rattle.model.specs.Written.{Written}
+use Rattle.model.proofs.Written.{written-paste}
 use Rattle.report.proofs.put.Statement.{statement}
 use Rattle.report.proofs.put.Tie as tie
 

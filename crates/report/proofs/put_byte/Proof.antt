@@ -1,6 +1,6 @@
 -- `put_byte`: one store. Assumes nothing.
 use borrow.Author.Needs.{needs}
-use Rattle.report.proofs.Placed.{written-byte}
+use Rattle.model.proofs.Written.{written-byte}
 use Rattle.report.proofs.put_byte.Statement.{statement}
 use Rattle.report.proofs.put_byte.Tie as tie
 

@@ -1,7 +1,7 @@
 -- `put_number`: a space, then the digits. Assumes nothing.
 use native.Mathlib.Omega.{arith}
 use borrow.Author.Needs.{needs}
-use Rattle.report.proofs.Placed.{written-then}
+use Rattle.model.proofs.Written.{written-then}
 use Rattle.report.proofs.put_number.Statement.{statement}
 use Rattle.report.proofs.put_number.Tie as tie
 

@@ -6,8 +6,9 @@ use native.Mathlib.Omega.{arith}
 use borrow.Author.Needs.{needs}
 use lib.ListN.{length, take, getD}
 use Rattle.model.specs.Lists.{flat}
-use Rattle.report.specs.Text.{Written, fields}
-use Rattle.report.proofs.Placed.{written-none}
+use Rattle.report.specs.Text.{fields}
+use Rattle.model.specs.Written.{Written}
+use Rattle.model.proofs.Written.{written-none}
 use Rattle.report.proofs.Lines.{field-byte, row-turn, row-whole}
 use Rattle.report.proofs.put_row.Statement.{statement}
 use Rattle.report.proofs.put_row.Tie as tie

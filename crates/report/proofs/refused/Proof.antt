@@ -1,6 +1,6 @@
 -- `refused`: the word, two numbers of at most 20 digits, and the newline. Assumes nothing.
 use native.Mathlib.Omega.{arith}
-use Rattle.report.proofs.Placed.{fronted}
+use Rattle.model.proofs.Written.{fronted}
 use Rattle.report.proofs.Lines.{field-most, put-two}
 use borrow.Author.Needs.{needs}
 use Rattle.report.proofs.refused.Statement.{statement}

@@ -8,7 +8,8 @@ use Rattle.model.specs.Problem.{Problem}
 use Rattle.model.specs.Lists.{at}
 use Rattle.layout.specs.Tables.{byRows}
 use Rattle.layout.specs.Layout.{Numbers}
-use Rattle.index.specs.Steps.{oneIf, Gathered}
+use Rattle.index.specs.Steps.{Gathered}
+use Rattle.model.specs.ValueSets.{oneIf}
 use Rattle.index.proofs.Gathering.{gather-begin, gather-turn, gather-end}
 use Rattle.index.proofs.links.all_first.Statement.{statement}
 use Rattle.index.proofs.links.all_first.Tie as tie

@@ -3,9 +3,9 @@ use mathlib.Core.Bool.{Bool}
 use mathlib.Core.Path.{ap, _∙_}
 use Prim.Native.Nat.{_+_, _-_, _≤_}
 use borrow.Author.Needs.{needs}
-use Rattle.model.specs.ValueSets.{has}
+use Rattle.model.specs.ValueSets.{has, oneIf}
 use Rattle.model.specs.Lists.{at}
-use Rattle.index.specs.Steps.{Gathered, oneIf}
+use Rattle.index.specs.Steps.{Gathered}
 use Rattle.index.proofs.Gathering.{gather-begin, gather-turn, gather-end, gathered-mask}
 use Rattle.index.proofs.rows.column.Statement.{statement}
 use Rattle.index.proofs.rows.column.Tie as tie

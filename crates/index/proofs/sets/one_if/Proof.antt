@@ -2,7 +2,7 @@
 use mathlib.Core.Bool.{Bool}
 use mathlib.Core.Path.{sym, ap, _∙_}
 use borrow.Author.Needs.{needs}
-use Rattle.index.specs.Steps.{oneIf}
+use Rattle.model.specs.ValueSets.{oneIf}
 use Rattle.model.proofs.Members.{one-bit}
 use Rattle.index.proofs.sets.one_if.Statement.{statement}
 use Rattle.index.proofs.sets.one_if.Tie as tie

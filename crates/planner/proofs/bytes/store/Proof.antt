@@ -6,8 +6,8 @@ use native.Mathlib.Omega.{arith}
 use borrow.Author.Needs.{needs}
 use lib.ListN.{length, take}
 use lib.Seq.{take-all}
-use Rattle.report.specs.Text.{Written}
-use Rattle.report.proofs.Placed.{written-none}
+use Rattle.model.specs.Written.{Written}
+use Rattle.model.proofs.Written.{written-none}
 use Rattle.planner.specs.Exported.{bytesOf}
 use Rattle.planner.proofs.Numbers.{bytes-turn, length-bytes, whole}
 use Rattle.planner.proofs.bytes.store.Statement.{statement}

@@ -5,7 +5,8 @@ use mathlib.Core.List.{[], _∷_}
 use native.Mathlib.Omega.{arith}
 use types.Run.{OneOf}
 use denote.Enum.Declared.{tagOf}
-use Rattle.report.specs.Text.{Fronted, endedText}
+use Rattle.report.specs.Text.{endedText}
+use Rattle.model.specs.Written.{Fronted}
 use Rattle.search.specs.declared.Ending.{Ending}
 use Rattle.search.proofs.Ending.{the-type}
 use Rattle.search.specs.declared.Ending.the-variants.{Finished, Spent, Full}

@@ -2,7 +2,7 @@
 use mathlib.Core.Path.{sym, ap, _∙_, subst}
 use mathlib.Core.List.{List}
 use Prim.Native.Nat.{ℕ}
-use Rattle.report.specs.Text.{Fronted}
+use Rattle.model.specs.Written.{Fronted}
 use Rattle.search.specs.Meaning.{endingOf, means}
 use Rattle.planner.proofs.Reported.{refusal-of, refused-text, listed, ended-text}
 use borrow.Author.Needs.{needs}

@@ -1,6 +1,7 @@
 -- `stop_report`: a run that was spent or full. Assumes nothing.
 use mathlib.Core.Path.{sym, subst}
-use Rattle.report.specs.Text.{Fronted, endedText}
+use Rattle.report.specs.Text.{endedText}
+use Rattle.model.specs.Written.{Fronted}
 use Rattle.search.specs.declared.Ending.{Ending}
 use Rattle.search.specs.Meaning.{endingOf}
 use Rattle.planner.specs.Inner.{Listed, Stop}

@@ -7,7 +7,7 @@ use native.Mathlib.Numerals.{add-one}
 use native.Mathlib.Omega.{arith}
 use lib.ListN.{length, take, drop, set, length-append, length-drop, take-append-drop}
 use lib.Seq.{length-take-le, take-at, drop-at, drop-drop, set-split, paste, take-length}
-use Rattle.report.specs.Text.{placed, Written, Fronted}
+use Rattle.model.specs.Written.{placed, Written, Fronted}
 
 module _ (d : List ℕ) (at : ℕ) (t : List ℕ) (fits : at + length t ≤ length d) where
   -- the bytes up to the end of the text

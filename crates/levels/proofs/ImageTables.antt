@@ -16,9 +16,10 @@ use Rattle.model.specs.ValueSets.{has, members}
 use Rattle.model.specs.Problem.{Problem, pair}
 use Rattle.model.specs.Nogood.{Entry, is, obeysFrom, obeys}
 use Rattle.model.proofs.Lists.{T-of, not-of, of-not, of-T, T-ext, both-i, both-l, both-r, any-i, any-e, keep-e, getD-at, at-out, at-take, mem-getD, both-less}
-use Rattle.model.proofs.Sets.{Inside, has-none, has-lt, has-at-lt, mask-i, mask-e, mask-lt, mask-ext, members-e}
+use Rattle.model.proofs.Sets.{has-none, has-lt, has-at-lt, mask-i, mask-e, mask-lt, mask-ext, members-e}
+use Rattle.model.specs.Pruning.{Inside}
 use Rattle.model.proofs.Masks.{has-and, has-not}
-use Rattle.model.proofs.WellFormed.{GoodSymmetry}
+use Rattle.model.specs.WellFormed.{GoodSymmetry}
 use Rattle.model.proofs.Pairs
 use Rattle.model.proofs.Symmetry
 use Rattle.layout.specs.Layout.{symmetryAt}
@@ -107,7 +108,7 @@ module _ {p : Problem} {tables : List ℕ} {e : ℕ} (w : Tabled p tables e) (x 
   image-asks = (omega (arith, w .symmetry, w .few), omega (arith, h, w .wellFormed .few), value-lt)
 
   pub image-is : (y : ℕ) → y ≡ at tables (52224 + 192 * e + 16 * x + v) → y ≡ imageOf p e x v
-  image-is y q = q ∙ w .pictured .own e x v (w .symmetry) h t
+  image-is y q = q ∙ w .imageTables .own e x v (w .symmetry) h t
 
 -- ---- the tables
 both-all : (b c : Bool) → c ≡ false → both b (not c) ≡ b
@@ -131,7 +132,7 @@ module _ {p : Problem} {ss tables : List ℕ} {e x v : ℕ} (w : Level p ss tabl
   inside u m = image-inside (w .tabled) x u (w .variable) (members-e (at (p .initial) x) u (keep-e (λ z. ltb z v) (members (at (p .initial) x)) u m .0) .1)
 
   table-at : (y : ℕ) → y < 16 → at tables (first + y) ≡ smaller p e x v y
-  table-at y l = w .tabled .pictured .cuts e x v y (w .tabled .symmetry) (w .variable) (w .value) l
+  table-at y l = w .tabled .imageTables .cuts e x v y (w .tabled .symmetry) (w .variable) (w .value) l
 
   taken-i : (u : ℕ) → List·Memᴰ u us → T (has (smaller p e x v (im u / 16)) (im u % 16))
   taken-i u m =

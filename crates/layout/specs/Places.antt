@@ -1,0 +1,91 @@
+-- Where the arrays of the compiled problem have what, and the numbers that name an outcome: the constants of src/lib.rt.
+use Prim.Native.Nat.{ℕ}
+
+-- ---- `numbers`
+abbrev pub TOUCHING : ℕ
+TOUCHING = 0
+
+abbrev pub INITIAL : ℕ
+INITIAL = 16
+
+abbrev pub SCOPES : ℕ
+SCOPES = 32
+
+abbrev pub VARIABLES : ℕ
+VARIABLES = 64
+
+abbrev pub VALUES : ℕ
+VALUES = 65
+
+abbrev pub CONSTRAINTS : ℕ
+CONSTRAINTS = 66
+
+abbrev pub SYMMETRIES : ℕ
+SYMMETRIES = 67
+
+abbrev pub LIMIT : ℕ
+LIMIT = 68
+
+abbrev pub ROOM : ℕ
+ROOM = 69
+
+abbrev pub LINKED : ℕ
+LINKED = 70
+
+abbrev pub BY-ROWS : ℕ
+BY-ROWS = 71
+
+abbrev pub OTHERS : ℕ
+OTHERS = 72
+
+abbrev pub LOOSE : ℕ
+LOOSE = 88
+
+abbrev pub LANES : ℕ
+LANES = 128
+
+-- ---- `tables`
+abbrev pub SMALLER : ℕ
+SMALLER = 3072
+
+abbrev pub OWN : ℕ
+OWN = 52224
+
+-- ---- `work`, after the values of the prefix
+abbrev pub PLANS : ℕ
+PLANS = 12
+
+abbrev pub NUMBER : ℕ
+NUMBER = 13
+
+abbrev pub ITEM : ℕ
+ITEM = 14
+
+abbrev pub MARKS : ℕ
+MARKS = 16
+
+-- ---- marks
+abbrev pub OBEYED : ℕ
+OBEYED = 15
+
+abbrev pub FAILED : ℕ
+FAILED = 16
+
+-- ---- outcomes
+abbrev pub DEAD : ℕ
+DEAD = 65536
+
+abbrev pub ALL : ℕ
+ALL = 0
+
+abbrev pub SPENT : ℕ
+SPENT = 1
+
+abbrev pub FULL : ℕ
+FULL = 2
+
+abbrev pub DEEPER : ℕ
+DEEPER = 3
+
+abbrev pub REFUSED : ℕ
+REFUSED = 4

@@ -1,0 +1,33 @@
+-- Steps of pruning: they compose, and sets on the way stay on it. Assumes nothing.
+use mathlib.Core.Path.{_≡_, sym, _∙_}
+use mathlib.Core.List.{List}
+use Prim.Native.Nat.{ℕ}
+use lib.ListN.{length}
+use Rattle.model.specs.Problem.{Problem}
+use Rattle.model.specs.Search.{pruned}
+use Rattle.model.specs.Pruning.{Sets, Inside, Prunes, closed, Way}
+use Rattle.model.proofs.Prune.{kept-mono, fixed-e, Sized, largest, Removal}
+
+module _ (p : Problem) (prefix : List ℕ) where
+  pub prunes-none : (ds : List ℕ) → Prunes p prefix ds ds
+  prunes-none ds = record { sets = λ s. s; less = λ x v t. t; keeps = λ s cs l e i. i }
+
+  pub prunes-then : (ds es fs : List ℕ) → Prunes p prefix ds es → Prunes p prefix es fs → Prunes p prefix ds fs
+  prunes-then ds es fs a b = record {
+    sets = λ s. b .sets (a .sets s);
+    less = λ x v t. a .less x v (b .less x v t);
+    keeps = λ s cs l e i. b .keeps (a .sets s) cs l e (a .keeps s cs l e i);
+  }
+
+  pub removal-prunes : (ds es : List ℕ) → Removal p prefix ds es → Prunes p prefix ds es
+  removal-prunes ds es r = record {
+    sets = λ s. r .sets;
+    less = r .less;
+    keeps = λ s cs l e i x v t. r .spared x v (i x v t) (kept-mono p prefix cs ds (l ∙ sym (s .0)) i x v (fixed-e p prefix cs e x v t));
+  }
+
+  -- what is on the way stays on it
+  pub way-prunes : Sized p → (ds es : List ℕ) → Prunes p prefix ds es → Way p prefix ds → Way p prefix es
+  way-prunes s ds es r y =
+      let l = largest p prefix s in
+      record { sets = r .sets (y .sets); inside = λ x v t. y .inside x v (r .less x v t); over = r .keeps (y .sets) (closed p prefix) (l .sets .0) (l .fixed) (y .over) }
