@@ -17,25 +17,23 @@ static uint32_t number(const uint8_t *bytes) {
 }
 
 static void list_plans(uint32_t node_limit) {
-    static const char *const kinds[] = {"refused", "finished", "spent", "full"};
+    static const char *const kinds[] = {"", "finished", "spent", "full"};
     uint8_t list[16], answer[PLANNER_ANSWER_BYTES];
     uint32_t status = planner_run(sheet_a, sizeof sheet_a, node_limit, list, sizeof list, answer, sizeof answer);
     if (status != 0) {
-        printf("no run: %u\n", status);
+        printf("refused %u %u\n", PLANNER_NUMBER(status), PLANNER_ITEM(status));
         return;
     }
     uint32_t kind = number(answer), plans = number(answer + 4), trials = number(answer + 8);
-    if (kind == PLANNER_REFUSED)
-        plans = 0;
     for (uint32_t i = 0; i < plans; i++)
         printf("plan %d %d\n", list[2 * i], list[2 * i + 1]);
-    printf("%s %u %u\n", kinds[kind], number(answer + 4), trials);
+    printf("%s %u %u\n", kinds[kind], plans, trials);
 }
 
 int main(void) {
     list_plans(1000000);
     list_plans(2);
-    uint32_t answer = planner_question(sheet_a, 63);
-    printf("a byte short: refused %u %u\n", PLANNER_NUMBER(answer), PLANNER_ITEM(answer));
+    uint32_t code = planner_question(sheet_a, 63);
+    printf("a byte short: refused %u %u\n", PLANNER_NUMBER(code), PLANNER_ITEM(code));
     return 0;
 }

@@ -11,21 +11,18 @@
 extern "C" {
 #endif
 
-/* An answer other than 0 of planner_question and planner_filter holds a refusal: the paper's number and
- * the item (window, rule, exchange or entry) that it speaks of. */
-#define PLANNER_NUMBER(answer) ((answer) >> 8)
-#define PLANNER_ITEM(answer) ((answer) & 255)
+/* What a function returns other than 0 is a refusal: the paper's number and the item (window, rule, exchange
+ * or entry) that it speaks of. Every lent buffer, the answer too, then holds the bytes it came with. */
+#define PLANNER_NUMBER(code) ((code) >> 8)
+#define PLANNER_ITEM(code) ((code) & 255)
 
 /* planner_filter: the sets' length is odd. */
 #define PLANNER_HALF_SET (255u * 256u)
 /* planner_run: the answer's length isn't PLANNER_ANSWER_BYTES. */
 #define PLANNER_ANSWER_ROOM (255u * 256u)
 
-/* The answer of planner_run: three 32-bit numbers, low byte first. */
+/* The answer of planner_run: three 32-bit numbers, low byte first: the kind, the plans listed and the trials made. */
 #define PLANNER_ANSWER_BYTES 12
-/* The first of them, the kind. With PLANNER_REFUSED the other two are number and item, else the plans
- * listed and the trials made. */
-#define PLANNER_REFUSED 0  /* a question was answered "no" */
 #define PLANNER_FINISHED 1 /* nothing is left to try */
 #define PLANNER_SPENT 2    /* a further trial is due, and the node limit is reached */
 #define PLANNER_FULL 3     /* the last trial found a plan that the list has no room for */
@@ -45,8 +42,8 @@ uint32_t planner_filter(uint8_t *sets, size_t sets_len, const uint8_t *index, si
                         size_t not_equal_len);
 
 /* Lists a sheet's plans, n bytes each, at the front of the list, with at most node_limit trials. The bytes
- * after the listed plans are unchanged; on a refusal all are. 0, with the answer written, or
- * PLANNER_ANSWER_ROOM, with nothing written and no trial made. */
+ * after the listed plans are unchanged. 0, with the answer written, or number * 256 + item or, asked first,
+ * PLANNER_ANSWER_ROOM; list and answer are then as they came. */
 uint32_t planner_run(const uint8_t *sheet, size_t sheet_len, uint32_t node_limit, uint8_t *list,
                      size_t list_len, uint8_t *answer, size_t answer_len);
 

@@ -109,7 +109,7 @@ pub fn filter(sets: &mut [u16], index: &[u8], equal: &[u8], not_equal: &[u8]) ->
 /// The bytes after the listed plans are unchanged; after a refusal all are.
 pub fn run(sheet: &[u8], node_limit: u32, list: &mut [u8]) -> Result<Answer, Refusal> {
     let mut answer = [0; 12];
-    unsafe {
+    Refusal::from_code(unsafe {
         exported::planner_run(
             sheet.as_ptr(),
             sheet.len(),
@@ -118,11 +118,10 @@ pub fn run(sheet: &[u8], node_limit: u32, list: &mut [u8]) -> Result<Answer, Ref
             list.len(),
             answer.as_mut_ptr(),
             answer.len(),
-        );
-    }
+        )
+    })?;
     let word = |i: usize| u32::from_le_bytes(answer[4 * i..4 * i + 4].try_into().unwrap());
     let ending = match word(0) {
-        0 => return Err(Refusal { number: word(1), item: word(2) }),
         1 => Ending::Finished,
         2 => Ending::Spent,
         _ => Ending::Full,

@@ -9,6 +9,7 @@ use lib.ListN.{length}
 use Rattle.model.specs.Lists.{at, earlier}
 use Rattle.model.specs.ValueSets.{has, members}
 use Rattle.model.specs.Problem.{assignments}
+use Rattle.model.specs.Claims.{Drawn}
 use Rattle.model.proofs.Lists.{of-not, flat-i, flat-e, Sorted, sorted-flat-map, earlier-lt, earlier-eq}
 use Rattle.model.proofs.Sets.{has-none, member, has-lt, members-i, members-e, members-sorted}
 use Rattle.model.specs.Pruning.{Inside}
@@ -45,10 +46,7 @@ assign-e (s ∷ ds) a m =
     front v b i h zero l = i
     front v b i h (suc x) l = h x (le-of-suc-le-suc l)
 
--- drawn from sets of sixteen bits
-abbrev pub Drawn : List ℕ → List ℕ → Type 0
-Drawn ds a = (length a ≡ length ds) × ((x : ℕ) → x < length ds → T (has (at ds x) (at a x)))
-
+-- ---- drawn from sets of sixteen bits
 pub drawn-i : (ds a : List ℕ) → ((x : ℕ) → at ds x < 2 ^ 16) → Drawn ds a → List·Memᴰ a (assignments ds)
 drawn-i ds a b d = assign-i ds a (d .0) (λ x l. members-i (at ds x) (at a x) (has-lt 16 (at ds x) (at a x) (b x) (d .1 x l)) (d .1 x l))
 

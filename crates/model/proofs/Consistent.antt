@@ -52,13 +52,17 @@ largest-consistent p prefix ds l = record {
 pub live-consistent : (p : Problem) (prefix : List ℕ) → Sized p → T (isLive p prefix) → Consistent p prefix (setsAt p prefix)
 live-consistent p prefix s t = subst (Consistent p prefix) (sym (setsAt-live p prefix (live-closed p prefix t))) (largest-consistent p prefix (closed p prefix) (largest p prefix s))
 
-pub consistent-inside : (p : Problem) (prefix : List ℕ) → Sized p → (es : List ℕ) → Consistent p prefix es → anyEmpty es ≡ false → T (isLive p prefix) × Inside es (setsAt p prefix)
-consistent-inside p prefix s es c n =
-    let r = consistent-e p prefix es c in
-    let l = largest p prefix s in
-    let i : Inside es (closed p prefix) = l .above es (r .0 .0) (r .1) (r .2) in
-    let k : anyEmpty (closed p prefix) ≡ false = not-of (anyEmpty (closed p prefix)) (λ t. of-not (anyEmpty es) n (empty-inside (p .variables) es (closed p prefix) (r .0) (l .sets) i t)) in
-    (T-of (isLive p prefix) (live-is p prefix ∙ ap not k), λ x v t. subst (λ (ds : List ℕ). T (has (at ds x) v)) (sym (setsAt-live p prefix k)) (i x v t))
+-- such sets lie inside the largest
+inside-closed : (p : Problem) (prefix : List ℕ) → Sized p → (es : List ℕ) → Consistent p prefix es → Sets (p .variables) es × Inside es (closed p prefix)
+inside-closed p prefix s es c = let r = consistent-e p prefix es c in (r .0, largest p prefix s .above es (r .0 .0) (r .1) (r .2))
+
+pub consistent-inside : (p : Problem) (prefix : List ℕ) → Sized p → T (isLive p prefix) → (es : List ℕ) → Consistent p prefix es → Inside es (setsAt p prefix)
+consistent-inside p prefix s l es c x v t = subst (λ (ds : List ℕ). T (has (at ds x) v)) (sym (setsAt-live p prefix (live-closed p prefix l))) (inside-closed p prefix s es c .1 x v t)
+
+pub dead-empty : (p : Problem) (prefix : List ℕ) → Sized p → isLive p prefix ≡ false → (es : List ℕ) → Consistent p prefix es → T (anyEmpty es)
+dead-empty p prefix s e es c =
+    let r = inside-closed p prefix s es c in
+    empty-inside (p .variables) es (closed p prefix) (r .0) (largest p prefix s .sets) (r .1) (T-of (anyEmpty (closed p prefix)) (not-false (anyEmpty (closed p prefix)) (sym (live-is p prefix) ∙ e)))
 
 pub dead-none : (p : Problem) (prefix : List ℕ) → Sized p → isLive p prefix ≡ false → setsAt p prefix ≡ replicate (p .variables) 0
 dead-none p prefix s e = setsAt-none p prefix s (not-false (anyEmpty (closed p prefix)) (sym (live-is p prefix) ∙ e))

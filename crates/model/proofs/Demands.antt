@@ -1,23 +1,27 @@
 -- The second and the third demand (specs/Claims), proved of every sheet. Assumes nothing.
 use mathlib.Core.Path.{_≡_, refl, sym, ap, ap₂, _∙_, subst, subst₂}
-use mathlib.Core.Logic.{_↔_}
+use mathlib.Core.Logic.{_↔_, ∥∥₁-elim}
 use mathlib.Core.List.{List, [], _∷_, _++_, List·Memᴰ, List·Memᴰ·head, List·Memᴰ·tail, Sublistᴰ, append-assoc}
-use Prim.Native.Nat.{ℕ, _≤_}
+use Prim.Native.Nat.{ℕ, _^_, _≤_, _<_}
 use native.Mathlib.Omega.{arith}
-use lib.Dec.{T}
-use lib.ListN.{length, take, drop}
+use lib.Dec.{T, T-prop}
+use lib.ListN.{length, take, drop, replicate, length-replicate}
 use lib.Seq.{take-at, drop-at}
-use Rattle.model.specs.Lists.{keep, flat, earlier}
+use Rattle.model.specs.Lists.{keep, flat, at, earlier}
+use Rattle.model.specs.ValueSets.{has}
 use Rattle.model.specs.Problem.{Problem, isSolution, assignments}
 use Rattle.model.specs.Verdict.{Verdict, accepted, refused, isAccepted}
 use Rattle.model.specs.Sheet.{verdictOf, problemOf}
+use Rattle.model.specs.Nogood.{filtered}
 use Rattle.model.specs.Run.{Ending, finished, spent, full, plansIn, nodesIn, resultOf, ended, answerFor, answerOf, written, listFor, listOf, listedPlans}
-use Rattle.model.specs.Claims.{Sets-largest, isLeader, leaders, plansHeld, Lists-leaders, Leaders-ascend, First-part, CountsAt, Counts, Ends, Chains, Nothing-listed, OneMore, Fewer, Finishes-too}
+use Rattle.model.specs.Claims.{Filter-keeps, Filter-empties, Symmetries-respect, Sets-largest, isLeader, leaders, plansHeld, Lists-leaders, Leaders-ascend, First-part, CountsAt, Counts, Ends, Chains, Nothing-listed, OneMore, Fewer, Finishes-too}
 use Rattle.model.specs.WellFormed.{WellFormed, Respected}
-use Rattle.model.proofs.Lists.{keep-ext, keep-i, keep-e, sorted-keep, rowsAscend-of}
-use Rattle.model.proofs.Assignments.{assignments-sorted}
+use Rattle.model.proofs.Lists.{not-of, keep-ext, keep-i, keep-e, sorted-keep, rowsAscend-of, at-ext, at-replicate}
+use Rattle.model.proofs.Sets.{has-none, mask-ext}
+use Rattle.model.proofs.Assignments.{drawn-i, drawn-e, assignments-sorted}
+use Rattle.model.proofs.Filter.{length-filtered, filtered-i, filtered-e, filtered-sets}
 use Rattle.model.proofs.Prune.{Sized}
-use Rattle.model.proofs.Consistent.{live-consistent, consistent-inside, dead-none}
+use Rattle.model.proofs.Consistent.{live-consistent, consistent-inside, dead-none, dead-empty}
 use Rattle.model.proofs.Tree.{solution-e, planTest, plans-of-tree, well-sized}
 use Rattle.model.proofs.Accepted.{Passed, passed, well-formed}
 use Rattle.model.proofs.Leaders.{sol-drawn, leader-is, leader-i, leader-e}
@@ -74,9 +78,26 @@ module _ (b : List ℕ) (limit : ℕ) (out : List ℕ) (e : Ending) (h : answerO
       ap₂ (listedPlans (p .variables)) (sym (ap plansIn (r .so)) ∙ R.rows-counted p limit (length out)) (r .wrote)
       ∙ listed-back (p .variables) rows (drop (length (flat rows)) out) (R.rows-sized p limit (length out))
 
+-- ---- the filter
+pub filter-keeps : Filter-keeps
+filter-keeps ds es s x v l = (
+  λ t. let r = filtered-e ds es x v t in ∣ (r .0, drawn-e ds (r .0) (r .1), r .2, r .3) ∣₁,
+  λ h. ∥∥₁-elim h (T-prop (has (at (filtered ds es) x) v)) (λ r. filtered-i ds es x v (r .0) l (drawn-i ds (r .0) s (r .1)) (r .2) (r .3)),
+)
+
+pub filter-empties : Filter-empties
+filter-empties ds es s none =
+    at-ext (filtered ds es) (replicate (length ds) 0) (length-filtered ds es ∙ sym (length-replicate (length ds) 0))
+    (λ x l. mask-ext 16 (at (filtered ds es) x) (at (replicate (length ds) 0) x) (filtered-sets ds es .1 x) (subst (λ (n : ℕ). n < 2 ^ 16) (sym (at-replicate (length ds) x)) (omega arith))
+    (λ v b. not-of (has (at (filtered ds es) x) v) (λ t. let r = filtered-e ds es x v t in none (r .0) (drawn-e ds (r .0) (r .1)) (r .2)) ∙ sym (ap (λ (n : ℕ). has n v) (at-replicate (length ds) x) ∙ has-none v)))
+
+-- ---- question 16
+pub symmetries-respect : Symmetries-respect
+symmetries-respect b h g m = let q = of-accepted b h in (q .well .symmetric g m .permutes, q .respected .respectful g m)
+
 -- ---- the sets at a prefix
 pub sets-largest : Sets-largest
-sets-largest b prefix h = (live-consistent (problemOf b) prefix s, consistent-inside (problemOf b) prefix s, dead-none (problemOf b) prefix s)
+sets-largest b prefix h = (λ l. (live-consistent (problemOf b) prefix s l, consistent-inside (problemOf b) prefix s l), λ e. (dead-none (problemOf b) prefix s e, dead-empty (problemOf b) prefix s e))
   where
     s : Sized (problemOf b)
     s = well-sized (problemOf b) (of-accepted b h .well)

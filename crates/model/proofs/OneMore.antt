@@ -12,7 +12,8 @@ use Rattle.model.specs.Lists.{below, upFrom, at, all, both, ascending, r
 use Rattle.model.specs.Problem.{Constraint}
 use Rattle.model.specs.Verdict.{Verdict, isAccepted}
 use Rattle.model.specs.Sheet.{Header, word, words, headerOf, scopeAt, rowsAt, afterAt, constraintsVerdict, constraintsFrom, tableAt, problemOf, verdictOf}
-use Rattle.model.specs.Claims.{OneMore, put16}
+use Rattle.model.specs.Claims.{OneMore}
+use Rattle.model.specs.Bytes.{twoBytes}
 use Rattle.model.proofs.Lists.{map-shift, at-skip, at-append, below-e, upFrom-e, upFrom-add, map-append, map-ext}
 use Rattle.model.proofs.Accepted.{Passed, passed, asked}
 use Rattle.model.proofs.More.{withSymmetries}
@@ -143,13 +144,13 @@ module _ (b c t : List ℕ) (k : ℕ) (more : OneMore b c k t) (ok : Passed b) w
   e5 = take (cut - 16) (drop 16 b) ++ e6
 
   e4 : List ℕ
-  e4 = put16 size ++ e5
+  e4 = twoBytes size ++ e5
 
   e3 : List ℕ
   e3 = take 6 (drop 8 b) ++ e4
 
   e2 : List ℕ
-  e2 = put16 up ++ e3
+  e2 = twoBytes up ++ e3
 
   whole : c ≡ take 6 b ++ e2
   unfolding e2 e3 e4 e5 e6 cut
@@ -160,7 +161,7 @@ module _ (b c t : List ℕ) (k : ℕ) (more : OneMore b c k t) (ok : Passed b) w
 
   at3 : (i : ℕ) → 8 ≤ i → at c i ≡ at e3 (i - 8)
   unfolding e2
-  at3 i h = at2 i (omega arith) ∙ at-skip (put16 up) e3 2 (i - 6) refl (omega arith) ∙ ap (at e3) (omega arith)
+  at3 i h = at2 i (omega arith) ∙ at-skip (twoBytes up) e3 2 (i - 6) refl (omega arith) ∙ ap (at e3) (omega arith)
 
   at4 : (i : ℕ) → 14 ≤ i → at c i ≡ at e4 (i - 14)
   unfolding e3
@@ -168,7 +169,7 @@ module _ (b c t : List ℕ) (k : ℕ) (more : OneMore b c k t) (ok : Passed b) w
 
   at5 : (i : ℕ) → 16 ≤ i → at c i ≡ at e5 (i - 16)
   unfolding e4
-  at5 i h = at4 i (omega arith) ∙ at-skip (put16 size) e5 2 (i - 14) refl (omega arith) ∙ ap (at e5) (omega arith)
+  at5 i h = at4 i (omega arith) ∙ at-skip (twoBytes size) e5 2 (i - 14) refl (omega arith) ∙ ap (at e5) (omega arith)
 
   at6 : (i : ℕ) → cut ≤ i → at c i ≡ at e6 (i - cut)
   unfolding e5

@@ -13,7 +13,8 @@ use Rattle.model.specs.Problem.{pairsAt, Problem, Constraint, pair, isPa
 use Rattle.model.specs.WellFormed.{WellFormed}
 use Rattle.model.proofs.Lists.{both-i, both-l, both-r, all-e, all-i, any-e, any-i, keep-e, keep-i, flat-i, flat-e, below-i, below-e}
 use Rattle.model.proofs.Sets.{has-lt, members-i, members-e}
-use Rattle.model.proofs.Assignments.{Drawn, drawn-e}
+use Rattle.model.specs.Claims.{Drawn}
+use Rattle.model.proofs.Assignments.{drawn-e}
 use Rattle.model.proofs.Tree.{solution-e}
 
 pub within-i : (xs ys : List ℕ) → ((x : ℕ) → List·Memᴰ x xs → List·Memᴰ x ys) → T (within xs ys)

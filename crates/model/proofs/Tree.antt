@@ -19,7 +19,8 @@ use Rattle.model.specs.WellFormed.{WellFormed, GoodConstraint}
 use Rattle.model.proofs.Lists.{map-flat-map, drop-at, not-of, of-not, T-ext, both-i, both-l, both-r, all-i, all-e, any-i, any-e, keep-no, keep-none, keep-ext, keep-flat-map, flat-pick, below-i, below-e, upFrom-add, flat-append, map-append, map-ext, at-ext, at-out, at-append, at-seam, same-eq, same-refl}
 use Rattle.model.proofs.Sets.{has-lt, has-none, has-at-lt, member, empty-i, empty-e}
 use Rattle.model.specs.Pruning.{Sets, Inside, closed}
-use Rattle.model.proofs.Assignments.{Drawn, drawn-i, drawn-e}
+use Rattle.model.specs.Claims.{Drawn}
+use Rattle.model.proofs.Assignments.{drawn-i, drawn-e}
 use Rattle.model.proofs.Filter.{filtered-i, filtered-e, obeys-front}
 use Rattle.model.proofs.Prune.{supported-e, Kept, pruned-i, pruned-sets, rounds-ind, narrowed-i, narrowed-e, Sized, Largest, largest, start-sets, fixed-e, setsAt-live, live-closed, value-live}
 

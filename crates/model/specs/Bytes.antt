@@ -3,7 +3,7 @@ use mathlib.Core.List.{List, [], _∷_}
 use Prim.Native.Nat.{ℕ, _/_, _%_}
 
 -- in two bytes; the last is a byte where the number is below 2 ^ 16
-unfoldable pub twoBytes : ℕ → List ℕ
+abbrev pub twoBytes : ℕ → List ℕ
 twoBytes k = k % 256 ∷ k / 256 ∷ []
 
 -- in four bytes; the last is a byte where the number is below 2 ^ 32

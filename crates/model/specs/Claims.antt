@@ -1,5 +1,5 @@
--- What the sets at a prefix are, in the paper's words; and the second and the third demand, as statements about what a caller holds after a run:
--- the answer, and the listed plans.
+-- What the filter leaves, what question 16 shows and what the sets at a prefix are, in the paper's words; and the second and the third demand, as
+-- statements about what a caller holds after a run: the answer, and the listed plans.
 -- The proofs are in proofs/Demands.antt.
 use mathlib.Core.Path.{_≡_}
 use mathlib.Core.Logic.{_↔_}
@@ -9,17 +9,36 @@ use Prim.Native.Nat.{ℕ, suc, _+_, _-_, _*_, _/_, _%_, _^_, _≤_, _<_}
 use lib.ListN.{length, take, drop, replicate}
 use lib.Dec.{T}
 use Rattle.model.specs.Lists.{any, at, keep, both, earlier, rowsAscend}
+use Rattle.model.specs.Bytes.{twoBytes}
 use Rattle.model.specs.ValueSets.{has, anyEmpty}
-use Rattle.model.specs.Problem.{Problem, Constraint, isSolution, assignments, takes}
+use Rattle.model.specs.Problem.{Problem, Constraint, isSolution, assignments, takes, respects}
 use Rattle.model.specs.Verdict.{accepted}
-use Rattle.model.specs.Sheet.{problemOf, headerOf, verdictOf}
-use Rattle.model.specs.Nogood.{filtered}
+use Rattle.model.specs.Sheet.{problemOf, headerOf, verdictOf, permutesPairs}
+use Rattle.model.specs.Nogood.{Entry, obeys, filtered}
 use Rattle.model.specs.Search.{nogoodsOf, rowWith, setsAt, isLive, nodes, isPlan}
 use Rattle.model.specs.Run.{Ending, finished, spent, full, plansIn, nodesIn, answerOf, ended, listOf, listedPlans}
 
--- the plans that a caller finds in its list after a run that ended so
-abbrev pub plansHeld : List ℕ → ℕ → List ℕ → Ending → List (List ℕ)
-plansHeld b limit out e = listedPlans (problemOf b .variables) (plansIn e) (listOf b limit out)
+-- ---- the filter
+-- a gives each variable a value of its set
+abbrev pub Drawn : List ℕ → List ℕ → Type 0
+Drawn ds a = (length a ≡ length ds) × ((x : ℕ) → x < length ds → T (has (at ds x) (at a x)))
+
+-- a value stays exactly if some assignment from the sets uses it and obeys every nogood
+abbrev pub Filter-keeps : Type 0
+Filter-keeps =
+    (ds : List ℕ) (es : List Entry) → ((x : ℕ) → at ds x < 2 ^ 16) → (x v : ℕ) → x < length ds →
+    T (has (at (filtered ds es) x) v) ↔ ∥ ((a : List ℕ) × Drawn ds a × T (obeys a es) × (at a x ≡ v)) ∥₁
+
+-- without such an assignment every set is empty
+abbrev pub Filter-empties : Type 0
+Filter-empties =
+    (ds : List ℕ) (es : List Entry) → ((x : ℕ) → at ds x < 2 ^ 16) → ((a : List ℕ) → Drawn ds a → T (obeys a es) → ⊥) → filtered ds es ≡ replicate (length ds) 0
+
+-- ---- question 16
+-- the exchanges of an accepted sheet permute its pairs and respect it
+abbrev pub Symmetries-respect : Type 0
+Symmetries-respect =
+    (b : List ℕ) → verdictOf b ≡ accepted → (g : List ℕ) → List·Memᴰ g (problemOf b .symmetries) → T (permutesPairs (problemOf b) g) × T (respects (problemOf b) g)
 
 -- ---- the sets at a prefix
 -- sets inside the initial ones, given the prefix's variables fixed, in which every value of each constraint's variable has a row of that constraint
@@ -32,15 +51,19 @@ pub record Consistent (p : Problem) (prefix ds : List ℕ) : Type 0 where
   pub rows : (c : Constraint) → List·Memᴰ c (p .constraints) → (x v : ℕ) → List·Memᴰ x (c .scope) → T (has (at ds x) v) → T (any (rowWith ds x v (c .scope)) (c .rows))
   pub filters : (g : List ℕ) → List·Memᴰ g (p .symmetries) → filtered ds (nogoodsOf p g prefix) ≡ ds
 
--- the sets at a live prefix are the largest such sets; at a dead one all are empty, and there are no such sets without an empty one
+-- the sets at a live prefix are the largest such sets; at a dead one all are empty, and any such sets have an empty one among them
 abbrev pub Sets-largest : Type 0
 Sets-largest =
     (b : List ℕ) (prefix : List ℕ) → verdictOf b ≡ accepted →
-    (T (isLive (problemOf b) prefix) → Consistent (problemOf b) prefix (setsAt (problemOf b) prefix))
-    × ((es : List ℕ) → Consistent (problemOf b) prefix es → anyEmpty es ≡ false → T (isLive (problemOf b) prefix) × ((x v : ℕ) → T (has (at es x) v) → T (has (at (setsAt (problemOf b) prefix) x) v)))
-    × (isLive (problemOf b) prefix ≡ false → setsAt (problemOf b) prefix ≡ replicate (problemOf b .variables) 0)
+    let p = problemOf b in
+    (T (isLive p prefix) → Consistent p prefix (setsAt p prefix) × ((es : List ℕ) → Consistent p prefix es → (x v : ℕ) → T (has (at es x) v) → T (has (at (setsAt p prefix) x) v)))
+    × (isLive p prefix ≡ false → (setsAt p prefix ≡ replicate (p .variables) 0) × ((es : List ℕ) → Consistent p prefix es → T (anyEmpty es)))
 
 -- ---- demand 2
+-- the plans that a caller finds in its list after a run that ended so
+abbrev pub plansHeld : List ℕ → ℕ → List ℕ → Ending → List (List ℕ)
+plansHeld b limit out e = listedPlans (problemOf b .variables) (plansIn e) (listOf b limit out)
+
 -- s is a leader: a solution onto which no symmetry takes a solution that reads earlier
 pub record Leader (p : Problem) (s : List ℕ) : Type 0 where
   pub solves : T (isSolution p s)
@@ -114,15 +137,12 @@ Nothing-listed =
     (b : List ℕ) (limit : ℕ) (out : List ℕ) (plans made : ℕ) →
     answerOf b limit out ≡ ended (finished plans made) → (plans ≡ 0) ↔ ((s : List ℕ) → T (isSolution (problemOf b) s) → ⊥)
 
-abbrev pub put16 : ℕ → List ℕ
-put16 w = w % 256 ∷ w / 256 ∷ []
-
 -- sheet c has one exchange more than b: the table t stands at place k among them, g and the length are raised to fit,
 -- and all other bytes are the same in the same order
 abbrev pub OneMore : List ℕ → List ℕ → ℕ → List ℕ → Type 0
 OneMore b c k t =
     (k ≤ headerOf b .symmetries) × (length t ≡ 2 * (headerOf b .variables * headerOf b .values)) ×
-    (c ≡ take 6 b ++ put16 (headerOf b .symmetries + 1) ++ take 6 (drop 8 b) ++ put16 (headerOf b .size + length t)
+    (c ≡ take 6 b ++ twoBytes (headerOf b .symmetries + 1) ++ take 6 (drop 8 b) ++ twoBytes (headerOf b .size + length t)
     ++ take (headerOf b .third + k * length t - 16) (drop 16 b) ++ t ++ drop (headerOf b .third + k * length t) b)
 
 -- where b's run finished: a finished run of c lists no other plan and makes no more nodes

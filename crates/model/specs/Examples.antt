@@ -3,9 +3,10 @@
 use mathlib.Core.Path.{_≡_}
 use mathlib.Core.Bool.{true, false}
 use mathlib.Core.List.{List, [], _∷_, _++_, map}
-use Prim.Native.Nat.{ℕ, _/_, _%_, _^_, _≤_, _<_}
+use Prim.Native.Nat.{ℕ, _^_, _≤_, _<_}
 use lib.ListN.{length, replicate}
 use Rattle.model.specs.Lists.{flat, at}
+use Rattle.model.specs.Bytes.{twoBytes}
 use Rattle.model.specs.ValueSets.{anyEmpty}
 use Rattle.model.specs.Verdict.{Verdict, accepted}
 use Rattle.model.specs.Nogood.{entries, filterVerdict, setsAfter}
@@ -36,7 +37,7 @@ unequal4 = 2 ∷ 255 ∷ 1 ∷ 255 ∷ 255 ∷ 2 ∷ 255 ∷ 1 ∷ []
 
 -- ---- sheets, from their 16-bit numbers
 abbrev bytes : List ℕ → List ℕ
-bytes ws = flat (map (λ w. w % 256 ∷ w / 256 ∷ []) ws)
+bytes ws = flat (map twoBytes ws)
 
 -- x and y differ, both below 3
 abbrev differ : ℕ → ℕ → List ℕ
@@ -53,10 +54,6 @@ sheetA0 = bytes ((2 ∷ 3 ∷ 1 ∷ 0 ∷ 16 ∷ 20 ∷ 52 ∷ 52 ∷ 7 ∷ 7 �
 abbrev pub sheetR : List ℕ
 sheetR =
     bytes ((3 ∷ 3 ∷ 3 ∷ 1 ∷ 16 ∷ 22 ∷ 118 ∷ 136 ∷ 7 ∷ 7 ∷ 7 ∷ []) ++ differ 0 1 ++ differ 0 2 ++ differ 1 2 ++ (3 ∷ 4 ∷ 5 ∷ 6 ∷ 7 ∷ 8 ∷ 0 ∷ 1 ∷ 2 ∷ []))
-
--- not in the paper: three places, two values, no rule, and the same exchange; here nogoods wait for an equality that can hold
-abbrev pub sheetF : List ℕ
-sheetF = bytes (3 ∷ 2 ∷ 0 ∷ 1 ∷ 16 ∷ 22 ∷ 22 ∷ 34 ∷ 3 ∷ 3 ∷ 3 ∷ 2 ∷ 3 ∷ 4 ∷ 5 ∷ 0 ∷ 1 ∷ [])
 
 -- n = 1, d = 1, no rule
 abbrev pub sheet1 : List ℕ
@@ -119,3 +116,8 @@ tests =
     -- one rule without rows on it: finished, 0 plans, 0 trials
     ∷ (answerOf sheet1None 1000000 (room 1) ≡ ended (finished 0 0))
     ∷ []
+
+-- ---- beside the paper's examples
+-- three places, two values, no rule, and the rotation: here nogoods wait for an equality that can hold
+abbrev pub sheetF : List ℕ
+sheetF = bytes (3 ∷ 2 ∷ 0 ∷ 1 ∷ 16 ∷ 22 ∷ 22 ∷ 34 ∷ 3 ∷ 3 ∷ 3 ∷ 2 ∷ 3 ∷ 4 ∷ 5 ∷ 0 ∷ 1 ∷ [])

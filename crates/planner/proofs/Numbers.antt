@@ -9,7 +9,8 @@ use lib.Seq.{take-suc, ext-getD, getD-set-same, getD-set-other}
 use borrow.Author.Count.{below-more}
 use Rattle.model.specs.Written.{Written}
 use Rattle.model.proofs.Written.{written-byte, written-then, fronted}
-use Rattle.planner.specs.Exported.{setsIn, bytesOf, fourBytes, threeNumbers}
+use Rattle.planner.specs.Exported.{setsIn, bytesOf, threeNumbers}
+use Rattle.model.specs.Bytes.{fourBytes}
 
 -- ---- reading
 pub length-sets : (b : List ℕ) (n : ℕ) → length b ≡ 2 * n → length (setsIn b) ≡ n

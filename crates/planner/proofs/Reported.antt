@@ -8,7 +8,7 @@ use native.Mathlib.Omega.{arith}
 use lib.Dec.{T, leb}
 use lib.ListN.{length, take, drop, length-take, length-append}
 use borrow.Author.Tests.{le-leb, lt-leb, eq-eqb, ne-eqb}
-use Rattle.model.specs.Lists.{keep, at}
+use Rattle.model.specs.Lists.{choose, keep, at}
 use Rattle.model.specs.Problem.{Problem}
 use Rattle.model.specs.Verdict.{Verdict, accepted, refused, isAccepted}
 use Rattle.model.specs.Sheet.{word, headerOf, problemOf, verdictOf}
@@ -21,7 +21,7 @@ use Rattle.model.proofs.Demands.{ran, held}
 use Rattle.model.proofs.Runs.{rows-counted, nodes-allowed, rows-fit, counts, Counted as Tree·counted}
 use Rattle.report.specs.Text.{endedText, room}
 use Rattle.model.specs.Written.{Fronted}
-use Rattle.planner.specs.Exported.{wrongLength, answerBytes, runCode, runList, runAnswer, reportLength, reportBytes}
+use Rattle.planner.specs.Exported.{wrongLength, answerCode, answerBytes, runCode, runList, runAnswer, reportLength, reportBytes}
 use Rattle.planner.specs.Inner.{Sized, Listed, Counted}
 
 -- ---- refusals
@@ -144,25 +144,26 @@ reported input b out after r h s f =
 
 -- ---- the exported run
 module _ (b : List ℕ) (limit : ℕ) (list answer : List ℕ) where
-  pub wrong-answer : (length answer ≡ 12 → ⊥) → (wrongLength ≡ runCode answer) × ((list ≡ runList b limit list answer) × (answer ≡ runAnswer b limit list answer))
+  pub wrong-answer : (length answer ≡ 12 → ⊥) → (wrongLength ≡ runCode b limit list answer) × ((list ≡ runList b limit list answer) × (answer ≡ runAnswer b limit list answer))
   unfolding runCode runList runAnswer
   wrong-answer h =
       let e = ne-eqb (length answer) 12 h in (
-        sym (ap {B = ℕ} (λ (t : Bool). elim t [ true ↦ 0 | false ↦ wrongLength ]) e),
+        sym (ap {B = ℕ} (λ (t : Bool). choose t (answerCode (answerOf b limit list)) wrongLength) e),
         (
-          sym (ap {B = List ℕ} (λ (t : Bool). elim t [ true ↦ listOf b limit list | false ↦ list ]) e),
-          sym (ap {B = List ℕ} (λ (t : Bool). elim t [ true ↦ answerBytes (answerOf b limit list) | false ↦ answer ]) e),
+          sym (ap {B = List ℕ} (λ (t : Bool). choose t (listOf b limit list) list) e),
+          sym (ap {B = List ℕ} (λ (t : Bool). choose t (answerBytes (answerOf b limit list) answer) answer) e),
         ),
       )
 
-  pub right-answer : (after bytes : List ℕ) (a : Answer) → length answer ≡ 12 → answerOf b limit list ≡ a → after ≡ listOf b limit list → bytes ≡ answerBytes a → (0 ≡ runCode answer) × ((after ≡ runList b limit list answer) × (bytes ≡ runAnswer b limit list answer))
+  pub right-answer : (r : ℕ) (after bytes : List ℕ) (a : Answer) → length answer ≡ 12 → answerOf b limit list ≡ a → r ≡ answerCode a → after ≡ listOf b limit list → bytes ≡ answerBytes a answer →
+      (r ≡ runCode b limit list answer) × ((after ≡ runList b limit list answer) × (bytes ≡ runAnswer b limit list answer))
   unfolding runCode runList runAnswer
-  right-answer after bytes a h so l w =
+  right-answer r after bytes a h so c l w =
       let e = eq-eqb (length answer) 12 h in (
-        sym (ap {B = ℕ} (λ (t : Bool). elim t [ true ↦ 0 | false ↦ wrongLength ]) e),
+        c ∙ ap answerCode (sym so) ∙ sym (ap {B = ℕ} (λ (t : Bool). choose t (answerCode (answerOf b limit list)) wrongLength) e),
         (
-          l ∙ sym (ap {B = List ℕ} (λ (t : Bool). elim t [ true ↦ listOf b limit list | false ↦ list ]) e),
-          w ∙ ap answerBytes (sym so) ∙ sym (ap {B = List ℕ} (λ (t : Bool). elim t [ true ↦ answerBytes (answerOf b limit list) | false ↦ answer ]) e),
+          l ∙ sym (ap {B = List ℕ} (λ (t : Bool). choose t (listOf b limit list) list) e),
+          w ∙ ap (λ (x : Answer). answerBytes x answer) (sym so) ∙ sym (ap {B = List ℕ} (λ (t : Bool). choose t (answerBytes (answerOf b limit list) answer) answer) e),
         ),
       )
 

@@ -1,13 +1,15 @@
 -- What each exported function answers, and the bytes of every lent buffer afterwards.
 use mathlib.Core.Bool.{true, false}
 use mathlib.Core.List.{List, [], _∷_, _++_}
-use Prim.Native.Nat.{ℕ, _+_, _*_, _/_, _%_}
+use Prim.Native.Nat.{ℕ, _+_, _*_, _%_}
 use lib.Dec.{eqb, leb}
 use lib.ListN.{length, drop}
+use Rattle.model.specs.Lists.{choose}
+use Rattle.model.specs.Bytes.{twoBytes, fourBytes}
 use Rattle.model.specs.Verdict.{Verdict, accepted, refused}
 use Rattle.model.specs.Sheet.{verdictOf}
 use Rattle.model.specs.Nogood.{entries, filterVerdict, setsAfter}
-use Rattle.model.specs.Run.{finished, spent, full, Answer, refusal, ended, answerOf, listOf}
+use Rattle.model.specs.Run.{Ending, finished, spent, full, Answer, refusal, ended, answerOf, listOf}
 use Rattle.model.specs.Report.{reportOf}
 use Rattle.report.specs.Text.{room}
 
@@ -33,7 +35,7 @@ setsIn (x ∷ y ∷ r) = (x + 256 * y) ∷ setsIn r
 
 unfoldable pub bytesOf : List ℕ → List ℕ
 bytesOf [] = []
-bytesOf (s ∷ ss) = s % 256 ∷ s / 256 ∷ bytesOf ss
+bytesOf (s ∷ ss) = twoBytes s ++ bytesOf ss
 
 unfoldable pub filterCode : List ℕ → List ℕ → List ℕ → List ℕ → ℕ
 filterCode sets xs es us = elim (eqb (length sets % 2) 0) [ true ↦ codeOf (filterVerdict (setsIn sets) xs es us) | false ↦ wrongLength ]
@@ -46,28 +48,33 @@ unfoldable pub filterBytes : List ℕ → List ℕ → List ℕ → List ℕ →
 filterBytes sets xs es us = elim (eqb (length sets % 2) 0) [ true ↦ filteredBytes sets xs es us | false ↦ sets ]
 
 -- ---- planner_run
--- a number in four bytes, low byte first; the last is a byte where the number is below 2 ^ 32
-unfoldable pub fourBytes : ℕ → List ℕ
-fourBytes k = k % 256 ∷ k / 256 % 256 ∷ k / 65536 % 256 ∷ k / 16777216 ∷ []
-
+-- three numbers of four bytes
 unfoldable pub threeNumbers : ℕ → ℕ → ℕ → List ℕ
 threeNumbers kind a b = fourBytes kind ++ fourBytes a ++ fourBytes b
 
--- 0, number, item of a refusal; 1, 2 or 3 for finished, spent or full, then plans and nodes
-abbrev pub answerBytes : Answer → List ℕ
-answerBytes (refusal number item) = threeNumbers 0 number item
-answerBytes (ended (finished plans made)) = threeNumbers 1 plans made
-answerBytes (ended (spent plans made)) = threeNumbers 2 plans made
-answerBytes (ended (full plans made)) = threeNumbers 3 plans made
+-- 1, 2 or 3 for finished, spent or full, then plans and nodes
+abbrev pub endingBytes : Ending → List ℕ
+endingBytes (finished plans made) = threeNumbers 1 plans made
+endingBytes (spent plans made) = threeNumbers 2 plans made
+endingBytes (full plans made) = threeNumbers 3 plans made
 
-unfoldable pub runCode : List ℕ → ℕ
-runCode answer = elim (eqb (length answer) 12) [ true ↦ 0 | false ↦ wrongLength ]
+-- what a run's answer returns, and the lent answer afterwards: as it came where the sheet was refused
+abbrev pub answerCode : Answer → ℕ
+answerCode (refusal number item) = number * 256 + item
+answerCode (ended e) = 0
+
+abbrev pub answerBytes : Answer → List ℕ → List ℕ
+answerBytes (refusal number item) answer = answer
+answerBytes (ended e) answer = endingBytes e
+
+unfoldable pub runCode : List ℕ → ℕ → List ℕ → List ℕ → ℕ
+runCode b limit list answer = choose (eqb (length answer) 12) (answerCode (answerOf b limit list)) wrongLength
 
 unfoldable pub runList : List ℕ → ℕ → List ℕ → List ℕ → List ℕ
-runList b limit list answer = elim (eqb (length answer) 12) [ true ↦ listOf b limit list | false ↦ list ]
+runList b limit list answer = choose (eqb (length answer) 12) (listOf b limit list) list
 
 unfoldable pub runAnswer : List ℕ → ℕ → List ℕ → List ℕ → List ℕ
-runAnswer b limit list answer = elim (eqb (length answer) 12) [ true ↦ answerBytes (answerOf b limit list) | false ↦ answer ]
+runAnswer b limit list answer = choose (eqb (length answer) 12) (answerBytes (answerOf b limit list) answer) answer
 
 -- ---- planner_report
 unfoldable pub reportLength : List ℕ → List ℕ → ℕ

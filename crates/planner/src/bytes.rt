@@ -1,12 +1,11 @@
 // Numbers as bytes, low byte first.
 use search::Ending;
 ghost use mathlib.Core.Path.{_≡_};
-ghost use mathlib.Core.List.{[], _∷_};
 ghost use Prim.Native.Nat.{_+_, _*_, _/_, _%_, _^_, _≤_, _<_};
 ghost use lib.ListN.{length};
-ghost use Rattle.model.specs.Run.{ended};
 ghost use Rattle.model.specs.Written.{Written};
-ghost use Rattle.planner.specs.Exported.{setsIn, bytesOf, fourBytes, threeNumbers, answerBytes};
+ghost use Rattle.planner.specs.Exported.{setsIn, bytesOf, threeNumbers, endingBytes};
+ghost use Rattle.model.specs.Bytes.{twoBytes, fourBytes};
 ghost use Rattle.planner.specs.Inner.{Counted};
 ghost use Rattle.search.specs.Meaning.{endingOf};
 
@@ -44,7 +43,7 @@ pub fn store(words: &[u16], sets: &mut [u8])
 
 fn two(out: &mut [u8], at: usize, x: u16) -> usize
     requires { ⌜ at + 2 ≤ length (now out) ⌝ }
-    ensures { λ r. ⌜ Written (now (out .entry)) at (x % 256 ∷ x / 256 ∷ []) (now (out .exit)) r ⌝ }
+    ensures { λ r. ⌜ Written (now (out .entry)) at (twoBytes x) (now (out .exit)) r ⌝ }
 {
     let next = at + 1;
     out[at] = (x % 256) as u8;
@@ -77,7 +76,7 @@ pub fn three(out: &mut [u8], kind: usize, a: usize, b: usize)
 
 pub fn ending(out: &mut [u8], e: Ending)
     requires { ⌜ (length (now out) ≡ 12) × Counted (endingOf e) ⌝ }
-    ensures { λ _. ⌜ now (out .exit) ≡ answerBytes (ended (endingOf e)) ⌝ }
+    ensures { λ _. ⌜ now (out .exit) ≡ endingBytes (endingOf e) ⌝ }
 {
     match e {
         Ending::Finished(plans, nodes) => three(out, 1, plans, nodes),

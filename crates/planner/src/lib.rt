@@ -75,11 +75,11 @@ pub extern "C" fn planner_filter(
 }
 
 // Runs the search on a sheet, with a limit of nodes; plans go to the front of the list. The answer has 12 bytes, three numbers of four
-// bytes, low byte first: 0, number and item of a refusal; or 1 finished, 2 spent, 3 full, then plans and nodes. Answers 0, or 255 times
-// 256 where the answer has not 12 bytes, and then does nothing.
+// bytes, low byte first: 1 finished, 2 spent, 3 full, then plans and nodes. Returns 0, or the refusal as above, or 255 times 256 where
+// the answer has not 12 bytes; list and answer are then as they came.
 #[no_mangle]
 pub extern "C" fn planner_run(sheet: &[u8], limit: u32, list: &mut [u8], answer: &mut [u8]) -> u32
-    ensures { λ r. ⌜ r ≡ runCode (now (answer .entry)) ⌝ }
+    ensures { λ r. ⌜ r ≡ runCode (now (sheet .entry)) limit (now (list .entry)) (now (answer .entry)) ⌝ }
     ensures { λ _. ⌜ now (list .exit) ≡ runList (now (sheet .entry)) limit (now (list .entry)) (now (answer .entry)) ⌝ }
     ensures { λ _. ⌜ now (answer .exit) ≡ runAnswer (now (sheet .entry)) limit (now (list .entry)) (now (answer .entry)) ⌝ }
 {
@@ -88,12 +88,12 @@ pub extern "C" fn planner_run(sheet: &[u8], limit: u32, list: &mut [u8], answer:
     }
     let r = search::run(sheet, limit, list);
     match r {
-        search::Answer::Refused { number, item } => {
-            bytes::three(answer, 0, number as usize, item);
+        search::Answer::Refused { number, item } => code(number, item),
+        search::Answer::Ended(e) => {
+            bytes::ending(answer, e);
+            0
         }
-        search::Answer::Ended(e) => bytes::ending(answer, e),
     }
-    0
 }
 
 // Writes the report on a sheet to the front of the buffer, of which the first 65,536 bytes count, and answers its length; where the

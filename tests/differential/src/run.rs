@@ -2,7 +2,7 @@
 
 use crate::planner;
 use crate::tally::{Guarded, Tally};
-use oracle::{Ending, Outcome, Refusal};
+use oracle::{Ending, Outcome};
 use sheets::{damaged, encode, problem, Rng};
 
 /// The answer to a wrong room for the answer.
@@ -41,33 +41,34 @@ pub fn case(rng: &mut Rng, tally: &mut Tally) {
 fn run(sheet: &[u8], limit: u32, room: usize, rng: &mut Rng, tally: &mut Tally) {
     let mut list = Guarded::new(room, rng.word() as u8);
     let mut expected_list = list.clone();
-    let expected = words(oracle::run(sheet, limit, expected_list.lent()));
+    let expected = oracle::run(sheet, limit, expected_list.lent());
     let mut answer = Guarded::new(12, rng.word() as u8);
     let mut expected_answer = answer.clone();
-    for (i, word) in expected.iter().enumerate() {
-        expected_answer.lent()[4 * i..4 * i + 4].copy_from_slice(&word.to_le_bytes());
-    }
+    let expected_status = match expected {
+        Err(refusal) => refusal.number * 256 + refusal.item,
+        Ok(outcome) => {
+            for (i, word) in words(outcome).iter().enumerate() {
+                expected_answer.lent()[4 * i..4 * i + 4].copy_from_slice(&word.to_le_bytes());
+            }
+            0
+        }
+    };
     let lent = sheet.to_vec();
     let status = planner::run(&lent, limit, list.lent(), answer.lent());
-    tally.same("status", status, 0, sheet);
+    tally.same("status", status, expected_status, sheet);
     tally.same("answer", &answer.bytes, &expected_answer.bytes, sheet);
     tally.same("list after", &list.bytes, &expected_list.bytes, sheet);
     tally.same("sheet after", &lent[..], sheet, sheet);
 }
 
-/// Kind, then number or plans, then item or trials.
-fn words(answer: Result<Outcome, Refusal>) -> [u32; 3] {
-    match answer {
-        Err(refusal) => [0, refusal.number, refusal.item],
-        Ok(Outcome { ending, plans, nodes }) => {
-            let kind = match ending {
-                Ending::Finished => 1,
-                Ending::Spent => 2,
-                Ending::Full => 3,
-            };
-            [kind, plans, nodes]
-        }
-    }
+/// Kind, plans, trials.
+fn words(outcome: Outcome) -> [u32; 3] {
+    let kind = match outcome.ending {
+        Ending::Finished => 1,
+        Ending::Spent => 2,
+        Ending::Full => 3,
+    };
+    [kind, outcome.plans, outcome.nodes]
 }
 
 /// With a room for the answer that isn't 12 bytes nothing is written.

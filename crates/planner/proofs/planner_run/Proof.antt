@@ -1,5 +1,5 @@
 -- `planner_run`: the answer's length is asked first; then the run, and its answer as three numbers. Assumes nothing.
-use mathlib.Core.Path.{sym, ap, _∙_}
+use mathlib.Core.Path.{refl, sym, ap, _∙_}
 use native.Mathlib.Omega.{arith}
 use Rattle.model.specs.Run.{refusal, ended}
 use Rattle.model.specs.Sheet.{verdictOf}
@@ -19,17 +19,13 @@ run-requires c κs = search needs
 enum-known-r : tie.Need-enum-known-r
 enum-known-r c = search needs
 
-cast-three : tie.Need-cast-three
-cast-three c = search needs
-
-three-requires : tie.Need-three-requires
-three-requires c κs =
-    let s = c .before .before .before .before .before .before .before .before .before .before .before .before in
-    let f = c .before .before .before .before .before .before in
-    let g = c .before .before .r .given in
+code-requires : tie.Need-code-requires
+code-requires c κs =
+    let s = c .before .before .before .before .before .before .before .before .before .before .before in
+    let g = c .before .r .given in
     let b = s .args .sheet .now in
-    let v = refusal-of b (s .args .limit) (s .args .list .now) (g .0 .0) (g .0 .1 .0) (sym (f .run .ensures .0) ∙ ap means (g .1)) in
-    (c .before .before .before .before .before .before .before .before .if1 .left, omega arith, omega (arith, c .before .known-told .given), omega (arith, refused-small (verdictOf b) (g .0 .0) (g .0 .1 .0) v (verdict-small b)))
+    let v = refusal-of b (s .args .limit) (s .args .list .now) (g .0 .0) (g .0 .1 .0) (sym (c .before .before .before .before .before .run .ensures .0) ∙ ap means (g .1)) in
+    refused-small (verdictOf b) (g .0 .0) (g .0 .1 .0) v (verdict-small b)
 
 enum-known-r-2 : tie.Need-enum-known-r-2
 enum-known-r-2 c = search needs
@@ -37,37 +33,32 @@ enum-known-r-2 c = search needs
 ending-requires : tie.Need-ending-requires
 ending-requires c κs =
     let s = c .before .before .before .before .before .before .before .before .before .before .before .before in
-    let f = c .before .before .before .before .before .before in
     let g = c .before .before .r2 .given in
-    (c .before .before .before .before .before .before .before .before .if1 .left, counted (s .args .sheet .now) (s .args .limit) (s .args .list .now) (endingOf (g .0 .0)) (s .fits .limit .fits) (sym (f .run .ensures .0) ∙ ap means (g .1)))
+    (c .before .before .before .before .before .before .before .before .if1 .left, counted (s .args .sheet .now) (s .args .limit) (s .args .list .now) (endingOf (g .0 .0)) (s .fits .limit .fits) (sym (c .before .before .before .before .before .before .run .ensures .0) ∙ ap means (g .1)))
 
 same-length : tie.Need-same-length
 same-length c = search needs
 
-same-length-2 : tie.Need-same-length-2
-same-length-2 c = search needs
-
 returns-2 : tie.Need-returns-2
 returns-2 c =
-    let s = c .before .before .before .before .before .before .before .before .before .before .before .before .before .before .before in
-    let f = c .before .before .before .before .before .before .before .before .before in
-    let g = c .before .before .before .before .before .r .given in
-    let t = c .before .before .three in
-    right-answer (s .args .sheet .now) (s .args .limit) (s .args .list .now) (s .args .answer .now) (f .run .last .1 .1 .0) (t .last .0) (refusal (g .0 .0) (g .0 .1 .0)) (c .before .before .before .before .before .before .before .before .before .before .before .if1 .left) (sym (f .run .ensures .0) ∙ ap means (g .1)) (f .run .ensures .1) (t .ensures)
+    let a = c .before .before .before .before .before .before .before .before .before .before .before .before .args in
+    let f = c .before .before .before .before .before .before .run in
+    let g = c .before .before .r .given in
+    right-answer (a .sheet .now) (a .limit) (a .list .now) (a .answer .now) (c .code .result) (f .last .1 .1 .0) (a .answer .now) (refusal (g .0 .0) (g .0 .1 .0)) (c .before .before .before .before .before .before .before .before .if1 .left) (sym (f .ensures .0) ∙ ap means (g .1)) (c .code .ensures) (f .ensures .1) refl
+
+same-length-2 : tie.Need-same-length-2
+same-length-2 c = search needs
 
 same-length-3 : tie.Need-same-length-3
 same-length-3 c = search needs
 
-same-length-4 : tie.Need-same-length-4
-same-length-4 c = search needs
-
 returns-3 : tie.Need-returns-3
 returns-3 c =
-    let s = c .before .before .before .before .before .before .before .before .before .before .before .before .before .before .before in
-    let f = c .before .before .before .before .before .before .before .before .before in
+    let a = c .before .before .before .before .before .before .before .before .before .before .before .before .before .before .before .args in
+    let f = c .before .before .before .before .before .before .before .before .before .run in
     let g = c .before .before .before .before .before .r2 .given in
     let t = c .before .before .ending in
-    right-answer (s .args .sheet .now) (s .args .limit) (s .args .list .now) (s .args .answer .now) (f .run .last .1 .1 .0) (t .last .0) (ended (endingOf (g .0 .0))) (c .before .before .before .before .before .before .before .before .before .before .before .if1 .left) (sym (f .run .ensures .0) ∙ ap means (g .1)) (f .run .ensures .1) (t .ensures)
+    right-answer (a .sheet .now) (a .limit) (a .list .now) (a .answer .now) 0 (f .last .1 .1 .0) (t .last .0) (ended (endingOf (g .0 .0))) (c .before .before .before .before .before .before .before .before .before .before .before .if1 .left) (sym (f .ensures .0) ∙ ap means (g .1)) refl (f .ensures .1) (t .ensures)
 
 pub planner-run-spec : {M : Type 1} → statement M
 planner-run-spec =
@@ -76,13 +67,11 @@ planner-run-spec =
     returns
     run-requires
     enum-known-r
-    cast-three
-    three-requires
+    code-requires
     enum-known-r-2
     ending-requires
     same-length
-    same-length-2
     returns-2
+    same-length-2
     same-length-3
-    same-length-4
     returns-3)

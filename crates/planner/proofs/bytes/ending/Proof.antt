@@ -1,10 +1,9 @@
 -- `ending`: each ending has its kind. Assumes nothing.
 use mathlib.Core.Path.{sym, ap, _∙_, subst}
 use native.Mathlib.Omega.{arith}
-use Rattle.model.specs.Run.{ended}
 use Rattle.search.specs.declared.Ending.{Ending}
 use Rattle.search.specs.Meaning.{endingOf}
-use Rattle.planner.specs.Exported.{answerBytes}
+use Rattle.planner.specs.Exported.{endingBytes}
 use Rattle.planner.specs.Inner.{Counted}
 use borrow.Author.Needs.{needs}
 use Rattle.planner.proofs.bytes.ending.Statement.{statement}
@@ -41,19 +40,19 @@ same-length : tie.Need-same-length
 same-length c = search needs
 
 returns : tie.Need-returns
-returns c = c .before .before .three .ensures ∙ ap (λ (x : Ending). answerBytes (ended (endingOf x))) (sym (c .before .before .before .before .before .e .given .1))
+returns c = c .before .before .three .ensures ∙ ap (λ (x : Ending). endingBytes (endingOf x)) (sym (c .before .before .before .before .before .e .given .1))
 
 same-length-2 : tie.Need-same-length-2
 same-length-2 c = search needs
 
 returns-2 : tie.Need-returns-2
-returns-2 c = c .before .before .three2 .ensures ∙ ap (λ (x : Ending). answerBytes (ended (endingOf x))) (sym (c .before .before .before .before .before .e2 .given .1))
+returns-2 c = c .before .before .three2 .ensures ∙ ap (λ (x : Ending). endingBytes (endingOf x)) (sym (c .before .before .before .before .before .e2 .given .1))
 
 same-length-3 : tie.Need-same-length-3
 same-length-3 c = search needs
 
 returns-3 : tie.Need-returns-3
-returns-3 c = c .before .before .three3 .ensures ∙ ap (λ (x : Ending). answerBytes (ended (endingOf x))) (sym (c .before .before .before .before .before .e3 .given .1))
+returns-3 c = c .before .before .three3 .ensures ∙ ap (λ (x : Ending). endingBytes (endingOf x)) (sym (c .before .before .before .before .before .e3 .given .1))
 
 pub ending-spec : {M : Type 1} → statement M
 ending-spec =

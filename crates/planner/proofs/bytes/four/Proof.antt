@@ -1,7 +1,7 @@
 -- `four`: four stores. Assumes nothing.
 use native.Mathlib.Omega.{arith}
 use lib.ListN.{length-set}
-use Rattle.planner.specs.Exported.{fourBytes}
+use Rattle.model.specs.Bytes.{fourBytes}
 use Rattle.planner.proofs.Numbers.{put-four}
 use borrow.Author.Needs.{needs}
 use Rattle.planner.proofs.bytes.four.Statement.{statement}

@@ -1,6 +1,6 @@
 -- `three`: three numbers, which fill the twelve bytes. Assumes nothing.
 use native.Mathlib.Omega.{arith}
-use Rattle.planner.specs.Exported.{fourBytes}
+use Rattle.model.specs.Bytes.{fourBytes}
 use Rattle.planner.proofs.Numbers.{put-three}
 use borrow.Author.Needs.{needs}
 use Rattle.planner.proofs.bytes.three.Statement.{statement}
