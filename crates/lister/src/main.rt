@@ -1,8 +1,16 @@
 // The lister (paper 01, "The report"): prints the report on the sheet that stands on standard input. The planner makes all of the text.
+// A program in Rattle has no exit status: what fails is said on standard error.
 
 ghost use mathlib.Core.Path.{_≡_};
 ghost use lib.ListN.{length};
+ghost use Rattle.io.specs.Counts.{Counts};
 ghost use Rattle.report.specs.Text.{room};
+
+// Standard input: how many bytes stand at the front of the buffer, and whether a read failed after them.
+struct Input {
+    count: usize,
+    failed: bool,
+}
 
 // Room for every report. The contract gives only the length, which lending a part of it needs.
 fn report_room() -> [u8; report::REPORT_ROOM]
@@ -11,11 +19,43 @@ fn report_room() -> [u8; report::REPORT_ROOM]
     [0; report::REPORT_ROOM]
 }
 
-// Of a longer input the first 65,536 bytes are the sheet. A read that fails ends the input, and a write that fails the output.
+// Reads until the buffer is full, the input ends or a read fails.
+fn read_input(sheet: &mut [u8]) -> Input
+    ensures { λ r. ⌜ Counts (r .count) (now (sheet .exit)) ⌝ }
+{
+    let mut done = 0;
+    while done < sheet.len() {
+        let got = libc::read(0, &mut sheet[done..]);
+        if got < 0 {
+            return Input {
+                count: done,
+                failed: true,
+            };
+        }
+        let n = io::count(got, &sheet[done..]);
+        if n == 0 {
+            break;
+        }
+        done += n;
+    }
+    Input {
+        count: done,
+        failed: false,
+    }
+}
+
+// Of a longer input the first 65,536 bytes are the sheet. Where a read fails there is no report.
 fn main() {
     let mut sheet = io::large_buffer();
-    let n = io::read_full(0, &mut sheet);
+    let input = read_input(&mut sheet);
+    if input.failed {
+        io::write_all(2, b"lister: standard input could not be read\n");
+        return;
+    }
+    let n = input.count;
     let mut out = report_room();
     let k = planner::planner_report(&sheet[..n], &mut out);
-    io::write_all(1, &out[..k]);
+    if !io::write_all(1, &out[..k]) {
+        io::write_all(2, b"lister: the report was not written whole\n");
+    }
 }

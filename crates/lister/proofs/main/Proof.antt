@@ -10,18 +10,27 @@ use Rattle.lister.proofs.main.Tie as tie
 
 inside : (c : tie.After-planner-report) → c .planner-report .result ≤ length (c .planner-report .last .1 .0)
 inside c =
-    let r = c .before .before .before .before .before .read-full in
+    let r = c .before .before .before .before .before .before .read-input in
     let p = c .planner-report in
-    subst (λ (k : ℕ). k ≤ length (p .last .1 .0)) (sym (p .ensures .0)) (report-inside (take (r .result) (r .last .1 .0)) (c .before .before .before .report-room .result) (p .last .1 .0) (p .ensures .1))
+    subst (λ (k : ℕ). k ≤ length (p .last .1 .0)) (sym (p .ensures .0)) (report-inside (take (r .result .count) (r .last .0)) (c .before .before .before .report-room .result) (p .last .1 .0) (p .ensures .1))
 
 large-buffer-requires : tie.Need-large-buffer-requires
 large-buffer-requires c κs = search needs
 
-slice-aggregate-read-full : tie.Need-slice-aggregate-read-full
-slice-aggregate-read-full c = search needs
+slice-aggregate-read-input : tie.Need-slice-aggregate-read-input
+slice-aggregate-read-input c = search needs
 
-read-full-requires : tie.Need-read-full-requires
-read-full-requires c κs = search needs
+read-input-requires : tie.Need-read-input-requires
+read-input-requires c κs = search needs
+
+slice-aggregate-write-all : tie.Need-slice-aggregate-write-all
+slice-aggregate-write-all c = search needs
+
+write-all-requires : tie.Need-write-all-requires
+write-all-requires c κs = search needs
+
+returns : tie.Need-returns
+returns c = search needs
 
 report-room-requires : tie.Need-report-room-requires
 report-room-requires c κs = search needs
@@ -41,28 +50,43 @@ planner-report-requires c κs = search needs
 array-share-prefix-out : tie.Need-array-share-prefix-out
 array-share-prefix-out c = inside (c .before)
 
-slice-aggregate-write-all : tie.Need-slice-aggregate-write-all
-slice-aggregate-write-all c = sym (length-take-le (c .before .before .planner-report .result) (c .before .before .planner-report .last .1 .0) (inside (c .before .before)))
+slice-aggregate-write-all-2 : tie.Need-slice-aggregate-write-all-2
+slice-aggregate-write-all-2 c = sym (length-take-le (c .before .before .planner-report .result) (c .before .before .planner-report .last .1 .0) (inside (c .before .before)))
 
-write-all-requires : tie.Need-write-all-requires
-write-all-requires c κs = search needs
+write-all-requires-2 : tie.Need-write-all-requires-2
+write-all-requires-2 c κs = search needs
 
-returns : tie.Need-returns
-returns c = search needs
+slice-aggregate-write-all-3 : tie.Need-slice-aggregate-write-all-3
+slice-aggregate-write-all-3 c = search needs
+
+write-all-requires-3 : tie.Need-write-all-requires-3
+write-all-requires-3 c κs = search needs
+
+returns-2 : tie.Need-returns-2
+returns-2 c = search needs
+
+returns-3 : tie.Need-returns-3
+returns-3 c = search needs
 
 pub main-spec : {M : Type 1} → statement M
 main-spec =
     tie.close
     (tie.spec
     large-buffer-requires
-    slice-aggregate-read-full
-    read-full-requires
+    slice-aggregate-read-input
+    read-input-requires
+    slice-aggregate-write-all
+    write-all-requires
+    returns
     report-room-requires
     array-share-prefix-sheet
     slice-aggregate-planner-report
     slice-aggregate-planner-report-2
     planner-report-requires
     array-share-prefix-out
-    slice-aggregate-write-all
-    write-all-requires
-    returns)
+    slice-aggregate-write-all-2
+    write-all-requires-2
+    slice-aggregate-write-all-3
+    write-all-requires-3
+    returns-2
+    returns-3)
