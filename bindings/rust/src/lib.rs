@@ -1,7 +1,9 @@
 //! Safe functions over the proved hall planner, libplanner.a. Every function takes any slices: what a
-//! caller can get wrong comes back as a [`Refusal`] with the paper's number.
+//! caller can get wrong comes back as a [`Refusal`] with the paper's number. Any number of threads may call
+//! at once. A call takes up to [`STACK_BYTES`] of the thread's stack; [`with_stack`] makes it on a thread of
+//! its own.
 
-use std::fmt;
+use std::{fmt, io, panic, thread};
 
 mod exported {
     extern "C" {
@@ -31,6 +33,9 @@ mod exported {
 
 /// The mark for an absent value in a nogood list.
 pub const ABSENT: u8 = 255;
+
+/// A stack that is enough for every call, with some to spare for the thread itself; planner.h has the figures.
+pub const STACK_BYTES: usize = 320 * 1024;
 
 /// The least room for a report. No report is longer.
 const REPORT_ROOM: usize = 217_160;
@@ -79,12 +84,24 @@ pub struct Answer {
     pub nodes: u32,
 }
 
+/// Makes a call on a thread of its own that has enough stack, and waits for it. The error is that no thread
+/// could be made.
+pub fn with_stack<T: Send>(call: impl FnOnce() -> T + Send) -> io::Result<T> {
+    thread::scope(|scope| {
+        let thread = thread::Builder::new().stack_size(2 * STACK_BYTES).spawn_scoped(scope, call)?;
+        Ok(thread.join().unwrap_or_else(|cause| panic::resume_unwind(cause)))
+    })
+}
+
 /// Puts questions 1 to 16 to a sheet.
 pub fn question(sheet: &[u8]) -> Result<(), Refusal> {
     Refusal::from_code(unsafe { exported::planner_question(sheet.as_ptr(), sheet.len()) })
 }
 
-/// Filters sets of values by a nogood list. After a refusal the sets are as they came.
+/// Filters sets of values (bit v for value v) by nogoods in three lists of one length. Entry i speaks of the
+/// window `index[i]`, and one of `equal[i]` and `not_equal[i]` is [`ABSENT`]: an equal value adds "the window
+/// has it" to what the entries after it ask; a not-equal value says that the window hasn't it if all that was
+/// added before holds. After a refusal the sets are as they came.
 pub fn filter(sets: &mut [u16], index: &[u8], equal: &[u8], not_equal: &[u8]) -> Result<(), Refusal> {
     let mut bytes: Vec<u8> = sets.iter().flat_map(|set| set.to_le_bytes()).collect();
     Refusal::from_code(unsafe {

@@ -1,0 +1,60 @@
+//! The stack that a call takes at most, calls on a thread of their own, and calls from several threads at once.
+
+use planner::{report, run, with_stack, Ending, STACK_BYTES};
+use std::thread;
+
+/// The sheet that goes deepest: 12 windows of 16 duties. Of two neighbours, a duty below 15 of the first has rows
+/// with the second's low duties by one rule and with its high ones by another, so each is tried and dead at once.
+fn deepest() -> Vec<u8> {
+    let (n, d) = (12, 16);
+    let mut rules: Vec<u16> = Vec::new();
+    for window in 0..n - 1 {
+        for half in [0..8, 8..16] {
+            let dead = (0..15).flat_map(|duty| half.clone().map(move |next| [duty, next]));
+            let rows: Vec<[u16; 2]> = dead.chain((0..d).map(|next| [15, next])).collect();
+            rules.extend([2, rows.len() as u16, window, window + 1]);
+            rules.extend(rows.iter().flatten());
+        }
+    }
+    let second = 16 + 2 * n;
+    let third = second + 2 * rules.len() as u16;
+    let mut sheet = vec![n, d, 2 * (n - 1), 0, 16, second, third, third];
+    sheet.extend(vec![0xffff; n as usize]);
+    sheet.extend(rules);
+    sheet.iter().flat_map(|word| word.to_le_bytes()).collect()
+}
+
+#[test]
+fn the_stack_is_enough() {
+    let sheet = deepest();
+    let calls = move || {
+        let mut list = vec![0; 16 * 12];
+        let answer = run(&sheet, 1_000_000, &mut list).unwrap();
+        assert_eq!((answer.ending, answer.plans, answer.nodes), (Ending::Finished, 16, 192));
+        assert!(report(&sheet).ends_with("finished 16 192 16\n"));
+    };
+    thread::Builder::new().stack_size(STACK_BYTES).spawn(calls).unwrap().join().unwrap();
+}
+
+#[test]
+fn a_thread_of_its_own() {
+    let sheet = deepest();
+    let mut list = vec![7; 5 * 12];
+    let answer = with_stack(|| run(&sheet, 1_000_000, &mut list)).unwrap().unwrap();
+    assert_eq!((answer.ending, answer.plans, answer.nodes), (Ending::Full, 5, 182));
+    assert_eq!(list[4 * 12..], [15, 15, 15, 15, 15, 15, 15, 15, 15, 15, 15, 4]);
+    let refusal = with_stack(|| run(&sheet[1..], 1_000_000, &mut list)).unwrap().unwrap_err();
+    assert_eq!((refusal.number, refusal.item), (2, 0));
+    assert!(std::panic::catch_unwind(|| with_stack(|| panic!("as asked"))).is_err());
+}
+
+#[test]
+fn several_threads_at_once() {
+    let sheet = deepest();
+    let alone = report(&sheet);
+    thread::scope(|scope| {
+        for _ in 0..8 {
+            scope.spawn(|| assert_eq!(report(&sheet), alone));
+        }
+    });
+}
