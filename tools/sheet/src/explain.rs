@@ -1,32 +1,74 @@
 //! A refusal in words, with the place in the sheet.
 
-use crate::problem::{word, words, Problem};
+use crate::command::{is_sheet, text, Arguments, Command, Outcome, Status, Stop};
+use crate::make::make;
+use crate::problem::{draws, word, words, Place, Problem};
 use planner::Refusal;
 
-/// The part of a sheet that a refusal speaks of.
-#[derive(Clone, Copy, Debug, PartialEq, Eq)]
-pub enum Place {
-    Header,
-    Variable(usize),
-    Constraint(usize),
-    Symmetry(usize),
+pub const COMMAND: Command = Command {
+    name: "explain",
+    usage: "SHEET",
+    about: "says that a sheet (or a text) is accepted, or why it is refused",
+    files: 1..=1,
+    options: &[],
+    run,
+};
+
+fn run(arguments: &Arguments) -> Result<Outcome, Stop> {
+    let bytes = arguments.sources[0].bytes()?;
+    let answer = match std::str::from_utf8(&bytes) {
+        Ok(words) if !words.is_empty() && !is_sheet(&bytes) => make(words)
+            .map(|made| accepted(&made.problem))
+            .map_err(|fault| arguments.sources[0].fault(fault).text),
+        _ => explain(&bytes),
+    };
+    let status = if answer.is_ok() { Status::Finished } else { Status::Refused };
+    let words = answer.unwrap_or_else(|words| words) + "\n";
+    Ok(Outcome { status, ..text(words) })
 }
 
-/// The planner's answer to a sheet in words.
-pub fn explain(sheet: &[u8]) -> String {
+/// Why a sheet is refused: the part that the refusal speaks of, the offset at which to look, and the words.
+pub struct Reason {
+    pub place: Place,
+    pub offset: Option<usize>,
+    pub words: String,
+}
+
+impl Reason {
+    fn new(place: Place, offset: impl Into<Option<usize>>, words: String) -> Reason {
+        Reason { place, offset: offset.into(), words }
+    }
+}
+
+/// The planner's answer to a sheet in words, or its refusal.
+pub fn explain(sheet: &[u8]) -> Result<String, String> {
     match planner::question(sheet) {
-        Ok(()) => {
-            let header = words(sheet, 0, 4);
-            format!(
-                "accepted: windows {}, duties {}, rules {}, exchanges {}",
-                header[0], header[1], header[2], header[3]
-            )
-        }
+        Ok(()) => Ok(accepted(&Problem::decode(sheet))),
         Err(refusal) => {
             let problem = if refusal.number >= 15 { Problem::decode(sheet) } else { nameless(sheet) };
-            format!("{refusal}: {}", reason(sheet, &problem, refusal).1)
+            let Reason { place, offset, words } = reason(sheet, &problem, refusal);
+            let place = match place {
+                Place::Header => String::new(),
+                Place::Variable(item) => format!("window {item}"),
+                Place::Constraint(item) => format!("rule {item}"),
+                Place::Symmetry(item) => format!("exchange {item}"),
+            };
+            let parts = [place, offset.map_or(String::new(), |offset| format!("offset {offset}"))];
+            let parts: Vec<String> = parts.into_iter().filter(|part| !part.is_empty()).collect();
+            let place = if parts.is_empty() { String::new() } else { format!("{}: ", parts.join(", ")) };
+            Err(format!("{refusal}: {place}{words}"))
         }
     }
+}
+
+pub fn accepted(problem: &Problem) -> String {
+    format!(
+        "accepted: windows {}, duties {}, rules {}, exchanges {}",
+        problem.variables.len(),
+        problem.values.len(),
+        problem.constraints.len(),
+        problem.symmetries.len()
+    )
 }
 
 /// Names only, for a sheet whose rules can't be read; a count out of bounds is cut.
@@ -48,49 +90,51 @@ fn nameless(sheet: &[u8]) -> Problem {
 }
 
 /// The part that a refusal speaks of, and why it is refused.
-pub fn reason(sheet: &[u8], problem: &Problem, refusal: Refusal) -> (Place, String) {
+pub fn reason(sheet: &[u8], problem: &Problem, refusal: Refusal) -> Reason {
     let item = refusal.item as usize;
     match refusal.number {
-        8 => (Place::Variable(item), initial_set(sheet, problem, item)),
-        9..=13 => (Place::Constraint(item), constraint(sheet, problem, refusal)),
-        15 => (Place::Symmetry(item), permutation(sheet, problem, item)),
-        16 => (Place::Symmetry(item), respect(problem, item)),
-        number => (Place::Header, header(sheet, number)),
+        8 => initial_set(sheet, problem, item),
+        9..=13 => constraint(sheet, problem, refusal),
+        15 => permutation(sheet, problem, item),
+        16 => respect(problem, item),
+        number => header(sheet, number),
     }
 }
 
-fn header(sheet: &[u8], number: u32) -> String {
+fn header(sheet: &[u8], number: u32) -> Reason {
     let length = sheet.len();
     let at = |offset: usize| word(sheet, offset);
-    match number {
-        1 => format!("the sheet has {length} bytes, and the header alone takes 16"),
-        2 => format!("offset 0: {} windows, and 1 to 12 are allowed", at(0)),
-        3 => format!("offset 2: {} duties, and 1 to 16 are allowed", at(2)),
-        4 => format!("offset 4: {} rules, and at most 32 are allowed", at(4)),
-        5 => format!("offset 6: {} exchanges, and at most 16 are allowed", at(6)),
-        6 => format!("offset 14: the stated length is {}, and the sheet has {length} bytes", at(14)),
-        7 if at(8) != 16 => format!("offset 8: the first offset is {}, and must be 16", at(8)),
+    let (offset, words) = match number {
+        1 => (None, format!("the sheet has {length} bytes, and the header alone takes 16")),
+        2 => (Some(0), format!("{} windows, and 1 to 12 are allowed", at(0))),
+        3 => (Some(2), format!("{} duties, and 1 to 16 are allowed", at(2))),
+        4 => (Some(4), format!("{} rules, and at most 32 are allowed", at(4))),
+        5 => (Some(6), format!("{} exchanges, and at most 16 are allowed", at(6))),
+        6 => (Some(14), format!("the stated length is {}, and the sheet has {length} bytes", at(14))),
+        7 if at(8) != 16 => (Some(8), format!("the first offset is {}, and must be 16", at(8))),
         7 if at(10) != 16 + 2 * at(0) => {
-            format!("offset 10: the second offset is {}, and must be {}", at(10), 16 + 2 * at(0))
+            (Some(10), format!("the second offset is {}, and must be {}", at(10), 16 + 2 * at(0)))
         }
-        7 => format!("offset 12: the third offset is {}, and must lie from {} to {length}", at(12), at(10)),
+        7 => (Some(12), format!("the third offset is {}, and must lie from {} to {length}", at(12), at(10))),
         _ => {
             let (third, tables) = (at(12), at(6));
             let expected = third + 2 * tables * at(0) * at(2);
-            let stated = format!("offset 14: the length is {length}");
-            format!("{stated}, and with {tables} exchanges from {third} on it must be {expected}")
+            let must = format!("with {tables} exchanges from {third} on it must be {expected}");
+            (Some(14), format!("the length is {length}, and {must}"))
         }
-    }
+    };
+    Reason::new(Place::Header, offset, words)
 }
 
-fn initial_set(sheet: &[u8], problem: &Problem, item: usize) -> String {
+fn initial_set(sheet: &[u8], problem: &Problem, item: usize) -> Reason {
     let offset = 16 + 2 * item;
     let (set, d) = (word(sheet, offset), problem.values.len());
     let name = &problem.variables[item];
-    match set >> d {
-        0 => format!("offset {offset}: window {item} ({name}) may have no duty"),
-        _ => format!("offset {offset}: the set of window {item} ({name}) is {set}, with bits from {d} up"),
-    }
+    let words = match set >> d {
+        0 => format!("`{name}` may have no duty"),
+        _ => format!("the set of `{name}` is {set}, with bits from {d} up"),
+    };
+    Reason::new(Place::Variable(item), offset, words)
 }
 
 /// The offset of a rule; all rules before it can be read.
@@ -102,36 +146,42 @@ fn constraint_offset(sheet: &[u8], item: usize) -> usize {
     at
 }
 
-fn constraint(sheet: &[u8], problem: &Problem, refusal: Refusal) -> String {
+fn constraint(sheet: &[u8], problem: &Problem, refusal: Refusal) -> Reason {
     let item = refusal.item as usize;
     let (at, third) = (constraint_offset(sheet, item), word(sheet, 12));
     if item == word(sheet, 4) {
-        return format!("offset {at}: the rules end here, and the third offset is {third}");
+        return Reason::new(
+            Place::Header,
+            at,
+            format!("the rules end here, and the third offset is {third}"),
+        );
     }
+    let (offset, words) = rule_fault(sheet, problem, refusal.number, at);
+    Reason::new(Place::Constraint(item), offset, words)
+}
+
+/// What is wrong with the rule at an offset, and where.
+fn rule_fault(sheet: &[u8], problem: &Problem, number: u32, at: usize) -> (usize, String) {
+    let third = word(sheet, 12);
     if at + 4 > third {
-        return format!("rule {item}, offset {at}: its counts end beyond the third offset, {third}");
+        return (at, format!("its counts end beyond the third offset, {third}"));
     }
     let (arity, rows) = (word(sheet, at), word(sheet, at + 2));
     let end = at + 4 + 2 * arity * (1 + rows);
-    match refusal.number {
-        9 => {
-            format!("rule {item}, offset {at}: it ends at {end}, beyond the third offset, {third}")
-        }
-        10 if !(1..=3).contains(&arity) => {
-            format!("rule {item}, offset {at}: {arity} windows, and 1 to 3 are allowed")
-        }
-        10 => format!("rule {item}, offset {}: {rows} rows, and at most 256 are allowed", at + 2),
+    match number {
+        9 => (at, format!("it ends at {end}, beyond the third offset, {third}")),
+        10 if !(1..=3).contains(&arity) => (at, format!("{arity} windows, and 1 to 3 are allowed")),
+        10 => (at + 2, format!("{rows} rows, and at most 256 are allowed")),
         11 => {
             let (scope, n) = (words(sheet, at + 4, arity), problem.variables.len());
-            let place = format!("rule {item}, offset {}", at + 4);
-            format!("{place}: windows {scope:?} aren't all below {n} and ascending")
+            (at + 4, format!("windows {scope:?} aren't all below {n} and ascending"))
         }
-        number => format!("rule {item}, {}", row_fault(sheet, problem, at, number)),
+        number => row_fault(sheet, problem, at, number),
     }
 }
 
 /// The first row of the rule at an offset that breaks question 12 or 13.
-fn row_fault(sheet: &[u8], problem: &Problem, at: usize, number: u32) -> String {
+fn row_fault(sheet: &[u8], problem: &Problem, at: usize, number: u32) -> (usize, String) {
     let (arity, rows, d) = (word(sheet, at), word(sheet, at + 2), problem.values.len());
     let offset = |row: usize| at + 4 + 2 * arity * (1 + row);
     let row = |row: usize| words(sheet, offset(row), arity);
@@ -139,72 +189,69 @@ fn row_fault(sheet: &[u8], problem: &Problem, at: usize, number: u32) -> String 
     let unordered = |i: &usize| *i > 0 && row(i - 1) >= row(*i);
     let i = if number == 12 { (0..rows).find(beyond) } else { (0..rows).find(unordered) };
     let i = i.expect("a row that the refusal speaks of");
-    let place = format!("row {i}, offset {}", offset(i));
-    match number {
-        12 => format!("{place}: the duties {:?} aren't all below {d}", row(i)),
-        _ => format!("{place}: {:?} doesn't come after {:?}", row(i), row(i - 1)),
-    }
+    let words = match number {
+        12 => format!("row {i}: the duties {:?} aren't all below {d}", row(i)),
+        _ => format!("row {i}: {:?} doesn't come after {:?}", row(i), row(i - 1)),
+    };
+    (offset(i), words)
 }
 
 /// The first number of an exchange that breaks question 15.
-fn permutation(sheet: &[u8], problem: &Problem, item: usize) -> String {
+fn permutation(sheet: &[u8], problem: &Problem, item: usize) -> Reason {
     let table = &problem.symmetries[item];
     let start = sheet.len() - 2 * table.len() * (problem.symmetries.len() - item);
     for (number, &image) in table.iter().enumerate() {
-        let place = format!("exchange {item}, offset {}: ", start + 2 * number);
         let (from, to) = (problem.pair_name(number), problem.pair_name(image));
-        if !problem.is_pair(number) && image != number {
-            return place + &format!("{from} is no pair, and goes to {to}");
-        }
-        if problem.is_pair(number) && !problem.is_pair(image) {
-            return place + &format!("{from} goes to {to}, which is no pair");
-        }
-        if let Some(other) = table[..number].iter().position(|&other| other == image) {
-            return place + &format!("{from} goes to {to}, and so does {}", problem.pair_name(other));
-        }
+        let words = if !problem.is_pair(number) && image != number {
+            format!("{from} is no pair, and goes to {to}")
+        } else if problem.is_pair(number) && !problem.is_pair(image) {
+            format!("{from} goes to {to}, which is no pair")
+        } else if let Some(other) = table[..number].iter().position(|&other| other == image) {
+            format!("{from} goes to {to}, and so does {}", problem.pair_name(other))
+        } else {
+            continue;
+        };
+        return Reason::new(Place::Symmetry(item), start + 2 * number, words);
     }
-    format!("exchange {item} doesn't permute the pairs")
+    Reason::new(Place::Symmetry(item), None, "it doesn't permute the pairs".to_string())
 }
 
-/// A forbidden set whose image under an exchange contains none.
-fn respect(problem: &Problem, item: usize) -> String {
+fn respect(problem: &Problem, item: usize) -> Reason {
+    let words = broken_set(problem, item).unwrap_or("it doesn't respect the sheet".to_string());
+    Reason::new(Place::Symmetry(item), None, words)
+}
+
+/// A forbidden set whose image under an exchange contains none, in words.
+pub fn broken_set(problem: &Problem, item: usize) -> Option<String> {
     let table = &problem.symmetries[item];
     let image = |set: &Vec<usize>| set.iter().map(|&number| table[number]).collect::<Vec<usize>>();
     let names =
         |set: &[usize]| set.iter().map(|&number| problem.pair_name(number)).collect::<Vec<_>>().join(" ");
-    match forbidden_sets(problem).iter().find(|set| !contains_forbidden(problem, &image(set))) {
-        Some(set) => format!(
-            "exchange {item} doesn't respect the sheet: {} is forbidden, and its image {} is not",
-            names(set),
-            names(&image(set))
-        ),
-        None => format!("exchange {item} doesn't respect the sheet"),
-    }
+    let sets = forbidden_sets(problem);
+    let set = sets.iter().find(|set| !contains_forbidden(problem, &image(set)))?;
+    let (from, to) = (names(set), names(&image(set)));
+    Some(format!("it doesn't respect the sheet: {from} is forbidden, and its image {to} is not"))
 }
 
 /// Two pairs of one window; one pair for each window of a rule, whose duties are no row.
 fn forbidden_sets(problem: &Problem) -> Vec<Vec<usize>> {
     let d = problem.values.len();
-    let of = |variable: usize| {
-        (0..d).map(move |value| variable * d + value).filter(|&number| problem.is_pair(number))
-    };
     let mut sets = Vec::new();
     for variable in 0..problem.variables.len() {
-        sets.extend(of(variable).flat_map(|a| of(variable).filter(move |&b| a < b).map(move |b| vec![a, b])));
+        for two in draws(problem, &[variable, variable]) {
+            if two[0] < two[1] {
+                sets.push(two.iter().map(|value| variable * d + value).collect());
+            }
+        }
     }
     for constraint in &problem.constraints {
-        let mut all: Vec<Vec<usize>> = vec![Vec::new()];
-        for &variable in &constraint.scope {
-            all = all
-                .iter()
-                .flat_map(|set| of(variable).map(move |pair| [&set[..], &[pair]].concat()))
-                .collect();
+        for row in draws(problem, &constraint.scope) {
+            if constraint.rows.binary_search(&row).is_err() {
+                sets.push(
+                    constraint.scope.iter().zip(&row).map(|(variable, value)| variable * d + value).collect(),
+                );
+            }
         }
-        all.retain(|set| {
-            let row: Vec<usize> = set.iter().map(|pair| pair % d).collect();
-            constraint.rows.binary_search(&row).is_err()
-        });
-        sets.extend(all);
     }
     sets
 }

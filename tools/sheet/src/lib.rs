@@ -1,12 +1,25 @@
-//! A readable text for sheets: `parse` reads it, `show` writes it, `explain` says why a sheet is refused.
-//! Whether a sheet is accepted is always asked of the proved planner.
+//! Halls as texts: `parse` reads a text, `compose` and `pack` make what its sheet states, `make` the sheet;
+//! `listing` runs the planner. Each command is a module: `plans`, `why`, `page`, `make`, `show`, `explain`.
+//! Whether a sheet is accepted, and which plans it has, is always asked of the proved planner.
 
+pub mod command;
+pub mod compose;
 pub mod explain;
+pub mod input;
+pub mod listing;
+pub mod make;
+pub mod pack;
+pub mod page;
 pub mod parse;
+pub mod plans;
 pub mod problem;
 pub mod show;
+pub mod table;
+pub mod text;
+pub mod why;
+pub mod words;
 
 pub use explain::explain;
-pub use parse::make;
+pub use make::make;
 pub use problem::Problem;
 pub use show::show;

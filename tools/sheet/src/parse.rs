@@ -1,222 +1,287 @@
-//! The text of a sheet, read line by line.
+//! Reads a text line by line.
 
-use crate::explain::{reason, Place};
-use crate::problem::{unlike_rows, Constraint, Problem};
+use crate::problem::Constraint;
+use crate::text::{fault, Exchange, Parsed, Stated, Statement, Text};
+use crate::words::{nearest, words};
 
-/// A fault in a text, with its line from 1.
-#[derive(Clone, Debug, PartialEq, Eq)]
-pub struct Fault {
-    pub line: usize,
-    pub text: String,
-}
+/// The words that start a line.
+const STARTS: [&str; 13] = [
+    "windows",
+    "duties",
+    "may",
+    "rule",
+    "rows",
+    "different",
+    "all different",
+    "forbid",
+    "never together",
+    "exactly",
+    "at least",
+    "at most",
+    "exchange",
+];
 
-type Parsed<T> = Result<T, Fault>;
+/// The most windows and the most duties.
+const MOST: [usize; 2] = [12, 16];
 
-/// The sheet that a text describes, if the planner accepts it.
-pub fn make(text: &str) -> Parsed<Vec<u8>> {
-    let parser = parse(text)?;
-    let sheet = parser.problem.encode();
-    match planner::question(&sheet) {
-        Ok(()) => Ok(sheet),
-        Err(refusal) => {
-            let (place, words) = reason(&sheet, &parser.problem, refusal);
-            Err(Fault { line: parser.line_of(place), text: format!("{words} ({refusal})") })
-        }
+/// What a text states.
+pub fn parse(text: &str) -> Parsed<Text> {
+    if text.starts_with('\u{feff}') {
+        return fault(1, "the text starts with a byte order mark (BOM); save it as UTF-8 without one");
     }
-}
-
-/// What a text describes, accepted or not.
-pub fn parse(text: &str) -> Parsed<Parser> {
-    let problem = Problem {
-        variables: Vec::new(),
-        values: Vec::new(),
-        initial: Vec::new(),
-        constraints: Vec::new(),
-        symmetries: Vec::new(),
-    };
-    let mut parser = Parser { problem, line: 0, places: Vec::new(), open: false };
+    let stated =
+        Text { about: String::new(), variables: Vec::new(), values: Vec::new(), statements: Vec::new() };
+    let mut parser = Parser { text: stated, line: 0, comment: Vec::new(), open: false, sets: Vec::new() };
     for line in text.lines() {
         parser.line += 1;
-        let line = line.split('#').next().unwrap_or("").replace(',', " , ");
-        let words: Vec<&str> = line.split_whitespace().collect();
-        if !words.is_empty() {
-            parser.statement(&words)?;
+        let words = words(line).or_else(|text| parser.fault(text))?;
+        match line.trim().strip_prefix('#') {
+            Some(comment) => parser.comment.push(comment.trim_start_matches('#').trim().to_string()),
+            None if words.is_empty() => parser.comment.clear(),
+            None => {
+                parser.line(&words)?;
+                parser.comment.clear();
+            }
         }
     }
-    if parser.problem.values.is_empty() {
-        return parser.fault("the text names no windows or no duties");
+    if parser.text.values.is_empty() {
+        return fault(parser.line.max(1), "the text ends before it has named its windows and duties");
     }
-    Ok(parser)
+    Ok(parser.text)
 }
 
-pub struct Parser {
-    pub problem: Problem,
+struct Parser {
+    text: Text,
     line: usize,
-    /// Which window's set, rule or exchange stands on which line.
-    places: Vec<(Place, usize)>,
+    /// The comment right above the line.
+    comment: Vec<String>,
     /// May `rows` follow?
     open: bool,
+    /// The windows that have a `may`, and its line.
+    sets: Vec<(usize, usize)>,
 }
 
 impl Parser {
     fn fault<T>(&self, text: impl Into<String>) -> Parsed<T> {
-        Err(Fault { line: self.line, text: text.into() })
+        fault(self.line, text)
     }
 
-    /// The line on which a part of the sheet stands; for others the last line.
-    fn line_of(&self, place: Place) -> usize {
-        self.places.iter().rev().find(|(other, _)| *other == place).map_or(self.line, |(_, line)| *line)
-    }
-
-    fn statement(&mut self, words: &[&str]) -> Parsed<()> {
-        let known = !self.problem.values.is_empty();
-        match (words[0], &words[1..]) {
-            ("windows", names) if self.problem.variables.is_empty() => {
-                self.problem.variables = self.new_names(names)?;
-                Ok(())
+    fn line(&mut self, words: &[&str]) -> Parsed<()> {
+        let named = !self.text.values.is_empty();
+        let (start, rest) = (words[0], &words[1..]);
+        match start {
+            "windows" if self.text.variables.is_empty() => {
+                self.text.variables = self.new_names("windows", rest, MOST[0])?;
+                self.text.about = self.comment.join(" ");
             }
-            ("duties", names) if !known && !self.problem.variables.is_empty() => self.duties(names),
-            ("windows" | "duties", _) => self.fault("`windows` stands first and once, then `duties` once"),
-            _ if !known => self.fault("`windows` and `duties` come first"),
-            ("may", [variable, names @ ..]) => self.may(variable, names),
-            ("different", names @ [_, _]) => self.all_different(names),
-            ("different", _) => self.fault("`different` takes two windows"),
-            ("all", ["different", names @ ..]) => self.all_different(names),
-            ("rule", names) => self.rule(names),
-            ("rows", rows) => self.rows(rows),
-            ("exchange", what) => self.exchange(what),
-            (word, _) => self.fault(format!("`{word}` starts no line of a sheet's text")),
+            "duties" if !named && !self.text.variables.is_empty() => {
+                self.text.values = self.new_names("duties", rest, MOST[1])?;
+            }
+            "windows" | "duties" => {
+                return self.fault("`windows` stands first and once, then `duties` once");
+            }
+            _ if !is_start(start) => return self.fault(unknown(start)),
+            _ if !named => return self.fault("`windows` and `duties` come first"),
+            "rows" => return self.rows(rest),
+            _ => {
+                let statement = self.statement(start, rest)?;
+                self.open = matches!(statement, Statement::Rule(_));
+                let comment = self.comment.join(" ");
+                self.text.statements.push(Stated { first: self.line, last: self.line, comment, statement });
+            }
+        }
+        Ok(())
+    }
+
+    fn statement(&mut self, start: &str, rest: &[&str]) -> Parsed<Statement> {
+        match (start, rest) {
+            ("may", [window, duties @ ..]) => self.may(window, duties),
+            ("may", []) => self.fault("`may` takes a window and its duties"),
+            ("rule", windows) => self.rule(windows),
+            ("different", [_, _]) => self.different(rest),
+            ("different", _) => self.fault("`different` takes two windows; of more say `all different`"),
+            ("all", ["different", windows @ ..]) => self.different(windows),
+            ("all", _) => self.fault("write `all different WINDOW ..`"),
+            ("forbid", rows) => self.forbid(rows),
+            ("never", ["together", row @ ..]) => self.never_together(row),
+            ("never", _) => self.fault("write `never together WINDOW DUTY WINDOW DUTY`"),
+            ("exactly", rest) => self.count(start, rest),
+            ("at", [word @ ("least" | "most"), rest @ ..]) => self.count(word, rest),
+            ("at", _) => self.fault("write `at least` or `at most`, a number, a duty and windows"),
+            (_, what) => self.exchange(what),
         }
     }
 
     /// New names: at least one, each once, and none that the text uses for itself.
-    fn new_names(&self, names: &[&str]) -> Parsed<Vec<String>> {
+    fn new_names(&self, kind: &str, names: &[&str], most: usize) -> Parsed<Vec<String>> {
         for (i, name) in names.iter().enumerate() {
-            if [",", "windows", "duties"].contains(name) || name.contains('.') {
-                return self.fault(format!("`{name}` can't be a name"));
+            match *name {
+                "," => return self.fault(format!("names of {kind} are parted by spaces, not by commas")),
+                "windows" | "duties" => return self.fault(format!("`{name}` can't be a name")),
+                _ if name.contains('.') => {
+                    return self
+                        .fault(format!("`{name}` can't be a name: a point parts a window from a duty"));
+                }
+                _ if names[..i].contains(name) => {
+                    return self.fault(format!("the name `{name}` stands twice"));
+                }
+                _ => {}
             }
-            if names[..i].contains(name) {
-                return self.fault(format!("the name `{name}` stands twice"));
-            }
         }
-        if names.is_empty() {
-            return self.fault("there are no names");
+        match names.len() {
+            0 => self.fault(format!("`{kind}` takes at least one name")),
+            count if count > most => self.fault(format!("{count} {kind}, and at most {most} are allowed")),
+            _ => Ok(names.iter().map(|name| name.to_string()).collect()),
         }
-        Ok(names.iter().map(|name| name.to_string()).collect())
-    }
-
-    fn duties(&mut self, names: &[&str]) -> Parsed<()> {
-        self.problem.values = self.new_names(names)?;
-        if names.len() > 16 {
-            return self.fault(format!("{} duties; there may be 16", names.len()));
-        }
-        let full = (0..names.len()).fold(0, |set, value| set | 1 << value);
-        self.problem.initial = vec![full; self.problem.variables.len()];
-        Ok(())
     }
 
     fn find(&self, names: &[String], kind: &str, name: &str) -> Parsed<usize> {
         match names.iter().position(|other| other == name) {
             Some(number) => Ok(number),
-            None => self.fault(format!("no {kind} is called `{name}`")),
+            None if name == "," => self.fault(format!("a comma stands where a {kind} should")),
+            None => self.fault(format!("no {kind} is called `{name}`{}", nearest(name, names))),
         }
     }
 
-    fn variable(&self, name: &str) -> Parsed<usize> {
-        self.find(&self.problem.variables, "window", name)
+    fn window(&self, name: &str) -> Parsed<usize> {
+        self.find(&self.text.variables, "window", name)
     }
 
-    fn value(&self, name: &str) -> Parsed<usize> {
-        self.find(&self.problem.values, "duty", name)
+    fn duty(&self, name: &str) -> Parsed<usize> {
+        self.find(&self.text.values, "duty", name)
     }
 
-    fn may(&mut self, variable: &str, names: &[&str]) -> Parsed<()> {
-        if !self.problem.symmetries.is_empty() {
-            return self.fault("`may` comes before the exchanges");
-        }
-        let variable = self.variable(variable)?;
-        let mut set = 0;
-        for name in names {
-            set |= 1 << self.value(name)?;
-        }
-        self.problem.initial[variable] = set;
-        self.places.push((Place::Variable(variable), self.line));
-        Ok(())
-    }
-
-    fn push_constraint(&mut self, constraint: Constraint) {
-        self.places.push((Place::Constraint(self.problem.constraints.len()), self.line));
-        self.problem.constraints.push(constraint);
-        self.open = false;
-    }
-
-    /// Windows of a rule, ascending.
-    fn scope(&self, names: &[&str]) -> Parsed<Vec<usize>> {
-        let scope = names.iter().map(|name| self.variable(name)).collect::<Parsed<Vec<usize>>>()?;
-        match scope.windows(2).all(|two| two[0] < two[1]) {
-            true => Ok(scope),
-            false => self.fault("a rule's windows stand in the order of the `windows` line, each once"),
-        }
-    }
-
-    fn all_different(&mut self, names: &[&str]) -> Parsed<()> {
-        let scope = self.scope(names)?;
-        for i in 0..scope.len() {
-            for j in i + 1..scope.len() {
-                let rows = unlike_rows(self.problem.values.len());
-                self.push_constraint(Constraint { scope: vec![scope[i], scope[j]], rows });
+    /// Windows, each once, as written.
+    fn windows(&self, names: &[&str]) -> Parsed<Vec<usize>> {
+        for (i, name) in names.iter().enumerate() {
+            if *name != "," && names[..i].contains(name) {
+                return self.fault(format!("`{name}` stands twice"));
             }
         }
-        Ok(())
+        names.iter().map(|name| self.window(name)).collect()
     }
 
-    fn rule(&mut self, names: &[&str]) -> Parsed<()> {
-        let scope = self.scope(names)?;
-        if scope.is_empty() || scope.len() > 3 {
-            return self.fault("a rule has 1 to 3 windows");
+    fn may(&mut self, window: &str, duties: &[&str]) -> Parsed<Statement> {
+        let variable = self.window(window)?;
+        if let Some((_, line)) = self.sets.iter().find(|(other, _)| *other == variable) {
+            return self.fault(format!("a second `may` for `{window}`; the first stands in line {line}"));
         }
-        self.push_constraint(Constraint { scope, rows: Vec::new() });
-        self.open = true;
-        Ok(())
+        self.sets.push((variable, self.line));
+        let mut set = 0;
+        for duty in duties {
+            set |= 1 << self.duty(duty)?;
+        }
+        Ok(Statement::May(variable, set))
     }
 
-    /// Rows of the rule above, parted by commas, in any order.
+    fn rule(&self, windows: &[&str]) -> Parsed<Statement> {
+        match self.windows(windows)? {
+            scope if (1..=3).contains(&scope.len()) => {
+                Ok(Statement::Rule(Constraint { scope, rows: Vec::new() }))
+            }
+            scope => self.fault(format!("a rule has 1 to 3 windows, not {}", scope.len())),
+        }
+    }
+
+    /// Rows of the rule above, parted by commas.
     fn rows(&mut self, words: &[&str]) -> Parsed<()> {
         if !self.open {
             return self.fault("`rows` follows a `rule`");
         }
-        let mut constraint = self.problem.constraints.pop().expect("a rule is open");
+        let mut new = Vec::new();
         for row in words.split(|word| *word == ",") {
-            let row = row.iter().map(|name| self.value(name)).collect::<Parsed<Vec<usize>>>()?;
-            if row.len() != constraint.scope.len() {
-                return self.fault(format!(
-                    "a row of {} duties for {} windows",
-                    row.len(),
-                    constraint.scope.len()
-                ));
-            }
-            match constraint.rows.binary_search(&row) {
-                Ok(_) => return self.fault("a row stands twice"),
-                Err(at) => constraint.rows.insert(at, row),
+            new.push(row.iter().map(|name| self.duty(name)).collect::<Parsed<Vec<usize>>>()?);
+        }
+        let line = self.line;
+        let stated = self.text.statements.last_mut().expect("a rule is open");
+        let Statement::Rule(constraint) = &mut stated.statement else { unreachable!("a rule is open") };
+        for row in new {
+            match (row.len(), constraint.scope.len()) {
+                (0, _) => return fault(line, "an empty row: a comma stands at an end, or two together"),
+                (had, wanted) if had != wanted => {
+                    return fault(line, format!("a row of {had} duties for {wanted} windows"));
+                }
+                _ if constraint.rows.contains(&row) => return fault(line, "a row stands twice"),
+                _ => constraint.rows.push(row),
             }
         }
-        self.problem.constraints.push(constraint);
+        stated.last = line;
         Ok(())
     }
 
-    fn exchange(&mut self, what: &[&str]) -> Parsed<()> {
-        let size = self.problem.variables.len() * self.problem.values.len();
-        let table = match what {
-            ["nothing"] => (0..size).collect(),
-            ["table", numbers @ ..] => self.table(numbers, size)?,
-            ["pairs", names @ ..] => self.cycles(names, size, |name| self.pair(name))?,
-            ["windows" | "duties", ..] => self.product(what)?,
-            _ => return self.fault("`exchange` takes `windows`, `duties`, `pairs`, `table` or `nothing`"),
+    fn different(&self, windows: &[&str]) -> Parsed<Statement> {
+        let mut scope = self.windows(windows)?;
+        if scope.len() < 2 {
+            return self.fault("`all different` takes two or more windows");
+        }
+        scope.sort();
+        Ok(Statement::Different(scope))
+    }
+
+    /// A row of windows and duties by turns: ascending by window.
+    fn row(&self, words: &[&str]) -> Parsed<Vec<(usize, usize)>> {
+        let names: Vec<&str> = words.iter().step_by(2).copied().collect();
+        let duties = words.iter().skip(1).step_by(2).map(|name| self.duty(name));
+        let windows = self.windows(&names)?;
+        let mut row: Vec<(usize, usize)> =
+            windows.into_iter().zip(duties.collect::<Parsed<Vec<usize>>>()?).collect();
+        row.sort();
+        Ok(row)
+    }
+
+    fn forbid(&self, words: &[&str]) -> Parsed<Statement> {
+        let mut rows = Vec::new();
+        for row in words.split(|word| *word == ",") {
+            if ![2, 4, 6].contains(&row.len()) {
+                return self.fault(
+                    "`forbid` takes rows parted by commas, each WINDOW DUTY for one to three windows",
+                );
+            }
+            rows.push(self.row(row)?);
+        }
+        Ok(Statement::Forbid(rows))
+    }
+
+    fn never_together(&self, row: &[&str]) -> Parsed<Statement> {
+        match row.len() {
+            4 => Ok(Statement::Forbid(vec![self.row(row)?])),
+            _ => self.fault("write `never together WINDOW DUTY WINDOW DUTY`"),
+        }
+    }
+
+    /// `exactly`, `at least`, `at most`: a number, a duty and windows.
+    fn count(&self, word: &str, rest: &[&str]) -> Parsed<Statement> {
+        let [number, duty, windows @ ..] = rest else {
+            return self.fault("a number, a duty and one to three windows are wanted");
         };
-        self.places.push((Place::Symmetry(self.problem.symmetries.len()), self.line));
-        self.problem.symmetries.push(table);
-        self.open = false;
-        Ok(())
+        let Ok(number) = number.parse::<usize>() else {
+            return self.fault(format!("`{number}` is no number; write a number, a duty and windows"));
+        };
+        let (value, mut scope) = (self.duty(duty)?, self.windows(windows)?);
+        if !(1..=3).contains(&scope.len()) {
+            return self.fault(format!("a rule has 1 to 3 windows, not {}", scope.len()));
+        }
+        scope.sort();
+        let least = if word == "most" { 0 } else { number };
+        let most = if word == "least" { scope.len() } else { number };
+        Ok(Statement::Count { least, most, value, scope })
+    }
+
+    fn exchange(&self, what: &[&str]) -> Parsed<Statement> {
+        let (n, d) = (self.text.variables.len(), self.text.values.len());
+        let exchange = match what {
+            ["nothing"] => Exchange::Pairs(Vec::new()),
+            ["table", numbers @ ..] => Exchange::Table(self.table(numbers, n * d)?),
+            ["pairs", names @ ..] => {
+                let map = self.cycles(names, n * d, |name| self.pair(name))?;
+                Exchange::Pairs(map.into_iter().enumerate().filter(|(from, to)| from != to).collect())
+            }
+            ["windows" | "duties", ..] => self.product(what, n, d)?,
+            _ => {
+                return self.fault("`exchange` takes `windows`, `duties`, `pairs`, `table` or `nothing`");
+            }
+        };
+        Ok(Statement::Exchange(exchange))
     }
 
     fn table(&self, words: &[&str], size: usize) -> Parsed<Vec<usize>> {
@@ -224,25 +289,19 @@ impl Parser {
             return self.fault(format!("a table has {size} numbers here, not {}", words.len()));
         }
         let number = |word: &&str| word.parse::<u16>().map(usize::from);
-        match words.iter().map(number).collect() {
-            Ok(table) => Ok(table),
-            Err(_) => self.fault("a table holds numbers from 0 to 65535"),
-        }
+        let table: Result<Vec<usize>, _> = words.iter().map(number).collect();
+        table.or_else(|_| self.fault("a table holds numbers from 0 to 65535"))
     }
 
     /// The number of a pair such as `cash.ann`.
     fn pair(&self, name: &str) -> Parsed<usize> {
-        let Some((variable, value)) = name.split_once('.') else {
-            return self.fault(format!("`{name}` is no pair; write WINDOW.DUTY"));
-        };
-        let number = self.variable(variable)? * self.problem.values.len() + self.value(value)?;
-        match self.problem.is_pair(number) {
-            true => Ok(number),
-            false => self.fault(format!("`{variable}` may not have `{value}`, so `{name}` is no pair")),
+        match name.split_once('.') {
+            Some((window, duty)) => Ok(self.window(window)? * self.text.values.len() + self.duty(duty)?),
+            None => self.fault(format!("`{name}` is no pair; write WINDOW.DUTY")),
         }
     }
 
-    /// A permutation of `size` numbers from cycles of names, parted by commas.
+    /// A permutation of `size` numbers from circles of names, parted by commas.
     fn cycles(
         &self,
         words: &[&str],
@@ -268,36 +327,38 @@ impl Parser {
     }
 
     /// An exchange of windows, of duties, or of both.
-    fn product(&self, what: &[&str]) -> Parsed<Vec<usize>> {
-        let (n, d) = (self.problem.variables.len(), self.problem.values.len());
+    fn product(&self, what: &[&str], n: usize, d: usize) -> Parsed<Exchange> {
         let at = what.iter().position(|word| *word == "duties").unwrap_or(what.len());
         let (windows, duties) = what.split_at(at);
-        let part = |words: &[&str], size: usize, variables: bool| match words {
-            [] => Ok((0..size).collect()),
-            [_, names @ ..] => {
-                self.cycles(
-                    names,
-                    size,
-                    |name| {
-                        if variables {
-                            self.variable(name)
-                        } else {
-                            self.value(name)
-                        }
-                    },
-                )
-            }
+        let to = match windows {
+            [] => (0..n).collect(),
+            [_, names @ ..] => self.cycles(names, n, |name| self.window(name))?,
         };
-        let to: Vec<usize> = part(windows, n, true)?;
-        let value: Vec<usize> = part(duties, d, false)?;
-        let mut table: Vec<usize> = (0..n * d).collect();
-        for number in self.problem.pairs() {
-            table[number] = to[number / d] * d + value[number % d];
-            if !self.problem.is_pair(table[number]) {
-                let (from, to) = (self.problem.pair_name(number), self.problem.pair_name(table[number]));
-                return self.fault(format!("`{from}` goes to `{to}`, which is no pair"));
+        let value = match duties {
+            [] => (0..d).collect(),
+            [_, names @ ..] => self.cycles(names, d, |name| self.duty(name))?,
+        };
+        Ok(Exchange::Product(to, value))
+    }
+}
+
+/// Is it the first of the words that start a line?
+fn is_start(word: &str) -> bool {
+    STARTS.iter().any(|start| start.split(' ').next() == Some(word))
+}
+
+/// Why a word starts no line.
+fn unknown(word: &str) -> String {
+    let starts = STARTS.map(String::from);
+    let small = word.to_lowercase();
+    match word.strip_suffix(':') {
+        Some(bare) if is_start(bare) => format!("write `{bare}` without the colon"),
+        _ if is_start(&small) => format!("write `{small}` in small letters"),
+        _ => match nearest(word, &starts) {
+            hint if hint.is_empty() => {
+                format!("`{word}` starts no line; the words that do are {}", STARTS.join(", "))
             }
-        }
-        Ok(table)
+            hint => format!("`{word}` starts no line{hint}"),
+        },
     }
 }

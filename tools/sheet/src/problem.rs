@@ -7,6 +7,22 @@ pub struct Constraint {
     pub rows: Vec<Vec<usize>>,
 }
 
+impl Constraint {
+    /// How many bytes of a sheet it takes.
+    pub fn bytes(&self) -> usize {
+        4 + 2 * self.scope.len() * (1 + self.rows.len())
+    }
+}
+
+/// A part of a sheet: the header, a window's set, a rule, an exchange.
+#[derive(Clone, Copy, Debug, PartialEq, Eq)]
+pub enum Place {
+    Header,
+    Variable(usize),
+    Constraint(usize),
+    Symmetry(usize),
+}
+
 #[derive(Clone, Debug, PartialEq, Eq)]
 pub struct Problem {
     pub variables: Vec<String>,
@@ -33,6 +49,19 @@ pub fn unlike_rows(values: usize) -> Vec<Vec<usize>> {
     all.filter(|row| row[0] != row[1]).collect()
 }
 
+/// The rows of values that some variables may have, ascending.
+pub fn draws(problem: &Problem, scope: &[usize]) -> Vec<Vec<usize>> {
+    let mut rows = vec![Vec::new()];
+    for &variable in scope {
+        let values: Vec<usize> = problem.values_of(variable).collect();
+        rows = rows
+            .iter()
+            .flat_map(|row: &Vec<usize>| values.iter().map(move |&value| [&row[..], &[value]].concat()))
+            .collect();
+    }
+    rows
+}
+
 impl Problem {
     /// Reads a sheet that passed questions 1 to 14. The names are w0, w1, .. and d0, d1, ..
     pub fn decode(sheet: &[u8]) -> Problem {
@@ -55,11 +84,11 @@ impl Problem {
         }
     }
 
+    /// The sheet. Of a length above 65,535 the low half is stated, so that the sheet is refused.
     pub fn encode(&self) -> Vec<u8> {
         let (n, d) = (self.variables.len(), self.values.len());
         let second = 16 + 2 * n;
-        let size = |constraint: &Constraint| 4 + 2 * constraint.scope.len() * (1 + constraint.rows.len());
-        let third = second + self.constraints.iter().map(size).sum::<usize>();
+        let third = second + self.constraints.iter().map(Constraint::bytes).sum::<usize>();
         let length = third + 2 * self.symmetries.len() * n * d;
         let mut words = vec![n, d, self.constraints.len(), self.symmetries.len(), 16, second, third, length];
         words.extend(self.initial.iter().map(|&set| set as usize));
@@ -72,10 +101,19 @@ impl Problem {
         words.iter().flat_map(|&word| (word as u16).to_le_bytes()).collect()
     }
 
+    /// Is the value in the variable's initial set?
+    pub fn may(&self, variable: usize, value: usize) -> bool {
+        self.initial.get(variable).is_some_and(|set| set >> value & 1 == 1)
+    }
+
+    /// The values of a variable's initial set, ascending.
+    pub fn values_of(&self, variable: usize) -> impl Iterator<Item = usize> + '_ {
+        (0..self.values.len()).filter(move |&value| self.may(variable, value))
+    }
+
     /// Is the number that of a window with a duty of its initial set?
     pub fn is_pair(&self, number: usize) -> bool {
-        let d = self.values.len();
-        self.initial.get(number / d).is_some_and(|set| set >> (number % d) & 1 == 1)
+        self.may(number / self.values.len(), number % self.values.len())
     }
 
     /// The numbers of all pairs, ascending.

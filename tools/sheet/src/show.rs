@@ -1,15 +1,35 @@
 //! The text of a sheet.
 
+use crate::command::{refuse, text, Arguments, Command, Outcome, Stop};
+use crate::explain::explain;
 use crate::problem::{unlike_rows, Constraint, Problem};
+
+pub const COMMAND: Command = Command {
+    name: "show",
+    usage: "SHEET > TEXT",
+    about: "writes the text of a sheet, with the names w0 w1 .. and d0 d1 ..",
+    files: 1..=1,
+    options: &[],
+    run,
+};
+
+/// Sheets that pass questions 1 to 14 can be shown.
+fn run(arguments: &Arguments) -> Result<Outcome, Stop> {
+    let sheet = arguments.sources[0].bytes()?;
+    match (planner::question(&sheet), explain(&sheet)) {
+        (Err(refusal), Err(words)) if refusal.number < 15 => {
+            refuse(format!("{}: {words}", arguments.sources[0].name()))
+        }
+        _ => Ok(text(show(&Problem::decode(&sheet)))),
+    }
+}
 
 /// The text, from which `make` gets the same sheet. The sheet must have passed questions 1 to 14.
 pub fn show(problem: &Problem) -> String {
     let mut text = format!("windows {}\nduties {}\n", problem.variables.join(" "), problem.values.join(" "));
-    for (variable, &set) in problem.initial.iter().enumerate() {
-        let duties: Vec<&str> = (0..problem.values.len())
-            .filter(|value| set >> value & 1 == 1)
-            .map(|value| problem.values[value].as_str())
-            .collect();
+    for variable in 0..problem.variables.len() {
+        let duties: Vec<&str> =
+            problem.values_of(variable).map(|value| problem.values[value].as_str()).collect();
         if duties.len() < problem.values.len() {
             text += &format!("may {} {}\n", problem.variables[variable], duties.join(" "));
         }

@@ -8,8 +8,8 @@ use std::path::Path;
 fn round_trip(bytes: &[u8]) {
     let text = show(&Problem::decode(bytes));
     let again = make(&text).unwrap_or_else(|fault| panic!("line {}: {}\n{text}", fault.line, fault.text));
-    assert_eq!(again, bytes, "{text}");
-    assert_eq!(show(&Problem::decode(&again)), text);
+    assert_eq!(again.sheet, bytes, "{text}");
+    assert_eq!(show(&Problem::decode(&again.sheet)), text);
 }
 
 #[test]
@@ -46,7 +46,7 @@ fn examples() {
         if entry.path().extension().is_some_and(|word| word == "txt") {
             let text = std::fs::read_to_string(entry.path()).unwrap();
             let sheet = std::fs::read(entry.path().with_extension("sheet")).unwrap();
-            assert_eq!(make(&text), Ok(sheet), "{}", entry.path().display());
+            assert_eq!(make(&text).map(|made| made.sheet), Ok(sheet), "{}", entry.path().display());
         }
     }
 }
@@ -59,43 +59,14 @@ fn refusals() {
     for _ in 0..4000 {
         let problem = problem(&mut rng);
         let sheet = damaged(&mut rng, &problem);
-        let words = explain(&sheet);
-        match planner::question(&sheet) {
-            Ok(()) => assert!(words.starts_with("accepted")),
-            Err(refusal) => {
+        match (planner::question(&sheet), explain(&sheet)) {
+            (Ok(()), Ok(words)) => assert!(words.starts_with("accepted")),
+            (Err(refusal), Err(words)) => {
                 assert!(words.starts_with(&refusal.to_string()), "{words}");
                 seen[refusal.number as usize] += 1;
             }
+            (answer, words) => panic!("{answer:?}: {words:?}"),
         }
     }
     assert!(seen[1..].iter().all(|&count| count > 0), "{seen:?}");
-}
-
-fn fault(text: &str) -> (usize, String) {
-    let fault = make(text).expect_err("a text with a fault");
-    (fault.line, fault.text)
-}
-
-#[test]
-fn faults_carry_their_line() {
-    let start = "# two windows\nwindows a b\nduties x y\n";
-    let line = |text: &str| fault(&format!("{start}{text}"));
-    assert_eq!(line("different a c").0, 4);
-    assert_eq!(line("\nrule a b\nrows x z").1, "no duty is called `z`");
-    assert_eq!(line("rule a b\nrows x y, x y"), (5, "a row stands twice".to_string()));
-    assert_eq!(line("rows x y").0, 4);
-    assert_eq!(line("may a x\nmay b y\nexchange windows a b").1, "`a.x` goes to `b.x`, which is no pair");
-    let refused = line("different a b\nexchange pairs a.x a.y\nexchange nothing");
-    assert_eq!(refused.0, 5);
-    assert!(
-        refused.1.contains("a.x b.x is forbidden, and its image a.y b.x is not (refused 16 0)"),
-        "{}",
-        refused.1
-    );
-    assert_eq!(line("exchange nothing\nmay b x").0, 5);
-    assert_eq!(
-        line("may b\nexchange nothing"),
-        (4, "offset 18: window 1 (b) may have no duty (refused 8 1)".to_string())
-    );
-    assert_eq!(fault("duties x").0, 1);
 }

@@ -1,0 +1,231 @@
+//! What all commands share: arguments, reading, writing and exit statuses. A command is a module with a
+//! `COMMAND`, which stands in the list below.
+
+use crate::problem::Problem;
+use crate::text::Fault;
+use crate::words::nearest;
+use crate::{explain, make, page, plans, show, why};
+use std::io::{Read, Write};
+use std::ops::RangeInclusive;
+
+/// The commands, in the order of the help.
+const COMMANDS: [Command; 6] =
+    [plans::COMMAND, why::COMMAND, page::COMMAND, make::COMMAND, show::COMMAND, explain::COMMAND];
+
+/// The exit statuses.
+#[derive(Clone, Copy, Debug, PartialEq, Eq)]
+pub enum Status {
+    Finished = 0,
+    /// Refused, or a fault in the text or the command.
+    Refused = 1,
+    /// A run stopped before all was tried.
+    Short = 2,
+    /// Reading or writing failed.
+    Failed = 3,
+}
+
+pub struct Command {
+    pub name: &'static str,
+    /// What follows the name.
+    pub usage: &'static str,
+    pub about: &'static str,
+    /// How many files it takes.
+    pub files: RangeInclusive<usize>,
+    pub options: &'static [Choice],
+    pub run: fn(&Arguments) -> Result<Outcome, Stop>,
+}
+
+/// An option, with a name for its value if it takes one.
+pub struct Choice {
+    pub name: &'static str,
+    pub value: Option<&'static str>,
+    pub about: &'static str,
+}
+
+/// What a command has to say: standard output, standard error, the status.
+pub struct Outcome {
+    pub output: Vec<u8>,
+    pub note: String,
+    pub status: Status,
+}
+
+/// A command that got no answer: the status, and why.
+#[derive(Debug)]
+pub struct Stop {
+    pub status: Status,
+    pub text: String,
+}
+
+pub fn refuse<T>(text: impl Into<String>) -> Result<T, Stop> {
+    Err(Stop { status: Status::Refused, text: text.into() })
+}
+
+pub struct Arguments {
+    pub sources: Vec<Source>,
+    options: Vec<(&'static str, String)>,
+}
+
+impl Arguments {
+    fn new(command: &Command, words: &[String]) -> Result<Arguments, Stop> {
+        let (mut sources, mut options) = (Vec::new(), Vec::new());
+        let mut words = words.iter();
+        while let Some(word) = words.next() {
+            let (name, given) = match word.split_once('=') {
+                Some((name, value)) if word.starts_with("--") => (name, Some(value.to_string())),
+                _ => (word.as_str(), None),
+            };
+            match command.options.iter().find(|choice| choice.name == name) {
+                Some(Choice { name, value: Some(_), .. }) => match given.or_else(|| words.next().cloned()) {
+                    Some(value) => options.push((*name, value)),
+                    None => return refuse(format!("{name} takes a number")),
+                },
+                Some(choice) if given.is_none() => options.push((choice.name, String::new())),
+                None if word == "-" || !word.starts_with('-') => sources.push(Source(word.clone())),
+                _ => return refuse(format!("{} takes no {word}", command.name)),
+            }
+        }
+        match command.files.contains(&sources.len()) {
+            true => Ok(Arguments { sources, options }),
+            false => refuse(format!("sheet {} {}", command.name, command.usage)),
+        }
+    }
+
+    pub fn has(&self, name: &str) -> bool {
+        self.options.iter().any(|(other, _)| *other == name)
+    }
+
+    /// The number that an option gives, if it is there; at most `most`.
+    pub fn number(&self, name: &str, most: u32) -> Result<Option<u32>, Stop> {
+        let Some((_, value)) = self.options.iter().rev().find(|(other, _)| *other == name) else {
+            return Ok(None);
+        };
+        match value.replace([',', '_'], "").parse::<u32>() {
+            Ok(number) if number <= most => Ok(Some(number)),
+            _ => refuse(format!("{name} takes a number from 0 to {most}, not `{value}`")),
+        }
+    }
+}
+
+/// A file, or `-` for standard input.
+pub struct Source(pub String);
+
+impl Source {
+    /// What the file holds.
+    pub fn bytes(&self) -> Result<Vec<u8>, Stop> {
+        let mut bytes = Vec::new();
+        let read = match self.0.as_str() {
+            "-" => std::io::stdin().lock().read_to_end(&mut bytes).map(|_| bytes),
+            file => std::fs::read(file),
+        };
+        read.map_err(|error| Stop { status: Status::Failed, text: format!("{}: {error}", self.name()) })
+    }
+
+    /// The file's name for people.
+    pub fn name(&self) -> &str {
+        match self.0.as_str() {
+            "-" => "standard input",
+            file => file,
+        }
+    }
+
+    /// The text of the file. Of a sheet it is the text that `show` writes.
+    pub fn text(&self) -> Result<String, Stop> {
+        let bytes = self.bytes()?;
+        if bytes.starts_with(&[0xff, 0xfe]) || bytes.starts_with(&[0xfe, 0xff]) {
+            return refuse(format!("{}:1: a text in UTF-16; save it as UTF-8", self.name()));
+        }
+        if is_sheet(&bytes) {
+            return match explain::explain(&bytes) {
+                Ok(_) => Ok(show::show(&Problem::decode(&bytes))),
+                Err(text) => refuse(format!("{}: {text}", self.name())),
+            };
+        }
+        String::from_utf8(bytes).or_else(|error| {
+            let line = 1 + error.as_bytes()[..error.utf8_error().valid_up_to()]
+                .iter()
+                .filter(|b| **b == b'\n')
+                .count();
+            refuse(format!("{}:{line}: not a text in UTF-8", self.name()))
+        })
+    }
+
+    /// A fault of the file's text.
+    pub fn fault(&self, fault: Fault) -> Stop {
+        Stop { status: Status::Refused, text: format!("{}:{}: {}", self.name(), fault.line, fault.text) }
+    }
+}
+
+/// A sheet has a byte 0 in its header, and a text has none.
+pub fn is_sheet(bytes: &[u8]) -> bool {
+    bytes.contains(&0)
+}
+
+/// Runs the command that the words name.
+pub fn run(words: &[String]) -> Result<Outcome, Stop> {
+    let Some(name) = words.first() else {
+        return refuse(help());
+    };
+    if ["--help", "-h", "help"].contains(&name.as_str()) {
+        return Ok(text(help()));
+    }
+    match COMMANDS.iter().find(|command| command.name == name) {
+        Some(command) if words.iter().any(|word| word == "--help" || word == "-h") => {
+            Ok(text(command_help(command)))
+        }
+        Some(command) => (command.run)(&Arguments::new(command, &words[1..])?),
+        None => {
+            let names: Vec<String> = COMMANDS.iter().map(|command| command.name.to_string()).collect();
+            refuse(format!("`{name}` is no command{}\n{}", nearest(name, &names), help().trim_end()))
+        }
+    }
+}
+
+/// An outcome that is a text alone.
+pub fn text(text: String) -> Outcome {
+    Outcome { output: text.into_bytes(), note: String::new(), status: Status::Finished }
+}
+
+fn help() -> String {
+    let mut text =
+        "Halls as texts, sheets and plans. TEXT is a file, or - for standard input.\n\n".to_string();
+    for command in &COMMANDS {
+        text += &format!("  {:28}{}\n", format!("sheet {} {}", command.name, command.usage), command.about);
+    }
+    text + "\n`sheet COMMAND --help` has a command's options. Exit status: 0 finished, 1 refused or a fault\n\
+            in the text, 2 stopped short, 3 reading or writing failed.\n"
+}
+
+fn command_help(command: &Command) -> String {
+    let mut text = format!("sheet {} {}\n{}\n", command.name, command.usage, command.about);
+    for choice in command.options {
+        let name = [choice.name, choice.value.unwrap_or("")].join(" ");
+        text += &format!("  {:14}{}\n", name.trim_end(), choice.about);
+    }
+    text
+}
+
+/// Runs the command, writes what it has to say, and gives the status.
+pub fn main(words: &[String]) -> Status {
+    let outcome = run(words).unwrap_or_else(|stop| Outcome {
+        output: Vec::new(),
+        note: stop.text,
+        status: stop.status,
+    });
+    let mut out = std::io::stdout().lock();
+    let written = out.write_all(&outcome.output).and_then(|_| out.flush());
+    say(&outcome.note);
+    match written {
+        Ok(()) => outcome.status,
+        Err(error) => {
+            say(&format!("standard output: {error}"));
+            Status::Failed
+        }
+    }
+}
+
+/// Says a line on standard error, if it can be said.
+fn say(text: &str) {
+    if !text.is_empty() {
+        let _ = writeln!(std::io::stderr(), "{}", text.trim_end());
+    }
+}

@@ -1,0 +1,172 @@
+//! Runs of the proved planner: the only place that calls it for plans.
+
+use crate::command::{Arguments, Choice, Status, Stop};
+use crate::make::Made;
+use crate::words::counted;
+use planner::{Answer, Ending, Refusal};
+use std::io::{IsTerminal, Write};
+use std::time::{Duration, Instant};
+
+/// The allowance and the room of the report (paper 01).
+const TRIALS: u32 = 1_000_000;
+const PLANS: u32 = 4_096;
+
+/// The most plans that room is made for.
+const MOST_PLANS: u32 = 10_000_000;
+
+/// The first step of a run that is watched, and of one for the first plan.
+const WATCHED: u32 = 1 << 20;
+const FIRST: u32 = 1 << 10;
+
+pub const TRIALS_OPTION: Choice = Choice {
+    name: "--trials",
+    value: Some("N"),
+    about: "the allowance: stop after N trials (1,000,000; at most 4,294,967,295)",
+};
+pub const PLANS_OPTION: Choice = Choice {
+    name: "--plans",
+    value: Some("N"),
+    about: "the room: list at most N plans (4,096; at most 10,000,000)",
+};
+
+/// What a run may use.
+#[derive(Clone, Copy, Debug, PartialEq, Eq)]
+pub struct Limits {
+    pub trials: u32,
+    pub plans: u32,
+    /// Is the first plan enough?
+    pub first: bool,
+}
+
+impl Limits {
+    /// The limits that the options give.
+    pub fn of(arguments: &Arguments) -> Result<Limits, Stop> {
+        let trials = arguments.number("--trials", u32::MAX)?.unwrap_or(TRIALS);
+        let plans = arguments.number("--plans", MOST_PLANS)?.unwrap_or(PLANS);
+        let first = arguments.has("--first");
+        Ok(Limits { trials, plans: if first { 1 } else { plans }, first })
+    }
+
+    /// Limits for the question whether there is a plan.
+    pub fn first(self) -> Limits {
+        Limits { plans: 1, first: true, ..self }
+    }
+}
+
+/// The plans that a run listed, and how it ended.
+#[derive(Clone, Debug, PartialEq, Eq)]
+pub struct Listing {
+    pub ending: Ending,
+    pub plans: Vec<Vec<u8>>,
+    pub trials: u32,
+    pub limits: Limits,
+}
+
+/// Lists the plans of a sheet. A watched run, and one for the first plan, raises its allowance in steps, each
+/// twice the one before; `watch` is told of each step.
+pub fn list(
+    made: &Made,
+    limits: Limits,
+    mut watch: Option<&mut dyn FnMut(Answer)>,
+) -> Result<Listing, Refusal> {
+    let n = made.problem.variables.len();
+    let mut room = vec![0; n * limits.plans as usize];
+    let mut allowance = match watch {
+        _ if limits.first => FIRST.min(limits.trials),
+        Some(_) => WATCHED.min(limits.trials),
+        None => limits.trials,
+    };
+    let answer = loop {
+        let answer = planner::run(&made.sheet, allowance, &mut room)?;
+        let enough = limits.first && answer.plans > 0;
+        if answer.ending != Ending::Spent || allowance == limits.trials || enough {
+            break answer;
+        }
+        if let Some(watch) = &mut watch {
+            watch(answer);
+        }
+        allowance = allowance.saturating_mul(2).min(limits.trials);
+    };
+    let plans = room.chunks(n).take(answer.plans as usize).map(<[u8]>::to_vec).collect();
+    Ok(Listing { ending: answer.ending, plans, trials: answer.nodes, limits })
+}
+
+/// Lists the plans, and shows on a terminal how far a long run has come.
+pub fn list_on_terminal(made: &Made, limits: Limits) -> Result<Listing, Refusal> {
+    if !std::io::stderr().is_terminal() {
+        return list(made, limits, None);
+    }
+    let start = Instant::now();
+    let mut shown = false;
+    let listing = list(
+        made,
+        limits,
+        Some(&mut |answer| {
+            if start.elapsed() > Duration::from_secs(1) {
+                shown = true;
+                let _ = write!(std::io::stderr(), "\r\x1b[K{}", so_far(answer));
+            }
+        }),
+    );
+    if shown {
+        let _ = write!(std::io::stderr(), "\r\x1b[K");
+    }
+    listing
+}
+
+fn so_far(answer: Answer) -> String {
+    format!("{} and {} so far", counted(answer.nodes, "trial"), counted(answer.plans, "plan"))
+}
+
+impl Listing {
+    /// Was one plan enough, and is it there?
+    fn first_found(&self) -> bool {
+        self.limits.first && !self.plans.is_empty()
+    }
+
+    pub fn status(&self) -> Status {
+        match self.ending {
+            Ending::Finished => Status::Finished,
+            _ if self.first_found() => Status::Finished,
+            _ => Status::Short,
+        }
+    }
+
+    /// The ending as a word.
+    pub fn word(&self) -> &'static str {
+        match self.ending {
+            Ending::Finished => "finished",
+            Ending::Spent => "spent",
+            Ending::Full => "full",
+        }
+    }
+
+    /// The ending in words.
+    pub fn ending(&self) -> String {
+        let plans = match self.plans.len() {
+            0 => "no plan".to_string(),
+            count => counted(count as u64, "plan"),
+        };
+        let spent = format!("stopped at the allowance of {}", counted(self.limits.trials, "trial"));
+        match self.ending {
+            Ending::Finished => format!("finished: {plans}, {}", counted(self.trials, "trial")),
+            Ending::Full if self.first_found() => "stopped at the first plan: there are more".to_string(),
+            Ending::Spent if self.first_found() => {
+                "stopped at the first plan: more plans may exist".to_string()
+            }
+            Ending::Full if self.plans.is_empty() => "stopped at a plan, with room for none".to_string(),
+            Ending::Full => format!("stopped at {plans}: there are more"),
+            Ending::Spent if self.plans.is_empty() => format!("{spent}, {plans} so far: plans may exist"),
+            Ending::Spent => format!("{spent}, {plans} listed: more plans may exist"),
+        }
+    }
+
+    /// What to ask for to go further.
+    pub fn hint(&self) -> &'static str {
+        match self.ending {
+            Ending::Full if !self.first_found() => " (--plans N makes room)",
+            Ending::Spent if !self.first_found() => " (--trials N allows more)",
+            _ => "",
+        }
+    }
+}

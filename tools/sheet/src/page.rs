@@ -1,0 +1,211 @@
+//! `sheet page`: the hall and its plans as one page that needs nothing else.
+
+use crate::command::{Arguments, Command, Outcome, Stop};
+use crate::input::Input;
+use crate::listing::{Limits, Listing, PLANS_OPTION, TRIALS_OPTION};
+use crate::problem::Problem;
+use crate::text::{Stated, Statement};
+use crate::why::narrow;
+use planner::Ending;
+use std::path::Path;
+
+pub const COMMAND: Command = Command {
+    name: "page",
+    usage: "TEXT > hall.html",
+    about: "writes the hall and its plans as a page",
+    files: 1..=1,
+    options: &[TRIALS_OPTION, PLANS_OPTION],
+    run,
+};
+
+const STYLE: &str = include_str!("page.css");
+
+const PROOF: &str = "The plans were listed by a program that is proved, for every hall, to end, to list what its \
+    definition says and nothing else, and to count its trials as defined; a finished list leaves out only plans that \
+    the exchanges make of listed ones. The proof covers the planner from the sheet's bytes to the list; reading the \
+    text and writing this page are ordinary programs with tests.";
+
+fn run(arguments: &Arguments) -> Result<Outcome, Stop> {
+    let limits = Limits::of(arguments)?;
+    let source = &arguments.sources[0];
+    let input = Input::read(source)?;
+    let listing = input.list(limits)?;
+    let title = match source.0.as_str() {
+        "-" => "Hall".to_string(),
+        file => Path::new(file).file_stem().map_or(file.into(), |stem| stem.to_string_lossy().into_owned()),
+    };
+    let why = match listing.ending {
+        Ending::Finished if listing.plans.is_empty() => narrow(&input.text, limits.first()).lines,
+        _ => Vec::new(),
+    };
+    let page = Page { title, input: &input, listing: &listing, why };
+    Ok(Outcome {
+        output: page.html().into_bytes(),
+        note: listing.ending() + listing.hint(),
+        status: listing.status(),
+    })
+}
+
+/// What a page shows.
+pub struct Page<'a> {
+    pub title: String,
+    pub input: &'a Input,
+    pub listing: &'a Listing,
+    /// Lines that already have no plan.
+    pub why: Vec<Stated>,
+}
+
+impl Page<'_> {
+    fn problem(&self) -> &Problem {
+        &self.input.made.problem
+    }
+
+    pub fn html(&self) -> String {
+        let title = escaped(&self.title);
+        let parts = [self.ending(), self.no_plan(), self.windows(), self.lines(), self.plans()].concat();
+        let wide = if self.problem().variables.len() > 8 { "@page { size: landscape; }\n" } else { "" };
+        format!(
+            "<!DOCTYPE html>\n<html lang=\"en\">\n<head>\n<meta charset=\"utf-8\">\n\
+             <meta name=\"viewport\" content=\"width=device-width, initial-scale=1\">\n\
+             <title>{title}</title>\n<style>\n{STYLE}{wide}</style>\n</head>\n<body>\n<h1>{title}</h1>\n\
+             {}{parts}<footer>\n<h2>How it was proved</h2>\n<p>{PROOF}</p>\n</footer>\n</body>\n</html>\n",
+            paragraph(&self.input.text.about)
+        )
+    }
+
+    /// How the run ended, and what that means.
+    fn ending(&self) -> String {
+        let meaning = match (self.listing.ending, self.listing.plans.is_empty()) {
+            (Ending::Finished, true) => "Everything was tried: there is no plan.",
+            (Ending::Finished, false) if self.problem().symmetries.is_empty() => {
+                "Everything was tried: these are all the plans."
+            }
+            (Ending::Finished, false) => {
+                "Everything was tried: every plan is listed, or exchanges make it of a listed one."
+            }
+            (Ending::Spent, _) => {
+                "Not everything was tried: this is the first part of the list, and what isn't listed may still be a plan."
+            }
+            (Ending::Full, _) => "The room was used up: this is the first part of the list, and there is more.",
+        };
+        format!(
+            "<div class=\"ending {}\"><strong>{}</strong>{meaning}</div>\n",
+            if self.listing.plans.is_empty() { "none" } else { self.listing.word() },
+            escaped(&self.listing.ending())
+        )
+    }
+
+    /// Where there is no plan, lines that already have none.
+    fn no_plan(&self) -> String {
+        let lines = self.why.iter().map(|stated| self.line(stated)).collect();
+        let title =
+            if self.why.len() == 1 { "A line that has no plan" } else { "Lines that together have no plan" };
+        section("h2", title, lines)
+    }
+
+    /// The windows, and the duties that each may have.
+    fn windows(&self) -> String {
+        let row = |variable: usize| {
+            let duties: Vec<&str> = self
+                .problem()
+                .values_of(variable)
+                .map(|value| self.problem().values[value].as_str())
+                .collect();
+            let duties = match duties.len() == self.problem().values.len() {
+                true => "every duty".to_string(),
+                false => escaped(&duties.join(", ")),
+            };
+            format!(
+                "<tr><th scope=\"row\">{}</th><td>{duties}</td></tr>\n",
+                escaped(&self.problem().variables[variable])
+            )
+        };
+        let rows: String = (0..self.problem().variables.len()).map(row).collect();
+        format!(
+            "<h2>The hall</h2>\n<div class=\"wide\"><table>\n<thead><tr><th scope=\"col\">Window</th>\
+             <th scope=\"col\">May have</th></tr></thead>\n\
+             <tbody>\n{rows}</tbody>\n</table></div>\n<p class=\"soft\">Duties: {}.</p>\n",
+            escaped(&self.problem().values.join(", "))
+        )
+    }
+
+    /// Rules and exchanges, as the text has them.
+    fn lines(&self) -> String {
+        let of = |wanted: fn(&Statement) -> bool| {
+            let stated = self.input.text.statements.iter().filter(|stated| wanted(&stated.statement));
+            stated.map(|stated| self.line(stated)).collect::<String>()
+        };
+        let rules = of(|statement| statement.narrows() && !matches!(statement, Statement::May(..)));
+        let exchanges = of(|statement| !statement.narrows());
+        section("h3", "Rules", rules) + &section("h3", "Exchanges", exchanges)
+    }
+
+    fn line(&self, stated: &Stated) -> String {
+        let lines = self.input.source.lines().enumerate().skip(stated.first - 1);
+        let lines = lines.take(1 + stated.last - stated.first).filter(|(_, line)| !line.trim().is_empty());
+        let code: String = lines
+            .map(|(number, line)| format!("<code><span>{}</span>{}</code>", number + 1, escaped(line.trim())))
+            .collect();
+        match stated.comment.is_empty() {
+            true => format!("<li>{code}</li>\n"),
+            false => format!("<li class=\"said\">{}{code}</li>\n", escaped(&stated.comment)),
+        }
+    }
+
+    /// The plans, a column for each window.
+    fn plans(&self) -> String {
+        if self.listing.plans.is_empty() {
+            return String::new();
+        }
+        let left = match self.problem().symmetries.is_empty() {
+            true => "",
+            false => "A plan that an exchange makes of an earlier one is left out.",
+        };
+        let windows: String = self
+            .problem()
+            .variables
+            .iter()
+            .map(|window| format!("<th scope=\"col\">{}</th>", escaped(window)))
+            .collect();
+        let rows: String =
+            self.listing.plans.iter().enumerate().map(|(number, plan)| self.plan(number, plan)).collect();
+        format!(
+            "<h2>The plans</h2>\n{}<div class=\"wide\" tabindex=\"0\"><table class=\"plans\">\n\
+             <thead><tr><td></td>{windows}</tr></thead>\n<tbody>\n{rows}</tbody>\n</table></div>\n",
+            paragraph(left)
+        )
+    }
+
+    fn plan(&self, number: usize, plan: &[u8]) -> String {
+        let d = self.problem().values.len();
+        let cell = |&duty: &u8| {
+            let hue = 360 * duty as usize / d;
+            format!("<td style=\"--hue:{hue}\">{}</td>", escaped(&self.problem().values[duty as usize]))
+        };
+        format!(
+            "<tr><th scope=\"row\">{}</th>{}</tr>\n",
+            number + 1,
+            plan.iter().map(cell).collect::<String>()
+        )
+    }
+}
+
+/// A heading and its items, if there are any.
+fn section(level: &str, title: &str, items: String) -> String {
+    match items.is_empty() {
+        true => String::new(),
+        false => format!("<{level}>{title}</{level}>\n<ul>\n{items}</ul>\n"),
+    }
+}
+
+fn paragraph(text: &str) -> String {
+    match text.is_empty() {
+        true => String::new(),
+        false => format!("<p class=\"soft\">{}</p>\n", escaped(text)),
+    }
+}
+
+/// A text inside HTML.
+fn escaped(text: &str) -> String {
+    text.replace('&', "&amp;").replace('<', "&lt;").replace('>', "&gt;").replace('"', "&quot;")
+}

@@ -1,0 +1,45 @@
+//! `sheet plans`: a text's plans by name.
+
+use crate::command::{refuse, Arguments, Choice, Command, Outcome, Stop};
+use crate::input::Input;
+use crate::listing::{Limits, PLANS_OPTION, TRIALS_OPTION};
+use crate::table::{csv, json, table};
+
+pub const COMMAND: Command = Command {
+    name: "plans",
+    usage: "TEXT",
+    about: "lists the plans by name, then says how the run ended",
+    files: 1..=1,
+    options: &[
+        Choice { name: "--csv", value: None, about: "as CSV; the ending goes to standard error" },
+        Choice { name: "--json", value: None, about: "as one JSON object" },
+        Choice { name: "--first", value: None, about: "one plan is enough" },
+        TRIALS_OPTION,
+        PLANS_OPTION,
+    ],
+    run,
+};
+
+/// What a list leaves out under exchanges.
+const LEFT_OUT: &str = "(a plan that an exchange makes of an earlier one is left out)\n";
+
+fn run(arguments: &Arguments) -> Result<Outcome, Stop> {
+    if arguments.has("--csv") && arguments.has("--json") {
+        return refuse("plans takes --csv or --json, not both");
+    }
+    let limits = Limits::of(arguments)?;
+    let input = Input::read(&arguments.sources[0])?;
+    let (problem, listing) = (&input.made.problem, input.list(limits)?);
+    let status = listing.status();
+    let ending = listing.ending() + listing.hint() + "\n";
+    let (output, note) = if arguments.has("--json") {
+        (json(problem, &listing), String::new())
+    } else if arguments.has("--csv") {
+        (csv(problem, &listing), ending)
+    } else {
+        let gap = if listing.plans.is_empty() { "" } else { "\n" };
+        let left = if problem.symmetries.is_empty() { "" } else { LEFT_OUT };
+        (table(problem, &listing) + gap + &ending + left, String::new())
+    };
+    Ok(Outcome { output: output.into_bytes(), note, status })
+}

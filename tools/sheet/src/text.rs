@@ -1,0 +1,72 @@
+//! What a text states, line by line, with names resolved to numbers.
+
+use crate::problem::Constraint;
+
+/// A fault in a text, with its line from 1.
+#[derive(Clone, Debug, PartialEq, Eq)]
+pub struct Fault {
+    pub line: usize,
+    pub text: String,
+}
+
+pub type Parsed<T> = Result<T, Fault>;
+
+pub fn fault<T>(line: usize, text: impl Into<String>) -> Parsed<T> {
+    Err(Fault { line, text: text.into() })
+}
+
+#[derive(Clone, Debug)]
+pub struct Text {
+    /// The comment above `windows`.
+    pub about: String,
+    /// The windows.
+    pub variables: Vec<String>,
+    /// The duties.
+    pub values: Vec<String>,
+    pub statements: Vec<Stated>,
+}
+
+/// A statement, its lines, first and last, and the comment right above it.
+#[derive(Clone, Debug)]
+pub struct Stated {
+    pub first: usize,
+    pub last: usize,
+    pub comment: String,
+    pub statement: Statement,
+}
+
+#[derive(Clone, Debug)]
+pub enum Statement {
+    /// `may`: a window and its set, bit v for value v.
+    May(usize, u16),
+    /// `rule` and its `rows`, with windows and columns as written.
+    Rule(Constraint),
+    /// `different`, `all different`: the windows ascending.
+    Different(Vec<usize>),
+    /// `forbid`, `never together`: rows of windows, ascending, with their duties.
+    Forbid(Vec<Vec<(usize, usize)>>),
+    /// `exactly`, `at least`, `at most`: how many of the windows have the duty.
+    Count {
+        least: usize,
+        most: usize,
+        value: usize,
+        scope: Vec<usize>,
+    },
+    Exchange(Exchange),
+}
+
+#[derive(Clone, Debug)]
+pub enum Exchange {
+    /// Each window goes to a window, and each duty to a duty.
+    Product(Vec<usize>, Vec<usize>),
+    /// The image of each number named; the others stay.
+    Pairs(Vec<(usize, usize)>),
+    Table(Vec<usize>),
+}
+
+impl Statement {
+    /// Does the statement narrow the plans (and isn't an exchange)?
+    pub fn narrows(&self) -> bool {
+        !matches!(self, Statement::Exchange(_))
+    }
+}

@@ -1,0 +1,142 @@
+//! `sheet why`: where there is no plan, lines of the text that already have none, none of which can be left out.
+
+use crate::command::{Arguments, Command, Outcome, Stop};
+use crate::input::Input;
+use crate::listing::{list_on_terminal, Limits, Listing, TRIALS_OPTION};
+use crate::make::make_stated;
+use crate::problem::Problem;
+use crate::table::table;
+use crate::text::{Stated, Statement, Text};
+use crate::words::{counted, listed};
+use planner::{Ending, Refusal};
+
+pub const COMMAND: Command = Command {
+    name: "why",
+    usage: "TEXT",
+    about: "shows a plan, or lines of the text that already have none",
+    files: 1..=1,
+    options: &[TRIALS_OPTION],
+    run,
+};
+
+/// What the planner says of a text.
+enum Known {
+    Plan,
+    None,
+    /// The allowance was used up, or the sheet can't be made.
+    Open,
+}
+
+fn run(arguments: &Arguments) -> Result<Outcome, Stop> {
+    let limits = Limits::of(arguments)?.first();
+    let input = Input::read(&arguments.sources[0])?;
+    let listing = input.list(limits)?;
+    let output = match listing.ending {
+        _ if !listing.plans.is_empty() => a_plan(&input.made.problem, &listing),
+        Ending::Finished => no_plan(&input, limits),
+        _ => listing.ending() + listing.hint() + "\n",
+    };
+    Ok(Outcome { output: output.into_bytes(), note: String::new(), status: listing.status() })
+}
+
+fn a_plan(problem: &Problem, listing: &Listing) -> String {
+    format!("there is a plan:\n\n{}", table(problem, listing))
+}
+
+fn no_plan(input: &Input, limits: Limits) -> String {
+    let left = narrow(&input.text, limits);
+    let mut words = match left.lines.len() {
+        1 => "there is no plan: this line alone has none\n".to_string(),
+        count => format!("there is no plan: these {count} lines together have none\n"),
+    };
+    for stated in &left.lines {
+        words += &said(&input.source, stated);
+    }
+    if left.lines.len() > 1 {
+        words += "Without any one of them the others have a plan";
+        if !left.open.is_empty() {
+            let lines: Vec<String> = left.open.iter().map(|line| line.to_string()).collect();
+            words += &format!(
+                " (not known of line {}: without it the run stops short, or no sheet fits)",
+                listed(&lines)
+            );
+        }
+        words += ".\n";
+    }
+    words
+}
+
+/// A statement as it stands in the text, with its line.
+fn said(source: &str, stated: &Stated) -> String {
+    let line = source.lines().nth(stated.first - 1).unwrap_or("").trim();
+    match &stated.statement {
+        Statement::Rule(rule) if stated.last > stated.first => {
+            let rows = counted(rule.rows.len() as u64, "row");
+            format!("  lines {} to {}: {line} ({rows})\n", stated.first, stated.last)
+        }
+        _ => format!("  line {}: {line}\n", stated.first),
+    }
+}
+
+/// Lines that have no plan, and those of them of which it isn't known that they are needed.
+pub struct Left {
+    pub lines: Vec<Stated>,
+    pub open: Vec<usize>,
+}
+
+/// Takes away each line in turn, last first and first first, as long as there is no plan without it; the shorter
+/// of the two rests.
+pub fn narrow(text: &Text, limits: Limits) -> Left {
+    let narrowing: Vec<usize> =
+        (0..text.statements.len()).filter(|&i| text.statements[i].statement.narrows()).collect();
+    let backwards: Vec<usize> = narrowing.iter().rev().copied().collect();
+    let rests = [backwards, narrowing].map(|order| rest(text, &order, limits));
+    rests.into_iter().min_by_key(|left| (left.open.len(), left.lines.len())).expect("two rests")
+}
+
+fn rest(text: &Text, order: &[usize], limits: Limits) -> Left {
+    let mut kept = vec![true; text.statements.len()];
+    let mut open = Vec::new();
+    for &statement in order {
+        kept[statement] = false;
+        match ask(part(text, &kept), limits) {
+            Known::None => continue,
+            Known::Plan => {}
+            Known::Open => open.push(text.statements[statement].first),
+        }
+        kept[statement] = true;
+    }
+    let lines = part(text, &kept).statements;
+    Left { lines: lines.into_iter().filter(|stated| stated.statement.narrows()).collect(), open }
+}
+
+/// The text with the kept statements alone.
+fn part(text: &Text, kept: &[bool]) -> Text {
+    let statements =
+        text.statements.iter().zip(kept).filter(|(_, kept)| **kept).map(|(stated, _)| stated.clone());
+    Text { statements: statements.collect(), ..text.clone() }
+}
+
+/// Has the text a plan? Exchanges say nothing of that: those that the other lines no longer bear are left out.
+fn ask(mut text: Text, limits: Limits) -> Known {
+    loop {
+        match make_stated(&text) {
+            Ok(made) => return known(list_on_terminal(&made, limits)),
+            Err(fault) => {
+                let before = text.statements.len();
+                text.statements.retain(|stated| stated.first != fault.line || stated.statement.narrows());
+                if text.statements.len() == before {
+                    return Known::Open;
+                }
+            }
+        }
+    }
+}
+
+fn known(listing: Result<Listing, Refusal>) -> Known {
+    match listing {
+        Ok(listing) if !listing.plans.is_empty() => Known::Plan,
+        Ok(listing) if listing.ending == Ending::Finished => Known::None,
+        _ => Known::Open,
+    }
+}

@@ -1,0 +1,242 @@
+//! The program: what it prints, held to the files of `golden`, and its exit statuses. With GOLDEN=write the files
+//! are written instead.
+
+use std::fs::File;
+use std::io::Write;
+use std::path::{Path, PathBuf};
+use std::process::{Command, Output, Stdio};
+
+fn root() -> PathBuf {
+    Path::new(env!("CARGO_MANIFEST_DIR")).join("../..")
+}
+
+/// The program at the repository's root, with words parted by spaces.
+fn sheet(words: &str) -> Command {
+    let mut command = Command::new(env!("CARGO_BIN_EXE_sheet"));
+    command.current_dir(root()).args(words.split(' ').filter(|word| !word.is_empty()));
+    command
+}
+
+fn output(words: &str) -> Output {
+    sheet(words).stdin(Stdio::null()).output().unwrap()
+}
+
+/// What the program prints for a text on standard input.
+fn fed(words: &str, input: &[u8]) -> Output {
+    let mut child =
+        sheet(words).stdin(Stdio::piped()).stdout(Stdio::piped()).stderr(Stdio::piped()).spawn().unwrap();
+    child.stdin.take().unwrap().write_all(input).unwrap();
+    child.wait_with_output().unwrap()
+}
+
+fn said(bytes: &[u8]) -> &str {
+    std::str::from_utf8(bytes).unwrap()
+}
+
+/// Status, standard output and standard error.
+fn is(output: Output, status: i32, out: &str, err: &str) {
+    assert_eq!(said(&output.stderr), err);
+    assert_eq!(said(&output.stdout), out);
+    assert_eq!(output.status.code(), Some(status));
+}
+
+fn golden(name: &str, output: Output, status: i32) {
+    let file = Path::new(env!("CARGO_MANIFEST_DIR")).join("tests/golden").join(name);
+    if std::env::var("GOLDEN").is_ok_and(|word| word == "write") {
+        std::fs::write(&file, &output.stdout).unwrap();
+    }
+    assert_eq!(said(&output.stdout), std::fs::read_to_string(&file).unwrap(), "{name}");
+    assert_eq!(output.status.code(), Some(status), "{name}");
+}
+
+#[test]
+fn golden_files() {
+    golden("hall.table", output("plans examples/hall.txt"), 0);
+    golden("hall.csv", output("plans --csv examples/hall.txt"), 0);
+    golden("hall.json", output("plans examples/hall.txt --json"), 0);
+    golden("hall.html", output("page examples/hall.txt"), 0);
+    golden("stand.table", output("plans examples/stand.txt"), 0);
+    golden("spent.html", output("page --trials=4 examples/cycle.txt"), 2);
+    golden("full.json", output("plans --plans 2 --json examples/cycle.txt"), 2);
+    golden("broken.html", output("page tools/sheet/tests/golden/broken.txt"), 0);
+    golden("broken.why", output("why tools/sheet/tests/golden/broken.txt"), 0);
+    golden("hall.why", output("why examples/hall.txt"), 0);
+    golden("help", output("--help"), 0);
+    golden("help.plans", output("plans --help"), 0);
+}
+
+#[test]
+fn endings() {
+    let hall = "sell1  sell2  cash  pay   desk\nann    ben    cid   dora  eve\n\n";
+    let left = "(a plan that an exchange makes of an earlier one is left out)\n";
+    let first = format!("{hall}stopped at the first plan: there are more\n{left}");
+    is(output("plans --first examples/hall.txt"), 0, &first, "");
+    let full = format!("{hall}stopped at 1 plan: there are more (--plans N makes room)\n{left}");
+    is(output("plans --plans 1 examples/hall.txt"), 2, &full, "");
+    let spent = format!(
+        "{hall}stopped at the allowance of 5 trials, 1 plan listed: more plans may exist (--trials N allows more)\n{left}"
+    );
+    is(output("plans --trials 5 examples/hall.txt"), 2, &spent, "");
+    let none =
+        "stopped at the allowance of 1 trial, no plan so far: plans may exist (--trials N allows more)\n";
+    is(output("plans --trials 1 examples/hall.txt"), 2, &format!("{none}{left}"), "");
+    is(output("plans --first --trials 1 examples/hall.txt"), 2, &format!("{none}{left}"), "");
+    is(output("why --trials 1 examples/hall.txt"), 2, none, "");
+    let none = "stopped at a plan, with room for none (--plans N makes room)\n";
+    is(output("plans --plans 0 examples/hall.txt"), 2, &format!("{none}{left}"), "");
+    let none = fed("plans -", b"windows a b\nduties x\ndifferent a b\n");
+    is(none, 0, "finished: no plan, 0 trials\n", "");
+    let one = fed("plans --first -", b"windows a\nduties x\n");
+    is(one, 0, "a\nx\n\nfinished: 1 plan, 1 trial\n", "");
+    let csv = output("plans --csv --trials 5 examples/hall.txt");
+    let note = "stopped at the allowance of 5 trials, 1 plan listed: more plans may exist (--trials N allows more)\n";
+    is(csv, 2, "sell1,sell2,cash,pay,desk\nann,ben,cid,dora,eve\n", note);
+}
+
+/// A sheet is taken for its text.
+#[test]
+fn sheets() {
+    let bytes = std::fs::read(root().join("examples/a.sheet")).unwrap();
+    let plans = "w0  w1\nd0  d1\nd0  d2\nd1  d2\n\nfinished: 3 plans, 6 trials\n\
+                 (a plan that an exchange makes of an earlier one is left out)\n";
+    is(fed("plans -", &bytes), 0, plans, "");
+    is(fed("explain -", &bytes), 0, "accepted: windows 2, duties 3, rules 1, exchanges 1\n", "");
+    let text = "windows w0 w1\nduties d0 d1 d2\ndifferent w0 w1\nexchange windows w0 w1\n";
+    is(fed("show -", &bytes), 0, text, "");
+    let made = fed("make -", text.as_bytes());
+    assert_eq!((made.status.code(), made.stdout), (Some(0), bytes.clone()));
+    let short = "refused 6 0: offset 14: the stated length is 64, and the sheet has 63 bytes";
+    is(fed("explain -", &bytes[..63]), 1, &format!("{short}\n"), "");
+    is(fed("plans -", &bytes[..63]), 1, "", &format!("standard input: {short}\n"));
+    is(fed("show -", &bytes[..63]), 1, "", &format!("standard input: {short}\n"));
+    is(fed("explain -", b""), 1, "refused 1 0: the sheet has 0 bytes, and the header alone takes 16\n", "");
+}
+
+#[test]
+fn faults() {
+    let text = b"windows a b\nduties x y\ndifferent a till\n";
+    for words in ["plans -", "why -", "page -", "make -"] {
+        is(fed(words, text), 1, "", "standard input:3: no window is called `till`\n");
+    }
+    is(fed("explain -", text), 1, "standard input:3: no window is called `till`\n", "");
+    is(fed("plans -", b"\xff\xfew\0i\0"), 1, "", "standard input:1: a text in UTF-16; save it as UTF-8\n");
+    is(fed("plans -", b"windows a\nduties \xff"), 1, "", "standard input:2: not a text in UTF-8\n");
+}
+
+#[test]
+fn wrong_words() {
+    for (words, said) in [
+        ("plans", "sheet plans TEXT\n"),
+        ("plans a b", "sheet plans TEXT\n"),
+        ("plans --fast examples/a.txt", "plans takes no --fast\n"),
+        ("why --plans 3 examples/a.txt", "why takes no --plans\n"),
+        ("plans examples/a.txt --trials", "--trials takes a number\n"),
+        ("plans examples/a.txt --trials x", "--trials takes a number from 0 to 4294967295, not `x`\n"),
+        (
+            "plans --plans 10000001 examples/a.txt",
+            "--plans takes a number from 0 to 10000000, not `10000001`\n",
+        ),
+        ("plans --first=1 examples/a.txt", "plans takes no --first=1\n"),
+        ("plans --csv --json examples/a.txt", "plans takes --csv or --json, not both\n"),
+    ] {
+        is(output(words), 1, "", said);
+    }
+    let unknown = output("plan examples/a.txt");
+    assert!(said(&unknown.stderr).starts_with("`plan` is no command; did you mean `plans`?\n"));
+    assert_eq!(unknown.status.code(), Some(1));
+    let help = said(&output("--help").stdout).to_string();
+    is(output(""), 1, "", &help);
+}
+
+#[test]
+fn reading_fails() {
+    for words in
+        ["plans none.txt", "why none.txt", "page none.txt", "make none.txt", "show none", "explain none"]
+    {
+        let name = words.split(' ').nth(1).unwrap();
+        is(output(words), 3, "", &format!("{name}: No such file or directory (os error 2)\n"));
+        let folder = sheet(&words.replace(name, "-")).stdin(File::open("/").unwrap()).output().unwrap();
+        is(folder, 3, "", "standard input: Is a directory (os error 21)\n");
+    }
+}
+
+const WRITING: [&str; 7] = [
+    "plans examples/hall.txt",
+    "plans --json examples/hall.txt",
+    "why examples/hall.txt",
+    "page examples/hall.txt",
+    "make examples/hall.txt",
+    "show examples/hall.sheet",
+    "--help",
+];
+
+#[test]
+fn a_full_disk() {
+    for words in WRITING {
+        let full = File::options().write(true).open("/dev/full").unwrap();
+        let output = sheet(words).stdout(full).stderr(Stdio::piped()).output().unwrap();
+        assert!(
+            said(&output.stderr).ends_with("standard output: No space left on device (os error 28)\n"),
+            "{words}"
+        );
+        assert_eq!(output.status.code(), Some(3), "{words}");
+    }
+    let full = || File::options().write(true).open("/dev/full").unwrap();
+    let status = sheet("plans examples/hall.txt").stdout(full()).stderr(full()).status().unwrap();
+    assert_eq!(status.code(), Some(3));
+}
+
+/// The reader of a pipe is gone before the program writes.
+#[test]
+fn a_closed_pipe() {
+    let text = std::fs::read(root().join("examples/hall.txt")).unwrap();
+    for words in WRITING.iter().filter(|words| words.ends_with("hall.txt")) {
+        let mut child = sheet(&words.replace("examples/hall.txt", "-"))
+            .stdin(Stdio::piped())
+            .stdout(Stdio::piped())
+            .stderr(Stdio::piped())
+            .spawn()
+            .unwrap();
+        drop(child.stdout.take());
+        child.stdin.take().unwrap().write_all(&text).unwrap();
+        let output = child.wait_with_output().unwrap();
+        assert!(said(&output.stderr).ends_with("standard output: Broken pipe (os error 32)\n"), "{words}");
+        assert_eq!(output.status.code(), Some(3), "{words}");
+    }
+}
+
+/// Names that CSV, JSON and HTML have to quote.
+#[test]
+fn odd_names() {
+    let text = "windows a\"b <c>&\nduties 1\\2 äöü\nrule a\"b <c>&\nrows 1\\2 äöü\n".as_bytes();
+    let csv = "\"a\"\"b\",<c>&\n1\\2,äöü\n";
+    is(fed("plans --csv -", text), 0, csv, "finished: 1 plan, 2 trials\n");
+    is(fed("plans -", text), 0, "a\"b  <c>&\n1\\2  äöü\n\nfinished: 1 plan, 2 trials\n", "");
+    let json = fed("plans --json -", text);
+    assert!(said(&json.stdout).contains("    {\"a\\\"b\": \"1\\\\2\", \"<c>&\": \"äöü\"}\n"));
+    let page = fed("page -", text);
+    assert!(
+        said(&page.stdout).contains("<th scope=\"col\">a&quot;b</th><th scope=\"col\">&lt;c&gt;&amp;</th>")
+    );
+    assert!(!said(&page.stdout).contains("<c>"));
+}
+
+/// What README shows is what the program prints.
+#[test]
+fn readme() {
+    let readme = std::fs::read_to_string(root().join("README.md")).unwrap();
+    let shown = |line: &str| assert!(readme.contains(&format!("\n    {line}\n")), "README lacks: {line}");
+    let stand = std::fs::read_to_string(root().join("examples/stand.txt")).unwrap();
+    let plans = output("plans examples/stand.txt");
+    let lines: Vec<&str> = said(&plans.stdout).lines().collect();
+    lines[..3].iter().chain(&lines[lines.len() - 2..]).for_each(|line| shown(line));
+    stand.lines().filter(|line| !line.starts_with("may") && !line.starts_with("exchange")).for_each(shown);
+    let today: String = stand
+        .lines()
+        .map(|line| match line.split_once(" finn gus hana ivo") {
+            Some((may, _)) => format!("{may} gus hana\n"),
+            None => format!("{line}\n"),
+        })
+        .collect();
+    said(&fed("why -", today.as_bytes()).stdout).lines().for_each(shown);
+}

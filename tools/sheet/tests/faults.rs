@@ -1,0 +1,162 @@
+//! Every message about a text, with its line.
+
+use sheet::make;
+
+const START: &str = "# two windows\nwindows a b c\nduties x y z\n";
+
+/// The fault of a text, as it is printed after the file's name.
+fn whole(text: &str) -> String {
+    let fault = make(text).map(|made| made.problem).expect_err("a text with a fault");
+    format!("{}: {}", fault.line, fault.text)
+}
+
+/// The fault of lines after the names of three windows and three duties, the first of them line 4.
+fn after(lines: &str) -> String {
+    whole(&format!("{START}{lines}"))
+}
+
+#[test]
+fn names() {
+    assert_eq!(
+        whole("\u{feff}windows a\n"),
+        "1: the text starts with a byte order mark (BOM); save it as UTF-8 without one"
+    );
+    assert_eq!(whole("windows: a b\n"), "1: write `windows` without the colon");
+    assert_eq!(whole("Windows a b\n"), "1: write `windows` in small letters");
+    assert_eq!(whole("window a b\n"), "1: `window` starts no line; did you mean `windows`?");
+    assert_eq!(whole("\nduties x"), "2: `windows` stands first and once, then `duties` once");
+    assert_eq!(whole("windows a\nwindows b"), "2: `windows` stands first and once, then `duties` once");
+    assert_eq!(whole("windows a\nmay a x"), "2: `windows` and `duties` come first");
+    assert_eq!(whole(""), "1: the text ends before it has named its windows and duties");
+    assert_eq!(whole("windows\n"), "1: `windows` takes at least one name");
+    assert_eq!(whole("windows a a"), "1: the name `a` stands twice");
+    assert_eq!(whole("windows a.b"), "1: `a.b` can't be a name: a point parts a window from a duty");
+    assert_eq!(whole("windows a, b"), "1: names of windows are parted by spaces, not by commas");
+    assert_eq!(whole("windows duties"), "1: `duties` can't be a name");
+    assert_eq!(whole("windows a\u{7}b"), "1: a word has a character that can't be printed");
+    let windows: Vec<String> = (1..=13).map(|i| format!("w{i}")).collect();
+    assert_eq!(
+        whole(&format!("\nwindows {}\nduties x", windows.join(" "))),
+        "2: 13 windows, and at most 12 are allowed"
+    );
+    let duties: Vec<String> = (1..=17).map(|i| format!("d{i}")).collect();
+    assert_eq!(
+        whole(&format!("windows a\nduties {}", duties.join(" "))),
+        "2: 17 duties, and at most 16 are allowed"
+    );
+}
+
+#[test]
+fn words() {
+    assert_eq!(after("may a x#1"), "4: `#` inside the word `x#1`; a comment starts after a space");
+    assert_eq!(after("may a w"), "4: no duty is called `w`");
+    assert_eq!(after("may a x,"), "4: a comma stands where a duty should");
+    assert!(
+        after("xyzzy a").starts_with("4: `xyzzy` starts no line; the words that do are windows, duties, may")
+    );
+    let near = whole("windows cash pay\nduties ann ben\nmay cahs ann");
+    assert_eq!(near, "3: no window is called `cahs`");
+    let near = whole("windows cashier pay\nduties ann ben\nmay casheir ann");
+    assert_eq!(near, "3: no window is called `casheir`; did you mean `cashier`?");
+}
+
+#[test]
+fn sets() {
+    assert_eq!(after("may"), "4: `may` takes a window and its duties");
+    assert_eq!(after("may a x\nmay b x\nmay a y"), "6: a second `may` for `a`; the first stands in line 4");
+    assert_eq!(after("may b\nexchange nothing"), "4: `b` may have no duty (refused 8 1)");
+}
+
+#[test]
+fn rules() {
+    assert_eq!(after("different a d"), "4: no window is called `d`");
+    assert_eq!(after("different a"), "4: `different` takes two windows; of more say `all different`");
+    assert_eq!(after("different a a"), "4: `a` stands twice");
+    assert_eq!(after("all different a"), "4: `all different` takes two or more windows");
+    assert_eq!(after("all a b"), "4: write `all different WINDOW ..`");
+    assert_eq!(after("\nrule a b\nrows x w"), "6: no duty is called `w`");
+    assert_eq!(after("rule a b\nrows x y, x y"), "5: a row stands twice");
+    assert_eq!(after("rule a b\nrows x y,"), "5: an empty row: a comma stands at an end, or two together");
+    assert_eq!(after("rule a b\nrows x y z"), "5: a row of 3 duties for 2 windows");
+    assert_eq!(after("rows x y"), "4: `rows` follows a `rule`");
+    assert_eq!(after("rule a b\ndifferent a b\nrows x y"), "6: `rows` follows a `rule`");
+    assert_eq!(after("rule"), "4: a rule has 1 to 3 windows, not 0");
+    let rows = "4: `forbid` takes rows parted by commas, each WINDOW DUTY for one to three windows";
+    assert_eq!(after("forbid a"), rows);
+    assert_eq!(after("forbid a x,"), rows);
+    assert_eq!(after("forbid a x b w"), "4: no duty is called `w`");
+    assert_eq!(after("forbid a x a y"), "4: `a` stands twice");
+    let never = "4: write `never together WINDOW DUTY WINDOW DUTY`";
+    assert_eq!(after("never a x b y"), never);
+    assert_eq!(after("never together a x"), never);
+    assert_eq!(after("at a x"), "4: write `at least` or `at most`, a number, a duty and windows");
+    assert_eq!(after("exactly one x a"), "4: `one` is no number; write a number, a duty and windows");
+    assert_eq!(after("exactly 1"), "4: a number, a duty and one to three windows are wanted");
+    assert_eq!(after("at least 1 x"), "4: a rule has 1 to 3 windows, not 0");
+}
+
+#[test]
+fn exchanges() {
+    assert_eq!(
+        after("may a x\nmay b y\nexchange windows a b"),
+        "6: `a.x` goes to `b.x`, but `b` may not have `x`"
+    );
+    assert_eq!(
+        after("may a y z\nexchange pairs a.x a.y"),
+        "5: `a.x` goes to `a.y`, but `a` may not have `x`"
+    );
+    assert_eq!(after("exchange pairs ax a.y"), "4: `ax` is no pair; write WINDOW.DUTY");
+    assert_eq!(after("exchange windows a"), "4: a circle has two or more members");
+    assert_eq!(after("exchange windows a b, b c"), "4: a name stands twice in an exchange");
+    let takes = "4: `exchange` takes `windows`, `duties`, `pairs`, `table` or `nothing`";
+    assert_eq!(after("exchange a b"), takes);
+    assert_eq!(after("exchange table 0 1"), "4: a table has 9 numbers here, not 2");
+    assert_eq!(after("exchange table 0 1 2 3 4 5 6 7 x"), "4: a table holds numbers from 0 to 65535");
+    assert_eq!(
+        after("exchange table 0 0 2 3 4 5 6 7 8"),
+        "4: a.y goes to a.x, and so does a.x (refused 15 0)"
+    );
+    assert_eq!(
+        after("different a b\nexchange pairs a.x a.y\nexchange nothing"),
+        "5: it doesn't respect the sheet: a.x b.x is forbidden, and its image a.y b.x is not (refused 16 0)"
+    );
+    let many = "exchange nothing\n".repeat(17);
+    assert_eq!(after(&many), "20: 17 exchanges, and at most 16 are allowed (refused 5 0)");
+    let many = "exchange nothing\n".repeat(700) + "different a b\n";
+    assert_eq!(
+        whole(&format!("{LARGE}{many}")),
+        "19: 700 exchanges, and at most 16 are allowed (refused 5 0)"
+    );
+}
+
+/// Sixteen duties, three windows, and a rule that allows all rows but one.
+const LARGE: &str = "windows a b c d\nduties 0 1 2 3 4 5 6 7 8 9 10 11 12 13 14 15\n";
+
+#[test]
+fn too_long() {
+    let duties: Vec<String> = (0..16).map(|duty| duty.to_string()).collect();
+    let mut rule = "rule a b c\n".to_string();
+    for first in &duties[..2] {
+        for second in &duties {
+            let rows: Vec<String> = duties.iter().map(|third| format!("{first} {second} {third}")).collect();
+            rule += &format!("rows {}\n", rows.join(", "));
+        }
+    }
+    assert_eq!(whole(&format!("{LARGE}{rule}")), "3: 512 rows, and at most 256 are allowed (refused 10 0)");
+    assert_eq!(
+        whole(&format!("{LARGE}\nforbid a 0 b 0 c 0")),
+        "4: 4095 rows, and at most 256 are allowed; fewer duties by `may` lines make fewer rows (refused 10 0)"
+    );
+    assert_eq!(
+        whole(&format!("{LARGE}forbid a 0 b 0 c 0\nforbid a 0 b 0 d 0\nat most 1 3 a c d\ndifferent a b")),
+        "5: too long: with this rule of 4050 rows the sheet passes 65535 bytes; a rule has at most 256 rows"
+    );
+}
+
+/// No message about a text speaks of offsets.
+#[test]
+fn no_offsets() {
+    for text in ["may b", "exchange table 0 0 2 3 4 5 6 7 8", "different a b\nexchange pairs a.x a.y"] {
+        assert!(!after(text).contains("offset"));
+    }
+}
