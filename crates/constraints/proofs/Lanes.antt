@@ -140,9 +140,9 @@ module _ (m : ℕ) where
   abbrev f : ℕ
   f = twice (bitAnd (twice (bitAnd m ones) 7) pairs) 14
 
-  gathered : (j : ℕ) → j < 8 → has (gather (bitAnd m ones)) j ≡ has (bitAnd m ones) (8 * j)
+  touched-all : (j : ℕ) → j < 8 → has (gather (bitAnd m ones)) j ≡ has (bitAnd m ones) (8 * j)
   unfolding has
-  gathered =
+  touched-all =
       cases8 (λ j. has (gather (bitAnd m ones)) j ≡ has (bitAnd m ones) (8 * j))
       (stays f fours 255 28 0 refl refl ∙ stays g pairs fours 14 0 refl refl ∙ stays m ones pairs 7 0 refl refl)
       (stays f fours 255 28 1 refl refl ∙ stays g pairs fours 14 1 refl refl ∙ comes m ones pairs 7 1 refl refl)
@@ -176,7 +176,7 @@ full-lanes x = record {
 }
   where
     first : (j : ℕ) → j < 8 → has (gather (bitAnd (eight 1 x) ones)) j ≡ has (eight 1 x) (8 * j)
-    first j h = gathered (eight 1 x) j h ∙ masked (eight 1 x) ones (8 * j) (ones-at j h)
+    first j h = touched-all (eight 1 x) j h ∙ masked (eight 1 x) ones (8 * j) (ones-at j h)
 
 -- ---- the union of the lanes
 pub lane-union : (x : ℕ) → LaneUnion x (bitAnd (eight 8 x) 255)

@@ -3,6 +3,6 @@ pub mod Lanes
 pub mod Rows
 pub mod Scopes
 pub mod Stores
-pub mod Turns
+pub mod ConstrainLoop
 pub mod Unions
-pub mod Ways
+pub mod Removal

@@ -8,14 +8,15 @@ use lib.ListN.{length}
 use Rattle.model.specs.Lists.{at, ascending}
 use Rattle.model.specs.Problem.{Problem}
 use Rattle.model.proofs.Lists.{list-1, list-2, list-3}
+use Rattle.layout.specs.Places.{SCOPES}
 use Rattle.layout.specs.Layout.{constraintAt}
 use Rattle.layout.proofs.Links.{good}
-use Rattle.constraints.specs.Steps.{Holding, Scoped}
+use Rattle.constraints.specs.Steps.{ConstraintsHeld, Scoped}
 
-module _ {p : Problem} {numbers supports : List ℕ} (g : Holding p numbers supports) (k : ℕ) (h : k < length (p .constraints)) where
+module _ {p : Problem} {numbers supports : List ℕ} (g : ConstraintsHeld p numbers supports) (k : ℕ) (h : k < length (p .constraints)) where
   -- the scope as the code reads it
   abbrev word : ℕ
-  word = at numbers (32 + k)
+  word = at numbers (SCOPES + k)
 
   scoped : (scope : List ℕ) → constraintAt p k .scope ≡ scope → Scoped (constraintAt p k) supports k scope
   scoped scope e = record {

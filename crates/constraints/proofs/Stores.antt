@@ -8,23 +8,23 @@ use native.Mathlib.Nat.{lt-of-le-of-lt}
 use native.Mathlib.Omega.{arith}
 use native.Mathlib.Decide.{ℕ-discrete}
 use lib.Dec.{T, eqb, eqb-refl, lit<}
-use lib.Count.{trailingZeros}
 use lib.ListN.{length, set, length-set}
 use lib.Bits.{bitAnd, bitOr, and-le-l, or-lt}
-use lib.Pow.{pow-lt}
 use borrow.Author.Tests.{eq-eqb, ne-eqb}
 use Rattle.model.specs.Lists.{both, either, any, at, same, ascending}
-use Rattle.model.specs.ValueSets.{has, oneIf}
+use Rattle.model.specs.ValueSets.{has, withoutMask, lowestOf, oneIf}
 use Rattle.model.specs.Problem.{Constraint}
 use Rattle.model.specs.Search.{supported}
 use Rattle.model.proofs.Lists.{T-of, of-T, of-not, any-i, any-e, among-i, among-e, same-eq, same-refl, Sorted, ascending-sorted, at-set, at-set-other, set-at}
 use Rattle.model.proofs.Sets.{has-lt, mask-i, mask-e, member, set-sets}
 use Rattle.model.specs.Pruning.{Sets}
-use Rattle.model.proofs.Masks.{has-or, has-oneIf}
-use Rattle.model.proofs.Members.{both-no, both-yes, either-no, low-has, rest-i, has-0, and-i, and-e, or-zero-e}
+use Rattle.model.proofs.Masks.{has-or, has-oneIf, lowest-op}
+use Rattle.model.proofs.Members.{both-no, both-yes, either-no, rest-begin, rest-i, has-0, and-i, and-e, rest-op, lowest-left}
+use Rattle.layout.specs.Places.{DEAD}
 use Rattle.layout.specs.Layout.{place}
 use Rattle.constraints.specs.Revised.{revised, Revision}
-use Rattle.constraints.specs.Steps.{Met, Joined, Met3, Joined3, Scoped, Nonempty, Cut}
+use Rattle.constraints.specs.Steps.{Together, Joined, Together3, Joined3, Scoped, Nonempty, SetCut}
+use Rattle.constraints.proofs.Bits.{one-small}
 use Rattle.constraints.proofs.Rows.{RowIn, PairIn, alive, pair-has, supported-e, supported-i, supported-out, revised-is}
 
 -- ---- the sets that changed
@@ -99,18 +99,18 @@ module _ {c : Constraint} {supports : List ℕ} {k : ℕ} {scope : List ℕ} (p 
   here x m = omega (arith, p .inside x m, s .0)
 
 -- ---- a revision from its parts
-one-small : (b : Bool) (x : ℕ) → x < 16 → oneIf b x < 2 ^ 16
-one-small true x h = pow-lt h
-one-small false x h = omega arith
-
 moved-lt : (a b m x : ℕ) → m ≡ oneIf (not (eqb b a)) x → x < 16 → m < 2 ^ 16
 moved-lt a b m x e h = subst (λ (i : ℕ). i < 2 ^ 16) (sym e) (one-small (not (eqb b a)) x h)
 
-pub cut-dead : (ds : List ℕ) (x t : ℕ) → t ≡ 0 → Cut ds ds x t 65536
-cut-dead ds x t e = record { ended = λ q. e; full = λ n. absurd (n refl); stored = λ n. absurd (n refl); moved = λ n. absurd (n refl) }
+-- the set of x is cut to b, which is t
+pub cut-dead : (ds : List ℕ) (x t b : ℕ) → b ≡ t → b ≡ 0 → SetCut ds ds x t DEAD
+cut-dead ds x t b q e = subst (λ (z : ℕ). SetCut ds ds x z DEAD) q record { ended = λ q. e; kept = λ q. refl; full = λ n. absurd (n refl); stored = λ n. absurd (n refl); moved = λ n. absurd (n refl) }
 
-pub cut-live : (ds : List ℕ) (x t r : ℕ) → x < 16 → (t ≡ 0 → ⊥) → r ≡ oneIf (not (eqb t (at ds x))) x → Cut ds (set ds x t) x t r
-cut-live ds x t r h n e = record { ended = λ q. absurd (let l = one-small (not (eqb t (at ds x))) x h in omega (arith, e, q)); full = λ m. n; stored = λ m. refl; moved = λ m. e }
+pub cut-live : (ds : List ℕ) (x t b r : ℕ) → b ≡ t → x < 16 → (b ≡ 0 → ⊥) → r ≡ oneIf (not (eqb b (at ds x))) x → SetCut ds (set ds x b) x t r
+cut-live ds x t b r q h n e = subst (λ (z : ℕ). SetCut ds (set ds x b) x z r) q record { ended = λ q. absurd (never q); kept = λ q. absurd (never q); full = λ m. n; stored = λ m. refl; moved = λ m. e }
+  where
+    never : r ≡ DEAD → ⊥
+    never q = let l = one-small (not (eqb b (at ds x))) x h in omega (arith, e, q)
 
 module _ {c : Constraint} {supports : List ℕ} {k : ℕ} {scope : List ℕ} (p : Scoped c supports k scope) (ds : List ℕ) (s : Sets 16 ds) where
   of-c : (x : ℕ) → List·Memᴰ x scope → List·Memᴰ x (c .scope)
@@ -124,16 +124,17 @@ module _ {c : Constraint} {supports : List ℕ} {k : ℕ} {scope : List ℕ} (p 
 
   -- the sets are stored, and that of y is not empty
   live : (y : ℕ) → List·Memᴰ y scope → (es : List ℕ) (r : ℕ) → es ≡ revised ds c → (at es y ≡ 0 → ⊥) → r < 2 ^ 16 → Moves ds es r → Revision c ds es r
-  live y m es r e n l h = record { ended = λ q. absurd (omega (arith, q)); sets = λ q. e; full = λ q. all-full y m es e n; moved = λ q. h }
+  live y m es r e n l h = record { ended = λ q. absurd (omega (arith, q)); kept = λ q. absurd (omega (arith, q)); sets = λ q. e; full = λ q. all-full y m es e n; moved = λ q. h }
 
   -- nothing is stored, since that of y would be empty
-  dead : (y : ℕ) → List·Memᴰ y scope → (es : List ℕ) → es ≡ revised ds c → at es y ≡ 0 → Revision c ds ds 65536
-  dead y m es e z = record { ended = λ q. (y, of-c y m, sym (ap (λ (l : List ℕ). at l y) e) ∙ z); sets = λ n. absurd (n refl); full = λ n. absurd (n refl); moved = λ n. absurd (n refl) }
+  dead : (y : ℕ) → List·Memᴰ y scope → (es : List ℕ) → es ≡ revised ds c → at es y ≡ 0 → Revision c ds ds DEAD
+  dead y m es e z = record { ended = λ q. (y, of-c y m, sym (ap (λ (l : List ℕ). at l y) e) ∙ z); kept = λ q. refl; sets = λ n. absurd (n refl); full = λ n. absurd (n refl); moved = λ n. absurd (n refl) }
 
   -- the set of y alone is cut to t
-  cut : (y t : ℕ) → List·Memᴰ y scope → (es : List ℕ) (r : ℕ) → Cut ds es y t r → (t ≡ 0 → at (revised ds c) y ≡ 0) → ((t ≡ 0 → ⊥) → set ds y t ≡ revised ds c) → Revision c ds es r
+  cut : (y t : ℕ) → List·Memᴰ y scope → (es : List ℕ) (r : ℕ) → SetCut ds es y t r → (t ≡ 0 → at (revised ds c) y ≡ 0) → ((t ≡ 0 → ⊥) → set ds y t ≡ revised ds c) → Revision c ds es r
   cut y t m es r u z e = record {
     ended = λ q. (y, of-c y m, z (u .ended q));
+    kept = u .kept;
     sets = λ n. u .stored n ∙ e (u .full n);
     full = λ n. all-full y m es (u .stored n ∙ e (u .full n)) (λ q. u .full n (sym (ap (λ (l : List ℕ). at l y) (u .stored n) ∙ at-set ds y t (here p ds s y m)) ∙ q));
     moved = λ n. subst (λ (l : List ℕ). Moves ds l r) (sym (u .stored n)) (moves-one ds y t r (u .moved n) (here p ds s y m));
@@ -204,7 +205,7 @@ module _ {c : Constraint} {supports : List ℕ} {k x : ℕ} (p : Scoped c suppor
           (v ∷ [], table-e p [] refl below-0 (256 * k) base v (q .1), (q .0, tt), inl (e, refl))
       comes y v (List·Memᴰ·tail m) h = absurd (List·Memᴰ·not-nil m)
 
-  pub one : (es : List ℕ) (r : ℕ) → Cut ds es x (bitAnd (at ds x) (at supports (256 * k))) r → Revision c ds es r
+  pub one : (es : List ℕ) (r : ℕ) → SetCut ds es x (bitAnd (at ds x) (at supports (256 * k))) r → Revision c ds es r
   one es r u =
       cut p ds s x t (List·Memᴰ·head refl) es r u (λ z. sym (ap (λ (l : List ℕ). at l x) one-set) ∙ at-set ds x t (here p ds s x (List·Memᴰ·head refl)) ∙ z) (λ n. one-set)
     where
@@ -246,26 +247,26 @@ module _ {c : Constraint} {supports : List ℕ} {k x y : ℕ} (p : Scoped c supp
       out : (z : ℕ) → (List·Memᴰ z (x ∷ y ∷ []) → ⊥) → at es-2 z ≡ at ds z
       out z n = at-set-other (set ds x first) y last z (λ e. n (List·Memᴰ·tail (List·Memᴰ·head e))) ∙ at-set-other ds x first z (λ e. n (List·Memᴰ·head e))
 
-      met-e : (v w : ℕ) → Met supports (256 * k) (at ds x) (at ds y) v w → List·Memᴰ (v ∷ w ∷ []) (c .rows) × RowIn ds (x ∷ y ∷ []) (v ∷ w ∷ [])
-      met-e v w q = (table-e p (v ∷ []) refl (below-1 v (has-lt 16 (at ds x) v (s .1 x) (q .0))) (256 * k + v) refl w (q .2), (q .0, (q .1, tt)))
+      together-e : (v w : ℕ) → Together supports (256 * k) (at ds x) (at ds y) v w → List·Memᴰ (v ∷ w ∷ []) (c .rows) × RowIn ds (x ∷ y ∷ []) (v ∷ w ∷ [])
+      together-e v w q = (table-e p (v ∷ []) refl (below-1 v (has-lt 16 (at ds x) v (s .1 x) (q .0))) (256 * k + v) refl w (q .2), (q .0, (q .1, tt)))
 
       keeps : (r : List ℕ) → List·Memᴰ r (c .rows) → RowIn ds (x ∷ y ∷ []) r → RowIn es-2 (x ∷ y ∷ []) r
       keeps [] m i = i
       keeps (v ∷ []) m i = absurd (i .1)
       keeps (v ∷ w ∷ []) m i =
           let bv = has-lt 16 (at ds x) v (s .1 x) (i .0) in
-          let q : Met supports (256 * k) (at ds x) (at ds y) v w = (i .0, i .1 .0, table-i p (v ∷ []) refl (below-1 v bv) (256 * k + v) refl w (has-lt 16 (at ds y) w (s .1 y) (i .1 .0)) m) in
+          let q : Together supports (256 * k) (at ds x) (at ds y) v w = (i .0, i .1 .0, table-i p (v ∷ []) refl (below-1 v bv) (256 * k + v) refl w (has-lt 16 (at ds y) w (s .1 y) (i .1 .0)) m) in
           (subst (λ (z : ℕ). T (has z v)) (sym at-x-2) (j .first-i v w q), (subst (λ (z : ℕ). T (has z w)) (sym at-y-2) (j .last-i v w q), tt))
       keeps (v ∷ w ∷ u ∷ r) m i = absurd (i .1 .1)
 
       comes : (z v : ℕ) → List·Memᴰ z (x ∷ y ∷ []) → T (has (at es-2 z) v) → Comes p ds s z v (x ∷ y ∷ [])
       comes z v (List·Memᴰ·head e) h =
           let q = j .first-e v (subst (λ (n : ℕ). T (has n v)) (ap (at es-2) e ∙ at-x-2) h) in
-          let r = met-e v (q .0) (q .1) in
+          let r = together-e v (q .0) (q .1) in
           (v ∷ q .0 ∷ [], r .0, r .1, inl (e, refl))
       comes z w (List·Memᴰ·tail (List·Memᴰ·head e)) h =
           let q = j .last-e w (subst (λ (n : ℕ). T (has n w)) (ap (at es-2) e ∙ at-y-2) h) in
-          let r = met-e (q .0) w (q .1) in
+          let r = together-e (q .0) w (q .1) in
           (q .0 ∷ w ∷ [], r .0, r .1, inr (inl (e, refl)))
       comes z v (List·Memᴰ·tail (List·Memᴰ·tail m)) h = absurd (List·Memᴰ·not-nil m)
 
@@ -275,12 +276,12 @@ module _ {c : Constraint} {supports : List ℕ} {k x y : ℕ} (p : Scoped c supp
       (or-lt 16 m n (moved-lt (at ds x) first m x q (p .inside x mx-2)) (moved-lt (at ds y) last n y o (p .inside y my-2)))
       (moves-more ds (set ds x first) m y last n o (moves-one ds x first m q lx-2) ly-2 (at-set-other ds x first y (λ e. omega (arith, x<y-2, e))))
 
-  pub two-dead : last ≡ 0 → Revision c ds ds 65536
+  pub two-dead : last ≡ 0 → Revision c ds ds DEAD
   two-dead e = dead p ds s y my-2 (set (set ds x first) y last) two-sets (at-y-2 ∙ e)
 
 -- ---- a scope of three variables
 module _ {c : Constraint} {supports : List ℕ} {k x y z : ℕ} (p : Scoped c supports k (x ∷ y ∷ z ∷ [])) (ds : List ℕ) (s : Sets 16 ds) (first second last : ℕ) (f : first < 2 ^ 16) (g : second < 2 ^ 16) (h : last < 2 ^ 16)
-    (j : Joined3 (Met3 supports (256 * k) (at ds x) (at ds y) (at ds z)) first second last) where
+    (j : Joined3 (Together3 supports (256 * k) (at ds x) (at ds y) (at ds z)) first second last) where
   abbrev fs-3 : List ℕ
   fs-3 = set (set ds x first) y second
 
@@ -334,8 +335,8 @@ module _ {c : Constraint} {supports : List ℕ} {k x y z : ℕ} (p : Scoped c su
       base : (u v : ℕ) → 256 * k + 16 * u + v ≡ 256 * k + (16 * u + v)
       base u v = omega arith
 
-      met-e : (u v w : ℕ) → Met3 supports (256 * k) (at ds x) (at ds y) (at ds z) u v w → List·Memᴰ (u ∷ v ∷ w ∷ []) (c .rows) × RowIn ds (x ∷ y ∷ z ∷ []) (u ∷ v ∷ w ∷ [])
-      met-e u v w q =
+      together-e : (u v w : ℕ) → Together3 supports (256 * k) (at ds x) (at ds y) (at ds z) u v w → List·Memᴰ (u ∷ v ∷ w ∷ []) (c .rows) × RowIn ds (x ∷ y ∷ z ∷ []) (u ∷ v ∷ w ∷ [])
+      together-e u v w q =
           (table-e p (u ∷ v ∷ []) refl (below-2 u v (has-lt 16 (at ds x) u (s .1 x) (q .0)) (has-lt 16 (at ds y) v (s .1 y) (q .1 .0))) (256 * k + 16 * u + v) (base u v) w (q .1 .2), (q .0, (q .1 .0, (q .1 .1, tt))))
 
       keeps : (r : List ℕ) → List·Memᴰ r (c .rows) → RowIn ds (x ∷ y ∷ z ∷ []) r → RowIn es-3 (x ∷ y ∷ z ∷ []) r
@@ -345,7 +346,7 @@ module _ {c : Constraint} {supports : List ℕ} {k x y z : ℕ} (p : Scoped c su
       keeps (u ∷ v ∷ w ∷ []) m i =
           let bu = has-lt 16 (at ds x) u (s .1 x) (i .0) in
           let bv = has-lt 16 (at ds y) v (s .1 y) (i .1 .0) in
-          let q : Met3 supports (256 * k) (at ds x) (at ds y) (at ds z) u v w =
+          let q : Together3 supports (256 * k) (at ds x) (at ds y) (at ds z) u v w =
           (i .0, (i .1 .0, i .1 .1 .0, table-i p (u ∷ v ∷ []) refl (below-2 u v bu bv) (256 * k + 16 * u + v) (base u v) w (has-lt 16 (at ds z) w (s .1 z) (i .1 .1 .0)) m)) in
           (subst (λ (n : ℕ). T (has n u)) (sym at-x-3) (j .first-i u v w q), (subst (λ (n : ℕ). T (has n v)) (sym at-y-3) (j .second-i u v w q), (subst (λ (n : ℕ). T (has n w)) (sym at-z-3) (j .last-i u v w q), tt)))
       keeps (u ∷ v ∷ w ∷ o ∷ r) m i = absurd (i .1 .1 .1)
@@ -353,15 +354,15 @@ module _ {c : Constraint} {supports : List ℕ} {k x y z : ℕ} (p : Scoped c su
       comes : (i v : ℕ) → List·Memᴰ i (x ∷ y ∷ z ∷ []) → T (has (at es-3 i) v) → Comes p ds s i v (x ∷ y ∷ z ∷ [])
       comes i u (List·Memᴰ·head e) q =
           let a = j .first-e u (subst (λ (n : ℕ). T (has n u)) (ap (at es-3) e ∙ at-x-3) q) in
-          let r = met-e u (a .0) (a .1 .0) (a .1 .1) in
+          let r = together-e u (a .0) (a .1 .0) (a .1 .1) in
           (u ∷ a .0 ∷ a .1 .0 ∷ [], r .0, r .1, inl (e, refl))
       comes i v (List·Memᴰ·tail (List·Memᴰ·head e)) q =
           let a = j .second-e v (subst (λ (n : ℕ). T (has n v)) (ap (at es-3) e ∙ at-y-3) q) in
-          let r = met-e (a .0) v (a .1 .0) (a .1 .1) in
+          let r = together-e (a .0) v (a .1 .0) (a .1 .1) in
           (a .0 ∷ v ∷ a .1 .0 ∷ [], r .0, r .1, inr (inl (e, refl)))
       comes i w (List·Memᴰ·tail (List·Memᴰ·tail (List·Memᴰ·head e))) q =
           let a = j .last-e w (subst (λ (n : ℕ). T (has n w)) (ap (at es-3) e ∙ at-z-3) q) in
-          let r = met-e (a .0) (a .1 .0) w (a .1 .1) in
+          let r = together-e (a .0) (a .1 .0) w (a .1 .1) in
           (a .0 ∷ a .1 .0 ∷ w ∷ [], r .0, r .1, inr (inr (inl (e, refl))))
       comes i v (List·Memᴰ·tail (List·Memᴰ·tail (List·Memᴰ·tail m))) q = absurd (List·Memᴰ·not-nil m)
 
@@ -386,25 +387,26 @@ module _ {c : Constraint} {supports : List ℕ} {k x y z : ℕ} (p : Scoped c su
       none : (v w u : ℕ) → v ≡ w → 0 ≡ oneIf (not (eqb v w)) u
       none v w u q = sym (ap (λ (b : Bool). oneIf (not b) u) (eq-eqb v w q))
 
-  pub three-dead : last ≡ 0 → Revision c ds ds 65536
+  pub three-dead : last ≡ 0 → Revision c ds ds DEAD
   three-dead e = dead p ds s z mz-3 (set (set (set ds x first) y second) z last) three-sets (at-z-3 ∙ e)
 
 -- ---- two of three sets have one value: one set of the table cuts the third
-single : (a : ℕ) → a < 2 ^ 16 → (a ≡ 0 → ⊥) → bitAnd a (a - 1) ≡ 0 → (v : ℕ) → T (has a v) → v ≡ trailingZeros 16 a
-single a h n e v t = ⊎-elim (λ q. absurd (has-0 v (subst (λ (z : ℕ). T (has z v)) e q))) (λ q. q) (rest-i 16 a (omega arith) h v t)
+single : (a : ℕ) → a < 2 ^ 16 → (a ≡ 0 → ⊥) → withoutMask a (lowestOf a) ≡ 0 → (v : ℕ) → T (has a v) → v ≡ lowestOf a
+single a h n e v t =
+    ⊎-elim (λ q. absurd (has-0 v (subst (λ (z : ℕ). T (has z v)) (rest-op a h ∙ e) q))) (λ q. q ∙ lowest-op 16 a) (rest-i 16 a (omega arith) h v t)
 
-module _ {c : Constraint} {supports : List ℕ} {k x y z : ℕ} (p : Scoped c supports k (x ∷ y ∷ z ∷ [])) (ds : List ℕ) (s : Sets 16 ds) (g : Nonempty (x ∷ y ∷ z ∷ []) ds) (o : bitOr (bitAnd (at ds x) (at ds x - 1)) (bitAnd (at ds y) (at ds y - 1)) ≡ 0) where
+module _ {c : Constraint} {supports : List ℕ} {k x y z : ℕ} (p : Scoped c supports k (x ∷ y ∷ z ∷ [])) (ds : List ℕ) (s : Sets 16 ds) (g : Nonempty (x ∷ y ∷ z ∷ []) ds) (o : withoutMask (at ds x) (lowestOf (at ds x)) ≡ 0) (q : withoutMask (at ds y) (lowestOf (at ds y)) ≡ 0) where
   abbrev u : ℕ
-  u = trailingZeros 16 (at ds x)
+  u = lowestOf (at ds x)
 
   abbrev v : ℕ
-  v = trailingZeros 16 (at ds y)
+  v = lowestOf (at ds y)
 
   abbrev t : ℕ
-  t = bitAnd (at ds z) (at supports (256 * k + 16 * trailingZeros 16 (at ds x) + trailingZeros 16 (at ds y)))
+  t = bitAnd (at ds z) (at supports (256 * k + 16 * lowestOf (at ds x) + lowestOf (at ds y)))
 
   abbrev M : ℕ → ℕ → ℕ → Type 0
-  M = Met3 supports (256 * k) (at ds x) (at ds y) (at ds z)
+  M = Together3 supports (256 * k) (at ds x) (at ds y) (at ds z)
 
   x-full : at ds x ≡ 0 → ⊥
   x-full = g x (List·Memᴰ·head refl)
@@ -413,22 +415,22 @@ module _ {c : Constraint} {supports : List ℕ} {k x y z : ℕ} (p : Scoped c su
   y-full = g y (List·Memᴰ·tail (List·Memᴰ·head refl))
 
   is-u : (i : ℕ) → T (has (at ds x) i) → i ≡ u
-  is-u = single (at ds x) (s .1 x) x-full (or-zero-e (bitAnd (at ds x) (at ds x - 1)) (bitAnd (at ds y) (at ds y - 1)) o .0)
+  is-u = single (at ds x) (s .1 x) x-full o
 
   is-v : (i : ℕ) → T (has (at ds y) i) → i ≡ v
-  is-v = single (at ds y) (s .1 y) y-full (or-zero-e (bitAnd (at ds x) (at ds x - 1)) (bitAnd (at ds y) (at ds y - 1)) o .1)
+  is-v = single (at ds y) (s .1 y) y-full q
 
-  pub u-has : T (has (at ds x) (trailingZeros 16 (at ds x))) × (trailingZeros 16 (at ds x) < 16)
-  u-has = low-has 16 (at ds x) (let n = x-full in omega arith) (s .1 x)
+  pub u-has : T (has (at ds x) (lowestOf (at ds x))) × (lowestOf (at ds x) < 16)
+  u-has = lowest-left (at ds x) (at ds x) _ (rest-begin 16 (at ds x) (s .1 x)) x-full refl
 
-  pub v-has : T (has (at ds y) (trailingZeros 16 (at ds y))) × (trailingZeros 16 (at ds y) < 16)
-  v-has = low-has 16 (at ds y) (let n = y-full in omega arith) (s .1 y)
+  pub v-has : T (has (at ds y) (lowestOf (at ds y))) × (lowestOf (at ds y) < 16)
+  v-has = lowest-left (at ds y) (at ds y) _ (rest-begin 16 (at ds y) (s .1 y)) y-full refl
 
-  met-i : (w : ℕ) → T (has t w) → M u v w
-  met-i w h = let q = and-e (at ds z) (at supports (256 * k + 16 * u + v)) w h in (u-has .0, (v-has .0, q .0, q .1))
+  together-i : (w : ℕ) → T (has t w) → M u v w
+  together-i w h = let q = and-e (at ds z) (at supports (256 * k + 16 * u + v)) w h in (u-has .0, (v-has .0, q .0, q .1))
 
-  met-e : (a b w : ℕ) → M a b w → T (has t w)
-  met-e a b w q =
+  together-e : (a b w : ℕ) → M a b w → T (has t w)
+  together-e a b w q =
       and-i (at ds z) (at supports (256 * k + 16 * u + v)) w (q .1 .1)
       (subst (λ (i : ℕ). T (has (at supports (256 * k + 16 * i + v)) w)) (is-u a (q .0)) (subst (λ (i : ℕ). T (has (at supports (256 * k + 16 * a + i)) w)) (is-v b (q .1 .0)) (q .1 .2)))
 
@@ -443,7 +445,7 @@ module _ {c : Constraint} {supports : List ℕ} {k x y z : ℕ} (p : Scoped c su
   }
     where
       no : (a b w : ℕ) → M a b w → ⊥
-      no a b w q = has-0 w (subst (λ (n : ℕ). T (has n w)) e (met-e a b w q))
+      no a b w q = has-0 w (subst (λ (n : ℕ). T (has n w)) e (together-e a b w q))
 
   some : (t ≡ 0 → ⊥) → Joined3 M (at ds x) (at ds y) t
   some n = record {
@@ -451,19 +453,19 @@ module _ {c : Constraint} {supports : List ℕ} {k x y z : ℕ} (p : Scoped c su
     first-e = λ a q. (v, (w, subst (λ (i : ℕ). M i v w) (sym (is-u a q)) m));
     second-i = λ a b w q. q .1 .0;
     second-e = λ b q. (u, (w, subst (λ (i : ℕ). M u i w) (sym (is-v b q)) m));
-    last-i = met-e;
-    last-e = λ i q. (u, (v, met-i i q));
+    last-i = together-e;
+    last-e = λ i q. (u, (v, together-i i q));
   }
     where
       w : ℕ
       w = member t (lt-of-le-of-lt (and-le-l (at ds z) (at supports (256 * k + 16 * u + v))) (s .1 z)) n .0
 
       m : M u v w
-      m = met-i w (member t (lt-of-le-of-lt (and-le-l (at ds z) (at supports (256 * k + 16 * u + v))) (s .1 z)) n .2)
+      m = together-i w (member t (lt-of-le-of-lt (and-le-l (at ds z) (at supports (256 * k + 16 * u + v))) (s .1 z)) n .2)
 
-  pub three-last : (es : List ℕ) (r : ℕ) → Cut ds es z t r → Revision c ds es r
-  three-last es r a =
-      cut p ds s z t mz es r a
+  pub three-last : (i : ℕ) → i ≡ 256 * k + 16 * lowestOf (at ds x) + lowestOf (at ds y) → (es : List ℕ) (r : ℕ) → SetCut ds es z (bitAnd (at ds z) (at supports i)) r → Revision c ds es r
+  three-last i f es r a =
+      cut p ds s z t mz es r (subst (λ (n : ℕ). SetCut ds es z (bitAnd (at ds z) (at supports n)) r) f a)
       (λ e. sym (ap (λ (l : List ℕ). at l z) (three-sets p ds s 0 0 0 (lit< tt) (lit< tt) (lit< tt) (none e))) ∙ at-z-3 p ds s 0 0 0 (lit< tt) (lit< tt) (lit< tt) (none e))
       (λ n. ap (λ (l : List ℕ). set l z t) (sym same) ∙ three-sets p ds s (at ds x) (at ds y) t (s .1 x) (s .1 y) (lt-of-le-of-lt (and-le-l (at ds z) (at supports (256 * k + 16 * u + v))) (s .1 z)) (some n))
     where

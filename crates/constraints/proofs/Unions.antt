@@ -1,6 +1,6 @@
 -- The loops that run through the members of a set and unite what each of them gives. Assumes nothing.
-use mathlib.Core.Path.{_≡_, refl, sym, ap, subst}
-use mathlib.Core.Bool.{not}
+use mathlib.Core.Path.{_≡_, refl, sym, ap, _∙_, subst}
+use mathlib.Core.Bool.{Bool, not}
 use mathlib.Core.List.{List}
 use Prim.Native.Nat.{ℕ, _+_, _-_, _*_, _/_, _%_, _^_, _<_}
 use native.Mathlib.Nat.{lt-of-le-of-lt}
@@ -10,18 +10,20 @@ use lib.Bits.{bitAnd, bitOr, and-le-l, and-le-r, or-add-and}
 use lib.Count.{trailingZeros}
 use borrow.Author.Tests.{eq-eqb, ne-eqb}
 use Rattle.model.specs.Lists.{at}
-use Rattle.model.specs.ValueSets.{has, oneIf}
+use Rattle.model.specs.ValueSets.{has, maskOf, withoutMask, unionMask, lowestOf, oneIf}
 use Rattle.model.proofs.Lists.{T-of, both-i, both-l, both-r}
-use Rattle.model.proofs.Sets.{has-lt}
-use Rattle.model.proofs.Members.{low-has, Rest, rest-begin, rest-turn, has-0, Union, union-begin, union-turn, union-end, and-i, and-e}
+use Rattle.model.proofs.Sets.{has-lt, mask-lt}
+use Rattle.model.proofs.Members.{low-has, Rest, rest-begin, has-0, Union, union-begin, union-end, lowest-left, others-left, others-union, and-i, and-e, or-zero-e}
+use Rattle.layout.specs.Places.{OTHERS, LANES}
 use Rattle.layout.specs.Tables.{Words}
-use Rattle.constraints.specs.Steps.{Met, Joined, Met3, Met8, Joined3, Gathered}
+use Rattle.constraints.specs.Steps.{Together, Joined, Together3, Together8, Joined3, Touched}
 use Rattle.constraints.specs.Lanes.{FullLanes, LaneUnion, Product}
-use Rattle.model.proofs.Masks.{has-oneIf}
+use Rattle.constraints.proofs.Bits.{one-small}
+use Rattle.model.proofs.Masks.{has-oneIf, union-op}
 
 -- a bound of a union of three sets is one of each
-pub parts-lt : (n a b e : ℕ) → bitOr (bitOr a b) e < n → (a < n) × (b < n) × (e < n)
-parts-lt n a b e h =
+or-parts : (n a b e : ℕ) → bitOr (bitOr a b) e < n → (a < n) × (b < n) × (e < n)
+or-parts n a b e h =
     let p = or-add-and (bitOr a b) e in
     let q = or-add-and a b in
     let i = and-le-l (bitOr a b) e in
@@ -29,6 +31,11 @@ parts-lt n a b e h =
     let k = and-le-l a b in
     let l = and-le-r a b in
     (omega arith, omega arith, omega arith)
+
+pub parts-lt : (n a b e s t : ℕ) → a < 2 ^ 16 → b < 2 ^ 16 → e < 2 ^ 16 → s ≡ unionMask a b → t ≡ unionMask s e → t < n → (a < n) × (b < n) × (e < n)
+parts-lt n a b e s t ha hb he es et h =
+    or-parts n a b e
+    (subst (λ (z : ℕ). z < n) (et ∙ sym (union-op s e (subst (λ (z : ℕ). z < 2 ^ 16) (sym es) (mask-lt 16 _)) he) ∙ ap (λ (z : ℕ). bitOr z e) (es ∙ sym (union-op a b ha hb))) h)
 
 pub and-wide : (a b : ℕ) → b < 2 ^ 16 → bitAnd a b < 2 ^ 64
 and-wide a b h = omega (arith, and-le-r a b)
@@ -44,6 +51,16 @@ one-e k s u w h t =
     let n : s ≡ 0 → ⊥ = λ e. subst T (ap not (eq-eqb s 0 e)) (both-l (not (eqb s 0)) (eqb w u) q) in
     (lib.Dec.eqb→eq w u (both-r (not (eqb s 0)) (eqb w u) q), (trailingZeros k s, low-has k s (omega arith) h .0))
 
+one-lt : (s : ℕ) (b : Bool) (v : ℕ) → s ≡ oneIf b v → v < 16 → s < 2 ^ 16
+one-lt s b v e h = subst (λ (z : ℕ). z < 2 ^ 16) (sym e) (one-small b v h)
+
+pub small : (f : ℕ → Bool) (r : ℕ) → r ≡ maskOf f → r < 2 ^ 16
+small f r e = subst (λ (z : ℕ). z < 2 ^ 16) (sym e) (mask-lt 16 f)
+
+-- a union without members
+pub union-none : (s t r : ℕ) → s < 2 ^ 16 → t < 2 ^ 16 → r ≡ unionMask s t → r ≡ 0 → (s ≡ 0) × (t ≡ 0)
+union-none s t r h i e z = or-zero-e s t (union-op s t h i ∙ sym e ∙ z)
+
 -- ---- two sets by sixteen sets of a table
 module _ (t : List ℕ) (base a b : ℕ) where
   -- v gives itself where its set meets b, and the values of b that its set has
@@ -55,31 +72,31 @@ module _ (t : List ℕ) (base a b : ℕ) where
 
   pub record Joining (m first last : ℕ) : Type 0 where
     pub rest : Rest 16 a m
+    pub narrow : first < 2 ^ 16
     pub firsts : Union Meets a m first
     pub lasts : Union Gives a m last
 
   pub joining-begin : a < 2 ^ 16 → Joining a 0 0
-  joining-begin h = record { rest = rest-begin 16 a h; firsts = union-begin Meets a; lasts = union-begin Gives a }
+  joining-begin h = record { rest = rest-begin 16 a h; narrow = omega arith; firsts = union-begin Meets a; lasts = union-begin Gives a }
 
-  pub joining-turn : (k m first last s : ℕ) → Joining m first last → (m ≡ 0 → ⊥) → b < 2 ^ k → s ≡ oneIf (not (eqb (bitAnd (at t (base + trailingZeros 16 m)) b) 0)) (trailingZeros 16 m) →
-      Joining (bitAnd m (m - 1)) (bitOr first s) (bitOr last (bitAnd (at t (base + trailingZeros 16 m)) b))
-  joining-turn k m first last s j n h e = record {
-    rest = rest-turn 16 a m (j .rest) n;
+  -- the lowest value v of those left
+  pub joining-turn : (k m v m′ : ℕ) {first s first′ last last′ : ℕ} → Joining m first last → (m ≡ 0 → ⊥) → v ≡ lowestOf m → m′ ≡ withoutMask m (lowestOf m) → b < 2 ^ k →
+      s ≡ oneIf (not (eqb (bitAnd (at t (base + v)) b) 0)) v → first′ ≡ unionMask first s → last′ ≡ bitOr last (bitAnd (at t (base + v)) b) → Joining m′ first′ last′
+  joining-turn k m v m′ {first} {s} {first′} {last} {last′} j n low less h e f l = record {
+    rest = others-left a m v (j .rest) n low m′ less;
+    narrow = small _ first′ f;
     firsts =
-        union-turn Meets 16 a m first s (j .rest) n (j .firsts)
+        others-union a m v (j .rest) n low m′ less Meets first s first′ (j .firsts) (f ∙ sym (union-op first s (j .narrow) (one-lt s (not (eqb x 0)) v e (lowest-left a m v (j .rest) n low .1))))
         (λ u q. subst (λ (z : ℕ). T (has z u)) (sym e) (subst (λ (z : ℕ). T (has (oneIf (not (eqb x 0)) v) z)) (sym (q .0)) (one-i x v (q .1 .0) (and-i (at t (base + v)) b (q .1 .0) (q .1 .2) (q .1 .1)))))
         (λ u q. let r = one-e k x v u (lt-of-le-of-lt (and-le-r (at t (base + v)) b) h) (subst (λ (z : ℕ). T (has z u)) e q) in let d = and-e (at t (base + v)) b (r .1 .0) (r .1 .1) in (r .0, (r .1 .0, d .1, d .0)));
     lasts =
-        union-turn Gives 16 a m last x (j .rest) n (j .lasts)
+        others-union a m v (j .rest) n low m′ less Gives last x last′ (j .lasts) l
         (λ w q. and-i (at t (base + v)) b w (q .1) (q .0))
         (λ w q. let d = and-e (at t (base + v)) b w q in (d .1, d .0));
   }
     where
-      v : ℕ
-      v = trailingZeros 16 m
-
       x : ℕ
-      x = bitAnd (at t (base + trailingZeros 16 m)) b
+      x = bitAnd (at t (base + v)) b
 
   pub joining-end : (m first last : ℕ) → m ≡ 0 → Joining m first last → Joined t base a b first last
   joining-end m first last e j = record {
@@ -92,40 +109,42 @@ module _ (t : List ℕ) (base a b : ℕ) where
 -- ---- three sets by 256 sets of a table
 module _ (t : List ℕ) (base a b e : ℕ) where
   abbrev Firsts : ℕ → ℕ → Type 0
-  Firsts u x = (x ≡ u) × ((v : ℕ) × ((w : ℕ) × Met t (base + 16 * u) b e v w))
+  Firsts u x = (x ≡ u) × ((v : ℕ) × ((w : ℕ) × Together t (base + 16 * u) b e v w))
 
   abbrev Seconds : ℕ → ℕ → Type 0
-  Seconds u v = (w : ℕ) × Met t (base + 16 * u) b e v w
+  Seconds u v = (w : ℕ) × Together t (base + 16 * u) b e v w
 
   abbrev Lasts : ℕ → ℕ → Type 0
-  Lasts u w = (v : ℕ) × Met t (base + 16 * u) b e v w
+  Lasts u w = (v : ℕ) × Together t (base + 16 * u) b e v w
 
   pub record Joining3 (m first second last : ℕ) : Type 0 where
     pub rest : Rest 16 a m
+    pub narrow : (first < 2 ^ 16) × (second < 2 ^ 16) × (last < 2 ^ 16)
     pub firsts : Union Firsts a m first
     pub seconds : Union Seconds a m second
     pub lasts : Union Lasts a m last
 
   pub joining3-begin : a < 2 ^ 16 → Joining3 a 0 0 0
-  joining3-begin h = record { rest = rest-begin 16 a h; firsts = union-begin Firsts a; seconds = union-begin Seconds a; lasts = union-begin Lasts a }
+  joining3-begin h = record { rest = rest-begin 16 a h; narrow = (omega arith, omega arith, omega arith); firsts = union-begin Firsts a; seconds = union-begin Seconds a; lasts = union-begin Lasts a }
 
-  pub joining3-turn : (m first second last s x y : ℕ) → Joining3 m first second last → (m ≡ 0 → ⊥) → x < 2 ^ 16 → Joined t (base + 16 * trailingZeros 16 m) b e x y → s ≡ oneIf (not (eqb x 0)) (trailingZeros 16 m) →
-      Joining3 (bitAnd m (m - 1)) (bitOr first s) (bitOr second x) (bitOr last y)
-  joining3-turn m first second last s x y j n h r q = record {
-    rest = rest-turn 16 a m (j .rest) n;
+  pub joining3-turn : (m u m′ : ℕ) {first s first′ second x second′ last y last′ : ℕ} → Joining3 m first second last → (m ≡ 0 → ⊥) → u ≡ lowestOf m → m′ ≡ withoutMask m (lowestOf m) →
+      x < 2 ^ 16 → y < 2 ^ 16 → Joined t (base + 16 * u) b e x y → s ≡ oneIf (not (eqb x 0)) u → first′ ≡ unionMask first s → second′ ≡ unionMask second x → last′ ≡ unionMask last y → Joining3 m′ first′ second′ last′
+  joining3-turn m u m′ {first} {s} {first′} {second} {x} {second′} {last} {y} {last′} j n low less h i r q f g l = record {
+    rest = others-left a m u (j .rest) n low m′ less;
+    narrow = (small _ first′ f, small _ second′ g, small _ last′ l);
     firsts =
-        union-turn Firsts 16 a m first s (j .rest) n (j .firsts)
-        (λ u i. subst (λ (z : ℕ). T (has z u)) (sym q) (subst (λ (z : ℕ). T (has (oneIf (not (eqb x 0)) (trailingZeros 16 m)) z)) (sym (i .0)) (one-i x (trailingZeros 16 m) (i .1 .0) (r .first-i (i .1 .0) (i .1 .1 .0) (i .1 .1 .1)))))
-        (λ u i. let k = one-e 16 x (trailingZeros 16 m) u h (subst (λ (z : ℕ). T (has z u)) q i) in (k .0, (k .1 .0, r .first-e (k .1 .0) (k .1 .1))));
-    seconds = union-turn Seconds 16 a m second x (j .rest) n (j .seconds) (λ v i. r .first-i v (i .0) (i .1)) (λ v i. r .first-e v i);
-    lasts = union-turn Lasts 16 a m last y (j .rest) n (j .lasts) (λ w i. r .last-i (i .0) w (i .1)) (λ w i. r .last-e w i);
+        others-union a m u (j .rest) n low m′ less Firsts first s first′ (j .firsts) (f ∙ sym (union-op first s (j .narrow .0) (one-lt s (not (eqb x 0)) u q (lowest-left a m u (j .rest) n low .1))))
+        (λ z i. subst (λ (c : ℕ). T (has c z)) (sym q) (subst (λ (c : ℕ). T (has (oneIf (not (eqb x 0)) u) c)) (sym (i .0)) (one-i x u (i .1 .0) (r .first-i (i .1 .0) (i .1 .1 .0) (i .1 .1 .1)))))
+        (λ z i. let k = one-e 16 x u z h (subst (λ (c : ℕ). T (has c z)) q i) in (k .0, (k .1 .0, r .first-e (k .1 .0) (k .1 .1))));
+    seconds = others-union a m u (j .rest) n low m′ less Seconds second x second′ (j .seconds) (g ∙ sym (union-op second x (j .narrow .1) h)) (λ v i. r .first-i v (i .0) (i .1)) (λ v i. r .first-e v i);
+    lasts = others-union a m u (j .rest) n low m′ less Lasts last y last′ (j .lasts) (l ∙ sym (union-op last y (j .narrow .2) i)) (λ w i. r .last-i (i .0) w (i .1)) (λ w i. r .last-e w i);
   }
 
-  pub joining3-end : (m first second last : ℕ) → m ≡ 0 → Joining3 m first second last → Joined3 (Met3 t base a b e) first second last
+  pub joining3-end : (m first second last : ℕ) → m ≡ 0 → Joining3 m first second last → Joined3 (Together3 t base a b e) first second last
   joining3-end m first second last z j = record {
     first-i = λ u v w q. union-end Firsts a m first z (j .firsts) u u (q .0) (refl, (v, (w, q .1)));
     first-e = λ u q. let r = j .firsts .got u q in
-        (r .2 .1 .0, (r .2 .1 .1 .0, (subst (λ (y : ℕ). T (has a y)) (sym (r .2 .0)) (r .1), subst (λ (y : ℕ). Met t (base + 16 * y) b e (r .2 .1 .0) (r .2 .1 .1 .0)) (sym (r .2 .0)) (r .2 .1 .1 .1))));
+        (r .2 .1 .0, (r .2 .1 .1 .0, (subst (λ (y : ℕ). T (has a y)) (sym (r .2 .0)) (r .1), subst (λ (y : ℕ). Together t (base + 16 * y) b e (r .2 .1 .0) (r .2 .1 .1 .0)) (sym (r .2 .0)) (r .2 .1 .1 .1))));
     second-i = λ u v w q. union-end Seconds a m second z (j .seconds) u v (q .0) (w, q .1);
     second-e = λ v q. let r = j .seconds .got v q in (r .0, (r .2 .0, (r .1, r .2 .1)));
     last-i = λ u v w q. union-end Lasts a m last z (j .lasts) u w (q .0) (v, q .1);
@@ -144,19 +163,19 @@ joined3-map f g j = record {
 
 -- ---- three sets of values below 8 by numbers of eight lanes
 module _ (t : List ℕ) (base a b e inside : ℕ) (k : b < 2 ^ 8) (l : e < 2 ^ 8) (small : inside < 2 ^ 64) (p : Product b e inside) where
-  to : (u v w : ℕ) → Met8 t base a b e u v w → Met t base a inside u (8 * v + w)
+  to : (u v w : ℕ) → Together8 t base a b e u v w → Together t base a inside u (8 * v + w)
   to u v w q = (q .0, subst T (sym (p v w (has-lt 8 b v k (q .1)) (has-lt 8 e w l (q .2)))) (both-i (has b v) (has e w) (q .1) (q .2)), q .3)
 
-  from : (u v w : ℕ) → v < 8 → w < 8 → Met t base a inside u (8 * v + w) → Met8 t base a b e u v w
+  from : (u v w : ℕ) → v < 8 → w < 8 → Together t base a inside u (8 * v + w) → Together8 t base a b e u v w
   from u v w h i q = let r = subst T (p v w h i) (q .1) in (q .0, both-l (has b v) (has e w) r, both-r (has b v) (has e w) r, q .2)
 
-  split : (u i : ℕ) → Met t base a inside u i → Met8 t base a b e u (i / 8) (i % 8)
+  split : (u i : ℕ) → Together t base a inside u i → Together8 t base a b e u (i / 8) (i % 8)
   split u i q =
       let h : i < 64 = has-lt 64 inside i small (q .1) in
       let f : i ≡ 8 * (i / 8) + i % 8 = omega arith in
-      from u (i / 8) (i % 8) (omega arith) (omega arith) (subst (λ (z : ℕ). Met t base a inside u z) f q)
+      from u (i / 8) (i % 8) (omega arith) (omega arith) (subst (λ (z : ℕ). Together t base a inside u z) f q)
 
-  pub joined-lanes : (first all second last : ℕ) → Joined t base a inside first all → FullLanes all second → LaneUnion all last → Joined3 (Met8 t base a b e) first second last
+  pub joined-lanes : (first all second last : ℕ) → Joined t base a inside first all → FullLanes all second → LaneUnion all last → Joined3 (Together8 t base a b e) first second last
   joined-lanes first all second last j f g = record {
     first-i = λ u v w q. j .first-i u (8 * v + w) (to u v w q);
     first-e = λ u q. let r = j .first-e u q in (r .0 / 8, (r .0 % 8, split u (r .0) (r .1)));
@@ -168,18 +187,18 @@ module _ (t : List ℕ) (base a b e inside : ℕ) (k : b < 2 ^ 8) (l : e < 2 ^ 8
 
 -- the same as by the sets of the table
 module _ (numbers supports : List ℕ) (g : Words numbers supports) (k a b e : ℕ) (h : k < 32) (x : a < 2 ^ 8) (y : b < 2 ^ 8) (z : e < 2 ^ 8) where
-  pub worded : (first second last : ℕ) → Joined3 (Met8 numbers (128 + 8 * k) a b e) first second last → Joined3 (Met3 supports (256 * k) a b e) first second last
+  pub worded : (first second last : ℕ) → Joined3 (Together8 numbers (LANES + 8 * k) a b e) first second last → Joined3 (Together3 supports (256 * k) a b e) first second last
   worded first second last =
       joined3-map
       (λ u v w q. (q .0, (q .1, q .2, subst T (g k u v w h (has-lt 8 a u x (q .0)) (has-lt 8 b v y (q .1)) (has-lt 8 e w z (q .2))) (q .3))))
       (λ u v w q. (q .0, q .1 .0, q .1 .1, subst T (sym (g k u v w h (has-lt 8 a u x (q .0)) (has-lt 8 b v y (q .1 .0)) (has-lt 8 e w z (q .1 .1)))) (q .1 .2)))
 
 -- ---- the numbers at the members of a set
-abbrev pub Stands : List ℕ → ℕ → ℕ → Type 0
-Stands numbers x k = T (has (at numbers (72 + x)) k)
+abbrev pub Touches : List ℕ → ℕ → ℕ → Type 0
+Touches numbers x k = T (has (at numbers (OTHERS + x)) k)
 
-pub gathered : (numbers : List ℕ) (a m all : ℕ) → m ≡ 0 → Union (Stands numbers) a m all → Gathered numbers a all
-gathered numbers a m all e u = record {
-  gathered-i = λ x k t q. union-end (Stands numbers) a m all e u x k t q;
-  gathered-e = λ k t. u .got k t;
+pub touched-all : (numbers : List ℕ) (a m all : ℕ) → m ≡ 0 → Union (Touches numbers) a m all → Touched numbers a all
+touched-all numbers a m all e u = record {
+  touched-i = λ x k t q. union-end (Touches numbers) a m all e u x k t q;
+  touched-e = λ k t. u .got k t;
 }

@@ -1,35 +1,37 @@
 -- What the functions inside this crate say to each other: tables of sets, and one constraint at a time.
+-- No reader has to believe this: it stands between proved functions.
 use mathlib.Core.Path.{_≡_}
-use mathlib.Core.Bool.{Bool, true, false, not}
+use mathlib.Core.Bool.{not}
 use mathlib.Core.List.{List, [], _∷_, _++_, List·Memᴰ}
-use Prim.Native.Nat.{ℕ, suc, _+_, _*_, _^_, _≤_, _<_}
+use Prim.Native.Nat.{ℕ, suc, _+_, _*_, _≤_, _<_}
 use lib.Dec.{T, eqb}
 use lib.ListN.{length, set}
 use Rattle.model.specs.Lists.{any, at, same, ascending}
 use Rattle.model.specs.ValueSets.{has, maskOf, oneIf}
 use Rattle.model.specs.Problem.{Problem, Constraint}
 use Rattle.model.specs.WellFormed.{WellFormed}
+use Rattle.layout.specs.Places.{OTHERS, DEAD}
 use Rattle.layout.specs.Layout.{Numbers, Supports, place}
 use Rattle.layout.specs.Tables.{Words}
 
 -- v of a and w of b go together: w is in the set of the table that stands v after the base
-abbrev pub Met : List ℕ → ℕ → ℕ → ℕ → ℕ → ℕ → Type 0
-Met t base a b v w = T (has a v) × T (has b w) × T (has (at t (base + v)) w)
+abbrev pub Together : List ℕ → ℕ → ℕ → ℕ → ℕ → ℕ → Type 0
+Together t base a b v w = T (has a v) × T (has b w) × T (has (at t (base + v)) w)
 
 -- the values of a and of b that go together with some value of the other set
 pub record Joined (t : List ℕ) (base a b first last : ℕ) : Type 0 where
-  pub first-i : (v w : ℕ) → Met t base a b v w → T (has first v)
-  pub first-e : (v : ℕ) → T (has first v) → (w : ℕ) × Met t base a b v w
-  pub last-i : (v w : ℕ) → Met t base a b v w → T (has last w)
-  pub last-e : (w : ℕ) → T (has last w) → (v : ℕ) × Met t base a b v w
+  pub first-i : (v w : ℕ) → Together t base a b v w → T (has first v)
+  pub first-e : (v : ℕ) → T (has first v) → (w : ℕ) × Together t base a b v w
+  pub last-i : (v w : ℕ) → Together t base a b v w → T (has last w)
+  pub last-e : (w : ℕ) → T (has last w) → (v : ℕ) × Together t base a b v w
 
 -- three values that go together, each of its set: sixteen sets of the table for each value of the first
-abbrev pub Met3 : List ℕ → ℕ → ℕ → ℕ → ℕ → ℕ → ℕ → ℕ → Type 0
-Met3 t base a b e u v w = T (has a u) × Met t (base + 16 * u) b e v w
+abbrev pub Together3 : List ℕ → ℕ → ℕ → ℕ → ℕ → ℕ → ℕ → ℕ → Type 0
+Together3 t base a b e u v w = T (has a u) × Together t (base + 16 * u) b e v w
 
 -- the same by a number of eight lanes for each value of the first
-abbrev pub Met8 : List ℕ → ℕ → ℕ → ℕ → ℕ → ℕ → ℕ → ℕ → Type 0
-Met8 t base a b e u v w = T (has a u) × T (has b v) × T (has e w) × T (has (at t (base + u)) (8 * v + w))
+abbrev pub Together8 : List ℕ → ℕ → ℕ → ℕ → ℕ → ℕ → ℕ → ℕ → Type 0
+Together8 t base a b e u v w = T (has a u) × T (has b v) × T (has e w) × T (has (at t (base + u)) (8 * v + w))
 
 -- the values that go together with some values of the other two sets
 pub record Joined3 (M : ℕ → ℕ → ℕ → Type 0) (first second last : ℕ) : Type 0 where
@@ -54,21 +56,22 @@ abbrev pub Nonempty : List ℕ → List ℕ → Type 0
 Nonempty scope sets = (x : ℕ) → List·Memᴰ x scope → at sets x ≡ 0 → ⊥
 
 -- the arrays hold the constraints of p
-pub record Holding (p : Problem) (numbers supports : List ℕ) : Type 0 where
+pub record ConstraintsHeld (p : Problem) (numbers supports : List ℕ) : Type 0 where
   pub wellFormed : WellFormed p
   pub numbered : Numbers p numbers
   pub tabled : Supports p supports
   pub worded : Words numbers supports
   pub constraints : length (p .constraints) ≤ 32
 
--- the set of x becomes t; at 65536 t is empty and nothing is stored
-pub record Cut (ds es : List ℕ) (x t r : ℕ) : Type 0 where
-  pub ended : r ≡ 65536 → t ≡ 0
-  pub full : (r ≡ 65536 → ⊥) → t ≡ 0 → ⊥
-  pub stored : (r ≡ 65536 → ⊥) → es ≡ set ds x t
-  pub moved : (r ≡ 65536 → ⊥) → r ≡ oneIf (not (eqb t (at ds x))) x
+-- the set of x becomes t; at DEAD t is empty and nothing is stored
+pub record SetCut (ds es : List ℕ) (x t r : ℕ) : Type 0 where
+  pub ended : r ≡ DEAD → t ≡ 0
+  pub kept : r ≡ DEAD → es ≡ ds
+  pub full : (r ≡ DEAD → ⊥) → t ≡ 0 → ⊥
+  pub stored : (r ≡ DEAD → ⊥) → es ≡ set ds x t
+  pub moved : (r ≡ DEAD → ⊥) → r ≡ oneIf (not (eqb t (at ds x))) x
 
--- the union of the numbers that stand from 72 on at the members of a set
-pub record Gathered (numbers : List ℕ) (changed r : ℕ) : Type 0 where
-  pub gathered-i : (x k : ℕ) → T (has changed x) → T (has (at numbers (72 + x)) k) → T (has r k)
-  pub gathered-e : (k : ℕ) → T (has r k) → (x : ℕ) × T (has changed x) × T (has (at numbers (72 + x)) k)
+-- the constraints, but those pruned by variable, that have one of the changed variables in their scope: the union of what OTHERS has for each
+pub record Touched (numbers : List ℕ) (changed r : ℕ) : Type 0 where
+  pub touched-i : (x k : ℕ) → T (has changed x) → T (has (at numbers (OTHERS + x)) k) → T (has r k)
+  pub touched-e : (k : ℕ) → T (has r k) → (x : ℕ) × T (has changed x) × T (has (at numbers (OTHERS + x)) k)

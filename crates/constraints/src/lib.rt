@@ -1,20 +1,24 @@
 // Pruning by single constraints (paper 01, "The search"), over the arrays of the compiled problem.
 use layout::DEAD;
+use layout::LANES;
+use layout::OTHERS;
+use layout::SCOPES;
+use model::ValueSet;
 ghost use mathlib.Core.Path.{_≡_};
 ghost use mathlib.Core.Bool.{not};
 ghost use mathlib.Core.List.{[], _∷_};
-ghost use Prim.Native.Nat.{ℕ, _+_, _*_, _≤_, _<_};
+ghost use Prim.Native.Nat.{_+_, _*_, _≤_, _<_};
 ghost use lib.Dec.{eqb};
 ghost use lib.Bits.{bitAnd};
 ghost use lib.ListN.{length};
 ghost use Rattle.model.specs.Lists.{at};
+ghost use Rattle.model.specs.ValueSets.{withoutMask, lowestOf, oneIf};
 ghost use Rattle.model.specs.Problem.{Problem, Constraint};
 ghost use Rattle.model.specs.Pruning.{Sets};
 ghost use Rattle.layout.specs.Layout.{constraintAt};
 ghost use Rattle.layout.specs.Tables.{Words};
-ghost use Rattle.constraints.specs.Revised.{Revision, Waiting, Constrained};
-ghost use Rattle.constraints.specs.Steps.{Joined, Met3, Met8, Joined3, Scoped, Nonempty, Holding, Cut, Gathered};
-ghost use Rattle.model.specs.ValueSets.{oneIf};
+ghost use Rattle.constraints.specs.Revised.{Revision, ConstraintsPending, Constrained};
+ghost use Rattle.constraints.specs.Steps.{Joined, Together3, Together8, Joined3, Scoped, Nonempty, ConstraintsHeld, SetCut, Touched};
 ghost use Rattle.constraints.specs.Lanes.{FullLanes, LaneUnion, Product};
 
 // Bits of a number of eight lanes: the first of each lane, the first two of each second, the first four of each fourth.
@@ -25,66 +29,87 @@ const PAIRS: u64 = 844437815230467;
 const FOURS: u64 = 64424509455;
 
 struct Two {
-    first: u16,
-    last: u16,
+    first: ValueSet,
+    last: ValueSet,
 }
 
 struct Three {
-    first: u16,
-    second: u16,
-    last: u16,
+    first: ValueSet,
+    second: ValueSet,
+    last: ValueSet,
 }
 
-// The set of v where t is not empty.
-fn mark(t: u64, v: u32) -> u16
-    requires { ⌜ v < 16 ⌝ }
-    ensures { λ r. ⌜ r ≡ oneIf (not (eqb t 0)) v ⌝ }
+// The set without its lowest value.
+fn rest(set: ValueSet) -> ValueSet
+    ensures { λ r. ⌜ r .bits ≡ withoutMask (set .bits) (lowestOf (set .bits)) ⌝ }
 {
-    if t != 0 { 1u16 << v } else { 0 }
+    if set.is_empty() {
+        return set;
+    }
+    ValueSet {
+        bits: set.bits & (set.bits - 1),
+    }
+}
+
+// The set of v, or the empty set.
+fn one_if(b: bool, v: u32) -> ValueSet
+    requires { ⌜ v < 16 ⌝ }
+    ensures { λ r. ⌜ r .bits ≡ oneIf b v ⌝ }
+{
+    if b {
+        ValueSet::full(16).only(v as u16)
+    } else {
+        ValueSet::EMPTY
+    }
 }
 
 // The set of x where the sets a and b differ.
-pub fn moved(a: u16, b: u16, x: usize) -> u64
+pub fn moved(a: ValueSet, b: ValueSet, x: usize) -> u64
     requires { ⌜ x < 16 ⌝ }
-    ensures { λ r. ⌜ r ≡ oneIf (not (eqb b a)) x ⌝ }
+    ensures { λ r. ⌜ r ≡ oneIf (not (eqb (b .bits) (a .bits))) x ⌝ }
 {
-    if b != a { 1u64 << x } else { 0 }
+    if b.bits != a.bits { 1u64 << x } else { 0 }
 }
 
 // The values of a and of b that go together with one of the other set, by the sixteen sets of the table from a base on.
-fn joined(supports: &[u16; 8192], base: usize, a: u16, b: u16) -> Two
+fn joined(supports: &[u16; 8192], base: usize, a: ValueSet, b: ValueSet) -> Two
     requires { ⌜ base + 16 ≤ 8192 ⌝ }
-    ensures { λ r. ⌜ Joined (now (supports .entry)) base a b (r .first) (r .last) ⌝ }
+    ensures { λ r. ⌜ Joined (now (supports .entry)) base (a .bits) (b .bits) (r .first .bits) (r .last .bits) ⌝ }
 {
-    let mut first = 0u16;
-    let mut last = 0u16;
-    let mut m = a;
-    while m != 0 {
-        let v = u16::trailing_zeros(m);
-        let t = supports[base + (v as usize)] & b;
-        first = first | mark(t as u64, v);
-        last = last | t;
-        m = m & (m - 1);
+    let mut first = ValueSet::EMPTY;
+    let mut last = ValueSet::EMPTY;
+    let mut left = a;
+    while !left.is_empty() {
+        let v = left.lowest();
+        let support = ValueSet {
+            bits: supports[base + (v as usize)],
+        };
+        let t = support.common(b);
+        first = first.union(one_if(!t.is_empty(), v));
+        last = last.union(t);
+        left = rest(left);
     }
     Two { first, last }
 }
 
 // The same for three sets, by 256 sets of the table.
-fn joined3(supports: &[u16; 8192], base: usize, a: u16, b: u16, e: u16) -> Three
+fn joined3(supports: &[u16; 8192], base: usize, a: ValueSet, b: ValueSet, e: ValueSet) -> Three
     requires { ⌜ base + 256 ≤ 8192 ⌝ }
-    ensures { λ r. ⌜ Joined3 (Met3 (now (supports .entry)) base a b e) (r .first) (r .second) (r .last) ⌝ }
+    ensures { λ r. ⌜ Joined3 (Together3 (now (supports .entry)) base (a .bits) (b .bits) (e .bits)) (r .first .bits) (r .second .bits) (r .last .bits) ⌝ }
 {
-    let mut first = 0u16;
-    let mut second = 0u16;
-    let mut last = 0u16;
-    let mut m = a;
-    while m != 0 {
-        let u = u16::trailing_zeros(m);
+    let mut first = ValueSet::EMPTY;
+    let mut second = ValueSet::EMPTY;
+    let mut last = ValueSet::EMPTY;
+    let mut left = a;
+    while !left.is_empty() {
+        let u = left.lowest();
         let r = joined(supports, base + 16 * (u as usize), b, e);
-        first = first | mark(r.first as u64, u);
-        second = second | r.first;
-        last = last | r.last;
-        m = m & (m - 1);
+        let t = r.first;
+        let s = r.last;
+        first = first.union(one_if(!t.is_empty(), u));
+        second = second.union(t);
+        last = last.union(s);
+        left = rest(left);
     }
     Three {
         first,
@@ -94,57 +119,61 @@ fn joined3(supports: &[u16; 8192], base: usize, a: u16, b: u16, e: u16) -> Three
 }
 
 // The lanes that are not empty.
-fn full_lanes(w: u64) -> u16
-    ensures { λ r. ⌜ FullLanes w r ⌝ }
+fn full_lanes(w: u64) -> ValueSet
+    ensures { λ r. ⌜ FullLanes w (r .bits) ⌝ }
 {
     let a = w | (w >> 4);
     let b = a | (a >> 2);
     let c = (b | (b >> 1)) & ONES;
     let d = (c | (c >> 7)) & PAIRS;
     let e = (d | (d >> 14)) & FOURS;
-    ((e | (e >> 28)) & 255) as u16
+    ValueSet {
+        bits: ((e | (e >> 28)) & 255) as u16,
+    }
 }
 
 // The union of the lanes.
-fn union_of(w: u64) -> u16
-    ensures { λ r. ⌜ LaneUnion w r ⌝ }
+fn union_of(w: u64) -> ValueSet
+    ensures { λ r. ⌜ LaneUnion w (r .bits) ⌝ }
 {
     let a = w | (w >> 32);
     let b = a | (a >> 16);
-    ((b | (b >> 8)) & 255) as u16
+    ValueSet {
+        bits: ((b | (b >> 8)) & 255) as u16,
+    }
 }
 
 // The set e in every lane of b.
-fn product(b: u16, e: u16) -> u64
-    requires { ⌜ b < 256 ⌝ }
-    requires { ⌜ e < 256 ⌝ }
-    ensures { λ r. ⌜ Product b e r ⌝ }
+fn product(b: ValueSet, e: ValueSet) -> u64
+    requires { ⌜ b .bits < 256 ⌝ }
+    requires { ⌜ e .bits < 256 ⌝ }
+    ensures { λ r. ⌜ Product (b .bits) (e .bits) r ⌝ }
 {
-    let p = b as u64;
+    let p = b.bits as u64;
     let q = (p | (p << 28)) & FOURS;
     let r = (q | (q << 14)) & PAIRS;
     let s = (r | (r << 7)) & ONES;
-    (s * 255) & ((e as u64) * ONES)
+    (s * 255) & ((e.bits as u64) * ONES)
 }
 
 // The same as `joined3` for sets of values below 8: a number of eight lanes for each value of the first.
-fn joined8(numbers: &[u64; 384], base: usize, a: u16, b: u16, e: u16) -> Three
+fn joined8(numbers: &[u64; 384], base: usize, a: ValueSet, b: ValueSet, e: ValueSet) -> Three
     requires { ⌜ base + 8 ≤ 384 ⌝ }
-    requires { ⌜ a < 256 ⌝ }
-    requires { ⌜ b < 256 ⌝ }
-    requires { ⌜ e < 256 ⌝ }
-    ensures { λ r. ⌜ Joined3 (Met8 (now (numbers .entry)) base a b e) (r .first) (r .second) (r .last) ⌝ }
+    requires { ⌜ a .bits < 256 ⌝ }
+    requires { ⌜ b .bits < 256 ⌝ }
+    requires { ⌜ e .bits < 256 ⌝ }
+    ensures { λ r. ⌜ Joined3 (Together8 (now (numbers .entry)) base (a .bits) (b .bits) (e .bits)) (r .first .bits) (r .second .bits) (r .last .bits) ⌝ }
 {
     let inside = product(b, e);
-    let mut first = 0u16;
+    let mut first = ValueSet::EMPTY;
     let mut all = 0u64;
-    let mut m = a;
-    while m != 0 {
-        let u = u16::trailing_zeros(m);
+    let mut left = a;
+    while !left.is_empty() {
+        let u = left.lowest();
         let w = numbers[base + (u as usize)] & inside;
-        first = first | mark(w, u);
+        first = first.union(one_if(w != 0, u));
         all = all | w;
-        m = m & (m - 1);
+        left = rest(left);
     }
     let second = full_lanes(all);
     let last = union_of(all);
@@ -156,29 +185,41 @@ fn joined8(numbers: &[u64; 384], base: usize, a: u16, b: u16, e: u16) -> Three
 }
 
 // The values of three sets that go together in constraint number k.
-fn together(numbers: &[u64; 384], supports: &[u16; 8192], k: usize, a: u16, b: u16, e: u16) -> Three
+fn together(
+    numbers: &[u64; 384],
+    supports: &[u16; 8192],
+    k: usize,
+    a: ValueSet,
+    b: ValueSet,
+    e: ValueSet,
+) -> Three
     requires { ⌜ k < 32 ⌝ }
     requires { ⌜ Words (now numbers) (now supports) ⌝ }
-    ensures { λ r. ⌜ Joined3 (Met3 (now (supports .entry)) (256 * k) a b e) (r .first) (r .second) (r .last) ⌝ }
+    ensures { λ r. ⌜ Joined3 (Together3 (now (supports .entry)) (256 * k) (a .bits) (b .bits) (e .bits)) (r .first .bits) (r .second .bits) (r .last .bits) ⌝ }
 {
-    if (a | b | e) < 256 {
-        return joined8(numbers, 128 + 8 * k, a, b, e);
+    let all = a.union(b).union(e);
+    if all.bits < 256 {
+        return joined8(numbers, LANES + 8 * k, a, b, e);
     }
     joined3(supports, 256 * k, a, b, e)
 }
 
 // Prunes one set by a set of the table.
-fn revise_one(sets: &mut [u16; 16], supports: &[u16; 8192], place: usize, x: usize) -> u64
+fn revise_one(sets: &mut [u16; 16], supports: &[u16; 8192], offset: usize, x: usize) -> u64
+    requires { ⌜ Sets 16 (now sets) ⌝ }
     requires { ⌜ x < 16 ⌝ }
-    requires { ⌜ place < 8192 ⌝ }
-    ensures { λ r. ⌜ Cut (now (sets .entry)) (now (sets .exit)) x (bitAnd (at (now (sets .entry)) x) (at (now (supports .entry)) place)) r ⌝ }
+    requires { ⌜ offset < 8192 ⌝ }
+    ensures { λ r. ⌜ SetCut (now (sets .entry)) (now (sets .exit)) x (bitAnd (at (now (sets .entry)) x) (at (now (supports .entry)) offset)) r ⌝ }
 {
-    let a = sets[x];
-    let b = a & supports[place];
-    if b == 0 {
+    let a = ValueSet { bits: sets[x] };
+    let support = ValueSet {
+        bits: supports[offset],
+    };
+    let b = a.common(support);
+    if b.is_empty() {
         return DEAD;
     }
-    sets[x] = b;
+    sets[x] = b.bits;
     moved(a, b, x)
 }
 
@@ -187,15 +228,17 @@ fn revise_two(sets: &mut [u16; 16], supports: &[u16; 8192], k: usize, x: usize, 
     requires { ⌜ ((c : Constraint) × Scoped c (now supports) k (x ∷ y ∷ [])) ⌝ }
     ensures { λ r. ⌜ ((c : Constraint) → Scoped c (now (supports .entry)) k (x ∷ y ∷ []) → Revision c (now (sets .entry)) (now (sets .exit)) r) ⌝ }
 {
-    let a = sets[x];
-    let b = sets[y];
+    let a = ValueSet { bits: sets[x] };
+    let b = ValueSet { bits: sets[y] };
     let r = joined(supports, 256 * k, a, b);
-    if r.last == 0 {
+    let first = r.first;
+    let last = r.last;
+    if last.is_empty() {
         return DEAD;
     }
-    sets[x] = r.first;
-    sets[y] = r.last;
-    moved(a, r.first, x) | moved(b, r.last, y)
+    sets[x] = first.bits;
+    sets[y] = last.bits;
+    moved(a, first, x) | moved(b, last, y)
 }
 
 // Two sets of one value leave one look-up for the third.
@@ -214,34 +257,37 @@ fn revise_three(
     requires { ⌜ ((c : Constraint) × Scoped c (now supports) k (x ∷ y ∷ z ∷ [])) ⌝ }
     ensures { λ r. ⌜ ((c : Constraint) → Scoped c (now (supports .entry)) k (x ∷ y ∷ z ∷ []) → Revision c (now (sets .entry)) (now (sets .exit)) r) ⌝ }
 {
-    let a = sets[x];
-    let b = sets[y];
-    if ((a & (a - 1)) | (b & (b - 1))) == 0 {
-        let u = u16::trailing_zeros(a) as usize;
-        let v = u16::trailing_zeros(b) as usize;
+    let a = ValueSet { bits: sets[x] };
+    let b = ValueSet { bits: sets[y] };
+    if rest(a).union(rest(b)).is_empty() {
+        let u = a.lowest() as usize;
+        let v = b.lowest() as usize;
         return revise_one(sets, supports, 256 * k + 16 * u + v, z);
     }
-    let e = sets[z];
+    let e = ValueSet { bits: sets[z] };
     let r = together(numbers, supports, k, a, b, e);
-    if r.last == 0 {
+    let first = r.first;
+    let second = r.second;
+    let last = r.last;
+    if last.is_empty() {
         return DEAD;
     }
-    if ((r.first ^ a) | (r.second ^ b) | (r.last ^ e)) == 0 {
+    if ((first.bits ^ a.bits) | (second.bits ^ b.bits) | (last.bits ^ e.bits)) == 0 {
         return 0;
     }
-    sets[x] = r.first;
-    sets[y] = r.second;
-    sets[z] = r.last;
-    moved(a, r.first, x) | moved(b, r.second, y) | moved(e, r.last, z)
+    sets[x] = first.bits;
+    sets[y] = second.bits;
+    sets[z] = last.bits;
+    moved(a, first, x) | moved(b, second, y) | moved(e, last, z)
 }
 
 // Prunes by constraint number k: DEAD where a set would be empty, else the set of the variables whose sets changed.
 fn revise(sets: &mut [u16; 16], numbers: &[u64; 384], supports: &[u16; 8192], k: usize) -> u64
     requires { ⌜ Sets 16 (now sets) ⌝ }
-    requires { ⌜ ((p : Problem) × Holding p (now numbers) (now supports) × (k < length (p .constraints)) × Nonempty (constraintAt p k .scope) (now sets)) ⌝ }
-    ensures { λ r. ⌜ ((p : Problem) → Holding p (now (numbers .entry)) (now (supports .entry)) → k < length (p .constraints) → Revision (constraintAt p k) (now (sets .entry)) (now (sets .exit)) r) ⌝ }
+    requires { ⌜ ((p : Problem) × ConstraintsHeld p (now numbers) (now supports) × (k < length (p .constraints)) × Nonempty (constraintAt p k .scope) (now sets)) ⌝ }
+    ensures { λ r. ⌜ ((p : Problem) → ConstraintsHeld p (now (numbers .entry)) (now (supports .entry)) → k < length (p .constraints) → Revision (constraintAt p k) (now (sets .entry)) (now (sets .exit)) r) ⌝ }
 {
-    let w = numbers[32 + k];
+    let w = numbers[SCOPES + k];
     let arity = w % 256;
     let x = (w / 256 % 256) as usize;
     if arity == 1 {
@@ -257,12 +303,12 @@ fn revise(sets: &mut [u16; 16], numbers: &[u64; 384], supports: &[u16; 8192], k:
 
 // The constraints, but those pruned by variable, that have one of the changed variables in their scope.
 pub fn touched(numbers: &[u64; 384], changed: u64) -> u64
-    ensures { λ r. ⌜ Gathered (now (numbers .entry)) changed r ⌝ }
+    ensures { λ r. ⌜ Touched (now (numbers .entry)) changed r ⌝ }
 {
     let mut all = 0u64;
     let mut m = changed;
     while m != 0 {
-        all = all | numbers[72 + (u64::trailing_zeros(m) as usize)];
+        all = all | numbers[OTHERS + (u64::trailing_zeros(m) as usize)];
         m = m & (m - 1);
     }
     all
@@ -276,8 +322,8 @@ pub fn constrain(
     supports: &[u16; 8192],
     todo: u64,
 ) -> u64
-    requires { ⌜ ((p : Problem) × Waiting p (now numbers) (now supports) (now sets) todo) ⌝ }
-    ensures { λ r. ⌜ ((p : Problem) → Waiting p (now (numbers .entry)) (now (supports .entry)) (now (sets .entry)) todo → Constrained p (now (sets .entry)) (now (sets .exit)) r) ⌝ }
+    requires { ⌜ ((p : Problem) × ConstraintsPending p (now numbers) (now supports) (now sets) todo) ⌝ }
+    ensures { λ r. ⌜ ((p : Problem) → ConstraintsPending p (now (numbers .entry)) (now (supports .entry)) (now (sets .entry)) todo → Constrained p (now (sets .entry)) (now (sets .exit)) r) ⌝ }
 {
     let mut left = todo;
     let mut next = 0u64;

@@ -111,6 +111,27 @@ fn marks() {
     );
 }
 
+// Every two of 0, 15, 16, 254 and 255 as the marks of an entry on variable 0, which is 0: an equality, a disequality, both absent, both
+// present. The entry after it says that variable 1 is not 0.
+const MARKS: [u8; 5] = [0, 15, 16, 254, 255];
+
+fn kind(equal: u8, not_equal: u8) {
+    let mut sets = [1u16, 32769];
+    put(b"equal");
+    put_number(equal as u64);
+    put(b" and not-equal");
+    put_number(not_equal as u64);
+    show(b"", &mut sets, &[0, 1], &[equal, 255], &[not_equal, 0]);
+}
+
+fn kinds() {
+    let mut i = 0;
+    while i < 25 {
+        kind(MARKS[i / 5], MARKS[i % 5]);
+        i += 1;
+    }
+}
+
 // .. and the other is below 16.
 fn values() {
     let mut sets = [7u16, 65535];
@@ -278,6 +299,7 @@ fn main() {
     too_long();
     variables();
     marks();
+    kinds();
     values();
     first();
     legal();

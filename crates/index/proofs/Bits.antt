@@ -1,16 +1,14 @@
--- Laws of sets as bits. Assumes nothing.
+-- The low bits of a sum of two parts, and the high ones. Assumes nothing.
 use mathlib.Core.Path.{_≡_, sym, ap, _∙_}
-use mathlib.Core.Bool.{Bool, true, false}
 use Prim.Native.Nat.{ℕ, zero, suc, _+_, _*_, _/_, _%_, _^_, _<_}
 use native.Mathlib.Nat.{not-suc-le-zero, le-of-suc-le-suc, mul-assoc}
 use native.Mathlib.Omega.{arith}
 use lib.Dec.{eqb}
-use Rattle.model.specs.Lists.{both}
 use Rattle.model.specs.ValueSets.{has}
-use Rattle.model.proofs.Sets.{has-zero, has-suc, has-none, pow2}
-use Rattle.model.proofs.Masks.{has-one, has-shr}
+use Rattle.model.proofs.Sets.{has-zero, has-suc, pow2}
+use Rattle.model.proofs.Masks.{has-shr}
 
--- ---- the bits below a place, and those from it on
+-- ---- the bits below a number, and those from it on
 pub low-bits : (k a b w : ℕ) → w < k → has (2 ^ k * a + b) w ≡ has b w
 low-bits zero a b w h = absurd (not-suc-le-zero h)
 low-bits (suc k) a b zero h =

@@ -1,11 +1,10 @@
-pub mod Stores
+pub mod Initial
 pub mod Bits
 pub mod Lanes
-pub mod Drawn
-pub mod Pictured
-pub mod Gathering
+pub mod Images
+pub mod ImageTables
 pub mod Scopes
-pub mod Linked
-pub mod Rowed
-pub mod Refusing
+pub mod LinkNumbers
+pub mod RowTables
+pub mod LooseVariables
 pub mod Assembled

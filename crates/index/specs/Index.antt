@@ -7,6 +7,7 @@ use lib.ListN.{length}
 use Rattle.model.specs.Lists.{at}
 use Rattle.model.specs.Problem.{Problem}
 use Rattle.model.specs.WellFormed.{WellFormed}
+use Rattle.layout.specs.Places.{LINKED}
 use Rattle.layout.specs.Layout.{Compiled}
 use Rattle.layout.specs.Tables.{Indexed}
 
@@ -19,9 +20,9 @@ pub record Compact (p : Problem) (numbers supports images tables : List ℕ) : T
   pub numbers-length : length numbers ≡ 384
   pub tables-length : length tables ≡ 55296
 
--- the tables are made, and the numbers before 70 are as they were
+-- the tables are made, and the numbers before LINKED are as they were
 pub record Made (p : Problem) (numbers supports tables numbers′ tables′ : List ℕ) : Type 0 where
   pub indexed : Indexed p numbers′ supports tables′
-  pub kept : (i : ℕ) → i < 70 → at numbers′ i ≡ at numbers i
+  pub kept : (i : ℕ) → i < LINKED → at numbers′ i ≡ at numbers i
   pub numbers-length : length numbers′ ≡ length numbers
   pub tables-length : length tables′ ≡ length tables

@@ -1,90 +1,83 @@
 -- What the functions inside this crate say to each other.
+-- No reader has to believe this: it stands between proved functions.
 use mathlib.Core.Path.{_≡_}
-use mathlib.Core.Bool.{Bool, true, false, not}
+use mathlib.Core.Bool.{Bool, true, false}
 use mathlib.Core.List.{List, [], _∷_}
-use Prim.Native.Nat.{ℕ, _+_, _*_, _^_, _≤_, _<_}
+use Prim.Native.Nat.{ℕ, _+_, _*_, _%_, _≤_, _<_}
 use lib.Dec.{T, eqb, ltb, leb}
-use lib.ListN.{length}
-use Rattle.model.specs.Lists.{any, at, keep, same, both, either}
+use lib.ListN.{length, set}
+use Rattle.model.specs.Lists.{any, at, keep, same, either}
 use Rattle.model.specs.ValueSets.{has, maskOf, members}
 use Rattle.model.specs.Problem.{Problem}
 use Rattle.model.specs.WellFormed.{WellFormed}
+use Rattle.layout.specs.Places.{INITIAL, VARIABLES, LINKED, LOOSE, SMALLER, OWN}
 use Rattle.layout.specs.Layout.{constraintAt, Numbers, Supports}
-use Rattle.layout.specs.Tables.{linkOf, byRows}
+use Rattle.layout.specs.Tables.{linkOf, Linked}
 
--- numbers were stored at the first i of some places, and nowhere else
-pub record Filled (place : ℕ → ℕ) (P : ℕ → ℕ → Type 0) (i : ℕ) (old new : List ℕ) : Type 0 where
-  pub size : length new ≡ length old
-  pub here : (v : ℕ) → v < i → P v (at new (place v))
-  pub other : (j : ℕ) → ((v : ℕ) → v < i → place v ≡ j → ⊥) → at new j ≡ at old j
-
--- a set of those below i that f takes to true
-pub record Gathered (f : ℕ → Bool) (i set : ℕ) : Type 0 where
-  pub has-is : (x : ℕ) → has set x ≡ both (ltb x i) (f x)
+-- the initial set of variable x
+abbrev pub initialOf : List ℕ → ℕ → ℕ
+initialOf numbers x = at numbers (INITIAL + x) % 65536
 
 -- ---- words
 -- eight support sets from a base on, eight values of each
 abbrev pub Lanes : List ℕ → ℕ → ℕ → Type 0
 Lanes supports base r = (v w : ℕ) → v < 8 → w < 8 → has r (8 * v + w) ≡ has (at supports (base + v)) w
 
--- ---- pictures
+-- ---- image tables
 -- the values w of y such that 16 y + w is the image of a smaller value of m
 abbrev pub smallerOf : (ℕ → ℕ) → ℕ → ℕ → ℕ → ℕ
 smallerOf f m v y = maskOf (λ w. any (λ u. eqb (f u) (16 * y + w)) (keep (λ u. ltb u v) (members m)))
 
--- what the tables hold of value v, where the variable's images stand from a place on
-pub record Point (images : List ℕ) (m from v : ℕ) (tables : List ℕ) : Type 0 where
-  pub cut : (y : ℕ) → y < 16 → at tables (3072 + 16 * (from + v) + y) ≡ smallerOf (λ u. at images (from + u)) m v y
-  pub own : at tables (52224 + (from + v)) ≡ at images (from + v)
+-- what the tables hold of value v, where the variable's images stand from a number on
+pub record PairStored (images : List ℕ) (m from v : ℕ) (tables : List ℕ) : Type 0 where
+  pub cut : (y : ℕ) → y < 16 → at tables (SMALLER + 16 * (from + v) + y) ≡ smallerOf (λ u. at images (from + u)) m v y
+  pub own : at tables (OWN + (from + v)) ≡ at images (from + v)
 
-abbrev pub Drawn : List ℕ → ℕ → ℕ → List ℕ → Type 0
-Drawn images m from tables = (v : ℕ) → v < 16 → T (has m v) → Point images m from v tables
+-- all values of m are stored
+abbrev pub VariableStored : List ℕ → ℕ → ℕ → List ℕ → Type 0
+VariableStored images m from tables = (v : ℕ) → v < 16 → T (has m v) → PairStored images m from v tables
 
--- the rows, and what is drawn of the pairs before a place, are as they were
-pub record Kept (from : ℕ) (old new : List ℕ) : Type 0 where
+-- the rows, and what is stored of the pairs before a number, are as they were
+pub record EarlierKept (from : ℕ) (old new : List ℕ) : Type 0 where
   pub size : length new ≡ length old
-  pub low : (j : ℕ) → j < 3072 + 16 * from → at new j ≡ at old j
-  pub high : (j : ℕ) → 52224 ≤ j → j < 52224 + from → at new j ≡ at old j
+  pub low : (j : ℕ) → j < SMALLER + 16 * from → at new j ≡ at old j
+  pub high : (j : ℕ) → OWN ≤ j → j < OWN + from → at new j ≡ at old j
 
--- the values below i are drawn, and the sets at hand are those of their images
-pub record Drawing (images : List ℕ) (m from i : ℕ) (old new sets : List ℕ) : Type 0 where
-  pub kept : Kept from old new
-  pub drawn : (v : ℕ) → v < i → T (has m v) → Point images m from v new
+-- the values below i are stored, and the sets at hand are those of their images
+pub record PairsStored (images : List ℕ) (m from i : ℕ) (old new sets : List ℕ) : Type 0 where
+  pub kept : EarlierKept from old new
+  pub stored : (v : ℕ) → v < i → T (has m v) → PairStored images m from v new
   pub held : (y : ℕ) → y < 16 → at sets y ≡ smallerOf (λ u. at images (from + u)) m i y
   pub sixteen : length sets ≡ 16
 
--- the first i variables are drawn, of the symmetry whose images stand from a place on
-pub record Symmetry (numbers images : List ℕ) (from i : ℕ) (old new : List ℕ) : Type 0 where
-  pub drawn : (x : ℕ) → x < i → Drawn images (at numbers (16 + x)) (from + 16 * x) new
-  pub kept : Kept from old new
+-- the first i variables are stored, of the symmetry whose images stand from a number on
+pub record SymmetryStored (numbers images : List ℕ) (from i : ℕ) (old new : List ℕ) : Type 0 where
+  pub stored : (x : ℕ) → x < i → VariableStored images (initialOf numbers x) (from + 16 * x) new
+  pub kept : EarlierKept from old new
 
--- n variables of the first i symmetries are drawn
-pub record Symmetries (numbers images : List ℕ) (n i : ℕ) (old new : List ℕ) : Type 0 where
-  pub drawn : (e x : ℕ) → e < i → x < n → Drawn images (at numbers (16 + x)) (192 * e + 16 * x) new
-  pub kept : Kept 0 old new
+-- n variables of the first i symmetries are stored
+pub record SymmetriesStored (numbers images : List ℕ) (n i : ℕ) (old new : List ℕ) : Type 0 where
+  pub stored : (e x : ℕ) → e < i → x < n → VariableStored images (initialOf numbers x) (192 * e + 16 * x) new
+  pub kept : EarlierKept 0 old new
 
--- ---- links
--- the numbers from 70 to 87 as Linked has them
-pub record Linking (p : Problem) (numbers : List ℕ) : Type 0 where
-  pub by-rows : (k : ℕ) → k < length (p .constraints) → has (at numbers 71) k ≡ byRows p k
-  pub linked : (x k : ℕ) → k < length (p .constraints) → T (byRows p k) → T (any (eqb x) (constraintAt p k .scope)) → T (has (at numbers 70) x)
-  pub linked-few : (x : ℕ) → T (has (at numbers 70) x) → x < p .variables
-  pub touching : (x k : ℕ) → x < 16 → k < length (p .constraints) → has (at numbers (72 + x)) k ≡ both (any (eqb x) (constraintAt p k .scope)) (not (byRows p k))
-  pub touching-few : (x : ℕ) → x < 16 → at numbers (72 + x) < 2 ^ length (p .constraints)
+-- ---- the constraints that are pruned by variable
+-- the numbers before LOOSE are as Linked has them: no variable is called loose yet
+abbrev pub LinkedFirst : Problem → List ℕ → Type 0
+LinkedFirst p numbers = Linked p (set numbers LOOSE 0)
 
--- the numbers from 70 to 87 are made, and those before are as they were
-pub record Links (old new : List ℕ) : Type 0 where
-  pub linking : (p : Problem) → Numbers p old → WellFormed p → Linking p new
+-- so they are made, and those before LINKED are as they were
+pub record LinkNumbers (old new : List ℕ) : Type 0 where
+  pub linked : (p : Problem) → Numbers p old → WellFormed p → LinkedFirst p new
   pub size : length new ≡ length old
-  pub kept : (j : ℕ) → j < 70 → at new j ≡ at old j
+  pub kept : (j : ℕ) → j < LINKED → at new j ≡ at old j
 
 -- ---- rows
 -- what rows are made from
-pub record Ground (p : Problem) (numbers supports : List ℕ) : Type 0 where
+pub record RowsSource (p : Problem) (numbers supports : List ℕ) : Type 0 where
   pub numbered : Numbers p numbers
   pub supported : Supports p supports
   pub wellFormed : WellFormed p
-  pub by-rows : (k : ℕ) → k < length (p .constraints) → has (at numbers 71) k ≡ byRows p k
+  pub linked : LinkedFirst p numbers
 
 -- v and w go together in constraint k, if that is one of the first i
 abbrev pub allowedTo : Problem → ℕ → ℕ → ℕ → ℕ → Bool
@@ -109,9 +102,9 @@ pub record Twice (tables : List ℕ) (m from i r : ℕ) : Type 0 where
 
 -- no value of the first i variables is refused by two values of x
 pub record LooseTo (numbers tables : List ℕ) (x i : ℕ) : Type 0 where
-  pub goes : (u v y w : ℕ) → y < i → u < v → v < 16 → T (has (at numbers (16 + x)) u) → T (has (at numbers (16 + x)) v) → w < 16 → T (has (at numbers (16 + y)) w) →
+  pub goes : (u v y w : ℕ) → y < i → u < v → v < 16 → T (has (initialOf numbers x) u) → T (has (initialOf numbers x) v) → w < 16 → T (has (initialOf numbers y) w) →
       T (either (has (at tables (256 * x + y + 16 * u)) w) (has (at tables (256 * x + y + 16 * v)) w))
 
 pub record LooseSet (numbers tables : List ℕ) (i r : ℕ) : Type 0 where
   pub below : (x : ℕ) → T (has r x) → x < i
-  pub loose : (x : ℕ) → T (has r x) → LooseTo numbers tables x (at numbers 64)
+  pub loose : (x : ℕ) → T (has r x) → LooseTo numbers tables x (at numbers VARIABLES)

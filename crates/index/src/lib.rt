@@ -1,11 +1,12 @@
 // The search's tables, made once from the compiled problem: constraints on two variables by variable, constraints on three in numbers of eight lanes,
 // and for each symmetry and pair the images of the smaller values.
+use layout::LOOSE;
 ghost use Rattle.model.specs.Problem.{Problem};
 ghost use Rattle.index.specs.Index.{Compact, Made};
 
-mod links;
+mod image_tables;
+mod linked;
 mod loose;
-mod pictures;
 mod rows;
 mod sets;
 mod words;
@@ -19,10 +20,10 @@ pub fn index(
     requires { ⌜ ((p : Problem) × Compact p (now numbers) (now supports) (now images) (now tables)) ⌝ }
     ensures { λ _. ⌜ ((p : Problem) → Compact p (now (numbers .entry)) (now (supports .entry)) (now (images .entry)) (now (tables .entry)) → Made p (now (numbers .entry)) (now (supports .entry)) (now (tables .entry)) (now (numbers .exit)) (now (tables .exit))) ⌝ }
 {
-    links::links(numbers);
+    linked::linked(numbers);
     rows::rows(numbers, supports, tables);
     let set = loose::loose(numbers, tables);
-    numbers[88] = set;
+    numbers[LOOSE] = set;
     words::words(numbers, supports);
-    pictures::pictures(numbers, images, tables);
+    image_tables::image_tables(numbers, images, tables);
 }

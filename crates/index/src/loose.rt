@@ -1,60 +1,57 @@
 // Loose variables: no value of another variable is refused by two of their values.
-use crate::sets::contains;
+use crate::sets::initial;
 use crate::sets::one_if;
 use crate::sets::outside;
+use layout::VARIABLES;
+use model::ValueSet;
 ghost use mathlib.Core.Path.{_≡_};
-ghost use mathlib.Core.Bool.{true, not};
-ghost use lib.Bits.{bitAnd};
-ghost use lib.Dec.{eqb};
+ghost use mathlib.Core.Bool.{true};
 ghost use Prim.Native.Nat.{_≤_, _<_};
 ghost use Rattle.model.specs.Lists.{at};
+ghost use Rattle.layout.specs.Places.{VARIABLES, SMALLER};
 ghost use Rattle.index.specs.Steps.{Refused, Twice, LooseTo, LooseSet};
 
 // What value v refuses, if it is in the set m.
-fn refused(tables: &[u16; 55296], m: u64, from: usize, v: usize) -> u16
-    requires { ⌜ (from < 3072) × (v < 16) ⌝ }
-    ensures { λ r. ⌜ Refused (now (tables .entry)) m from v r ⌝ }
+fn refused(tables: &[u16; 55296], m: ValueSet, from: usize, v: u16) -> ValueSet
+    requires { ⌜ (from < SMALLER) × (v < 16) ⌝ }
+    ensures { λ r. ⌜ Refused (now (tables .entry)) (m .bits) from v (r .bits) ⌝ }
 {
-    if !contains(m, v) {
-        return 0;
+    if !m.contains(v) {
+        return ValueSet::EMPTY;
     }
-    outside(tables[from + 16 * v])
+    outside(ValueSet {
+        bits: tables[from + 16 * (v as usize)],
+    })
 }
 
 // What two values of m refuse.
-fn twice(tables: &[u16; 55296], m: u64, from: usize) -> u16
-    requires { ⌜ from < 3072 ⌝ }
-    ensures { λ r. ⌜ Twice (now (tables .entry)) m from 16 r ⌝ }
+fn twice(tables: &[u16; 55296], m: ValueSet, from: usize) -> ValueSet
+    requires { ⌜ from < SMALLER ⌝ }
+    ensures { λ r. ⌜ Twice (now (tables .entry)) (m .bits) from 16 (r .bits) ⌝ }
 {
-    let mut once = 0u16;
-    let mut all = 0u16;
-    let mut v = 0;
+    let mut once = ValueSet::EMPTY;
+    let mut all = ValueSet::EMPTY;
+    let mut v = 0u16;
     while v < 16 {
         let r = refused(tables, m, from, v);
-        all = all | (once & r);
-        once = once | r;
+        all = all.union(once.common(r));
+        once = once.union(r);
         v += 1;
     }
     all
 }
 
-// The two sets have a common value.
-fn meets(a: u16, b: u64) -> bool
-    ensures { λ r. ⌜ r ≡ not (eqb (bitAnd a b) 0) ⌝ }
-{
-    (a as u64) & b != 0
-}
-
 // No value of a variable's initial set is refused by two values of x.
 fn is_loose(numbers: &[u64; 384], tables: &[u16; 55296], x: usize) -> bool
-    requires { ⌜ (x < 12) × (at (now numbers) 64 ≤ 12) ⌝ }
-    ensures { λ r. ⌜ (r ≡ true → LooseTo (now (numbers .entry)) (now (tables .entry)) x (at (now (numbers .entry)) 64)) ⌝ }
+    requires { ⌜ (x < 12) × (at (now numbers) VARIABLES ≤ 12) ⌝ }
+    ensures { λ r. ⌜ (r ≡ true → LooseTo (now (numbers .entry)) (now (tables .entry)) x (at (now (numbers .entry)) VARIABLES)) ⌝ }
 {
-    let n = numbers[64] as usize;
-    let m = numbers[16 + x];
+    let n = numbers[VARIABLES] as usize;
+    let m = initial(numbers, x);
     let mut y = 0;
     while y < n {
-        if meets(twice(tables, m, 256 * x + y), numbers[16 + y]) {
+        let lost = twice(tables, m, 256 * x + y).common(initial(numbers, y));
+        if !lost.is_empty() {
             return false;
         }
         y += 1;
@@ -64,10 +61,10 @@ fn is_loose(numbers: &[u64; 384], tables: &[u16; 55296], x: usize) -> bool
 
 // The set of the loose variables.
 pub fn loose(numbers: &[u64; 384], tables: &[u16; 55296]) -> u64
-    requires { ⌜ at (now numbers) 64 ≤ 12 ⌝ }
-    ensures { λ r. ⌜ LooseSet (now (numbers .entry)) (now (tables .entry)) (at (now (numbers .entry)) 64) r ⌝ }
+    requires { ⌜ at (now numbers) VARIABLES ≤ 12 ⌝ }
+    ensures { λ r. ⌜ LooseSet (now (numbers .entry)) (now (tables .entry)) (at (now (numbers .entry)) VARIABLES) r ⌝ }
 {
-    let n = numbers[64] as usize;
+    let n = numbers[VARIABLES] as usize;
     let mut all = 0u64;
     let mut x = 0;
     while x < n {

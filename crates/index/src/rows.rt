@@ -1,40 +1,50 @@
 // For each pair the values of every variable that go with it, by the constraints that are pruned by variable.
 use crate::sets::contains;
-use crate::sets::holds;
-use crate::sets::one_if;
+use layout::BY_ROWS;
+use layout::CONSTRAINTS;
+use layout::SCOPES;
+use layout::SMALLER;
+use model::ValueSet;
 ghost use mathlib.Core.Path.{_≡_};
 ghost use Prim.Native.Nat.{_+_, _*_, _≤_, _<_};
 ghost use lib.ListN.{length};
 ghost use Rattle.model.specs.Lists.{at};
 ghost use Rattle.model.specs.ValueSets.{has, maskOf};
 ghost use Rattle.model.specs.Problem.{Problem};
+ghost use Rattle.model.specs.Filling.{Filled};
+ghost use Rattle.layout.specs.Places.{CONSTRAINTS, SMALLER};
 ghost use Rattle.layout.specs.Tables.{Rows};
-ghost use Rattle.index.specs.Steps.{Filled, Ground, RowsTo};
+ghost use Rattle.index.specs.Steps.{RowsSource, RowsTo};
 
 // At first every value goes with every pair.
 fn clear(tables: &mut [u16; 55296])
     requires { ⌜ length (now tables) ≡ 55296 ⌝ }
-    ensures { λ _. ⌜ Filled (λ i. i) (λ i r. r ≡ 65535) 3072 (now (tables .entry)) (now (tables .exit)) ⌝ }
+    ensures { λ _. ⌜ Filled (λ i. i) (λ i r. r ≡ 65535) SMALLER (now (tables .entry)) (now (tables .exit)) ⌝ }
 {
     let mut i = 0;
-    while i < 3072 {
+    while i < SMALLER {
         tables[i] = 65535;
         i += 1;
     }
 }
 
 // The values whose sets have w, of sixteen sets from a base on.
-fn column(supports: &[u16; 8192], base: usize, w: usize) -> u16
-    requires { ⌜ (base + 16 ≤ 8192) × (w < 16) ⌝ }
-    ensures { λ r. ⌜ r ≡ maskOf (λ v. has (at (now (supports .entry)) (base + v)) w) ⌝ }
+fn column(supports: &[u16; 8192], base: usize, w: u16) -> ValueSet
+    requires { ⌜ base + 16 ≤ 8192 ⌝ }
+    ensures { λ r. ⌜ r .bits ≡ maskOf (λ v. has (at (now (supports .entry)) (base + v)) w) ⌝ }
 {
-    let mut all = 0u64;
-    let mut v = 0;
+    let mut all = ValueSet::full(16);
+    let mut v = 0u16;
     while v < 16 {
-        all = all | one_if(holds(supports[base + v], w), v);
+        let set = ValueSet {
+            bits: supports[base + (v as usize)],
+        };
+        if !set.contains(w) {
+            all = all.without(v);
+        }
         v += 1;
     }
-    (all % 65536) as u16
+    all
 }
 
 // Sixteen support sets into the rows of a variable, each at the other variable.
@@ -56,7 +66,8 @@ fn back(supports: &[u16; 8192], base: usize, from: usize, tables: &mut [u16; 552
 {
     let mut w = 0;
     while w < 16 {
-        tables[from + 16 * w] = column(supports, base, w);
+        let set = column(supports, base, w as u16);
+        tables[from + 16 * w] = set.bits;
         w += 1;
     }
 }
@@ -64,12 +75,12 @@ fn back(supports: &[u16; 8192], base: usize, from: usize, tables: &mut [u16; 552
 // The rows of constraint k, if it is pruned by variable.
 fn link(numbers: &[u64; 384], supports: &[u16; 8192], k: usize, tables: &mut [u16; 55296])
     requires { ⌜ (k < 32) × (length (now tables) ≡ 55296) ⌝ }
-    ensures { λ _. ⌜ (length (now (tables .exit)) ≡ length (now (tables .entry))) × ((p : Problem) → Ground p (now (numbers .entry)) (now (supports .entry)) → k < length (p .constraints) → RowsTo p k (now (tables .entry)) → RowsTo p (k + 1) (now (tables .exit))) ⌝ }
+    ensures { λ _. ⌜ (length (now (tables .exit)) ≡ length (now (tables .entry))) × ((p : Problem) → RowsSource p (now (numbers .entry)) (now (supports .entry)) → k < length (p .constraints) → RowsTo p k (now (tables .entry)) → RowsTo p (k + 1) (now (tables .exit))) ⌝ }
 {
-    if !contains(numbers[71], k) {
+    if !contains(numbers[BY_ROWS], k) {
         return;
     }
-    let w = numbers[32 + k];
+    let w = numbers[SCOPES + k];
     let x = (w / 256 % 16) as usize;
     let y = (w / 65536 % 16) as usize;
     across(supports, 256 * k, 256 * x + y, tables);
@@ -78,11 +89,11 @@ fn link(numbers: &[u64; 384], supports: &[u16; 8192], k: usize, tables: &mut [u1
 
 // The rows of every variable, value and other variable.
 pub fn rows(numbers: &[u64; 384], supports: &[u16; 8192], tables: &mut [u16; 55296])
-    requires { ⌜ (at (now numbers) 66 ≤ 32) × (length (now tables) ≡ 55296) ⌝ }
-    ensures { λ _. ⌜ (length (now (tables .exit)) ≡ length (now (tables .entry))) × ((p : Problem) → Ground p (now (numbers .entry)) (now (supports .entry)) → Rows p (now (tables .exit))) ⌝ }
+    requires { ⌜ (at (now numbers) CONSTRAINTS ≤ 32) × (length (now tables) ≡ 55296) ⌝ }
+    ensures { λ _. ⌜ (length (now (tables .exit)) ≡ length (now (tables .entry))) × ((p : Problem) → RowsSource p (now (numbers .entry)) (now (supports .entry)) → Rows p (now (tables .exit))) ⌝ }
 {
     clear(tables);
-    let c = numbers[66] as usize;
+    let c = numbers[CONSTRAINTS] as usize;
     let mut k = 0;
     while k < c {
         link(numbers, supports, k, tables);

@@ -1,10 +1,13 @@
-// Sets as numbers: the member test, and sets of one.
+// Sets of variables and of constraints, as numbers of 64 bits: the member test, and sets of one.
+// Sets of values: the initial set of a variable, and what a set lacks.
+use layout::INITIAL;
+use model::ValueSet;
 ghost use mathlib.Core.Path.{_≡_};
 ghost use mathlib.Core.Bool.{not};
 ghost use Prim.Native.Nat.{ℕ, _<_};
 ghost use Rattle.model.specs.ValueSets.{has, oneIf};
+ghost use Rattle.index.specs.Steps.{initialOf};
 
-// The member test, of a number of 64 bits and of a set of sixteen values.
 pub fn contains(s: u64, v: usize) -> bool
     requires { ⌜ v < 64 ⌝ }
     ensures { λ r. ⌜ r ≡ has s v ⌝ }
@@ -20,16 +23,19 @@ pub fn one_if(b: bool, v: usize) -> u64
     if b { 1u64 << v } else { 0 }
 }
 
-pub fn holds(s: u16, v: usize) -> bool
-    requires { ⌜ v < 16 ⌝ }
-    ensures { λ r. ⌜ r ≡ has s v ⌝ }
+// The initial set of variable x.
+pub fn initial(numbers: &[u64; 384], x: usize) -> ValueSet
+    requires { ⌜ x < 16 ⌝ }
+    ensures { λ r. ⌜ r .bits ≡ initialOf (now (numbers .entry)) x ⌝ }
 {
-    (s >> v) & 1 == 1
+    ValueSet {
+        bits: (numbers[INITIAL + x] % 65536) as u16,
+    }
 }
 
 // The values that are not in the set.
-pub fn outside(s: u16) -> u16
-    ensures { λ r. ⌜ ((v : ℕ) → v < 16 → has r v ≡ not (has s v)) ⌝ }
+pub fn outside(s: ValueSet) -> ValueSet
+    ensures { λ r. ⌜ ((v : ℕ) → v < 16 → has (r .bits) v ≡ not (has (s .bits) v)) ⌝ }
 {
-    !s
+    ValueSet { bits: !s.bits }
 }

@@ -1,8 +1,11 @@
 // Support sets of constraints on three variables, eight values of eight sets in one number.
+use layout::LANES;
 ghost use mathlib.Core.Path.{_≡_};
 ghost use Prim.Native.Nat.{_+_, _*_, _/_, _%_, _≤_};
 ghost use lib.ListN.{length};
-ghost use Rattle.index.specs.Steps.{Filled, Lanes};
+ghost use Rattle.model.specs.Filling.{Filled};
+ghost use Rattle.layout.specs.Places.{LANES};
+ghost use Rattle.index.specs.Steps.{Lanes};
 
 // Eight values of each of the eight sets from a base on: the first set's in the lowest byte.
 fn word(supports: &[u16; 8192], base: usize) -> u64
@@ -21,11 +24,11 @@ fn word(supports: &[u16; 8192], base: usize) -> u64
 // A number for each of 32 constraints and eight first values.
 pub fn words(numbers: &mut [u64; 384], supports: &[u16; 8192])
     requires { ⌜ length (now numbers) ≡ 384 ⌝ }
-    ensures { λ _. ⌜ Filled (λ c. 128 + c) (λ c r. Lanes (now (supports .entry)) (256 * (c / 8) + 16 * (c % 8)) r) 256 (now (numbers .entry)) (now (numbers .exit)) ⌝ }
+    ensures { λ _. ⌜ Filled (λ c. LANES + c) (λ c r. Lanes (now (supports .entry)) (256 * (c / 8) + 16 * (c % 8)) r) 256 (now (numbers .entry)) (now (numbers .exit)) ⌝ }
 {
     let mut c = 0;
     while c < 256 {
-        numbers[128 + c] = word(supports, 256 * (c / 8) + 16 * (c % 8));
+        numbers[LANES + c] = word(supports, 256 * (c / 8) + 16 * (c % 8));
         c += 1;
     }
 }

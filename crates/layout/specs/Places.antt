@@ -41,6 +41,9 @@ OTHERS = 72
 abbrev pub LOOSE : ℕ
 LOOSE = 88
 
+abbrev pub ORDER : ℕ
+ORDER = 96
+
 abbrev pub LANES : ℕ
 LANES = 128
 

@@ -33,6 +33,9 @@ pub const OTHERS: usize = 72;
 // The loose variables.
 pub const LOOSE: usize = 88;
 
+// From here on the variable that is settled at each of twelve depths.
+pub const ORDER: usize = 96;
+
 // From here on the constraints on three variables in lanes.
 pub const LANES: usize = 128;
 

@@ -25,20 +25,20 @@ use Rattle.model.proofs.Symmetry
 use Rattle.layout.specs.Layout.{symmetryAt}
 use Rattle.layout.specs.Tables.{imageOf, smaller}
 use Rattle.nogood.specs.Scan.{models}
-use Rattle.nogood.specs.Marks.{Idle}
-use Rattle.nogood.proofs.Marks.{idle-nil, idle-append, idle-disequality, obeying-idle}
+use Rattle.nogood.specs.Marks.{Vacuous}
+use Rattle.nogood.proofs.Marks.{vacuous-nil, vacuous-append, vacuous-disequality, obeying-vacuous}
 use Rattle.nogood.proofs.Scan
 use Rattle.nogood.proofs.Front
-use Rattle.levels.specs.Levels.{cutOf, lower, cuts, Thinned, Doomed, Tabled, Level, Missed, Taken, Cut}
+use Rattle.levels.specs.Levels.{cutsAt, imageAt, cutOf, lower, cuts, CutsMade, NoneObeys, Tabled, Level, Missed, Taken, CutResult}
 use Rattle.levels.proofs.Levels.{variable-is}
 
 -- ---- disequalities of pairs
 -- they say nothing of sets that have none of the pairs
-cuts-idle : (ds : List ℕ) (im : ℕ → ℕ) (us : List ℕ) → ((u : ℕ) → List·Memᴰ u us → (im u / 16 < length ds) × (T (has (at ds (im u / 16)) (im u % 16)) → ⊥)) → Idle ds (map (λ u. cutOf (im u)) us)
-cuts-idle ds im [] h = idle-nil ds
-cuts-idle ds im (u ∷ us) h =
+cuts-vacuous : (ds : List ℕ) (im : ℕ → ℕ) (us : List ℕ) → ((u : ℕ) → List·Memᴰ u us → (im u / 16 < length ds) × (T (has (at ds (im u / 16)) (im u % 16)) → ⊥)) → Vacuous ds (map (λ u. cutOf (im u)) us)
+cuts-vacuous ds im [] h = vacuous-nil ds
+cuts-vacuous ds im (u ∷ us) h =
     let g = h u (List·Memᴰ·head refl) in
-    idle-append ds (cutOf (im u) ∷ []) (map (λ w. cutOf (im w)) us) (idle-disequality ds (im u / 16) (im u % 16) (g .0) (g .1)) (cuts-idle ds im us (λ w m. h w (List·Memᴰ·tail m)))
+    vacuous-append ds (cutOf (im u) ∷ []) (map (λ w. cutOf (im w)) us) (vacuous-disequality ds (im u / 16) (im u % 16) (g .0) (g .1)) (cuts-vacuous ds im us (λ w m. h w (List·Memᴰ·tail m)))
 
 -- an assignment that obeys them has none of the pairs
 cuts-e : (a : List ℕ) (im : ℕ → ℕ) (us : List ℕ) (fs : List Entry) → T (obeys a (map (λ u. cutOf (im u)) us ++ fs)) → ((u : ℕ) → List·Memᴰ u us → T (is a (im u / 16) (im u % 16)) → ⊥) × T (obeys a fs)
@@ -59,18 +59,18 @@ cuts-e a im (u ∷ us) fs t =
     pick w n r (List·Memᴰ·tail m) q = r w m q
 
 -- rs is ss without the pairs
-record Thin (ss : List ℕ) (im : ℕ → ℕ) (us rs : List ℕ) : Type 0 where
+record WithoutPairs (ss : List ℕ) (im : ℕ → ℕ) (us rs : List ℕ) : Type 0 where
   size : length rs ≡ length ss
   gone : (u : ℕ) → List·Memᴰ u us → (im u / 16 < length ss) × (T (has (at rs (im u / 16)) (im u % 16)) → ⊥)
   kept : (y w : ℕ) → y < length ss → w < 16 → T (has (at ss y) w) → ((u : ℕ) → List·Memᴰ u us → im u / 16 ≡ y → im u % 16 ≡ w → ⊥) → T (has (at rs y) w)
   less : Inside rs ss
 
-module _ {ss : List ℕ} {im : ℕ → ℕ} {us rs : List ℕ} (t : Thin ss im us rs) where
-  thin-idle : Idle rs (map (λ u. cutOf (im u)) us)
-  thin-idle = cuts-idle rs im us (λ u m. let g = t .gone u m in (subst (λ (n : ℕ). im u / 16 < n) (sym (t .size)) (g .0), g .1))
+module _ {ss : List ℕ} {im : ℕ → ℕ} {us rs : List ℕ} (t : WithoutPairs ss im us rs) where
+  pairs-vacuous : Vacuous rs (map (λ u. cutOf (im u)) us)
+  pairs-vacuous = cuts-vacuous rs im us (λ u m. let g = t .gone u m in (subst (λ (n : ℕ). im u / 16 < n) (sym (t .size)) (g .0), g .1))
 
-  thin-same : (fs : List Entry) (q : List ℕ → Bool) → models ss (map (λ u. cutOf (im u)) us ++ fs) q ≡ models rs fs q
-  thin-same fs q =
+  pairs-same : (fs : List Entry) (q : List ℕ → Bool) → models ss (map (λ u. cutOf (im u)) us ++ fs) q ≡ models rs fs q
+  pairs-same fs q =
       T-ext (models ss (es ++ fs) q) (models rs fs q)
       (λ m. let r = Scan.models-e ss (es ++ fs) q m in
       let c = cuts-e (r .0) im us fs (r .3) in
@@ -84,7 +84,7 @@ module _ {ss : List ℕ} {im : ℕ → ℕ} {us rs : List ℕ} (t : Thin ss im u
         ),
       )
       (r .2) (c .1))
-      (λ m. let r = Scan.models-e rs (es ++ fs) q (subst T (sym (ap (any q) (obeying-idle rs es fs thin-idle))) m) in
+      (λ m. let r = Scan.models-e rs (es ++ fs) q (subst T (sym (ap (any q) (obeying-vacuous rs es fs pairs-vacuous))) m) in
       Scan.models-i ss (es ++ fs) q (r .0)
       (r .1 .0 ∙ t .size, λ y l. let d = r .1 .1 y (subst (λ (n : ℕ). y < n) (sym (t .size)) l) in (d .0, t .less y (at (r .0) y) (d .1)))
       (r .2) (r .3))
@@ -107,7 +107,7 @@ module _ {p : Problem} {tables : List ℕ} {e : ℕ} (w : Tabled p tables e) (x 
   pub image-asks : (e < 16) × (x < 12) × (v < 16)
   image-asks = (omega (arith, w .symmetry, w .few), omega (arith, h, w .wellFormed .few), value-lt)
 
-  pub image-is : (y : ℕ) → y ≡ at tables (52224 + 192 * e + 16 * x + v) → y ≡ imageOf p e x v
+  pub image-is : (y : ℕ) → y ≡ at tables (imageAt e x v) → y ≡ imageOf p e x v
   image-is y q = q ∙ w .imageTables .own e x v (w .symmetry) h t
 
 -- ---- the tables
@@ -123,7 +123,7 @@ module _ {p : Problem} {ss tables : List ℕ} {e x v : ℕ} (w : Level p ss tabl
   im u = imageOf p e x u
 
   abbrev first : ℕ
-  first = 3072 + 3072 * e + 256 * x + 16 * v
+  first = cutsAt e x v
 
   pub first-lt : (e < 16) × (x < 12) × (v < 16)
   first-lt = image-asks (w .tabled) x v (w .variable) (w .value)
@@ -149,10 +149,10 @@ module _ {p : Problem} {ss tables : List ℕ} {e x v : ℕ} (w : Level p ss tabl
       (a .0, a .1, omega arith, omega arith)
 
   -- the sets without the table's
-  abbrev Sieved : List ℕ → Type 0
-  Sieved rs = (y c : ℕ) → y < 16 → c < 16 → has (at rs y) c ≡ both (has (at ss y) c) (not (has (smaller p e x v y) c))
+  abbrev WithoutTable : List ℕ → Type 0
+  WithoutTable rs = (y c : ℕ) → y < 16 → c < 16 → has (at rs y) c ≡ both (has (at ss y) c) (not (has (smaller p e x v y) c))
 
-  module _ (rs : List ℕ) (n : length rs ≡ 16) (b : (y : ℕ) → at rs y < 2 ^ 16) (s : Sieved rs) where
+  module _ (rs : List ℕ) (n : length rs ≡ 16) (b : (y : ℕ) → at rs y < 2 ^ 16) (s : WithoutTable rs) where
     variable-lt : (y : ℕ) → y < p .variables → y < 16
     variable-lt y l = omega (arith, w .held .live .few)
 
@@ -169,8 +169,8 @@ module _ {p : Problem} {ss tables : List ℕ} {e x v : ℕ} (w : Level p ss tabl
     size : length (take (p .variables) rs) ≡ p .variables
     size = length-take-le (p .variables) rs (omega (arith, w .held .live .few))
 
-    thin : Thin (take (p .variables) ss) im us (take (p .variables) rs)
-    thin =
+    without-pairs : WithoutPairs (take (p .variables) ss) im us (take (p .variables) rs)
+    without-pairs =
         let len = Front.front-length (w .held .live) in
         record {
           size = size ∙ sym len;
@@ -191,29 +191,29 @@ module _ {p : Problem} {ss tables : List ℕ} {e x v : ℕ} (w : Level p ss tabl
               (both-l (has (at ss y) c) (not (has (smaller p e x v y) c)) (subst T (s y c (variable-lt y i) (has-lt 16 (at rs y) c (b y) t′)) t′));
         }
 
-    sieved-thinned : ((y : ℕ) → y < 16 → at rs y ≡ 0 → ⊥) → Thinned (p .variables) ss (cuts p e x v) rs
-    sieved-thinned full =
+    table-made : ((y : ℕ) → y < 16 → at rs y ≡ 0 → ⊥) → CutsMade (p .variables) ss (cuts p e x v) rs
+    table-made full =
         record {
           passed = λ fs. record {
             live = record { few = w .held .live .few; sixteen = n; small = b; full = λ y l. full y (variable-lt y l) };
             unused = beyond;
-            same = thin-same thin fs;
+            same = pairs-same without-pairs fs;
           };
-          idle = thin-idle thin;
-          less = thin .less;
+          vacuous = pairs-vacuous without-pairs;
+          less = without-pairs .less;
         }
 
-    sieved-doomed : (y : ℕ) → y < 16 → at rs y ≡ 0 → Doomed (p .variables) ss (cuts p e x v)
-    sieved-doomed y h z fs q = thin-same thin fs q ∙ go (decLt y (p .variables))
+    table-none : (y : ℕ) → y < 16 → at rs y ≡ 0 → NoneObeys (p .variables) ss (cuts p e x v)
+    table-none y h z fs q = pairs-same without-pairs fs q ∙ go (decLt y (p .variables))
       where
         go : Dec (y < p .variables) → models (take (p .variables) rs) fs q ≡ false
         go (yes l) = Scan.at-empty (take (p .variables) rs) y fs q (subst (λ (k : ℕ). y < k) (sym size) l) (at-take (p .variables) rs y l ∙ z)
         go (no l) = let o : _≡_ {A = ℕ} 0 1 = sym z ∙ beyond y (omega arith) ∙ w .held .unused y (omega arith) h in absurd (omega arith)
 
   -- ---- what the functions answer
-  pub cut-missed : (r : Bool) → Missed r ss tables (3072 + 3072 * e + 256 * x + 16 * v) → not r ≡ true → Cut false (p .variables) ss (cuts p e x v) ss
+  pub cut-missed : (r : Bool) → Missed r ss tables (cutsAt e x v) → not r ≡ true → CutResult false (p .variables) ss (cuts p e x v) ss
   cut-missed r m q =
-      sieved-thinned ss (w .held .live .sixteen) (w .held .live .small)
+      table-made ss (w .held .live .sixteen) (w .held .live .small)
       (λ y c l k. both-less (has (at ss y) c) (has (smaller p e x v y) c)
       (ap (λ (z : ℕ). both (has (at ss y) c) (has z c)) (sym (table-at y l)) ∙ sym (has-and (at ss y) (at tables (first + y)) c) ∙ ap (λ (z : ℕ). has z c) (m (missing r q) y l) ∙ has-none c))
       (λ y l z. nonempty y l z (decLt y (p .variables)))
@@ -226,7 +226,7 @@ module _ {p : Problem} {ss tables : List ℕ} {e x v : ℕ} (w : Level p ss tabl
       nonempty y l z (yes h) = w .held .live .full y h z
       nonempty y l z (no h) = let o : _≡_ {A = ℕ} 0 1 = sym z ∙ w .held .unused y (omega arith) l in omega arith
 
-  pub cut-taken : (rs : List ℕ) (r : Bool) → Taken ss tables (3072 + 3072 * e + 256 * x + 16 * v) rs r → Cut r (p .variables) ss (cuts p e x v) rs
+  pub cut-taken : (rs : List ℕ) (r : Bool) → Taken ss tables (cutsAt e x v) rs r → CutResult r (p .variables) ss (cuts p e x v) rs
   cut-taken rs r t = go r t
     where
       sixteen : length rs ≡ 16
@@ -239,11 +239,11 @@ module _ {p : Problem} {ss tables : List ℕ} {e x v : ℕ} (w : Level p ss tabl
           pick (yes l) = subst (λ (z : ℕ). z < 2 ^ 16) (sym (t .each y l)) (lt-of-le-of-lt (and-le-l (at ss y) _) (w .held .live .small y))
           pick (no l) = subst (λ (z : ℕ). z < 2 ^ 16) (sym (at-out rs y (omega (arith, sixteen)))) (omega arith)
 
-      sieved : Sieved rs
-      sieved y c l k =
+      without-table : WithoutTable rs
+      without-table y c l k =
           ap (λ (z : ℕ). has z c) (t .each y l) ∙ has-and (at ss y) ((2 ^ 16 - 1) - at tables (first + y)) c
           ∙ ap (both (has (at ss y) c)) (ap (λ (z : ℕ). has ((2 ^ 16 - 1) - z) c) (table-at y l) ∙ has-not 16 (smaller p e x v y) c (mask-lt 16 _) k)
 
-      go : (r : Bool) → Taken ss tables first rs r → Cut r (p .variables) ss (cuts p e x v) rs
-      go true t = let g = t .empty refl in sieved-doomed rs sixteen small sieved (g .0) (g .1) (g .2)
-      go false t = sieved-thinned rs sixteen small sieved (t .full refl)
+      go : (r : Bool) → Taken ss tables first rs r → CutResult r (p .variables) ss (cuts p e x v) rs
+      go true t = let g = t .empty refl in table-none rs sixteen small without-table (g .0) (g .1) (g .2)
+      go false t = table-made rs sixteen small without-table (t .full refl)

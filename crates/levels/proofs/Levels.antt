@@ -41,8 +41,8 @@ module _ (p : Problem) (work : List ℕ) (e : ℕ) where
       ap (λ (c : ℕ). flat (map (λ i. levelOf p e i (at work i)) (upFrom j c))) q ∙ append-nil (levelOf p e j (at work j))
 
   -- the levels from i up to k, taken apart at the own pair of level j
-  pub levels-fork : (i j k : ℕ) → i ≤ j → j < k → (levels p work e i j ++ cuts p e j (at work j)) ++ (keepOf (ownAt p work e j) ∷ levels p work e (j + 1) k) ≡ levels p work e i k
-  levels-fork i j k h l =
+  pub levels-split : (i j k : ℕ) → i ≤ j → j < k → (levels p work e i j ++ cuts p e j (at work j)) ++ (keepOf (ownAt p work e j) ∷ levels p work e (j + 1) k) ≡ levels p work e i k
+  levels-split i j k h l =
       let c : List Entry = cuts p e j (at work j) in
       let o : List Entry = keepOf (ownAt p work e j) ∷ [] in
       append-assoc (levels p work e i j) c (o ++ levels p work e (j + 1) k)

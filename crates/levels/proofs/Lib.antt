@@ -1,8 +1,8 @@
 pub mod Levels
-pub mod Thinned
+pub mod CutsMade
 pub mod Cuts
 pub mod ImageTables
 pub mod Turns
-pub mod Forks
+pub mod Splits
 pub mod Nogoods
 pub mod Marks

@@ -5,7 +5,7 @@ use mathlib.Core.Path.{_≡_}
 use mathlib.Core.Bool.{Bool, true, false}
 use mathlib.Core.List.{List, [], _∷_, _++_, map}
 use mathlib.Core.Logic.{_⊎_}
-use Prim.Native.Nat.{ℕ, _+_, _-_, _/_, _%_, _^_, _≤_, _<_}
+use Prim.Native.Nat.{ℕ, _+_, _-_, _*_, _/_, _%_, _^_, _≤_, _<_}
 use lib.Bits.{bitAnd}
 use lib.Dec.{T, eqb, ltb}
 use lib.ListN.{length, take}
@@ -16,27 +16,28 @@ use Rattle.model.specs.Nogood.{Entry, equality, disequality, filtered}
 use Rattle.model.specs.Search.{nogoodsOf}
 use Rattle.model.specs.Pruning.{Inside}
 use Rattle.model.specs.WellFormed.{WellFormed}
+use Rattle.layout.specs.Places.{SMALLER, OWN, OBEYED, FAILED}
 use Rattle.layout.specs.Layout.{symmetryAt}
 use Rattle.layout.specs.Tables.{ImageTables, imageOf}
 use Rattle.nogood.specs.declared.entry.Step.{Step}
 use Rattle.nogood.specs.declared.entry.Step.the-variants as step
-use Rattle.nogood.specs.Scan.{stepOf, None, Live, Passed, Left}
+use Rattle.nogood.specs.Scan.{stepOf, None, Live, Passed, Remainder}
 use Rattle.nogood.specs.Lists.{forced}
-use Rattle.nogood.specs.Marks.{Idle, Settled}
+use Rattle.nogood.specs.Marks.{Vacuous, ObeyedForGood}
 
 -- ---- the contract of the filter
--- what is known of symmetry e at a prefix, for sets ds: by the mark 15, its nogoods are obeyed for good;
+-- what is known of symmetry e at a prefix, for sets ds: by the mark OBEYED, its nogoods are obeyed for good;
 -- by a smaller mark m, the levels of the first m variables say nothing more
 abbrev pub MarkBy : Bool → Problem → List ℕ → List ℕ → ℕ → ℕ → Type 0
-MarkBy true p ds prefix e m = Settled ds (nogoodsOf p (symmetryAt p e) prefix)
-MarkBy false p ds prefix e m = (m ≤ length prefix) × Idle ds (nogoodsOf p (symmetryAt p e) (take m prefix))
+MarkBy true p ds prefix e m = ObeyedForGood ds (nogoodsOf p (symmetryAt p e) prefix)
+MarkBy false p ds prefix e m = (m ≤ length prefix) × Vacuous ds (nogoodsOf p (symmetryAt p e) (take m prefix))
 
 abbrev pub Mark : Problem → List ℕ → List ℕ → ℕ → ℕ → Type 0
-Mark p ds prefix e m = MarkBy (eqb m 15) p ds prefix e m
+Mark p ds prefix e m = MarkBy (eqb m OBEYED) p ds prefix e m
 
 -- the tables hold p's symmetries; the first k numbers of `work` are values of the initial sets of variables 0 to k - 1;
 -- of sixteen sets the first n are p's variables', none of them empty, and the others are {0}; the levels before `start` say nothing more
-pub record Levelled (p : Problem) (sets work tables : List ℕ) (e k start : ℕ) : Type 0 where
+pub record FilterRequires (p : Problem) (sets work tables : List ℕ) (e k start : ℕ) : Type 0 where
   pub imageTables : ImageTables p tables
   pub wellFormed : WellFormed p
   pub few : length (p .symmetries) ≤ 16
@@ -47,22 +48,29 @@ pub record Levelled (p : Problem) (sets work tables : List ℕ) (e k start : ℕ
   pub live : Live (p .variables) sets
   pub unused : (x : ℕ) → p .variables ≤ x → x < 16 → at sets x ≡ 1
   pub begun : start ≤ k
-  pub idle : Idle (take (p .variables) sets) (nogoodsOf p (symmetryAt p e) (take start work))
+  pub vacuous : Vacuous (take (p .variables) sets) (nogoodsOf p (symmetryAt p e) (take start work))
 
 -- what the exact filter leaves of p's sets, for the nogoods of symmetry e at the prefix of k values
 abbrev pub leaves : Problem → List ℕ → List ℕ → ℕ → ℕ → List ℕ
 leaves p sets work e k = filtered (take (p .variables) sets) (nogoodsOf p (symmetryAt p e) (take k work))
 
--- the answer is 16 where it leaves an empty set; else the sets are what it leaves, and the answer is a mark for them
-pub record Sifted (p : Problem) (sets work : List ℕ) (e k : ℕ) (sets′ : List ℕ) (r : ℕ) : Type 0 where
-  pub answers : eqb r 16 ≡ anyEmpty (leaves p sets work e k)
-  pub left : (r ≡ 16 → ⊥) → take (p .variables) sets′ ≡ leaves p sets work e k
-  pub live : (r ≡ 16 → ⊥) → Live (p .variables) sets′
-  pub unused : (r ≡ 16 → ⊥) → (x : ℕ) → p .variables ≤ x → x < 16 → at sets′ x ≡ 1
-  pub mark : (r ≡ 16 → ⊥) → Mark p (take (p .variables) sets′) (take k work) e r
+-- the answer is FAILED where it leaves an empty set; else the sets are what it leaves, and the answer is a mark for them
+pub record FilterEnsures (p : Problem) (sets work : List ℕ) (e k : ℕ) (sets′ : List ℕ) (r : ℕ) : Type 0 where
+  pub answers : eqb r FAILED ≡ anyEmpty (leaves p sets work e k)
+  pub left : (r ≡ FAILED → ⊥) → take (p .variables) sets′ ≡ leaves p sets work e k
+  pub live : (r ≡ FAILED → ⊥) → Live (p .variables) sets′
+  pub unused : (r ≡ FAILED → ⊥) → (x : ℕ) → p .variables ≤ x → x < 16 → at sets′ x ≡ 1
+  pub mark : (r ≡ FAILED → ⊥) → Mark p (take (p .variables) sets′) (take k work) e r
   pub sixteen : length sets′ ≡ 16
 
 -- ---- between the functions of the crate: the entries, as the tables hold them
+-- where the tables have the sets of the smaller values of x, sixteen, and the image of (x, v)
+abbrev pub cutsAt : ℕ → ℕ → ℕ → ℕ
+cutsAt e x v = SMALLER + 3072 * e + 256 * x + 16 * v
+
+abbrev pub imageAt : ℕ → ℕ → ℕ → ℕ
+imageAt e x v = OWN + 192 * e + 16 * x + v
+
 -- "not this pair", and "this pair", of 16 times a variable plus a value
 abbrev pub cutOf : ℕ → Entry
 cutOf y = disequality (y / 16) (y % 16)
@@ -91,20 +99,20 @@ ownAt p work e j = imageOf p e j (at work j)
 
 -- ---- a first part of a list is passed, whatever comes after it
 -- its cuts are made, and it says nothing more
-pub record Thinned (n : ℕ) (ss : List ℕ) (es : List Entry) (rs : List ℕ) : Type 0 where
+pub record CutsMade (n : ℕ) (ss : List ℕ) (es : List Entry) (rs : List ℕ) : Type 0 where
   pub passed : (fs : List Entry) → Passed n ss (es ++ fs) rs fs
-  pub idle : Idle (take n rs) es
+  pub vacuous : Vacuous (take n rs) es
   pub less : Inside (take n rs) (take n ss)
 
 -- its cuts are made, and it is obeyed for good
-pub record Freed (n : ℕ) (ss : List ℕ) (es : List Entry) (rs : List ℕ) : Type 0 where
+pub record CutsObeyed (n : ℕ) (ss : List ℕ) (es : List Entry) (rs : List ℕ) : Type 0 where
   pub passed : (fs : List Entry) → Passed n ss (es ++ fs) rs []
-  pub settled : Settled (take n rs) es
+  pub for-good : ObeyedForGood (take n rs) es
   pub less : Inside (take n rs) (take n ss)
 
 -- no assignment obeys it
-abbrev pub Doomed : ℕ → List ℕ → List Entry → Type 0
-Doomed n ss es = (fs : List Entry) → None n ss (es ++ fs)
+abbrev pub NoneObeys : ℕ → List ℕ → List Entry → Type 0
+NoneObeys n ss es = (fs : List Entry) → None n ss (es ++ fs)
 
 -- ---- one level
 -- the tables hold p's symmetries, and e is one of them
@@ -136,20 +144,20 @@ pub record Taken (ss tables : List ℕ) (first : ℕ) (rs : List ℕ) (r : Bool)
   pub empty : r ≡ true → (y : ℕ) × (y < 16) × (at rs y ≡ 0)
   pub full : r ≡ false → (y : ℕ) → y < 16 → at rs y ≡ 0 → ⊥
 
-abbrev pub Cut : Bool → ℕ → List ℕ → List Entry → List ℕ → Type 0
-Cut true n ss es rs = Doomed n ss es
-Cut false n ss es rs = Thinned n ss es rs
+abbrev pub CutResult : Bool → ℕ → List ℕ → List Entry → List ℕ → Type 0
+CutResult true n ss es rs = NoneObeys n ss es
+CutResult false n ss es rs = CutsMade n ss es rs
 
 -- the cuts of a level are made, and some assignments have its own pair, and some have not
-pub record Parted (p : Problem) (ss : List ℕ) (e x v : ℕ) (rs : List ℕ) : Type 0 where
-  pub thinned : Thinned (p .variables) ss (cuts p e x v) rs
+pub record LevelSplit (p : Problem) (ss : List ℕ) (e x v : ℕ) (rs : List ℕ) : Type 0 where
+  pub made : CutsMade (p .variables) ss (cuts p e x v) rs
   pub split : stepOf rs (keepOf (imageOf p e x v)) ≡ step.Split
 
-abbrev pub Met : Step → Problem → List ℕ → ℕ → ℕ → ℕ → List ℕ → Type 0
-Met step.Next p ss e x v rs = Thinned (p .variables) ss (levelOf p e x v) rs
-Met step.Dead p ss e x v rs = Doomed (p .variables) ss (levelOf p e x v)
-Met step.Free p ss e x v rs = Freed (p .variables) ss (levelOf p e x v) rs
-Met step.Split p ss e x v rs = Parted p ss e x v rs
+abbrev pub LevelResult : Step → Problem → List ℕ → ℕ → ℕ → ℕ → List ℕ → Type 0
+LevelResult step.Next p ss e x v rs = CutsMade (p .variables) ss (levelOf p e x v) rs
+LevelResult step.Failed p ss e x v rs = NoneObeys (p .variables) ss (levelOf p e x v)
+LevelResult step.Obeyed p ss e x v rs = CutsObeyed (p .variables) ss (levelOf p e x v) rs
+LevelResult step.Split p ss e x v rs = LevelSplit p ss e x v rs
 
 -- ---- the levels of a prefix
 -- the first k numbers of `work` are values of the initial sets
@@ -165,7 +173,7 @@ pub record Ready (p : Problem) (ss work tables : List ℕ) (e k start : ℕ) : T
   pub begun : start ≤ k
 
 -- the own pair of level j is one that some assignments have and some have not
-pub record Fork (p : Problem) (ss work tables : List ℕ) (e k j : ℕ) : Type 0 where
+pub record AtSplit (p : Problem) (ss work tables : List ℕ) (e k j : ℕ) : Type 0 where
   pub tabled : Tabled p tables e
   pub held : Held p ss
   pub prefix : Prefix p work k
@@ -173,28 +181,28 @@ pub record Fork (p : Problem) (ss work tables : List ℕ) (e k j : ℕ) : Type 0
   pub split : stepOf ss (keepOf (ownAt p work e j)) ≡ step.Split
 
 -- what is left there
-abbrev pub forkEntries : Problem → List ℕ → ℕ → ℕ → ℕ → List Entry
-forkEntries p work e k j = keepOf (ownAt p work e j) ∷ levels p work e (j + 1) k
+abbrev pub splitEntries : Problem → List ℕ → ℕ → ℕ → ℕ → List Entry
+splitEntries p work e k j = keepOf (ownAt p work e j) ∷ levels p work e (j + 1) k
 
-pub record Forked (p : Problem) (ss work tables : List ℕ) (e k start : ℕ) (rs : List ℕ) (j : ℕ) : Type 0 where
-  pub fork : Fork p rs work tables e k j
+pub record SplitReached (p : Problem) (ss work tables : List ℕ) (e k start : ℕ) (rs : List ℕ) (j : ℕ) : Type 0 where
+  pub at-split : AtSplit p rs work tables e k j
   pub begun : start ≤ j
-  pub before : Idle (take (p .variables) rs) (levels p work e start j)
-  pub thinned : Thinned (p .variables) ss (levels p work e start j ++ cuts p e j (at work j)) rs
+  pub before : Vacuous (take (p .variables) rs) (levels p work e start j)
+  pub made : CutsMade (p .variables) ss (levels p work e start j ++ cuts p e j (at work j)) rs
 
 -- how far a pass from a level came
-pub data Came (p : Problem) (ss work tables : List ℕ) (e k start : ℕ) (rs : List ℕ) (r : ℕ) : Type 0 where
-  dead : r ≡ 16 → Doomed (p .variables) ss (levels p work e start k) → Came p ss work tables e k start rs r
-  done : r ≡ 15 → Freed (p .variables) ss (levels p work e start k) rs → Came p ss work tables e k start rs r
-  ended : r ≡ k → Thinned (p .variables) ss (levels p work e start k) rs → Came p ss work tables e k start rs r
-  forked : r < k → Forked p ss work tables e k start rs r → Came p ss work tables e k start rs r
+pub data PassResult (p : Problem) (ss work tables : List ℕ) (e k start : ℕ) (rs : List ℕ) (r : ℕ) : Type 0 where
+  failed : r ≡ FAILED → NoneObeys (p .variables) ss (levels p work e start k) → PassResult p ss work tables e k start rs r
+  obeyed : r ≡ OBEYED → CutsObeyed (p .variables) ss (levels p work e start k) rs → PassResult p ss work tables e k start rs r
+  ended : r ≡ k → CutsMade (p .variables) ss (levels p work e start k) rs → PassResult p ss work tables e k start rs r
+  split-reached : r < k → SplitReached p ss work tables e k start rs r → PassResult p ss work tables e k start rs r
 
 -- the sets with the pair y forced
 abbrev pub forcedBy : List ℕ → ℕ → List ℕ
 forcedBy ss y = forced ss (y / 16) (y % 16)
 
--- what a fork comes to: its own pair goes, and then no assignment has it; or nothing goes
-pub record Parting (p : Problem) (ss work : List ℕ) (e k j : ℕ) (rs : List ℕ) (r : ℕ) : Type 0 where
-  pub left : Left (p .variables) ss (forkEntries p work e k j) rs
+-- what a split comes to: its own pair goes, and then no assignment has it; or nothing goes
+pub record SplitResult (p : Problem) (ss work : List ℕ) (e k j : ℕ) (rs : List ℕ) (r : ℕ) : Type 0 where
+  pub left : Remainder (p .variables) ss (splitEntries p work e k j) rs
   pub less : Inside (take (p .variables) rs) (take (p .variables) ss)
-  pub answer : ((r ≡ 15) × Settled (take (p .variables) rs) (keepOf (ownAt p work e j) ∷ [])) ⊎ (r ≡ j)
+  pub answer : ((r ≡ OBEYED) × ObeyedForGood (take (p .variables) rs) (keepOf (ownAt p work e j) ∷ [])) ⊎ (r ≡ j)

@@ -1,19 +1,17 @@
 // The exact filter for the nogoods of one symmetry at a prefix (paper 01, "The search"), with no list built: a level at a time from the tables.
 // It resumes at a mark, and answers the next one.
 ghost use mathlib.Core.Path.{_≡_};
-ghost use Prim.Native.Nat.{_+_, _*_, _≤_, _<_};
+ghost use Prim.Native.Nat.{_+_, _≤_, _<_};
 ghost use lib.ListN.{length};
 ghost use Rattle.model.specs.Lists.{at};
 ghost use Rattle.model.specs.Problem.{Problem};
-ghost use Rattle.levels.specs.Levels.{Levelled, Sifted, Missed, Taken, Level, cuts, Cut, Met, Ready, Came, Fork, Parting};
+ghost use Rattle.levels.specs.Levels.{FilterRequires, FilterEnsures, imageAt, Missed, Taken, Level, cuts, CutResult, LevelResult, Ready, PassResult, AtSplit, SplitResult};
+use layout::FAILED;
+use layout::OBEYED;
+use layout::OWN;
+use layout::SMALLER;
 use nogood::entry;
 use nogood::entry::Step;
-
-// The mark of a symmetry whose nogoods are obeyed for good.
-pub const DONE: u64 = 15;
-
-// The answer where no assignment obeys.
-pub const DEAD: u64 = 16;
 
 // Whether the level from a place of the tables on takes a value of some set.
 fn hits(sets: &[u16; 16], tables: &[u16; 55296], first: usize) -> bool
@@ -49,9 +47,9 @@ fn take(sets: &mut [u16; 16], tables: &[u16; 55296], first: usize) -> bool
 fn cut(sets: &mut [u16; 16], tables: &[u16; 55296], e: usize, x: usize, v: usize) -> bool
     requires { ⌜ ((p : Problem) × Level p (now sets) (now tables) e x v) ⌝ }
     ensures sixteen { λ _. ⌜ length (now (sets .exit)) ≡ length (now (sets .entry)) ⌝ }
-    ensures entries { λ r. ⌜ ((p : Problem) → Level p (now (sets .entry)) (now (tables .entry)) e x v → Cut r (p .variables) (now (sets .entry)) (cuts p e x v) (now (sets .exit))) ⌝ }
+    ensures entries { λ r. ⌜ ((p : Problem) → Level p (now (sets .entry)) (now (tables .entry)) e x v → CutResult r (p .variables) (now (sets .entry)) (cuts p e x v) (now (sets .exit))) ⌝ }
 {
-    let first = 3072 + 3072 * e + 256 * x + 16 * v;
+    let first = SMALLER + 3072 * e + 256 * x + 16 * v;
     if !hits(sets, tables, first) {
         return false;
     }
@@ -61,25 +59,25 @@ fn cut(sets: &mut [u16; 16], tables: &[u16; 55296], e: usize, x: usize, v: usize
 // The image of the pair (x, v) under symmetry e: 16 times its variable plus its value.
 fn image(tables: &[u16; 55296], e: usize, x: usize, v: usize) -> u16
     requires { ⌜ (e < 16) × (x < 12) × (v < 16) ⌝ }
-    ensures { λ r. ⌜ r ≡ at (now (tables .entry)) (52224 + 192 * e + 16 * x + v) ⌝ }
+    ensures { λ r. ⌜ r ≡ at (now (tables .entry)) (imageAt e x v) ⌝ }
 {
-    tables[52224 + 192 * e + 16 * x + v]
+    tables[OWN + 192 * e + 16 * x + v]
 }
 
 // A level: the cuts are made, and then the image of the prefix's own pair is an equality.
 fn level(sets: &mut [u16; 16], tables: &[u16; 55296], e: usize, x: usize, v: usize) -> Step
     requires { ⌜ ((p : Problem) × Level p (now sets) (now tables) e x v) ⌝ }
     ensures sixteen { λ _. ⌜ length (now (sets .exit)) ≡ length (now (sets .entry)) ⌝ }
-    ensures entries { λ r. ⌜ ((p : Problem) → Level p (now (sets .entry)) (now (tables .entry)) e x v → Met r p (now (sets .entry)) e x v (now (sets .exit))) ⌝ }
+    ensures entries { λ r. ⌜ ((p : Problem) → Level p (now (sets .entry)) (now (tables .entry)) e x v → LevelResult r p (now (sets .entry)) e x v (now (sets .exit))) ⌝ }
 {
     if cut(sets, tables, e, x, v) {
-        return Step::Dead;
+        return Step::Failed;
     }
     let y = image(tables, e, x, v);
     entry::equality(sets, (y / 16) as usize, (y % 16) as u8)
 }
 
-// Passes the levels from a start, until the outcome is settled: DEAD, DONE, the level that splits the assignments, or k at the end.
+// Passes the levels from a start, until the result is known: FAILED, OBEYED, the level that splits the assignments, or k at the end.
 fn pass(
     sets: &mut [u16; 16],
     work: &[u64; 256],
@@ -90,15 +88,15 @@ fn pass(
 ) -> u64
     requires { ⌜ ((p : Problem) × Ready p (now sets) (now work) (now tables) e k start) ⌝ }
     ensures sixteen { λ _. ⌜ length (now (sets .exit)) ≡ length (now (sets .entry)) ⌝ }
-    ensures entries { λ r. ⌜ ((p : Problem) → Ready p (now (sets .entry)) (now (work .entry)) (now (tables .entry)) e k start → Came p (now (sets .entry)) (now (work .entry)) (now (tables .entry)) e k start (now (sets .exit)) r) ⌝ }
+    ensures entries { λ r. ⌜ ((p : Problem) → Ready p (now (sets .entry)) (now (work .entry)) (now (tables .entry)) e k start → PassResult p (now (sets .entry)) (now (work .entry)) (now (tables .entry)) e k start (now (sets .exit)) r) ⌝ }
 {
     let mut j = start;
     while j < k {
         let step = level(sets, tables, e, j, work[j] as usize);
         match step {
             Step::Next => {}
-            Step::Dead => return DEAD,
-            Step::Free => return DONE,
+            Step::Failed => return FAILED,
+            Step::Obeyed => return OBEYED,
             Step::Split => return j as u64,
         }
         j += 1;
@@ -107,7 +105,7 @@ fn pass(
 }
 
 // At a level whose own pair some assignments have and some have not: the pair goes where no assignment that has it obeys the levels after it.
-fn fork(
+fn resolve(
     sets: &mut [u16; 16],
     work: &[u64; 256],
     tables: &[u16; 55296],
@@ -115,23 +113,23 @@ fn fork(
     k: usize,
     split: usize,
 ) -> u64
-    requires { ⌜ ((p : Problem) × Fork p (now sets) (now work) (now tables) e k split) ⌝ }
-    ensures { λ r. ⌜ ((p : Problem) → Fork p (now (sets .entry)) (now (work .entry)) (now (tables .entry)) e k split → Parting p (now (sets .entry)) (now (work .entry)) e k split (now (sets .exit)) r) ⌝ }
+    requires { ⌜ ((p : Problem) × AtSplit p (now sets) (now work) (now tables) e k split) ⌝ }
+    ensures { λ r. ⌜ ((p : Problem) → AtSplit p (now (sets .entry)) (now (work .entry)) (now (tables .entry)) e k split → SplitResult p (now (sets .entry)) (now (work .entry)) e k split (now (sets .exit)) r) ⌝ }
 {
     let y = image(tables, e, split, work[split] as usize);
     let x = (y / 16) as usize;
     let v = (y % 16) as u8;
     let mut ahead = *sets;
     entry::force(&mut ahead, x, v);
-    if pass(&mut ahead, work, tables, e, k, split + 1) == DEAD {
+    if pass(&mut ahead, work, tables, e, k, split + 1) == FAILED {
         entry::disequality(sets, x, v);
-        return DONE;
+        return OBEYED;
     }
     split as u64
 }
 
 // Takes from the sets each value that no assignment uses that is drawn from them and obeys the nogoods of symmetry e at the prefix of k values;
-// the levels before `start` say nothing more. DEAD where none obeys, and the sets then say nothing; else the mark.
+// the levels before `start` say nothing more. FAILED where none obeys, and the sets then say nothing; else the mark.
 pub fn filter(
     sets: &mut [u16; 16],
     work: &[u64; 256],
@@ -140,12 +138,12 @@ pub fn filter(
     k: usize,
     start: usize,
 ) -> u64
-    requires { ⌜ ((p : Problem) × Levelled p (now sets) (now work) (now tables) e k start) ⌝ }
-    ensures { λ r. ⌜ ((p : Problem) → Levelled p (now (sets .entry)) (now (work .entry)) (now (tables .entry)) e k start → Sifted p (now (sets .entry)) (now (work .entry)) e k (now (sets .exit)) r) ⌝ }
+    requires { ⌜ ((p : Problem) × FilterRequires p (now sets) (now work) (now tables) e k start) ⌝ }
+    ensures { λ r. ⌜ ((p : Problem) → FilterRequires p (now (sets .entry)) (now (work .entry)) (now (tables .entry)) e k start → FilterEnsures p (now (sets .entry)) (now (work .entry)) e k (now (sets .exit)) r) ⌝ }
 {
     let reached = pass(sets, work, tables, e, k, start);
     if reached < k as u64 {
-        return fork(sets, work, tables, e, k, reached as usize);
+        return resolve(sets, work, tables, e, k, reached as usize);
     }
     reached
 }

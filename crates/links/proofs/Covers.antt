@@ -9,15 +9,14 @@ use native.Mathlib.Decide.{ℕ-discrete, decLt}
 use lib.Dec.{T, eqb}
 use lib.ListN.{length, set, replicate}
 use lib.Bits.{bitAnd, bitOr, or-lt}
-use lib.Count.{trailingZeros}
 use borrow.Author.Tests.{eqb-true, not-false}
 use Rattle.model.specs.Lists.{at}
-use Rattle.model.specs.ValueSets.{has}
+use Rattle.model.specs.ValueSets.{has, withoutMask, lowestOf}
 use Rattle.model.proofs.Lists.{T-of, T-dec, not-of, at-out, at-set, at-set-other, at-replicate}
 use Rattle.model.proofs.Sets.{has-lt, set-sets}
 use Rattle.model.specs.Pruning.{Sets}
 use Rattle.model.proofs.Masks.{has-not}
-use Rattle.model.proofs.Members.{has-0, or-i, and-i, Rest, rest-begin, rest-turn, Union, union-begin, union-turn, union-end}
+use Rattle.model.proofs.Members.{has-0, or-i, and-i, Rest, rest-begin, Union, union-begin, union-end, others-left, others-union}
 use Rattle.links.specs.Steps.{Narrow, Goes, Added, Cover, Covered}
 
 -- ---- sixteen sets of the tables are added to the cover, y of them so far
@@ -74,13 +73,12 @@ covering-begin tables x set cover s h z = record {
   unions = λ y l. subst (Union (λ v w. Goes tables x v y w) set set) (sym (z y l)) (union-begin (λ v w. Goes tables x v y w) set);
 }
 
-pub covering-turn : {tables : List ℕ} {x set : ℕ} {cover : List ℕ} {m : ℕ} → Covering tables x set cover m → (m ≡ 0 → ⊥) → (cover′ : List ℕ) →
-    Added cover tables (256 * x + 16 * trailingZeros 16 m) cover′ → Covering tables x set cover′ (bitAnd m (m - 1))
-covering-turn {tables} {x} {set} {cover} {m} c n cover′ a = record {
+pub covering-turn : {tables : List ℕ} {x set : ℕ} {cover : List ℕ} {m v m′ : ℕ} → Covering tables x set cover m → (m ≡ 0 → ⊥) → v ≡ lowestOf m → (cover′ : List ℕ) →
+    Added cover tables (256 * x + 16 * v) cover′ → m′ ≡ withoutMask m (lowestOf m) → Covering tables x set cover′ m′
+covering-turn {tables} {x} {set} {cover} {m} {v} {m′} c n low cover′ a less = record {
   sets = a .sets;
-  rest = rest-turn 16 set m (c .rest) n;
-  unions = λ y l. subst (Union (λ v w. Goes tables x v y w) set (bitAnd m (m - 1))) (sym (a .each y l))
-      (union-turn (λ v w. Goes tables x v y w) 16 set m (at cover y) (at tables (256 * x + 16 * trailingZeros 16 m + y)) (c .rest) n (c .unions y l) (λ w q. q) (λ w q. q));
+  rest = others-left set m v (c .rest) n low m′ less;
+  unions = λ y l. others-union set m v (c .rest) n low m′ less (λ u w. Goes tables x u y w) (at cover y) (at tables (256 * x + 16 * v + y)) (at cover′ y) (c .unions y l) (a .each y l) (λ w q. q) (λ w q. q);
 }
 
 pub covering-end : {tables : List ℕ} {x set : ℕ} {cover : List ℕ} {m : ℕ} → Covering tables x set cover m → m ≡ 0 → Cover tables x set cover
@@ -91,16 +89,16 @@ covering-end {tables} {x} {set} {cover} {m} c e = record {
 }
 
 -- ---- the sets that are compared with the cover: a value outside it is in `over`
-pub record Passing (sets cover : List ℕ) (over y : ℕ) : Type 0 where
+pub record Compared (sets cover : List ℕ) (over y : ℕ) : Type 0 where
   pub few : y ≤ 16
   pub seen : (i w : ℕ) → i < y → T (has (at sets i) w) → T (has (at cover i) w) ⊎ T (has over w)
 
-pub passing-begin : (sets cover : List ℕ) → Passing sets cover 0 0
-passing-begin sets cover = record { few = omega arith; seen = λ i w h. absurd (omega arith) }
+pub compared-begin : (sets cover : List ℕ) → Compared sets cover 0 0
+compared-begin sets cover = record { few = omega arith; seen = λ i w h. absurd (omega arith) }
 
-pub passing-turn : {sets cover : List ℕ} {over y : ℕ} → Passing sets cover over y → y < 16 → at sets y < 2 ^ 16 → at cover y < 2 ^ 16 →
-    Passing sets cover (bitOr over (bitAnd (at sets y) ((2 ^ 16 - 1) - at cover y))) (y + 1)
-passing-turn {sets} {cover} {over} {y} p h a b = record { few = omega arith; seen = λ i w l t. seen i w l t (ℕ-discrete i y) }
+pub compared-turn : {sets cover : List ℕ} {over y : ℕ} → Compared sets cover over y → y < 16 → at sets y < 2 ^ 16 → at cover y < 2 ^ 16 →
+    Compared sets cover (bitOr over (bitAnd (at sets y) ((2 ^ 16 - 1) - at cover y))) (y + 1)
+compared-turn {sets} {cover} {over} {y} p h a b = record { few = omega arith; seen = λ i w l t. seen i w l t (ℕ-discrete i y) }
   where
     more : ℕ
     more = bitAnd (at sets y) ((2 ^ 16 - 1) - at cover y)
@@ -116,8 +114,8 @@ passing-turn {sets} {cover} {over} {y} p h a b = record { few = omega arith; see
         subst (λ (j : ℕ). T (has (at cover j) w) ⊎ T (has (bitOr over more) w)) (sym e) (here w (subst (λ (j : ℕ). T (has (at sets j) w)) e t) (T-dec (has (at cover y) w)))
     seen i w l t (no n) = ⊎-elim (λ q. inl q) (λ q. inr (or-i over more w (inl q))) (p .seen i w (omega arith) t)
 
-pub passing-end : {sets cover : List ℕ} {over y : ℕ} → Passing sets cover over y → 16 ≤ y → length sets ≡ 16 → over ≡ 0 → Covered sets cover
-passing-end {sets} {cover} {over} {y} p h l e i w t = go (decLt i 16)
+pub compared-end : {sets cover : List ℕ} {over y : ℕ} → Compared sets cover over y → 16 ≤ y → length sets ≡ 16 → over ≡ 0 → Covered sets cover
+compared-end {sets} {cover} {over} {y} p h l e i w t = go (decLt i 16)
   where
     go : Dec (i < 16) → T (has (at cover i) w)
     go (yes k) = ⊎-elim (λ q. q) (λ q. absurd (has-0 w (subst (λ (n : ℕ). T (has n w)) e q))) (p .seen i w (omega arith) t)

@@ -5,7 +5,7 @@ use mathlib.Core.Logic.{_⊎_, inl, inr}
 use mathlib.Core.List.{List}
 use Prim.Native.Nat.{ℕ, _+_, _*_, _%_, _^_, _≤_, _<_}
 use native.Mathlib.Omega.{arith}
-use native.Mathlib.Decide.{ℕ-discrete}
+use native.Mathlib.Decide.{ℕ-discrete, decLt}
 use lib.Dec.{T, eqb, eqb→eq, eqb-refl}
 use lib.ListN.{length, set, length-set}
 use lib.Bits.{bitAnd, bitOr}
@@ -13,13 +13,14 @@ use Rattle.model.specs.Lists.{at}
 use Rattle.model.specs.ValueSets.{has}
 use Rattle.model.proofs.Lists.{not-of, of-not, at-set, at-set-other}
 use Rattle.model.proofs.Members.{has-0, or-i, or-e, one-has}
-use Rattle.links.specs.Steps.{Cut}
+use Rattle.layout.specs.Places.{DEAD}
+use Rattle.links.specs.Steps.{CutToCover}
 
 -- y sets are cut so far
 pub record Cutting (ds cover es : List ℕ) (changed y : ℕ) : Type 0 where
   pub few : y ≤ 12
   pub sized : length es ≡ 16
-  pub met : (i : ℕ) → i < y → at es i ≡ bitAnd (at ds i) (at cover i)
+  pub cut : (i : ℕ) → i < y → at es i ≡ bitAnd (at ds i) (at cover i)
   pub rest : (i : ℕ) → y ≤ i → at es i ≡ at ds i
   pub kept : (i : ℕ) → has changed i ≡ false → at es i ≡ at ds i
   pub moved : (i : ℕ) → T (has changed i) → (i < y) × (at es i ≡ at ds i → ⊥) × (at es i ≡ 0 → ⊥)
@@ -28,22 +29,30 @@ pub cutting-begin : (ds cover : List ℕ) → length ds ≡ 16 → Cutting ds co
 cutting-begin ds cover l = record {
   few = omega arith;
   sized = l;
-  met = λ i h. absurd (omega arith);
+  cut = λ i h. absurd (omega arith);
   rest = λ i h. refl;
   kept = λ i e. refl;
   moved = λ i t. absurd (has-0 i t);
 }
 
-pub is-dead : T (has 65536 16)
+-- each set is cut or as it came
+cutting-each : {ds cover es : List ℕ} {changed y : ℕ} → Cutting ds cover es changed y → (i : ℕ) → (at es i ≡ bitAnd (at ds i) (at cover i)) ⊎ (at es i ≡ at ds i)
+cutting-each {ds} {cover} {es} {changed} {y} c i = go (decLt i y)
+  where
+    go : Dec (i < y) → (at es i ≡ bitAnd (at ds i) (at cover i)) ⊎ (at es i ≡ at ds i)
+    go (yes l) = inl (c .cut i l)
+    go (no n) = inr (c .rest i (omega arith))
+
+pub is-dead : T (has DEAD 16)
 unfolding has
 is-dead = tt
 
-pub cutting-end : {ds cover es : List ℕ} {changed y : ℕ} → Cutting ds cover es changed y → 12 ≤ y → Cut ds cover es changed
+pub cutting-end : {ds cover es : List ℕ} {changed y : ℕ} → Cutting ds cover es changed y → 12 ≤ y → CutToCover ds cover es changed
 cutting-end {ds} {cover} {es} {changed} {y} c h = record {
   dead = λ e. absurd (let q = c .moved 16 (subst (λ (n : ℕ). T (has n 16)) (sym e) is-dead) in omega (arith, q .0, c .few));
   sized = c .sized;
-  met = λ n i l. c .met i (omega arith);
-  rest = λ i l. c .rest i (omega (arith, c .few));
+  cut-or-kept = cutting-each c;
+  cut = λ n i l. c .cut i (omega arith);
   kept = λ n i e. c .kept i e;
   changed = λ n i t. let q = c .moved i t in (omega (arith, q .0, c .few), q .1, q .2);
 }
@@ -56,29 +65,29 @@ module _ {ds cover es : List ℕ} {changed y : ℕ} (c : Cutting ds cover es cha
   here : at es y ≡ at ds y
   here = c .rest y (omega arith)
 
-  met-here : bitAnd (at es y) (at cover y) ≡ bitAnd (at ds y) (at cover y)
-  met-here = ap (λ (s : ℕ). bitAnd s (at cover y)) here
+  cut-here : bitAnd (at es y) (at cover y) ≡ bitAnd (at ds y) (at cover y)
+  cut-here = ap (λ (s : ℕ). bitAnd s (at cover y)) here
 
   pub cutting-same : new ≡ at es y → Cutting ds cover es changed (y + 1)
   cutting-same e = record {
     few = omega arith;
     sized = c .sized;
-    met = λ i l. met i l (ℕ-discrete i y);
+    cut = λ i l. cut i l (ℕ-discrete i y);
     rest = λ i l. c .rest i (omega arith);
     kept = c .kept;
     moved = λ i t. let q = c .moved i t in (omega (arith, q .0), q .1, q .2);
   }
     where
-      met : (i : ℕ) → i < y + 1 → Dec (i ≡ y) → at es i ≡ bitAnd (at ds i) (at cover i)
-      met i l (yes q) = subst (λ (j : ℕ). at es j ≡ bitAnd (at ds j) (at cover j)) (sym q) (sym e ∙ met-here)
-      met i l (no n) = c .met i (omega arith)
+      cut : (i : ℕ) → i < y + 1 → Dec (i ≡ y) → at es i ≡ bitAnd (at ds i) (at cover i)
+      cut i l (yes q) = subst (λ (j : ℕ). at es j ≡ bitAnd (at ds j) (at cover j)) (sym q) (sym e ∙ cut-here)
+      cut i l (no n) = c .cut i (omega arith)
 
-  pub cutting-dead : (new ≡ at es y → ⊥) → new ≡ 0 → Cut ds cover es 65536
+  pub cutting-dead : (new ≡ at es y → ⊥) → new ≡ 0 → CutToCover ds cover es DEAD
   cutting-dead n e = record {
-    dead = λ q. (y, h, sym met-here ∙ e, λ z. n (e ∙ sym (here ∙ z)));
+    dead = λ q. (y, h, sym cut-here ∙ e, λ z. n (e ∙ sym (here ∙ z)));
     sized = c .sized;
-    met = λ f. absurd (f refl);
-    rest = λ i l. c .rest i (omega arith);
+    cut-or-kept = cutting-each c;
+    cut = λ f. absurd (f refl);
     kept = λ f. absurd (f refl);
     changed = λ f. absurd (f refl);
   }
@@ -87,7 +96,7 @@ module _ {ds cover es : List ℕ} {changed y : ℕ} (c : Cutting ds cover es cha
   cutting-less n z = record {
     few = omega arith;
     sized = length-set es y new ∙ c .sized;
-    met = λ i l. met i l (ℕ-discrete i y);
+    cut = λ i l. cut i l (ℕ-discrete i y);
     rest = λ i l. there i (λ e. omega arith) ∙ c .rest i (omega arith);
     kept = λ i e. there i (λ q. of-not (has more i) e (or-i changed one i (inr (subst T (sym (one-has 64 y i (omega arith))) (subst (λ (j : ℕ). T (eqb i j)) q (eqb-refl i))))))
         ∙ c .kept i (not-of (has changed i) (λ t. of-not (has more i) e (or-i changed one i (inl t))));
@@ -106,9 +115,9 @@ module _ {ds cover es : List ℕ} {changed y : ℕ} (c : Cutting ds cover es cha
       there : (i : ℕ) → (i ≡ y → ⊥) → at (set es y new) i ≡ at es i
       there i q = at-set-other es y new i q
 
-      met : (i : ℕ) → i < y + 1 → Dec (i ≡ y) → at (set es y new) i ≡ bitAnd (at ds i) (at cover i)
-      met i l (yes q) = subst (λ (j : ℕ). at (set es y new) j ≡ bitAnd (at ds j) (at cover j)) (sym q) (now ∙ met-here)
-      met i l (no m) = there i m ∙ c .met i (omega arith)
+      cut : (i : ℕ) → i < y + 1 → Dec (i ≡ y) → at (set es y new) i ≡ bitAnd (at ds i) (at cover i)
+      cut i l (yes q) = subst (λ (j : ℕ). at (set es y new) j ≡ bitAnd (at ds j) (at cover j)) (sym q) (now ∙ cut-here)
+      cut i l (no m) = there i m ∙ c .cut i (omega arith)
 
       moved : (i : ℕ) → T (has changed i) ⊎ T (has one i) → (i < y + 1) × (at (set es y new) i ≡ at ds i → ⊥) × (at (set es y new) i ≡ 0 → ⊥)
       moved i (inl t) = let q = c .moved i t in

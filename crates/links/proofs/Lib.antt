@@ -1,6 +1,6 @@
 -- The laws, in the order of the argument.
 pub mod Covers
 pub mod Cuts
-pub mod Going
-pub mod By
-pub mod Turns
+pub mod Partners
+pub mod OneCut
+pub mod ArcsLoop

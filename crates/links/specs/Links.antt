@@ -7,12 +7,14 @@ use Prim.Native.Nat.{ℕ, _<_}
 use lib.Dec.{T}
 use Rattle.model.specs.ValueSets.{has}
 use Rattle.model.specs.Problem.{Problem}
+use Rattle.model.specs.Pruning.{Sets, Inside}
 use Rattle.model.specs.WellFormed.{WellFormed}
+use Rattle.layout.specs.Places.{DEAD}
 use Rattle.layout.specs.Tables.{Linked, Rows}
 use Rattle.layout.specs.Pruning.{Given, Lessened, Ended, Arc, setsOf}
 
 -- only the variables of `dirty` may have a set that refuses a value of another
-pub record Waiting (p : Problem) (numbers tables sets : List ℕ) (dirty : ℕ) : Type 0 where
+pub record ArcsPending (p : Problem) (numbers tables sets : List ℕ) (dirty : ℕ) : Type 0 where
   pub given : Given p sets
   pub wellFormed : WellFormed p
   pub linked : Linked p numbers
@@ -20,8 +22,10 @@ pub record Waiting (p : Problem) (numbers tables sets : List ℕ) (dirty : ℕ) 
   pub known : (x : ℕ) → T (has dirty x) → x < p .variables
   pub arcs : (x : ℕ) → x < p .variables → has dirty x ≡ false → Arc p (setsOf p sets) x
 
--- the answer is 65536 at a dead end, else the variables whose sets changed
-pub record Linking (p : Problem) (sets sets′ : List ℕ) (r : ℕ) : Type 0 where
-  pub ended : r ≡ 65536 → Ended p sets
-  pub lessened : (r ≡ 65536 → ⊥) → Lessened p sets sets′ r
-  pub arcs : (r ≡ 65536 → ⊥) → (x : ℕ) → x < p .variables → Arc p (setsOf p sets′) x
+-- the answer is DEAD at a dead end, else the variables whose sets changed; which values are gone at a dead end is open, but no set has gained one
+pub record ArcsMade (p : Problem) (sets sets′ : List ℕ) (r : ℕ) : Type 0 where
+  pub ended : r ≡ DEAD → Ended p sets
+  pub lessened : (r ≡ DEAD → ⊥) → Lessened p sets sets′ r
+  pub arcs : (r ≡ DEAD → ⊥) → (x : ℕ) → x < p .variables → Arc p (setsOf p sets′) x
+  pub sixteen : Sets 16 sets′
+  pub less : Inside sets′ sets

@@ -1,18 +1,30 @@
 // Pruning by the constraints on two variables (paper 01, "The search"), by variable: a changed set cuts all other sets at once.
+use layout::DEAD;
+use layout::LOOSE;
+use model::ValueSet;
 ghost use mathlib.Core.Path.{_≡_};
 ghost use mathlib.Core.Bool.{false};
-ghost use Prim.Native.Nat.{ℕ, _+_, _*_, _≤_, _<_};
+ghost use Prim.Native.Nat.{_+_, _*_, _≤_, _<_};
 ghost use lib.ListN.{length};
+ghost use Rattle.model.specs.ValueSets.{withoutMask, lowestOf};
 ghost use Rattle.model.specs.Problem.{Problem};
 ghost use Rattle.model.specs.Pruning.{Sets};
-ghost use Rattle.links.specs.Links.{Waiting, Linking};
-ghost use Rattle.links.specs.Steps.{Narrow, Added, Cover, Covered, Cut, Ready, CutBy};
-use layout::DEAD;
+ghost use Rattle.links.specs.Links.{ArcsPending, ArcsMade};
+ghost use Rattle.links.specs.Steps.{Narrow, Added, Cover, Covered, CutToCover, CanCut, CutBy};
 
-// Where `numbers` has the loose variables.
-const LOOSE: usize = 88;
+// The set without its lowest value.
+fn rest(set: ValueSet) -> ValueSet
+    ensures { λ r. ⌜ r .bits ≡ withoutMask (set .bits) (lowestOf (set .bits)) ⌝ }
+{
+    if set.is_empty() {
+        return set;
+    }
+    ValueSet {
+        bits: set.bits & (set.bits - 1),
+    }
+}
 
-// Adds sixteen sets of the tables, from a place on, to the cover.
+// Adds sixteen sets of the tables, from a base on, to the cover.
 fn add(cover: &mut [u16; 16], tables: &[u16; 55296], base: usize)
     requires { ⌜ (base + 16 ≤ 55296) × Narrow (now tables) base 16 × Sets 16 (now cover) ⌝ }
     ensures { λ _. ⌜ Added (now (cover .entry)) (now (tables .entry)) base (now (cover .exit)) ⌝ }
@@ -25,19 +37,16 @@ fn add(cover: &mut [u16; 16], tables: &[u16; 55296], base: usize)
 }
 
 // The values that go together with some value of the set of x: sixteen sets.
-fn cover_of(tables: &[u16; 55296], x: usize, set: u16) -> [u16; 16]
+fn cover_of(tables: &[u16; 55296], x: usize, set: ValueSet) -> [u16; 16]
     requires { ⌜ (x < 12) × Narrow (now tables) (256 * x) 256 ⌝ }
-    ensures { λ r. ⌜ Cover (now (tables .entry)) x set r ⌝ }
+    ensures { λ r. ⌜ Cover (now (tables .entry)) x (set .bits) r ⌝ }
 {
     let mut cover = [0u16; 16];
-    let mut m = set;
-    while m != 0 {
-        add(
-            &mut cover,
-            tables,
-            256 * x + 16 * (u16::trailing_zeros(m) as usize),
-        );
-        m = m & (m - 1);
+    let mut left = set;
+    while !left.is_empty() {
+        let v = left.lowest() as usize;
+        add(&mut cover, tables, 256 * x + 16 * v);
+        left = rest(left);
     }
     cover
 }
@@ -59,7 +68,7 @@ fn exceeds(sets: &[u16; 16], cover: &[u16; 16]) -> bool
 // Cuts the sets down to the cover; the variables whose sets changed, or that one is left with nothing.
 fn cut(sets: &mut [u16; 16], cover: &[u16; 16]) -> u64
     requires { ⌜ length (now sets) ≡ 16 ⌝ }
-    ensures { λ r. ⌜ Cut (now (sets .entry)) (now (cover .entry)) (now (sets .exit)) r ⌝ }
+    ensures { λ r. ⌜ CutToCover (now (sets .entry)) (now (cover .entry)) (now (sets .exit)) r ⌝ }
 {
     let mut changed = 0u64;
     let mut y = 0;
@@ -80,11 +89,11 @@ fn cut(sets: &mut [u16; 16], cover: &[u16; 16]) -> u64
 
 // Cuts by the set of x: nothing to do where x is loose and has two values.
 fn cut_by(sets: &mut [u16; 16], tables: &[u16; 55296], loose: u64, x: usize) -> u64
-    requires { ⌜ ((p : Problem) × Ready p (now tables) (now sets) loose x) ⌝ }
-    ensures { λ r. ⌜ ((p : Problem) → Ready p (now (tables .entry)) (now (sets .entry)) loose x → CutBy p (now (sets .entry)) (now (sets .exit)) x r) ⌝ }
+    requires { ⌜ ((p : Problem) × CanCut p (now tables) (now sets) loose x) ⌝ }
+    ensures { λ r. ⌜ ((p : Problem) → CanCut p (now (tables .entry)) (now (sets .entry)) loose x → CutBy p (now (sets .entry)) (now (sets .exit)) x r) ⌝ }
 {
-    let set = sets[x];
-    if set & (set - 1) != 0 {
+    let set = ValueSet { bits: sets[x] };
+    if !rest(set).is_empty() {
         if (loose >> x) & 1 == 1 {
             return 0;
         }
@@ -98,8 +107,8 @@ fn cut_by(sets: &mut [u16; 16], tables: &[u16; 55296], loose: u64, x: usize) -> 
 
 // Cuts by the sets of the dirty variables, and again by those that changed, until nothing moves.
 pub fn arcs(sets: &mut [u16; 16], tables: &[u16; 55296], numbers: &[u64; 384], dirty: u64) -> u64
-    requires { ⌜ ((p : Problem) × Waiting p (now numbers) (now tables) (now sets) dirty) ⌝ }
-    ensures { λ r. ⌜ ((p : Problem) → Waiting p (now (numbers .entry)) (now (tables .entry)) (now (sets .entry)) dirty → Linking p (now (sets .entry)) (now (sets .exit)) r) ⌝ }
+    requires { ⌜ ((p : Problem) × ArcsPending p (now numbers) (now tables) (now sets) dirty) ⌝ }
+    ensures { λ r. ⌜ ((p : Problem) → ArcsPending p (now (numbers .entry)) (now (tables .entry)) (now (sets .entry)) dirty → ArcsMade p (now (sets .entry)) (now (sets .exit)) r) ⌝ }
 {
     let mut left = dirty;
     let mut all = 0u64;

@@ -13,8 +13,9 @@ use Rattle.model.specs.Problem.{Problem, isSolution, assignments}
 use Rattle.model.specs.Verdict.{Verdict, accepted, refused, isAccepted}
 use Rattle.model.specs.Sheet.{verdictOf, problemOf}
 use Rattle.model.specs.Nogood.{filtered}
-use Rattle.model.specs.Run.{Ending, finished, spent, full, plansIn, nodesIn, resultOf, ended, answerFor, answerOf, written, listFor, listOf, listedPlans}
-use Rattle.model.specs.Claims.{Filter-keeps, Filter-empties, Symmetries-respect, Sets-largest, isLeader, leaders, plansHeld, Lists-leaders, Leaders-ascend, First-part, CountsAt, Counts, Ends, Chains, Nothing-listed, OneMore, Fewer, Finishes-too}
+use Rattle.model.specs.Run.{Ending, finished, spent, full, plansIn, nodesIn, resultOf, ended, answerFor, answerOf, written, listFor, listOf, listedPlans, Answer, tallyFor, tallyOf}
+use Rattle.model.specs.Claims.{Filter-keeps, Filter-empties, Symmetries-respect, Sets-largest, isLeader, leaders, plansHeld, Lists-leaders, Leaders-ascend, First-part, CountsAt, Counts, Ends, Chains, Nothing-listed, OneMore, Fewer, Finishes-too, Tallied, Tally-counts, Tally-kept, Tally-sums}
+use Rattle.model.specs.Search.{nodes}
 use Rattle.model.specs.WellFormed.{WellFormed, Respected}
 use Rattle.model.proofs.Lists.{not-of, keep-ext, keep-i, keep-e, sorted-keep, rowsAscend-of, at-ext, at-replicate}
 use Rattle.model.proofs.Sets.{has-none, mask-ext}
@@ -28,11 +29,12 @@ use Rattle.model.proofs.Leaders.{sol-drawn, leader-is, leader-i, leader
 use Rattle.model.proofs.OneMore.{one-more}
 use Rattle.model.proofs.More.{FewerIn}
 use Rattle.model.proofs.More as M
+use Rattle.model.proofs.Tally.{tally-nodes, tally-total, tally-none, tally-twelve, tally-count, made-inside}
 use Rattle.model.proofs.Runs as R
 use Rattle.model.proofs.Chains as C
 
 -- ---- what a caller holds: the rows that the run listed
-listed-back : (n : ℕ) (rows : List (List ℕ)) (rest : List ℕ) → ((r : List ℕ) → List·Memᴰ r rows → length r ≡ n) → listedPlans n (length rows) (flat rows ++ rest) ≡ rows
+pub listed-back : (n : ℕ) (rows : List (List ℕ)) (rest : List ℕ) → ((r : List ℕ) → List·Memᴰ r rows → length r ≡ n) → listedPlans n (length rows) (flat rows ++ rest) ≡ rows
 unfolding listedPlans flat
 listed-back n [] rest h = refl
 listed-back n (r ∷ rows) rest h =
@@ -57,7 +59,7 @@ ran b limit out e h = let r = go (verdictOf b) h in record { good = r .0; so = r
     go (refused number item) h = absurd (let z : _≡_ {A = ℕ} 0 1 = cc in omega arith)
 
 -- an accepted sheet states a well-formed problem
-of-accepted : (b : List ℕ) → verdictOf b ≡ accepted → Passed b
+pub of-accepted : (b : List ℕ) → verdictOf b ≡ accepted → Passed b
 of-accepted b h = passed b (subst (λ (v : Verdict). T (isAccepted v)) (sym h) tt)
 
 module _ (b : List ℕ) (limit : ℕ) (out : List ℕ) (e : Ending) (h : answerOf b limit out ≡ ended e) where
@@ -104,7 +106,7 @@ sets-largest b prefix h = (λ l. (live-consistent (problemOf b) prefix s l, cons
 
 -- ---- demand 2
 -- the plans of the tree are the leaders
-same-test : (p : Problem) → WellFormed p → Respected p → keep (planTest p) (assignments (p .initial)) ≡ leaders p
+pub same-test : (p : Problem) → WellFormed p → Respected p → keep (planTest p) (assignments (p .initial)) ≡ leaders p
 same-test p w r = keep-ext (planTest p) (isLeader p) (assignments (p .initial)) (λ s m. sym (leader-is p w r s))
 
 pub lists-leaders : Lists-leaders
@@ -144,6 +146,32 @@ pub counts : Counts
 counts b limit out e h =
     let r = ran b limit out e h in
     (subst (λ (x : Ending). nodesIn x ≤ limit) (r .so) (R.nodes-allowed (problemOf b) limit (length out)), counts-at b limit out e (R.counts (problemOf b) limit (length out) e (r .so)))
+
+-- ---- the tally
+pub tally-counts : Tally-counts
+unfolding tallyOf
+tally-counts b limit out tally e h =
+    subst (Tallied b e) (sym (ap (λ (a : Answer). tallyFor a (problemOf b) tally) h))
+    record {
+      made = tally-nodes p k;
+      twelve = tally-twelve p k;
+      counts = tally-count p k;
+      sum = tally-total p k (well b limit out e h) (subst (λ (x : Ending). nodesIn x ≤ length (nodes p)) (ran b limit out e h .so) (made-inside p limit (length out)));
+      unused = tally-none p k;
+    }
+  where
+    p : Problem
+    p = problemOf b
+
+    k : ℕ
+    k = nodesIn e
+
+pub tally-kept : Tally-kept
+unfolding tallyOf
+tally-kept b limit out tally number item h = ap (λ (a : Answer). tallyFor a (problemOf b) tally) h
+
+pub tally-sums : Tally-sums
+tally-sums b k h s = tally-total (problemOf b) k (of-accepted b h .well) s
 
 -- ---- demand 3
 pub ends : Ends

@@ -8,7 +8,7 @@ use borrow.Author.Tests.{le-leb}
 use Rattle.model.specs.Lists.{both, all, any, keep, flat, tabulate, upFrom, below, at, same, earlier, ascending, rowsAscend}
 use Rattle.model.specs.ValueSets.{has, maskBelow, least, members, anyEmpty}
 use Rattle.model.specs.Problem.{valuesAt, satisfies, isSolution, assignments, pair, isPair, pairsOf, within, takes, doubled, pairsAt, excluded, forbidden, respects}
-use Rattle.model.specs.Sheet.{word, words, headerOf, scopeAt, rowsAt, afterAt, constraintsFrom, tableAt, problemOf, setsVerdict, constraintsVerdict, distinct, permutesPairs, symmetriesVerdict, verdictOf}
+use Rattle.model.specs.Sheet.{word, words, headerOf, scopeAt, rowsAt, afterAt, constraintsFrom, tableAt, problemOf, headerVerdict, setsVerdict, constraintVerdict, constraintsVerdict, formVerdict, distinct, permutesPairs, symmetriesVerdict, verdictOf}
 use Rattle.model.specs.Nogood.{obeysFrom, obeying, used, filtered, entries, firstWrong, filterVerdict, setsAfter}
 use Rattle.model.specs.Search.{entriesAt, nogoodsOf, rowWith, supported, pruned, narrowed, rounds, setsAt, isLive, nodesBelow, nodes, isPlan}
 use Rattle.model.specs.Run.{search, resultOf, answerFor, answerOf, written, listFor, listOf, tallyOf, listedPlans}
@@ -19,8 +19,8 @@ use Rattle.model.specs.Verdict.{Verdict, accepted, ask}
 use Rattle.model.proofs.Filter.{filtered-none}
 
 -- every definition that computes
-opened : ℕ
-unfolding all any keep flat tabulate upFrom below at same earlier ascending rowsAscend has maskBelow least members anyEmpty valuesAt satisfies isSolution assignments pair isPair pairsOf within takes doubled pairsAt excluded forbidden respects word words headerOf scopeAt rowsAt afterAt constraintsFrom tableAt problemOf setsVerdict constraintsVerdict distinct permutesPairs symmetriesVerdict verdictOf obeysFrom obeying used filtered entries firstWrong filterVerdict setsAfter entriesAt nogoodsOf rowWith supported pruned narrowed rounds setsAt isLive nodesBelow nodes isPlan search resultOf answerFor answerOf written listFor listOf tallyOf listedPlans digits decimal line endingLine resultText reportFor reportOf
+unfoldable pub opened : ℕ
+unfolding all any keep flat tabulate upFrom below at same earlier ascending rowsAscend has maskBelow least members anyEmpty valuesAt satisfies isSolution assignments pair isPair pairsOf within takes doubled pairsAt excluded forbidden respects word words headerOf scopeAt rowsAt afterAt constraintsFrom tableAt problemOf headerVerdict setsVerdict constraintVerdict constraintsVerdict formVerdict distinct permutesPairs symmetriesVerdict verdictOf obeysFrom obeying used filtered entries firstWrong filterVerdict setsAfter entriesAt nogoodsOf rowWith supported pruned narrowed rounds setsAt isLive nodesBelow nodes isPlan search resultOf answerFor answerOf written listFor listOf tallyOf listedPlans digits decimal line endingLine resultText reportFor reportOf
 opened = 0
 
 -- empty lists take nothing from non-empty sets: questions 17 to 19 are passed, and each value has an assignment through it

@@ -49,19 +49,40 @@ module _ (p : Problem) (w : WellFormed p) (r : Respected p) (g : List ℕ) (m : 
       let z : suc i + suc d ≡ suc (i + suc d) = omega arith in
       back-all s i d (back-one s i (i + suc d) (e ∙ ap (λ (k : ℕ). run s k .0) z))
 
-  pub image : (t : List ℕ) → T (isSolution p t) → (s : List ℕ) × T (isSolution p s) × T (takes p g t s)
+  -- the preimages come back to where they began
+  cycle : (s : Sol) → (d : ℕ) × (s .0 ≡ run s (suc d) .0)
   unfolding run
-  image t sol =
-      let start : Sol = (t, sol) in
+  cycle s =
       let drawn = assignments (p .initial) in
-      let mem : (i : ℕ) → List·Memᴰ (run start i .0) drawn = λ i. H.sol-drawn p w (run start i .0) (run start i .1) in
+      let mem : (i : ℕ) → List·Memᴰ (run s i .0) drawn = λ i. H.sol-drawn p w (run s i .0) (run s i .1) in
       let r = twice (λ i. pos drawn (mem i)) (length drawn) (λ i. pos-lt drawn (mem i)) in
-      let e : run start (r .0) .0 ≡ run start (r .1) .0 = pos-same drawn (mem (r .0)) (mem (r .1)) (r .3) in
+      let e : run s (r .0) .0 ≡ run s (r .1) .0 = pos-same drawn (mem (r .0)) (mem (r .1)) (r .3) in
       let d = r .1 - suc (r .0) in
       let l = r .2 in
       let z : r .1 ≡ r .0 + suc d = omega arith in
-      let q : t ≡ run start (suc d) .0 = back-all start (r .0) d (e ∙ ap (λ (k : ℕ). run start k .0) z) in
-      (run start d .0, run start d .1, subst (λ (u : List ℕ). T (takes p g u (run start d .0))) (sym q) (run-takes start d))
+      (d, back-all s (r .0) d (e ∙ ap (λ (k : ℕ). run s k .0) z))
+
+  pub image : (t : List ℕ) → T (isSolution p t) → (s : List ℕ) × T (isSolution p s) × T (takes p g t s)
+  image t sol =
+      let start : Sol = (t, sol) in
+      let c = cycle start in
+      let d = c .0 in
+      (run start d .0, run start d .1, subst (λ (u : List ℕ). T (takes p g u (run start d .0))) (sym (c .1)) (run-takes start d))
+
+  -- what holds of a solution and passes to preimages holds of its image: the inverse of a symmetry is a power of it
+  run-all : (R : List ℕ → Type 0) → ((u v : List ℕ) → T (isSolution p u) → T (isSolution p v) → T (takes p g u v) → R v → R u) → (s : Sol) → R (s .0) → (i : ℕ) → R (run s i .0)
+  unfolding run
+  run-all R h s r zero = r
+  run-all R h s r (suc i) = h (run s (suc i) .0) (run s i .0) (run s (suc i) .1) (run s i .1) (run-takes s i) (run-all R h s r i)
+
+  pub round : (R : List ℕ → Type 0) → ((u v : List ℕ) → T (isSolution p u) → T (isSolution p v) → T (takes p g u v) → R v → R u) →
+      (t s : List ℕ) → T (isSolution p t) → T (isSolution p s) → T (takes p g t s) → R t → R s
+  round R h t s st ss tk q =
+      let start : Sol = (t, st) in
+      let c = cycle start in
+      let d = c .0 in
+      let e : s ≡ run start d .0 = one-image t s (run start d .0) tk (subst (λ (u : List ℕ). T (takes p g u (run start d .0))) (sym (c .1)) (run-takes start d)) (run start d .1) (solution-e p s ss .sized) (P.sol-lt p w s ss) in
+      subst R (sym e) (run-all R h start q d)
 
   -- what a symmetry takes a solution to is a solution, if it is an assignment at all
   pub onward : (t s : List ℕ) → T (isSolution p t) → T (takes p g t s) → length s ≡ p .variables → ((x : ℕ) → x < p .variables → at s x < p .values) → T (isSolution p s)

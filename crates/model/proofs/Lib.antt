@@ -5,6 +5,8 @@ pub mod Counting
 pub mod Sets
 pub mod Masks
 pub mod Members
+pub mod EntryKinds
+pub mod Lowest
 pub mod Firsts
 pub mod Filling
 pub mod Assignments
@@ -16,6 +18,7 @@ pub mod Consistent
 pub mod Tree
 pub mod Child
 pub mod Runs
+pub mod Tally
 pub mod Room
 pub mod Pairs
 pub mod Symmetry
@@ -27,3 +30,4 @@ pub mod More
 pub mod OneMore
 pub mod Demands
 pub mod Examples
+pub mod Examples02

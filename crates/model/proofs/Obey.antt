@@ -147,3 +147,28 @@ module _ (p : Problem) (g s : List ℕ) where
   obeys-not h =
       let r = broken s (λ j v. image j v / p .values) (λ j v. image j v % p .values) smaller (at s) (length s) 0 true (λ t. h (subst (λ (es : List Entry). T (obeys s es)) (sym nogoods-are) t)) in
       (r .0, r .1, omega (arith, r .3), λ i l. r .5 i (omega arith) l, r .6, r .7)
+
+-- ---- the same of any assignment: the nogoods of a symmetry at a prefix
+module _ (p : Problem) (g prefix a : List ℕ) where
+  -- the image of (j, v) is a pair of a
+  abbrev pub meetsIn : ℕ → ℕ → Bool
+  meetsIn j v = is a (at g (pair p j v) / p .values) (at g (pair p j v) % p .values)
+
+  abbrev pub smallerIn : ℕ → List ℕ
+  smallerIn j = keep (λ v. ltb v (at prefix j)) (members (at (p .initial) j))
+
+  nogoods-at : nogoodsOf p g prefix ≡ flat (map (block a (λ j v. at g (pair p j v) / p .values) (λ j v. at g (pair p j v) % p .values) smallerIn (at prefix)) (below (length prefix)))
+  unfolding nogoodsOf entriesAt
+  nogoods-at = refl
+
+  pub prefix-e : T (obeys a (nogoodsOf p g prefix)) → (j v : ℕ) → j < length prefix → ((i : ℕ) → i < j → T (meetsIn i (at prefix i))) → List·Memᴰ v (smallerIn j) → T (meetsIn j v) → ⊥
+  unfolding below
+  prefix-e h j v l eqs m k =
+      kept a (λ j v. at g (pair p j v) / p .values) (λ j v. at g (pair p j v) % p .values) smallerIn (at prefix) (length prefix) 0 true tt
+      (subst (λ (es : List Entry). T (obeys a es)) nogoods-at h) j v (omega arith) (omega arith) (λ i b c. eqs i c) m k
+
+  pub prefix-not : (T (obeys a (nogoodsOf p g prefix)) → ⊥) → (j : ℕ) × (v : ℕ) × (j < length prefix) × ((i : ℕ) → i < j → T (meetsIn i (at prefix i))) × List·Memᴰ v (smallerIn j) × T (meetsIn j v)
+  unfolding below
+  prefix-not h =
+      let r = broken a (λ j v. at g (pair p j v) / p .values) (λ j v. at g (pair p j v) % p .values) smallerIn (at prefix) (length prefix) 0 true (λ t. h (subst (λ (es : List Entry). T (obeys a es)) (sym nogoods-at) t)) in
+      (r .0, r .1, omega (arith, r .3), λ i l. r .5 i (omega arith) l, r .6, r .7)

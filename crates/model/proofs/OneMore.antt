@@ -5,65 +5,65 @@ use mathlib.Core.Logic.{⊎-elim}
 use Prim.Native.Nat.{ℕ, zero, suc, _+_, _-_, _*_, _/_, _%_, _≤_, _<_}
 use native.Mathlib.Nat.{mul-le-mul-right}
 use native.Mathlib.Omega.{arith}
-use lib.Dec.{T, leb, ltb, leb→le}
+use lib.Dec.{T}
 use lib.ListN.{length, take, drop, length-take, length-drop}
 use lib.Seq.{getD-take, getD-drop}
-use Rattle.model.specs.Lists.{below, upFrom, at, all, both, ascending, rowsAscend}
+use Rattle.model.specs.Lists.{below, upFrom, at}
 use Rattle.model.specs.Problem.{Constraint}
 use Rattle.model.specs.Verdict.{Verdict, isAccepted}
 use Rattle.model.specs.Sheet.{Header, word, words, headerOf, scopeAt, rowsAt, afterAt, constraintsVerdict, constraintsFrom, tableAt, problemOf, verdictOf}
 use Rattle.model.specs.Claims.{OneMore}
 use Rattle.model.specs.Bytes.{twoBytes}
 use Rattle.model.proofs.Lists.{map-shift, at-skip, at-append, below-e, upFrom-e, upFrom-add, map-append, map-ext}
-use Rattle.model.proofs.Accepted.{Passed, passed, asked}
+use Rattle.model.proofs.Accepted.{Passed, passed, constraint-asked}
 use Rattle.model.proofs.More.{withSymmetries}
 
 -- ---- elements of joined lists
-at-left : (xs ys : List ℕ) (n i : ℕ) → length xs ≡ n → i < n → at (xs ++ ys) i ≡ at xs i
+pub at-left : (xs ys : List ℕ) (n i : ℕ) → length xs ≡ n → i < n → at (xs ++ ys) i ≡ at xs i
 at-left xs ys n i e h = at-append xs ys i (omega arith)
 
-after-low : (b : List ℕ) (o : ℕ) → 16 ≤ o → 16 ≤ afterAt b o
+pub after-low : (b : List ℕ) (o : ℕ) → 16 ≤ o → 16 ≤ afterAt b o
 unfolding afterAt
 after-low b o h = omega arith
 
 -- ---- the same bytes give the same numbers
 -- two sheets agree on the bytes from lo up to hi
-abbrev Agree : List ℕ → List ℕ → ℕ → ℕ → Type 0
+abbrev pub Agree : List ℕ → List ℕ → ℕ → ℕ → Type 0
 Agree b c lo hi = (i : ℕ) → lo ≤ i → i < hi → at c i ≡ at b i
 
-word-same : (b c : List ℕ) (o o′ : ℕ) → at c o ≡ at b o′ → at c (o + 1) ≡ at b (o′ + 1) → word c o ≡ word b o′
+pub word-same : (b c : List ℕ) (o o′ : ℕ) → at c o ≡ at b o′ → at c (o + 1) ≡ at b (o′ + 1) → word c o ≡ word b o′
 unfolding word
 word-same b c o o′ e f = ap₂ (λ (x y : ℕ). x + 256 * y) e f
 
-words-same : (b c : List ℕ) (o o′ k : ℕ) → ((i : ℕ) → i < k → word c (o + 2 * i) ≡ word b (o′ + 2 * i)) → words c o k ≡ words b o′ k
+pub words-same : (b c : List ℕ) (o o′ k : ℕ) → ((i : ℕ) → i < k → word c (o + 2 * i) ≡ word b (o′ + 2 * i)) → words c o k ≡ words b o′ k
 unfolding words
 words-same b c o o′ k h = map-ext (λ i. word c (o + 2 * i)) (λ i. word b (o′ + 2 * i)) (below k) (λ i m. h i (below-e k i m))
 
 module _ (b c : List ℕ) (lo hi : ℕ) (agree : Agree b c lo hi) where
-  word-agree : (o : ℕ) → lo ≤ o → o + 2 ≤ hi → word c o ≡ word b o
+  pub word-agree : (o : ℕ) → lo ≤ o → o + 2 ≤ hi → word c o ≡ word b o
   word-agree o h l = word-same b c o o (agree o h (omega arith)) (agree (o + 1) (omega arith) (omega arith))
 
-  words-agree : (o k : ℕ) → lo ≤ o → o + 2 * k ≤ hi → words c o k ≡ words b o k
+  pub words-agree : (o k : ℕ) → lo ≤ o → o + 2 * k ≤ hi → words c o k ≡ words b o k
   words-agree o k h l = words-same b c o o k (λ i m. word-agree (o + 2 * i) (omega arith) (omega arith))
 
 -- the constraints up to an end
 module _ (b c : List ℕ) (end : ℕ) (agree : Agree b c 16 end) where
   module _ (o : ℕ) (low : 16 ≤ o) (head : o + 4 ≤ end) (tail : afterAt b o ≤ end) where
-    arity : word c o ≡ word b o
+    pub arity : word c o ≡ word b o
     arity = word-agree b c 16 end agree o low (omega arith)
 
-    count : word c (o + 2) ≡ word b (o + 2)
+    pub count : word c (o + 2) ≡ word b (o + 2)
     count = word-agree b c 16 end agree (o + 2) (omega arith) (omega arith)
 
-    after-agree : afterAt c o ≡ afterAt b o
+    pub after-agree : afterAt c o ≡ afterAt b o
     unfolding afterAt
     after-agree = ap₂ (λ (a r : ℕ). o + 4 + 2 * a + 2 * (r * a)) arity count
 
-    scope-agree : scopeAt c o ≡ scopeAt b o
+    pub scope-agree : scopeAt c o ≡ scopeAt b o
     unfolding scopeAt afterAt
     scope-agree = ap (words c (o + 4)) arity ∙ words-agree b c 16 end agree (o + 4) (word b o) (omega arith) (omega arith)
 
-    rows-agree : rowsAt c o ≡ rowsAt b o
+    pub rows-agree : rowsAt c o ≡ rowsAt b o
     unfolding rowsAt afterAt
     rows-agree =
         let a = word b o in
@@ -72,24 +72,19 @@ module _ (b c : List ℕ) (end : ℕ) (agree : Agree b c 16 end) where
         ∙ map-ext (λ i. words c (o + 4 + 2 * a + 2 * (i * a)) a) (λ i. words b (o + 4 + 2 * a + 2 * (i * a)) a) (below r)
         (λ i m. words-agree b c 16 end agree (o + 4 + 2 * a + 2 * (i * a)) a (omega arith) (omega (arith, mul-le-mul-right a (below-e r i m))))
 
-  constraints-agree : (h : Header) → h .third ≡ end → (k i o : ℕ) (v : Verdict) → 16 ≤ o → T (isAccepted (constraintsVerdict b h k i o v)) → constraintsFrom c k o ≡ constraintsFrom b k o
+  pub constraints-agree : (h : Header) → h .third ≡ end → (k i o : ℕ) (v : Verdict) → 16 ≤ o → T (isAccepted (constraintsVerdict b h k i o v)) → constraintsFrom c k o ≡ constraintsFrom b k o
   unfolding constraintsVerdict constraintsFrom
   constraints-agree h e zero i o v low t = refl
   constraints-agree h e (suc k) i o v low t =
-      let q1 = asked (leb (o + 4) (h .third)) 9 i _ t in
-      let q2 = asked (both (both (leb 1 (word b o)) (leb (word b o) 3)) (leb (word b (o + 2)) 256)) 10 i _ (q1 .1) in
-      let q3 = asked (leb (afterAt b o) (h .third)) 9 i _ (q2 .1) in
-      let q4 = asked (both (all (λ x. ltb x (h .variables)) (scopeAt b o)) (ascending (scopeAt b o))) 11 i _ (q3 .1) in
-      let q5 = asked (all (all (λ w. ltb w (h .values))) (rowsAt b o)) 12 i _ (q4 .1) in
-      let q6 = asked (rowsAscend (rowsAt b o)) 13 i (constraintsVerdict b h k (suc i) (afterAt b o) v) (q5 .1) in
-      let head : o + 4 ≤ end = subst (λ (z : ℕ). o + 4 ≤ z) e (leb→le (o + 4) (h .third) (q1 .0)) in
-      let tail : afterAt b o ≤ end = subst (λ (z : ℕ). afterAt b o ≤ z) e (leb→le (afterAt b o) (h .third) (q3 .0)) in
+      let q = constraint-asked b h i o (constraintsVerdict b h k (suc i) (afterAt b o) v) t in
+      let head : o + 4 ≤ end = subst (λ (z : ℕ). o + 4 ≤ z) e (q .0 .head) in
+      let tail : afterAt b o ≤ end = subst (λ (z : ℕ). afterAt b o ≤ z) e (q .0 .tail) in
       ap₂ (λ (x : Constraint) (r : List Constraint). x ∷ r)
       (ap₂ (λ (x : List ℕ) (r : List (List ℕ)). record { scope = x; rows = r }) (scope-agree o low head tail) (rows-agree o low head tail))
-      (ap (constraintsFrom c k) (after-agree o low head tail) ∙ constraints-agree h e k (suc i) (afterAt b o) v (after-low b o low) (q6 .1))
+      (ap (constraintsFrom c k) (after-agree o low head tail) ∙ constraints-agree h e k (suc i) (afterAt b o) v (after-low b o low) (q .1))
 
 -- ---- the bytes of the longer sheet
-word-of : (l : List ℕ) (o v : ℕ) → at l o ≡ v % 256 → at l (o + 1) ≡ v / 256 → word l o ≡ v
+pub word-of : (l : List ℕ) (o v : ℕ) → at l o ≡ v % 256 → at l (o + 1) ≡ v / 256 → word l o ≡ v
 unfolding word
 word-of l o v e f = omega arith
 
@@ -108,7 +103,7 @@ module _ (b c t : List ℕ) (k : ℕ) (more : OneMore b c k t) (ok : Passed b) w
 
   cut-low : 16 ≤ cut
   unfolding cut
-  cut-low = omega (arith, ok .second, ok .ordered)
+  cut-low = omega (arith, ok .header .second, ok .header .ordered)
 
   third-cut : third ≤ cut
   unfolding cut
@@ -119,7 +114,7 @@ module _ (b c t : List ℕ) (k : ℕ) (more : OneMore b c k t) (ok : Passed b) w
   cut-high =
       let e : k * length t ≡ k * (2 * n) = ap (λ (x : ℕ). k * x) table in
       let l : k * (2 * n) ≤ headerOf b .symmetries * (2 * n) = mul-le-mul-right (2 * n) (more .0) in
-      omega (arith, ok .fits, ok .whole)
+      omega (arith, ok .fits, ok .header .whole)
 
   abbrev up : ℕ
   up = headerOf b .symmetries + 1
@@ -128,10 +123,10 @@ module _ (b c t : List ℕ) (k : ℕ) (more : OneMore b c k t) (ok : Passed b) w
   size = headerOf b .size + length t
 
   l1 : length (take 6 b) ≡ 6
-  l1 = length-take 6 b ∙ omega (arith, ok .long)
+  l1 = length-take 6 b ∙ omega (arith, ok .header .long)
 
   l3 : length (take 6 (drop 8 b)) ≡ 6
-  l3 = length-take 6 (drop 8 b) ∙ omega (arith, ok .long, length-drop 8 b)
+  l3 = length-take 6 (drop 8 b) ∙ omega (arith, ok .header .long, length-drop 8 b)
 
   l5 : length (take (cut - 16) (drop 16 b)) ≡ cut - 16
   l5 = length-take (cut - 16) (drop 16 b) ∙ omega (arith, cut-high, length-drop 16 b)
@@ -236,12 +231,12 @@ module _ (b c t : List ℕ) (k : ℕ) (more : OneMore b c k t) (ok : Passed b) w
   below-third i h l = body i h (omega (arith, third-cut))
 
   pub same-initial : words c 16 (headerOf c .variables) ≡ words b 16 (headerOf b .variables)
-  same-initial = ap (words c 16) same-variables ∙ words-agree b c 16 third below-third 16 (headerOf b .variables) (omega arith) (omega (arith, ok .second, ok .ordered))
+  same-initial = ap (words c 16) same-variables ∙ words-agree b c 16 third below-third 16 (headerOf b .variables) (omega arith) (omega (arith, ok .header .second, ok .header .ordered))
 
   pub same-rules : constraintsFrom c (headerOf c .constraints) (headerOf c .second) ≡ constraintsFrom b (headerOf b .constraints) (headerOf b .second)
   same-rules =
       ap₂ (constraintsFrom c) same-constraints same-second
-      ∙ constraints-agree b c third below-third (headerOf b) refl (headerOf b .constraints) 0 (headerOf b .second) (ok .walked .0) (omega (arith, ok .second)) (ok .walked .1)
+      ∙ constraints-agree b c third below-third (headerOf b) refl (headerOf b .constraints) 0 (headerOf b .second) (ok .walked .0) (omega (arith, ok .header .second)) (ok .walked .1)
 
   -- the tables
   pub added : List ℕ
@@ -259,7 +254,7 @@ module _ (b c t : List ℕ) (k : ℕ) (more : OneMore b c k t) (ok : Passed b) w
   unfolding tableAt
   table-before i h =
       let l : suc i * n ≤ k * n = mul-le-mul-right n h in
-      table-c i ∙ words-agree b c 16 cut body (third + 2 * (i * n)) n (omega (arith, ok .second, ok .ordered)) (omega (arith, cut-is 0))
+      table-c i ∙ words-agree b c 16 cut body (third + 2 * (i * n)) n (omega (arith, ok .header .second, ok .header .ordered)) (omega (arith, cut-is 0))
 
   word-inserted : (j : ℕ) → j < n → word c (third + 2 * (k * n) + 2 * j) ≡ word t (0 + 2 * j)
   word-inserted j h =

@@ -25,14 +25,14 @@ keep-more q a l m h = go (q a) refl
     go false e = ap length (keep-no q a l e) ∙ h ∙ ap suc (sym (ap length (keep-no q a m e)))
 
 -- one node: the limit is reached and a further node is due; no plan; a plan without room; a plan
-abbrev turn : Bool → Bool → Bool → Result → Result → Result → Result → Result
+abbrev pub turn : Bool → Bool → Bool → Result → Result → Result → Result → Result
 turn true c d s n f y = s
 turn false false d s n f y = n
 turn false true false s n f y = f
 turn false true true s n f y = y
 
 module _ (p : Problem) (limit room : ℕ) where
-  search-turn : (t : List ℕ) (ts : List (List ℕ)) (made : ℕ) (rows : List (List ℕ)) →
+  pub search-turn : (t : List ℕ) (ts : List (List ℕ)) (made : ℕ) (rows : List (List ℕ)) →
       search p limit room (t ∷ ts) made rows ≡
       turn (eqb made limit) (isPlan p t) (leb (suc (length rows) * p .variables) room)
       (record { ending = spent (length rows) made; rows = rows }) (search p limit room ts (suc made) rows)
@@ -86,7 +86,7 @@ module _ (p : Problem) (limit room : ℕ) where
     pub allowed : made ≤ limit → nodesIn (r .ending) ≤ limit
     pub roomy : length rows * p .variables ≤ room → length (r .rows) * p .variables ≤ room
 
-  walk : (ts : List (List ℕ)) (made : ℕ) (rows : List (List ℕ)) → Walk ts made rows (search p limit room ts made rows)
+  pub walk : (ts : List (List ℕ)) (made : ℕ) (rows : List (List ℕ)) → Walk ts made rows (search p limit room ts made rows)
   unfolding keep
   walk [] made rows =
       subst (Walk [] made rows) (sym (search-end made rows))

@@ -7,8 +7,8 @@ use mathlib.Core.Bool.{Bool, false, not}
 use mathlib.Core.List.{List, [], _∷_, _++_, List·Memᴰ, Sublistᴰ}
 use Prim.Native.Nat.{ℕ, suc, _+_, _-_, _*_, _/_, _%_, _^_, _≤_, _<_}
 use lib.ListN.{length, take, drop, replicate}
-use lib.Dec.{T}
-use Rattle.model.specs.Lists.{any, at, keep, both, earlier, rowsAscend}
+use lib.Dec.{T, eqb}
+use Rattle.model.specs.Lists.{any, at, keep, both, earlier, rowsAscend, total}
 use Rattle.model.specs.Bytes.{twoBytes}
 use Rattle.model.specs.ValueSets.{has, anyEmpty}
 use Rattle.model.specs.Problem.{Problem, Constraint, isSolution, assignments, takes, respects}
@@ -16,7 +16,7 @@ use Rattle.model.specs.Verdict.{accepted}
 use Rattle.model.specs.Sheet.{problemOf, headerOf, verdictOf, permutesPairs}
 use Rattle.model.specs.Nogood.{Entry, obeys, filtered}
 use Rattle.model.specs.Search.{nogoodsOf, rowWith, setsAt, isLive, nodes, isPlan}
-use Rattle.model.specs.Run.{Ending, finished, spent, full, plansIn, nodesIn, answerOf, ended, listOf, listedPlans}
+use Rattle.model.specs.Run.{Ending, finished, spent, full, plansIn, nodesIn, answerOf, refusal, ended, listOf, listedPlans, Tally, tallyAt, tallyOf}
 
 -- ---- the filter
 -- a gives each variable a value of its set
@@ -113,6 +113,30 @@ abbrev pub Counts : Type 0
 Counts =
     (b : List ℕ) (limit : ℕ) (out : List ℕ) (e : Ending) → answerOf b limit out ≡ ended e →
     (nodesIn e ≤ limit) × CountsAt b limit out e
+
+-- ---- the tally (paper 02, #107)
+-- where the run ended: the tally is that of the nodes made, up to where the run ended, finished or not; its twelve counts add up to the nodes that
+-- the ending carries, and a variable that the sheet has not has none
+pub record Tallied (b : List ℕ) (e : Ending) (tally : Tally) : Type 0 where
+  pub made : tally .nodes ≡ nodesIn e
+  pub twelve : length (tally .counts) ≡ 12
+  pub counts : (x : ℕ) → x < 12 → at (tally .counts) x ≡ length (keep (λ t. eqb (length t) (suc x)) (take (nodesIn e) (nodes (problemOf b))))
+  pub sum : total (tally .counts) ≡ nodesIn e
+  pub unused : (x : ℕ) → problemOf b .variables ≤ x → at (tally .counts) x ≡ 0
+
+abbrev pub Tally-counts : Type 0
+Tally-counts =
+    (b : List ℕ) (limit : ℕ) (out : List ℕ) (tally : Tally) (e : Ending) → answerOf b limit out ≡ ended e → Tallied b e (tallyOf b limit out tally)
+
+-- a refusal leaves all thirteen numbers as they came
+abbrev pub Tally-kept : Type 0
+Tally-kept =
+    (b : List ℕ) (limit : ℕ) (out : List ℕ) (tally : Tally) (number item : ℕ) → answerOf b limit out ≡ refusal number item → tallyOf b limit out tally ≡ tally
+
+-- at every moment: the counts of each first part of the tree add up to its nodes
+abbrev pub Tally-sums : Type 0
+Tally-sums =
+    (b : List ℕ) (k : ℕ) → verdictOf b ≡ accepted → k ≤ length (nodes (problemOf b)) → total (tallyAt (problemOf b) k .counts) ≡ k
 
 -- ---- demand 3
 -- on an accepted sheet every run ends, whatever limit and list it is given

@@ -10,8 +10,10 @@ pub mod WellFormed
 pub mod Nogood
 pub mod Search
 pub mod Pruning
+pub mod Filling
 pub mod Run
 pub mod Room
 pub mod Report
 pub mod Claims
 pub mod Examples
+pub mod Examples02

@@ -1,7 +1,7 @@
 -- Tests over lists, and the list of the first numbers. Each test stops at the first element that decides it.
 use mathlib.Core.Bool.{Bool, true, false}
 use mathlib.Core.List.{List, [], _∷_, _++_}
-use Prim.Native.Nat.{ℕ, zero, suc}
+use Prim.Native.Nat.{ℕ, zero, suc, _+_}
 use lib.ListN.{getD}
 use lib.Dec.{eqb, ltb}
 
@@ -52,6 +52,11 @@ below n = upFrom 0 n
 -- the element at an index, 0 past the end
 unfoldable pub at : List ℕ → ℕ → ℕ
 at l i = getD l i 0
+
+-- the sum
+unfoldable pub total : List ℕ → ℕ
+total [] = 0
+total (x ∷ xs) = x + total xs
 
 -- the same numbers in the same order
 unfoldable pub same : List ℕ → List ℕ → Bool

@@ -1,9 +1,11 @@
 -- Increasing nogoods (source document 001, section 3), and the exact filter for a list of them (paper 01, "Nogood lists").
+use mathlib.Core.Path.{_≡_}
+use mathlib.Core.Logic.{_⊎_}
 use mathlib.Core.Bool.{Bool, true, false, not}
 use mathlib.Core.List.{List, [], _∷_}
-use Prim.Native.Nat.{ℕ}
+use Prim.Native.Nat.{ℕ, _<_}
 use lib.ListN.{length, getD}
-use lib.Dec.{eqb, ltb, leb}
+use lib.Dec.{T, eqb, ltb, leb}
 use Rattle.model.specs.Lists.{any, at, keep, both, either, tabulate}
 use Rattle.model.specs.ValueSets.{maskOf, least}
 use Rattle.model.specs.Problem.{assignments}
@@ -47,13 +49,36 @@ filtered ds es = used (length ds) (obeying ds es)
 abbrev pub mark : ℕ
 mark = 255
 
--- what an entry means: by the marks, a disequality where equal is absent, else an equality
-abbrev pub entryBy : Bool → ℕ → ℕ → ℕ → Entry
-entryBy true x equal unequal = disequality x unequal
-entryBy false x equal unequal = equality x equal
+-- what an entry is, by its two marks (paper 02, #105), beside what 001, section 3, says of the tuple (I, E, N); it writes the mark as a bottom sign
+pub data Kind : Type 0 where
+  -- equal is a value, not-equal is the mark. 001: "If N = mark, then the tuple is encoding x = E on the LHS of a nogood"
+  isEquality : Kind
+  -- equal is the mark, not-equal is a value. 001: "If E = mark, then it is encoding x /= N on the RHS of a nogood"
+  isDisequality : Kind
+  -- two marks. In 001 both conditions hold; its lists (3) have no such tuple
+  bothAbsent : Kind
+  -- two values. In 001 neither condition holds; its lists (3) have no such tuple
+  bothPresent : Kind
+
+-- by whether equal is absent, and whether not-equal is
+abbrev pub kindBy : Bool → Bool → Kind
+kindBy false true = isEquality
+kindBy true false = isDisequality
+kindBy true true = bothAbsent
+kindBy false false = bothPresent
+
+abbrev pub kindOf : ℕ → ℕ → Kind
+kindOf equal unequal = kindBy (eqb equal mark) (eqb unequal mark)
+
+-- what an entry of each kind says; question 19 shuts the last two out, so nobody meets what they say
+abbrev pub entryIn : Kind → ℕ → ℕ → ℕ → Entry
+entryIn isEquality x equal unequal = equality x equal
+entryIn isDisequality x equal unequal = disequality x unequal
+entryIn bothAbsent x equal unequal = disequality x unequal
+entryIn bothPresent x equal unequal = equality x equal
 
 abbrev pub entryOf : ℕ → ℕ → ℕ → Entry
-entryOf x equal unequal = entryBy (eqb equal mark) x equal unequal
+entryOf x equal unequal = entryIn (kindOf equal unequal) x equal unequal
 
 unfoldable pub entries : List ℕ → List ℕ → List ℕ → List Entry
 entries [] es us = []
@@ -62,9 +87,14 @@ entries (x ∷ xs) (e ∷ es) [] = []
 entries (x ∷ xs) (e ∷ es) (u ∷ us) = entryOf x e u ∷ entries xs es us
 
 -- an entry is right: its variable is one of the n sets', just one of the two is the mark, and the other is below 16
+abbrev pub valueOk : Kind → ℕ → ℕ → Bool
+valueOk isEquality equal unequal = ltb equal 16
+valueOk isDisequality equal unequal = ltb unequal 16
+valueOk bothAbsent equal unequal = false
+valueOk bothPresent equal unequal = false
+
 abbrev pub entryOk : ℕ → ℕ → ℕ → ℕ → Bool
-entryOk n x equal unequal =
-    both (ltb x n) (either (both (eqb equal mark) (ltb unequal 16)) (both (eqb unequal mark) (ltb equal 16)))
+entryOk n x equal unequal = both (ltb x n) (valueOk (kindOf equal unequal) equal unequal)
 
 -- the first entry that is not right, and the number of entries where there is none
 unfoldable pub firstWrong : ℕ → List ℕ → List ℕ → List ℕ → ℕ
@@ -81,3 +111,30 @@ filterVerdict ds xs es us =
 unfoldable pub setsAfter : Verdict → List ℕ → List Entry → List ℕ
 setsAfter accepted ds es = filtered ds es
 setsAfter (refused number item) ds es = ds
+
+-- ---- claims about the kinds; the proofs are in proofs/EntryKinds.antt
+-- each case as a condition on the two numbers
+abbrev pub CaseOf : Kind → ℕ → ℕ → Type 0
+CaseOf isEquality equal unequal = (equal ≡ mark → ⊥) × (unequal ≡ mark)
+CaseOf isDisequality equal unequal = (equal ≡ mark) × (unequal ≡ mark → ⊥)
+CaseOf bothAbsent equal unequal = (equal ≡ mark) × (unequal ≡ mark)
+CaseOf bothPresent equal unequal = (equal ≡ mark → ⊥) × (unequal ≡ mark → ⊥)
+
+-- any two numbers fall under exactly one case: one holds, the one that is computed, and no two hold together
+abbrev pub Kind-holds : Type 0
+Kind-holds = (equal unequal : ℕ) → CaseOf (kindOf equal unequal) equal unequal
+
+abbrev pub Kinds-apart : Type 0
+Kinds-apart = (equal unequal : ℕ) (k l : Kind) → CaseOf k equal unequal → CaseOf l equal unequal → k ≡ l
+
+-- 19 is given for just the entries that paper 01 says: its place is one of the sets', just one of the two is 255, and the other is below 16
+abbrev pub Same-question : Type 0
+Same-question =
+    (n x equal unequal : ℕ) →
+    entryOk n x equal unequal ≡ both (ltb x n) (either (both (eqb equal 255) (ltb unequal 16)) (both (eqb unequal 255) (ltb equal 16)))
+
+-- an entry that is right is of the first kind or of the second, and says so
+abbrev pub Right-kinds : Type 0
+Right-kinds =
+    (n x equal unequal : ℕ) → T (entryOk n x equal unequal) →
+    (x < n) × (((entryOf x equal unequal ≡ equality x equal) × (equal < 16)) ⊎ ((entryOf x equal unequal ≡ disequality x unequal) × (unequal < 16)))

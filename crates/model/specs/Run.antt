@@ -1,10 +1,10 @@
 -- A run: the nodes of the tree in their order, up to where it ends (paper 01, "The search").
 use mathlib.Core.Bool.{true, false}
 use mathlib.Core.List.{List, [], _∷_, _++_}
-use Prim.Native.Nat.{ℕ, zero, suc, _*_}
+use Prim.Native.Nat.{ℕ, zero, suc, _-_, _*_}
 use lib.ListN.{length, take, drop}
 use lib.Dec.{leb, eqb}
-use Rattle.model.specs.Lists.{flat}
+use Rattle.model.specs.Lists.{keep, flat, tabulate}
 use Rattle.model.specs.Problem.{Problem}
 use Rattle.model.specs.Search.{nodes, isPlan}
 use Rattle.model.specs.Verdict.{Verdict, accepted, refused}
@@ -75,13 +75,31 @@ listFor (refused number item) b limit out = out
 unfoldable pub listOf : List ℕ → ℕ → List ℕ → List ℕ
 listOf b limit out = listFor (verdictOf b) b limit out
 
--- the caller's tally after the run: the nodes made, or as it came where the sheet was refused
-abbrev pub tallyFor : Answer → ℕ → ℕ
-tallyFor (refusal number item) tally = tally
-tallyFor (ended e) tally = nodesIn e
+-- ---- the tally
+-- the nodes made, and of these the nodes that settle each of twelve variables (paper 02, #107: trials by place)
+pub record Tally : Type 0 where
+  pub nodes : ℕ
+  pub counts : List ℕ
 
-unfoldable pub tallyOf : List ℕ → ℕ → List ℕ → ℕ → ℕ
-tallyOf b limit out tally = tallyFor (answerOf b limit out) tally
+-- a node settles the variable of its last value
+abbrev pub settledBy : List ℕ → ℕ
+settledBy node = length node - 1
+
+-- twelve counts: how many elements f takes to 0, to 1, .. to 11
+unfoldable pub countsBy : {A : Type 0} → (A → ℕ) → List A → List ℕ
+countsBy f l = tabulate 12 (λ x. length (keep (λ a. eqb (f a) x) l))
+
+-- the tally of the first k nodes of the tree
+unfoldable pub tallyAt : Problem → ℕ → Tally
+tallyAt p k = record { nodes = k; counts = countsBy settledBy (take k (nodes p)) }
+
+-- the caller's tally after the run: that of the nodes made, or as it came where the sheet was refused
+abbrev pub tallyFor : Answer → Problem → Tally → Tally
+tallyFor (refusal number item) p tally = tally
+tallyFor (ended e) p tally = tallyAt p (nodesIn e)
+
+unfoldable pub tallyOf : List ℕ → ℕ → List ℕ → Tally → Tally
+tallyOf b limit out tally = tallyFor (answerOf b limit out) (problemOf b) tally
 
 -- the listed plans: k rows of n bytes at the front of the list
 unfoldable pub listedPlans : ℕ → ℕ → List ℕ → List (List ℕ)

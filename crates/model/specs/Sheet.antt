@@ -73,6 +73,21 @@ problemOf b =
     }
 
 -- ---- the questions
+-- the test of question 7
+abbrev pub offsetsFit : Header → Bool
+offsetsFit h = both (eqb (h .first) 16) (both (eqb (h .second) (16 + 2 * h .variables)) (both (leb (h .second) (h .third)) (leb (h .third) (h .size))))
+
+-- 1 to 7, for the header of a sheet of so many bytes
+unfoldable pub headerVerdict : Header → ℕ → Verdict → Verdict
+headerVerdict h bytes later =
+    ask (leb 16 bytes) 1 0
+    (ask (both (leb 1 (h .variables)) (leb (h .variables) 12)) 2 0
+    (ask (both (leb 1 (h .values)) (leb (h .values) 16)) 3 0
+    (ask (leb (h .constraints) 32) 4 0
+    (ask (leb (h .symmetries) 16) 5 0
+    (ask (eqb (h .size) bytes) 6 0
+    (ask (offsetsFit h) 7 0 later))))))
+
 -- 8, for each of the variables xs
 unfoldable pub setsVerdict : List ℕ → Header → List ℕ → Verdict → Verdict
 setsVerdict b h [] later = later
@@ -80,17 +95,33 @@ setsVerdict b h (x ∷ xs) later =
     let s = word b (16 + 2 * x) in
     ask (both (ltb s (2 ^ h .values)) (not (eqb s 0))) 8 x (setsVerdict b h xs later)
 
--- 9 to 13: k constraints are left, the next is number i and stands at o; after the last, where it ends
-unfoldable pub constraintsVerdict : List ℕ → Header → ℕ → ℕ → ℕ → Verdict → Verdict
-constraintsVerdict b h zero i o later = ask (eqb o (h .third)) 9 i later
-constraintsVerdict b h (suc k) i o later =
+-- 9 to 13, for constraint i at o
+unfoldable pub constraintVerdict : List ℕ → Header → ℕ → ℕ → Verdict → Verdict
+constraintVerdict b h i o later =
     ask (leb (o + 4) (h .third)) 9 i
     (ask (both (both (leb 1 (word b o)) (leb (word b o) 3)) (leb (word b (o + 2)) 256)) 10 i
     (ask (leb (afterAt b o) (h .third)) 9 i
     (ask (both (all (λ x. ltb x (h .variables)) (scopeAt b o)) (ascending (scopeAt b o))) 11 i
     (ask (all (all (λ w. ltb w (h .values))) (rowsAt b o)) 12 i
-    (ask (rowsAscend (rowsAt b o)) 13 i
-    (constraintsVerdict b h k (suc i) (afterAt b o) later))))))
+    (ask (rowsAscend (rowsAt b o)) 13 i later)))))
+
+-- the same for k constraints, the first of which is number i and stands at o; after the last, where it ends
+unfoldable pub constraintsVerdict : List ℕ → Header → ℕ → ℕ → ℕ → Verdict → Verdict
+constraintsVerdict b h zero i o later = ask (eqb o (h .third)) 9 i later
+constraintsVerdict b h (suc k) i o later = constraintVerdict b h i o (constraintsVerdict b h k (suc i) (afterAt b o) later)
+
+-- the test of question 14
+abbrev pub tablesFit : Header → Bool
+tablesFit h = eqb (h .size) (h .third + 2 * (h .symmetries * (h .variables * h .values)))
+
+-- 1 to 14
+unfoldable pub formVerdict : List ℕ → Verdict → Verdict
+formVerdict b later =
+    let h = headerOf b in
+    headerVerdict h (length b)
+    (setsVerdict b h (below (h .variables))
+    (constraintsVerdict b h (h .constraints) 0 (h .second)
+    (ask (tablesFit h) 14 0 later)))
 
 unfoldable pub distinct : List ℕ → Bool
 distinct [] = true
@@ -112,18 +143,4 @@ symmetriesVerdict p i (g ∷ gs) =
 
 -- all questions: the first whose answer is no
 unfoldable pub verdictOf : List ℕ → Verdict
-verdictOf b =
-    let h = headerOf b in
-    let n = h .variables in
-    let d = h .values in
-    ask (leb 16 (length b)) 1 0
-    (ask (both (leb 1 n) (leb n 12)) 2 0
-    (ask (both (leb 1 d) (leb d 16)) 3 0
-    (ask (leb (h .constraints) 32) 4 0
-    (ask (leb (h .symmetries) 16) 5 0
-    (ask (eqb (h .size) (length b)) 6 0
-    (ask (both (eqb (h .first) 16) (both (eqb (h .second) (16 + 2 * n)) (both (leb (h .second) (h .third)) (leb (h .third) (h .size))))) 7 0
-    (setsVerdict b h (below n)
-    (constraintsVerdict b h (h .constraints) 0 (h .second)
-    (ask (eqb (h .size) (h .third + 2 * (h .symmetries * (n * d)))) 14 0
-    (symmetriesVerdict (problemOf b) 0 (problemOf b .symmetries)))))))))))
+verdictOf b = formVerdict b (symmetriesVerdict (problemOf b) 0 (problemOf b .symmetries))

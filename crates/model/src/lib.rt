@@ -53,6 +53,19 @@ impl ValueSet {
         }
     }
 
+    // All members but the lowest.
+    pub fn without_lowest(self) -> Self
+        ensures { λ r. ⌜ r .bits ≡ withoutMask (self .bits) (lowestOf (self .bits)) ⌝ }
+    {
+        if self.bits == 0 {
+            self
+        } else {
+            ValueSet {
+                bits: self.bits & (self.bits - 1),
+            }
+        }
+    }
+
     pub fn only(self, v: u16) -> Self
         ensures { λ r. ⌜ r .bits ≡ onlyMask (self .bits) v ⌝ }
     {

@@ -1,74 +1,52 @@
 -- The loops that copy the lent sets in and out, and that clear them. Assumes nothing.
-use mathlib.Core.Path.{_≡_, refl, sym, ap, _∙_, subst}
+use mathlib.Core.Path.{_≡_, refl, sym, _∙_, subst}
 use mathlib.Core.Bool.{false}
-use mathlib.Core.List.{List, map}
+use mathlib.Core.List.{List}
 use Prim.Native.Nat.{ℕ, _+_, _^_, _≤_, _<_}
-use native.Mathlib.Nat.{not-suc-le-zero}
+use native.Mathlib.Decide.{decLt}
 use native.Mathlib.Omega.{arith}
-use lib.ListN.{length, set, take, length-set, length-map}
+use lib.ListN.{length, set, take, length-map}
 use lib.Seq.{length-take-le}
 use Rattle.model.specs.Lists.{at}
-use Rattle.model.proofs.Lists.{at-ext, at-take, set-each}
+use Rattle.model.proofs.Lists.{at-ext, at-take}
 use Rattle.model.proofs.Sets.{at-zeros}
-use Rattle.nogood.specs.Scan.{Live}
+use Rattle.model.proofs.Filling.{filled-turn}
+use Rattle.model.specs.Filling.{Filled}
 use Rattle.nogood.specs.Lists.{zeros, Loaded}
-use Rattle.nogood.proofs.Scan.{small-set}
 
--- ---- a slice filled from the front by f
-pub record Filling (f : ℕ → ℕ) (ts₀ ts : List ℕ) (i : ℕ) : Type 0 where
-  pub same-length : length ts ≡ length ts₀
-  pub bound : i ≤ length ts₀
-  pub done : (k : ℕ) → k < i → at ts k ≡ f k
+-- ---- stored from the front on
+abbrev pub Front : (ℕ → ℕ → Type 0) → ℕ → List ℕ → List ℕ → Type 0
+Front P i old new = Filled (λ k. k) P i old new
 
-pub fill-none : (f : ℕ → ℕ) (ts : List ℕ) → Filling f ts ts 0
-fill-none f ts = record { same-length = refl; bound = omega arith; done = λ k h. absurd (not-suc-le-zero h) }
+pub front-more : (P : ℕ → ℕ → Type 0) (old new : List ℕ) (i w : ℕ) → Front P i old new → i < length new → P i w → Front P (i + 1) old (set new i w)
+front-more P old new i w g h q = filled-turn (λ k. k) P old new i i w g refl (omega (arith, g .size)) (λ v l e. omega arith) q
 
-module _ {f : ℕ → ℕ} {ts₀ ts : List ℕ} {i : ℕ} (g : Filling f ts₀ ts i) where
-  pub fill-more : i < length ts → (v : ℕ) → v ≡ f i → Filling f ts₀ (set ts i v) (i + 1)
-  fill-more h v e =
-      record {
-        same-length = length-set ts i v ∙ g .same-length;
-        bound = omega (arith, g .same-length);
-        done = λ k l. set-each (λ z s. z < i + 1 → s ≡ f z) ts i v k h (λ m. e) (λ n m. g .done k (omega arith)) l;
-      }
+front-all : (f : ℕ → ℕ) (old new : List ℕ) (i : ℕ) → Front (λ k s. s ≡ f k) i old new → length new ≤ i → (rs : List ℕ) → length rs ≡ length old → ((k : ℕ) → k < length old → at rs k ≡ f k) → new ≡ rs
+front-all f old new i g h rs n r = at-ext new rs (g .size ∙ sym n) (λ k l. g .here k (omega arith) ∙ sym (r k (omega (arith, g .size))))
 
-  pub fill-all : length ts ≤ i → (rs : List ℕ) → length rs ≡ length ts₀ → ((k : ℕ) → k < length ts₀ → at rs k ≡ f k) → ts ≡ rs
-  fill-all h rs n r =
-      at-ext ts rs (g .same-length ∙ sym n) (λ k l. g .done k (omega arith) ∙ sym (r k (omega (arith, g .same-length))))
+pub front-copied : (ss old new : List ℕ) (i : ℕ) → Front (λ k s. s ≡ at ss k) i old new → length new ≤ i → length old ≤ 16 → length ss ≡ 16 → new ≡ take (length old) ss
+front-copied ss old new i g h a b = front-all (at ss) old new i g h (take (length old) ss) (length-take-le (length old) ss (omega arith)) (λ k l. at-take (length old) ss k l)
 
-pub filled-front : (ss : List ℕ) {ts₀ ts : List ℕ} {i : ℕ} → Filling (at ss) ts₀ ts i → length ts ≤ i → length ts₀ ≤ 16 → length ss ≡ 16 → ts ≡ take (length ts₀) ss
-filled-front ss {ts₀} g h a b =
-    fill-all g h (take (length ts₀) ss) (length-take-le (length ts₀) ss (omega arith)) (λ k l. at-take (length ts₀) ss k l)
+pub front-zeros : (old new : List ℕ) (i : ℕ) → Front (λ k s. s ≡ 0) i old new → length new ≤ i → new ≡ zeros old
+front-zeros old new i g h = front-all (λ k. 0) old new i g h (zeros old) (length-map old (λ s. 0)) (λ k l. at-zeros old k)
 
-pub filled-zeros : {ts₀ ts : List ℕ} {i : ℕ} → Filling (λ k. 0) ts₀ ts i → length ts ≤ i → ts ≡ zeros ts₀
-filled-zeros {ts₀} g h = fill-all g h (zeros ts₀) (length-map ts₀ (λ s. 0)) (λ k l. at-zeros ts₀ k)
+-- ---- the lent sets at the front of the sixteen
+-- a set that is not empty was copied
+abbrev pub Copied : List ℕ → ℕ → ℕ → Type 0
+Copied ss k s = (s ≡ at ss k) × (s < 2 ^ 16) × (s ≡ 0 → ⊥)
 
--- ---- the front of the sixteen sets
-pub record Loading (ss rs : List ℕ) (i : ℕ) : Type 0 where
-  pub sixteen : length rs ≡ 16
-  pub small : (x : ℕ) → at rs x < 2 ^ 16
-  pub bound : i ≤ length ss
-  pub done : (k : ℕ) → k < i → at rs k ≡ at ss k
-  pub full : (k : ℕ) → k < i → at ss k ≡ 0 → ⊥
+pub loaded : (ss old new : List ℕ) (i : ℕ) → Front (Copied ss) i old new → length ss ≤ i → i ≤ length ss → length ss ≤ 16 → length old ≡ 16 → ((x : ℕ) → at old x < 2 ^ 16) → Loaded false ss new
+loaded ss old new i g h l a n b = (
+  at-ext (take (length ss) new) ss size (λ k m. let o : k < length ss = subst (λ (z : ℕ). k < z) size m in at-take (length ss) new k o ∙ g .here k (omega arith) .0),
+  record { few = a; sixteen = g .size ∙ n; small = small; full = λ x m. g .here x (omega arith) .2 },
+)
+  where
+    size : length (take (length ss) new) ≡ length ss
+    size = length-take-le (length ss) new (omega (arith, g .size))
 
-pub load-none : (ss rs : List ℕ) → length rs ≡ 16 → ((x : ℕ) → at rs x < 2 ^ 16) → Loading ss rs 0
-load-none ss rs n b = record { sixteen = n; small = b; bound = omega arith; done = λ k h. absurd (not-suc-le-zero h); full = λ k h. absurd (not-suc-le-zero h) }
-
-module _ {ss rs : List ℕ} {i : ℕ} (g : Loading ss rs i) (a : length ss ≤ 16) where
-  pub load-more : i < length ss → at ss i < 2 ^ 16 → (at ss i ≡ 0 → ⊥) → Loading ss (set rs i (at ss i)) (i + 1)
-  load-more h b f =
-      let l : i < length rs = omega (arith, g .sixteen) in
-      record {
-        sixteen = length-set rs i _ ∙ g .sixteen;
-        small = small-set rs i (at ss i) l (g .small) b;
-        bound = omega arith;
-        done = λ k m. set-each (λ z s. z < i + 1 → s ≡ at ss z) rs i (at ss i) k l (λ j. refl) (λ n j. g .done k (omega arith)) m;
-        full = λ k m. borrow.Author.Count.below-more (λ z. at ss z ≡ 0 → ⊥) i (g .full) f k m;
-      }
-
-  pub loaded : length ss ≤ i → Loaded false ss rs
-  loaded h = (
-    at-ext (take (length ss) rs) ss (length-take-le (length ss) rs (omega (arith, g .sixteen)))
-        (λ k l. let m : k < length ss = subst (λ (n : ℕ). k < n) (length-take-le (length ss) rs (omega (arith, g .sixteen))) l in at-take (length ss) rs k m ∙ g .done k (omega arith)),
-    record { few = a; sixteen = g .sixteen; small = g .small; full = λ x l e. g .full x (omega arith) (sym (g .done x (omega arith)) ∙ e) },
-  )
+    small : (x : ℕ) → at new x < 2 ^ 16
+    small x = go (decLt x i)
+      where
+        go : Dec (x < i) → at new x < 2 ^ 16
+        go (yes m) = g .here x m .1
+        go (no m) = subst (λ (s : ℕ). s < 2 ^ 16) (sym (g .other x (λ v k e. m (omega arith)))) (b x)

@@ -1,22 +1,21 @@
 -- A scan on the first n of sixteen sets, step by step: how `Passed` goes on with each entry, and how it ends. Assumes nothing.
-use mathlib.Core.Path.{_≡_, refl, sym, ap, ap₂, _∙_, subst}
+use mathlib.Core.Path.{_≡_, refl, sym, ap, _∙_, subst}
 use mathlib.Core.Bool.{Bool, true, false}
 use mathlib.Core.List.{List, [], _∷_, map}
 use Prim.Native.Nat.{ℕ, _^_, _≤_, _<_}
 use native.Mathlib.Omega.{arith}
 use native.Mathlib.Decide.{decLt}
 use lib.Dec.{T, eqb}
-use lib.ListN.{length, getD, set, take, length-set, List·getD-eq-default}
+use lib.ListN.{length, set, take, length-set}
 use lib.Seq.{getD-take, take-set-lt, length-take-le}
 use borrow.Author.Tests.{eqb-true, eqb-false}
-use Rattle.model.specs.Lists.{either, at}
+use Rattle.model.specs.Lists.{at}
 use Rattle.model.specs.ValueSets.{withoutMask, onlyMask, anyEmpty}
 use Rattle.model.specs.Nogood.{Entry, equality, disequality, obeysFrom, filtered}
 use Rattle.model.proofs.Lists.{either-l, at-out, at-set-other, set-each}
 use Rattle.model.proofs.Sets.{at-zeros, empty-i}
-use Rattle.nogood.specs.declared.entry.Step.{Step}
-use Rattle.nogood.specs.declared.entry.Step.the-variants.{Next, Dead, Free, Split}
-use Rattle.nogood.specs.Scan.{stepOf, after, cutStep, keepStep, models, None, Some, Live, Passed, Left, Right}
+use Rattle.nogood.specs.declared.entry.Step.the-variants.{Next, Failed, Obeyed, Split}
+use Rattle.nogood.specs.Scan.{stepOf, after, cutStep, keepStep, models, None, Some, Live, Passed, Remainder, Right}
 use Rattle.nogood.proofs.Scan
 
 -- ---- what each step says
@@ -24,28 +23,28 @@ next-cut : (b : Bool) → cutStep b ≡ Next → b ≡ false
 next-cut true e = let z : _≡_ {A = ℕ} 0 1 = cc in absurd (omega arith)
 next-cut false e = refl
 
-dead-cut : (b : Bool) → cutStep b ≡ Dead → b ≡ true
-dead-cut true e = refl
-dead-cut false e = let z : _≡_ {A = ℕ} 0 1 = cc in absurd (omega arith)
+failed-cut : (b : Bool) → cutStep b ≡ Failed → b ≡ true
+failed-cut true e = refl
+failed-cut false e = let z : _≡_ {A = ℕ} 0 1 = cc in absurd (omega arith)
 
-pub never-free : (b : Bool) → cutStep b ≡ Free → ⊥
-never-free true e = let z : _≡_ {A = ℕ} 0 1 = cc in omega arith
-never-free false e = let z : _≡_ {A = ℕ} 0 1 = cc in omega arith
+pub never-obeyed : (b : Bool) → cutStep b ≡ Obeyed → ⊥
+never-obeyed true e = let z : _≡_ {A = ℕ} 0 1 = cc in omega arith
+never-obeyed false e = let z : _≡_ {A = ℕ} 0 1 = cc in omega arith
 
-never-dead : (b c : Bool) → keepStep b c ≡ Dead → ⊥
-never-dead true c e = let z : _≡_ {A = ℕ} 0 1 = cc in omega arith
-never-dead false true e = let z : _≡_ {A = ℕ} 0 1 = cc in omega arith
-never-dead false false e = let z : _≡_ {A = ℕ} 0 1 = cc in omega arith
+never-failed : (b c : Bool) → keepStep b c ≡ Failed → ⊥
+never-failed true c e = let z : _≡_ {A = ℕ} 0 1 = cc in omega arith
+never-failed false true e = let z : _≡_ {A = ℕ} 0 1 = cc in omega arith
+never-failed false false e = let z : _≡_ {A = ℕ} 0 1 = cc in omega arith
 
 pub next-keep : (b c : Bool) → keepStep b c ≡ Next → b ≡ true
 next-keep true c e = refl
 next-keep false true e = let z : _≡_ {A = ℕ} 0 1 = cc in absurd (omega arith)
 next-keep false false e = let z : _≡_ {A = ℕ} 0 1 = cc in absurd (omega arith)
 
-pub free-keep : (b c : Bool) → keepStep b c ≡ Free → c ≡ true
-free-keep true c e = let z : _≡_ {A = ℕ} 0 1 = cc in absurd (omega arith)
-free-keep false true e = refl
-free-keep false false e = let z : _≡_ {A = ℕ} 0 1 = cc in absurd (omega arith)
+pub obeyed-keep : (b c : Bool) → keepStep b c ≡ Obeyed → c ≡ true
+obeyed-keep true c e = let z : _≡_ {A = ℕ} 0 1 = cc in absurd (omega arith)
+obeyed-keep false true e = refl
+obeyed-keep false false e = let z : _≡_ {A = ℕ} 0 1 = cc in absurd (omega arith)
 
 split-keep : (b c : Bool) → keepStep b c ≡ Split → (b ≡ false) × (c ≡ false)
 split-keep true c e = let z : _≡_ {A = ℕ} 0 1 = cc in absurd (omega arith)
@@ -121,24 +120,24 @@ module _ {n : ℕ} {ss : List ℕ} {es : List Entry} {rs : List ℕ} where
             (ap (λ (t : ℕ). withoutMask t v) (front-at (p .live) x (r .0)) ∙ eqb-true _ 0 (next-keep _ (eqb (onlyMask (at rs x) v) 0) e));
       }
 
-  pub pass-dead : (e : Entry) (fs : List Entry) → Passed n ss es rs (e ∷ fs) → Right n e → stepOf rs e ≡ Dead → None n ss es
-  pass-dead (disequality x v) fs p r e q =
+  pub pass-failed : (e : Entry) (fs : List Entry) → Passed n ss es rs (e ∷ fs) → Right n e → stepOf rs e ≡ Failed → None n ss es
+  pass-failed (disequality x v) fs p r e q =
       p .same q ∙ Scan.at-disequality (take n rs) x v fs q (front-lt (p .live) x (r .0))
-      ∙ Scan.stored-empty (take n rs) x _ fs q (front-lt (p .live) x (r .0)) (ap (λ (t : ℕ). withoutMask t v) (front-at (p .live) x (r .0)) ∙ eqb-true _ 0 (dead-cut _ e))
-  pass-dead (equality x v) fs p r e q = absurd (never-dead (eqb (withoutMask (at rs x) v) 0) (eqb (onlyMask (at rs x) v) 0) e)
+      ∙ Scan.stored-empty (take n rs) x _ fs q (front-lt (p .live) x (r .0)) (ap (λ (t : ℕ). withoutMask t v) (front-at (p .live) x (r .0)) ∙ eqb-true _ 0 (failed-cut _ e))
+  pass-failed (equality x v) fs p r e q = absurd (never-failed (eqb (withoutMask (at rs x) v) 0) (eqb (onlyMask (at rs x) v) 0) e)
 
-  pub pass-free : (e : Entry) (fs : List Entry) → Passed n ss es rs (e ∷ fs) → Right n e → stepOf rs e ≡ Free → Passed n ss es rs []
-  pass-free (disequality x v) fs p r e = absurd (never-free (eqb (withoutMask (at rs x) v) 0) e)
-  pass-free (equality x v) fs p r e =
+  pub pass-obeyed : (e : Entry) (fs : List Entry) → Passed n ss es rs (e ∷ fs) → Right n e → stepOf rs e ≡ Obeyed → Passed n ss es rs []
+  pass-obeyed (disequality x v) fs p r e = absurd (never-obeyed (eqb (withoutMask (at rs x) v) 0) e)
+  pass-obeyed (equality x v) fs p r e =
       record {
         live = p .live;
         unused = p .unused;
         same = λ q. p .same q ∙ Scan.at-never (take n rs) x v fs q (front-lt (p .live) x (r .0)) (front-small (p .live) x)
-            (ap (λ (t : ℕ). onlyMask t v) (front-at (p .live) x (r .0)) ∙ eqb-true _ 0 (free-keep (eqb (withoutMask (at rs x) v) 0) _ e));
+            (ap (λ (t : ℕ). onlyMask t v) (front-at (p .live) x (r .0)) ∙ eqb-true _ 0 (obeyed-keep (eqb (withoutMask (at rs x) v) 0) _ e));
       }
 
   -- ---- it ends at the last entry
-  pub ended : Passed n ss es rs [] → length (take n ss) ≡ n → Left n ss es rs
+  pub ended : Passed n ss es rs [] → length (take n ss) ≡ n → Remainder n ss es rs
   ended p k =
       record {
         live = p .live;
@@ -187,7 +186,7 @@ module _ {n : ℕ} {ss : List ℕ} {es : List Entry} {rs : List ℕ} where
     same-end k = Scan.filtered-same (take n ss) es (take n rs) (equality x v ∷ fs) (k ∙ sym (front-length (p .live))) (p .same)
 
     -- no assignment has it: the value goes
-    pub split-gone : length (take n ss) ≡ n → None n forced fs → Left n ss es (after rs (disequality x v))
+    pub split-gone : length (take n ss) ≡ n → None n forced fs → Remainder n ss es (after rs (disequality x v))
     split-gone k z =
         record {
           live = live-set (p .live) x _ (r .0) (Scan.without-lt (at rs x) v) some-out;
@@ -199,7 +198,7 @@ module _ {n : ℕ} {ss : List ℕ} {es : List Entry} {rs : List ℕ} where
         }
 
     -- one has it: nothing goes
-    pub split-kept : length (take n ss) ≡ n → Some n forced fs → Left n ss es rs
+    pub split-kept : length (take n ss) ≡ n → Some n forced fs → Remainder n ss es rs
     split-kept k z =
         record {
           live = p .live;
@@ -210,7 +209,7 @@ module _ {n : ℕ} {ss : List ℕ} {es : List Entry} {rs : List ℕ} where
         }
 
 -- what the filter leaves after the entries that were passed, it leaves of all
-pub left-after : {n : ℕ} {ss : List ℕ} {es : List Entry} {rs : List ℕ} {fs : List Entry} {ts : List ℕ} → Passed n ss es rs fs → Left n rs fs ts → length (take n ss) ≡ n → Left n ss es ts
+pub left-after : {n : ℕ} {ss : List ℕ} {es : List Entry} {rs : List ℕ} {fs : List Entry} {ts : List ℕ} → Passed n ss es rs fs → Remainder n rs fs ts → length (take n ss) ≡ n → Remainder n ss es ts
 left-after {n} {ss} {es} {rs} {fs} p l k =
     record {
       live = l .live;

@@ -5,4 +5,4 @@ pub mod Marks
 pub mod Turns
 pub mod Copies
 pub mod Questions
-pub mod Forks
+pub mod Splits

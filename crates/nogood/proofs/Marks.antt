@@ -1,91 +1,136 @@
 -- The two marks of an entry: what question 19 lets through, and what the entry then is. Then the laws of a list whose first part says nothing more,
 -- or is obeyed for good. Assumes nothing.
-use mathlib.Core.Path.{_≡_, refl, sym, ap, _∙_, subst}
+use mathlib.Core.Path.{_≡_, refl, sym, ap, ap₂, _∙_, subst}
 use mathlib.Core.Bool.{Bool, true, false, not}
 use mathlib.Core.List.{List, [], _∷_, _++_, append-assoc, append-nil, List·Memᴰ}
 use mathlib.Core.Logic.{⊎-elim}
-use Prim.Native.Nat.{ℕ, _^_, _<_, _≤_}
+use Prim.Native.Nat.{ℕ, _%_, _^_, _<_, _≤_}
+use native.Mathlib.Nat.{mod-eq-of-lt}
 use native.Mathlib.Omega.{arith}
-use lib.Dec.{T, eqb, ltb, ltb→lt, eqb→eq, eqb-refl}
+use lib.Dec.{T, eqb, ltb, eqb→eq, eqb-refl}
 use lib.ListN.{length}
-use borrow.Author.Tests.{eq-eqb, ne-eqb, eqb-true, lt-ltb, le-ltb}
-use Rattle.model.specs.Lists.{at, both, either}
+use borrow.Author.Tests.{eq-eqb, eqb-true, lt-ltb, le-ltb}
+use Rattle.model.specs.Lists.{at, both}
 use Rattle.model.specs.ValueSets.{has, maskOf, withoutMask, onlyMask, anyEmpty}
 use Rattle.model.specs.Problem.{assignments}
-use Rattle.model.specs.Nogood.{Entry, equality, disequality, entryBy, entryOf, entryOk, mark, is, obeysFrom, obeys, obeying, used, filtered}
-use Rattle.model.proofs.Lists.{T-of, of-T, not-of, of-not, both-i, both-l, both-r, either-e, keep-ext, getD-at}
+use Rattle.model.specs.Nogood.{Entry, equality, disequality, Kind, isEquality, isDisequality, bothAbsent, bothPresent, mark, kindBy, kindOf, entryIn, entryOf, valueOk, entryOk, is, obeysFrom, obeys, obeying, used, filtered}
+use Rattle.model.proofs.Lists.{T-of, of-T, not-of, of-not, both-i, keep-ext, getD-at}
 use Rattle.model.proofs.Sets.{has-none, has-lt, mask-i}
 use Rattle.model.specs.Pruning.{Inside}
-use Rattle.model.proofs.Members.{both-no, either-no}
 use Rattle.model.proofs.Assignments.{assign-mono, drawn-e}
 use Rattle.model.proofs.Filter
-use Rattle.nogood.specs.declared.entry.Step.the-variants.{Next, Free}
+use Rattle.model.proofs.EntryKinds.{right-kinds}
+use Rattle.nogood.specs.declared.Kind as code
+use Rattle.nogood.specs.declared.Kind.the-variants.{Equality, Disequality, BothAbsent, BothPresent}
+use Rattle.nogood.specs.declared.entry.Step.the-variants.{Next, Obeyed}
 use Rattle.nogood.specs.Scan.{Right, stepOf}
-use Rattle.nogood.specs.Marks.{Idle, Settled}
+use Rattle.nogood.specs.Lists.{kindAs}
+use Rattle.nogood.specs.Marks.{Vacuous, ObeyedForGood}
 use Rattle.nogood.proofs.Scan
 use Rattle.nogood.proofs.Front
 
--- ---- the cases
-module _ (x e u : ℕ) where
-  pub marked : e ≡ mark → entryOf x e u ≡ disequality x u
-  marked h = ap (λ (b : Bool). entryBy b x e u) (eq-eqb e mark h)
+-- ---- the cases, as the code has them
+pub kind-by : (e u : ℕ) {b c : Bool} → eqb e mark ≡ b → eqb u mark ≡ c → kindAs (kindBy b c) e u ≡ kindAs (kindOf e u) e u
+kind-by e u p q = ap₂ (λ (b c : Bool). kindAs (kindBy b c) e u) (sym p) (sym q)
 
-  pub unmarked : (e ≡ mark → ⊥) → entryOf x e u ≡ equality x e
-  unmarked h = ap (λ (b : Bool). entryBy b x e u) (ne-eqb e mark h)
+-- what an entry that is right says, its value being its own remainder
+module _ (x e u : ℕ) (r : Right 16 (entryOf x e u)) where
+  pub reads-variable : x < 16
+  reads-variable = go (kindOf e u) r
+    where
+      go : (k : Kind) → Right 16 (entryIn k x e u) → x < 16
+      go isEquality r = r .0
+      go isDisequality r = r .0
+      go bothAbsent r = r .0
+      go bothPresent r = r .0
+
+  -- an equality, or two values
+  pub reads-equality : (v : ℕ) → Equality v ≡ kindAs (kindOf e u) e u → entryOf x e u ≡ equality x (v % 16)
+  reads-equality v q = go (kindOf e u) r q
+    where
+      go : (k : Kind) → Right 16 (entryIn k x e u) → Equality v ≡ kindAs k e u → entryIn k x e u ≡ equality x (v % 16)
+      go isEquality r q = let z : v ≡ e = cc in ap (equality x) (sym (ap (λ (n : ℕ). n % 16) z ∙ mod-eq-of-lt (r .1)))
+      go isDisequality r q = absurd (let z : _≡_ {A = ℕ} 0 1 = cc in omega arith)
+      go bothAbsent r q = absurd (let z : _≡_ {A = ℕ} 0 1 = cc in omega arith)
+      go bothPresent r q = absurd (let z : _≡_ {A = ℕ} 0 1 = cc in omega arith)
+
+  pub reads-present : BothPresent ≡ kindAs (kindOf e u) e u → entryOf x e u ≡ equality x (e % 16)
+  reads-present q = go (kindOf e u) r q
+    where
+      go : (k : Kind) → Right 16 (entryIn k x e u) → BothPresent ≡ kindAs k e u → entryIn k x e u ≡ equality x (e % 16)
+      go isEquality r q = absurd (let z : _≡_ {A = ℕ} 0 1 = cc in omega arith)
+      go isDisequality r q = absurd (let z : _≡_ {A = ℕ} 0 1 = cc in omega arith)
+      go bothAbsent r q = absurd (let z : _≡_ {A = ℕ} 0 1 = cc in omega arith)
+      go bothPresent r q = ap (equality x) (sym (mod-eq-of-lt (r .1)))
+
+  -- a disequality, or two marks
+  pub reads-disequality : (v : ℕ) → Disequality v ≡ kindAs (kindOf e u) e u → entryOf x e u ≡ disequality x (v % 16)
+  reads-disequality v q = go (kindOf e u) r q
+    where
+      go : (k : Kind) → Right 16 (entryIn k x e u) → Disequality v ≡ kindAs k e u → entryIn k x e u ≡ disequality x (v % 16)
+      go isEquality r q = absurd (let z : _≡_ {A = ℕ} 0 1 = cc in omega arith)
+      go isDisequality r q = let z : v ≡ u = cc in ap (disequality x) (sym (ap (λ (n : ℕ). n % 16) z ∙ mod-eq-of-lt (r .1)))
+      go bothAbsent r q = absurd (let z : _≡_ {A = ℕ} 0 1 = cc in omega arith)
+      go bothPresent r q = absurd (let z : _≡_ {A = ℕ} 0 1 = cc in omega arith)
+
+  pub reads-absent : BothAbsent ≡ kindAs (kindOf e u) e u → entryOf x e u ≡ disequality x (u % 16)
+  reads-absent q = go (kindOf e u) r q
+    where
+      go : (k : Kind) → Right 16 (entryIn k x e u) → BothAbsent ≡ kindAs k e u → entryIn k x e u ≡ disequality x (u % 16)
+      go isEquality r q = absurd (let z : _≡_ {A = ℕ} 0 1 = cc in omega arith)
+      go isDisequality r q = absurd (let z : _≡_ {A = ℕ} 0 1 = cc in omega arith)
+      go bothAbsent r q = ap (disequality x) (sym (mod-eq-of-lt (r .1)))
+      go bothPresent r q = absurd (let z : _≡_ {A = ℕ} 0 1 = cc in omega arith)
 
 pub right-mono : (m n : ℕ) (e : Entry) → m ≤ n → Right m e → Right n e
 right-mono m n (equality x v) h r = (omega (arith, r .0), r .1)
 right-mono m n (disequality x v) h r = (omega (arith, r .0), r .1)
 
--- ---- an entry that is right
+-- ---- question 19
 pub ok-right : (n x e u : ℕ) → T (entryOk n x e u) → Right n (entryOf x e u)
-ok-right n x e u t = go (eqb e mark) refl (both-r (ltb x n) _ t)
-  where
-    inside : x < n
-    inside = ltb→lt x n (both-l (ltb x n) _ t)
+ok-right n x e u t =
+    let k = right-kinds n x e u t in
+    ⊎-elim {C = Right n (entryOf x e u)} (λ q. subst (Right n) (sym (q .0)) (k .0, q .1)) (λ q. subst (Right n) (sym (q .0)) (k .0, q .1)) (k .1)
 
-    go : (b : Bool) → eqb e mark ≡ b → T (either (both b (ltb u 16)) (both (eqb u mark) (ltb e 16))) → Right n (entryBy b x e u)
-    go true h s = (
-      inside,
-      ⊎-elim {C = u < 16} (λ l. ltb→lt u 16 l) (λ r. let z : e ≡ 255 = eqb-true e 255 h in let k : e < 16 = ltb→lt e 16 (both-r (eqb u mark) (ltb e 16) r) in absurd (omega arith))
-          (either-e (ltb u 16) (both (eqb u mark) (ltb e 16)) s),
-    )
-    go false h s = (inside, ltb→lt e 16 (both-r (eqb u mark) (ltb e 16) s))
-
--- ---- the test, question by question
 module _ (n x e u : ℕ) where
   pub ok-out : n ≤ x → false ≡ entryOk n x e u
   ok-out h = simp (le-ltb x n h)
 
-  module _ (h : x < n) where
-    pub ok-marked : e ≡ 255 → ltb u 16 ≡ entryOk n x e u
-    ok-marked q = simp (lt-ltb x n h, q, both-no, either-no)
+  -- by the kind as the code has it
+  abbrev okAs : code.Kind → Bool
+  okAs (Equality v) = ltb v 16
+  okAs (Disequality v) = ltb v 16
+  okAs BothAbsent = false
+  okAs BothPresent = false
 
-    pub ok-bare : (e ≡ 255 → ⊥) → (u ≡ 255 → ⊥) → false ≡ entryOk n x e u
-    ok-bare q r = simp (lt-ltb x n h, ne-eqb e 255 q, ne-eqb u 255 r)
-
-    pub ok-value : (e ≡ 255 → ⊥) → u ≡ 255 → ltb e 16 ≡ entryOk n x e u
-    ok-value q r = simp (lt-ltb x n h, ne-eqb e 255 q, r)
+  pub ok-kind : x < n → (k : code.Kind) → k ≡ kindAs (kindOf e u) e u → okAs k ≡ entryOk n x e u
+  ok-kind h k q = ap okAs q ∙ go (kindOf e u) ∙ ap (λ (b : Bool). both b (valueOk (kindOf e u) e u)) (sym (lt-ltb x n h))
+    where
+      go : (k : Kind) → okAs (kindAs k e u) ≡ valueOk k e u
+      go isEquality = refl
+      go isDisequality = refl
+      go bothAbsent = refl
+      go bothPresent = refl
 
 -- ---- a first part that says nothing more, and one that is obeyed for good
-pub idle-nil : (ds : List ℕ) → Idle ds []
-idle-nil ds a m fs = refl
+pub vacuous-nil : (ds : List ℕ) → Vacuous ds []
+vacuous-nil ds a m fs = refl
 
-pub idle-append : (ds : List ℕ) (es fs : List Entry) → Idle ds es → Idle ds fs → Idle ds (es ++ fs)
-idle-append ds es fs i j a m gs = ap (obeys a) (append-assoc es fs gs) ∙ i a m (fs ++ gs) ∙ j a m gs
+pub vacuous-append : (ds : List ℕ) (es fs : List Entry) → Vacuous ds es → Vacuous ds fs → Vacuous ds (es ++ fs)
+vacuous-append ds es fs i j a m gs = ap (obeys a) (append-assoc es fs gs) ∙ i a m (fs ++ gs) ∙ j a m gs
 
-pub idle-settled : (ds : List ℕ) (es fs : List Entry) → Idle ds es → Settled ds fs → Settled ds (es ++ fs)
-idle-settled ds es fs i s a m gs = subst T (sym (ap (obeys a) (append-assoc es fs gs) ∙ i a m (fs ++ gs))) (s a m gs)
+pub vacuous-for-good : (ds : List ℕ) (es fs : List Entry) → Vacuous ds es → ObeyedForGood ds fs → ObeyedForGood ds (es ++ fs)
+vacuous-for-good ds es fs i s a m gs = subst T (sym (ap (obeys a) (append-assoc es fs gs) ∙ i a m (fs ++ gs))) (s a m gs)
 
-pub settled-append : (ds : List ℕ) (es fs : List Entry) → Settled ds es → Settled ds (es ++ fs)
-settled-append ds es fs s a m gs = subst (λ (l : List Entry). T (obeys a l)) (sym (append-assoc es fs gs)) (s a m (fs ++ gs))
+pub for-good-append : (ds : List ℕ) (es fs : List Entry) → ObeyedForGood ds es → ObeyedForGood ds (es ++ fs)
+for-good-append ds es fs s a m gs = subst (λ (l : List Entry). T (obeys a l)) (sym (append-assoc es fs gs)) (s a m (fs ++ gs))
 
 -- they stay so as the sets shrink
-pub idle-mono : (ds rs : List ℕ) (es : List Entry) → length rs ≡ length ds → Inside rs ds → Idle ds es → Idle rs es
-idle-mono ds rs es l h i a m fs = i a (assign-mono rs ds a l h m) fs
+pub vacuous-mono : (ds rs : List ℕ) (es : List Entry) → length rs ≡ length ds → Inside rs ds → Vacuous ds es → Vacuous rs es
+vacuous-mono ds rs es l h i a m fs = i a (assign-mono rs ds a l h m) fs
 
-pub settled-mono : (ds rs : List ℕ) (es : List Entry) → length rs ≡ length ds → Inside rs ds → Settled ds es → Settled rs es
-settled-mono ds rs es l h s a m fs = s a (assign-mono rs ds a l h m) fs
+pub for-good-mono : (ds rs : List ℕ) (es : List Entry) → length rs ≡ length ds → Inside rs ds → ObeyedForGood ds es → ObeyedForGood rs es
+for-good-mono ds rs es l h s a m fs = s a (assign-mono rs ds a l h m) fs
 
 -- ---- one entry
 module _ (ds : List ℕ) (x v : ℕ) (h : x < length ds) where
@@ -101,21 +146,21 @@ module _ (ds : List ℕ) (x v : ℕ) (h : x < length ds) where
       d .0 ∙ not-of (eqb (at a x) v) (λ t. z (subst (λ (w : ℕ). T (has (at ds x) w)) (eqb→eq (at a x) v t) (d .1)))
 
   -- "not this value", which the set has not
-  pub idle-disequality : (T (has (at ds x) v) → ⊥) → Idle ds (disequality x v ∷ [])
+  pub vacuous-disequality : (T (has (at ds x) v) → ⊥) → Vacuous ds (disequality x v ∷ [])
   unfolding obeysFrom
-  idle-disequality z a m fs = ap (λ (b : Bool). both (not b) (obeys a fs)) (absent z a m)
+  vacuous-disequality z a m fs = ap (λ (b : Bool). both (not b) (obeys a fs)) (absent z a m)
 
   -- "this value", which the set has alone
-  pub idle-equality : ((w : ℕ) → T (has (at ds x) w) → w ≡ v) → Idle ds (equality x v ∷ [])
+  pub vacuous-equality : ((w : ℕ) → T (has (at ds x) w) → w ≡ v) → Vacuous ds (equality x v ∷ [])
   unfolding obeysFrom
-  idle-equality z a m fs =
+  vacuous-equality z a m fs =
       let d = drawn-at a m in
       ap (λ (b : Bool). obeysFrom b a fs) (d .0 ∙ eq-eqb (at a x) v (z (at a x) (d .1)))
 
   -- "this value", which the set has not
-  pub settled-equality : (T (has (at ds x) v) → ⊥) → Settled ds (equality x v ∷ [])
+  pub for-good-equality : (T (has (at ds x) v) → ⊥) → ObeyedForGood ds (equality x v ∷ [])
   unfolding obeysFrom
-  settled-equality z a m fs = T-of (obeysFrom (is a x v) a fs) (ap (λ (b : Bool). obeysFrom b a fs) (absent z a m) ∙ Scan.obeys-unheld a fs)
+  for-good-equality z a m fs = T-of (obeysFrom (is a x v) a fs) (ap (λ (b : Bool). obeysFrom b a fs) (absent z a m) ∙ Scan.obeys-unheld a fs)
 
 -- an equality that the scan passes, and one that ends it
 module _ (ds : List ℕ) (x v : ℕ) (h : x < length ds) (b : at ds x < 2 ^ 16) where
@@ -128,31 +173,31 @@ module _ (ds : List ℕ) (x v : ℕ) (h : x < length ds) (b : at ds x < 2 ^ 16) 
   alone z w t true q = eqb-true w v q
   alone z w t false q = absurd (present (λ u. not (eqb u v)) w t (T-of (not (eqb w v)) (ap not q)) z)
 
-  pub idle-next : stepOf ds (equality x v) ≡ Next → Idle ds (equality x v ∷ [])
-  idle-next e =
+  pub vacuous-next : stepOf ds (equality x v) ≡ Next → Vacuous ds (equality x v ∷ [])
+  vacuous-next e =
       let z : withoutMask (at ds x) v ≡ 0 = eqb-true _ 0 (Front.next-keep _ (eqb (onlyMask (at ds x) v) 0) e) in
-      idle-equality ds x v h (λ w t. alone z w t (eqb w v) refl)
+      vacuous-equality ds x v h (λ w t. alone z w t (eqb w v) refl)
 
-  pub settled-free : stepOf ds (equality x v) ≡ Free → Settled ds (equality x v ∷ [])
-  settled-free e =
-      let z : onlyMask (at ds x) v ≡ 0 = eqb-true _ 0 (Front.free-keep (eqb (withoutMask (at ds x) v) 0) _ e) in
-      settled-equality ds x v h (λ t. present (λ u. eqb u v) v t (eqb-refl v) z)
+  pub for-good-step : stepOf ds (equality x v) ≡ Obeyed → ObeyedForGood ds (equality x v ∷ [])
+  for-good-step e =
+      let z : onlyMask (at ds x) v ≡ 0 = eqb-true _ 0 (Front.obeyed-keep (eqb (withoutMask (at ds x) v) 0) _ e) in
+      for-good-equality ds x v h (λ t. present (λ u. eqb u v) v t (eqb-refl v) z)
 
 -- ---- what the filter leaves
-pub obeying-idle : (ds : List ℕ) (es fs : List Entry) → Idle ds es → obeying ds (es ++ fs) ≡ obeying ds fs
+pub obeying-vacuous : (ds : List ℕ) (es fs : List Entry) → Vacuous ds es → obeying ds (es ++ fs) ≡ obeying ds fs
 unfolding obeying
-obeying-idle ds es fs i = keep-ext (λ a. obeys a (es ++ fs)) (λ a. obeys a fs) (assignments ds) (λ a m. i a m fs)
+obeying-vacuous ds es fs i = keep-ext (λ a. obeys a (es ++ fs)) (λ a. obeys a fs) (assignments ds) (λ a m. i a m fs)
 
-pub filtered-idle : (ds : List ℕ) (es fs : List Entry) → Idle ds es → filtered ds (es ++ fs) ≡ filtered ds fs
+pub filtered-vacuous : (ds : List ℕ) (es fs : List Entry) → Vacuous ds es → filtered ds (es ++ fs) ≡ filtered ds fs
 unfolding filtered
-filtered-idle ds es fs i = ap (used (length ds)) (obeying-idle ds es fs i)
+filtered-vacuous ds es fs i = ap (used (length ds)) (obeying-vacuous ds es fs i)
 
-pub obeying-settled : (ds : List ℕ) (es : List Entry) → Settled ds es → obeying ds es ≡ obeying ds []
+pub obeying-for-good : (ds : List ℕ) (es : List Entry) → ObeyedForGood ds es → obeying ds es ≡ obeying ds []
 unfolding obeying obeysFrom
-obeying-settled ds es s =
+obeying-for-good ds es s =
     keep-ext (λ a. obeys a es) (λ a. true) (assignments ds)
     (λ a m. of-T (obeys a es) (subst (λ (l : List Entry). T (obeys a l)) (append-nil es) (s a m [])))
 
-pub filtered-settled : (ds : List ℕ) (es : List Entry) → ((x : ℕ) → at ds x < 2 ^ 16) → anyEmpty ds ≡ false → Settled ds es → filtered ds es ≡ ds
+pub filtered-for-good : (ds : List ℕ) (es : List Entry) → ((x : ℕ) → at ds x < 2 ^ 16) → anyEmpty ds ≡ false → ObeyedForGood ds es → filtered ds es ≡ ds
 unfolding filtered
-filtered-settled ds es small full s = ap (used (length ds)) (obeying-settled ds es s) ∙ Filter.filtered-none ds small full
+filtered-for-good ds es small full s = ap (used (length ds)) (obeying-for-good ds es s) ∙ Filter.filtered-none ds small full

@@ -2,13 +2,12 @@
 use mathlib.Core.Path.{_≡_, refl, sym, ap, _∙_, subst}
 use mathlib.Core.Bool.{Bool, true, false, not}
 use mathlib.Core.List.{List}
-use Prim.Native.Nat.{ℕ, _+_, _≤_, _<_}
+use Prim.Native.Nat.{ℕ, _≤_, _<_}
 use native.Mathlib.Omega.{arith}
-use lib.Dec.{T, eqb, ltb, leb}
+use lib.Dec.{T, eqb, leb}
 use lib.ListN.{length}
-use borrow.Author.Tests.{eq-eqb, ne-eqb, eqb-true, lt-ltb, le-ltb, le-leb, lt-leb, leb-true, not-false}
+use borrow.Author.Tests.{eq-eqb, ne-eqb, eqb-true, le-leb, lt-leb, leb-true, not-false}
 use Rattle.model.specs.Lists.{at, both}
-use Rattle.model.specs.ValueSets.{least}
 use Rattle.model.specs.Verdict.{Verdict, accepted, refused, ask}
 use Rattle.model.specs.Nogood.{Entry, entryOk, firstWrong, filterVerdict, setsAfter, filtered}
 use Rattle.model.proofs.Lists.{T-of}

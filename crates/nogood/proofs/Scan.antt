@@ -4,26 +4,24 @@ use mathlib.Core.Path.{_≡_, refl, sym, ap, ap₂, _∙_, subst, fun-ext}
 use mathlib.Core.Bool.{Bool, true, false, not}
 use mathlib.Core.List.{List, [], _∷_, map}
 use mathlib.Core.Logic.{_⊎_, inl, inr, ⊎-elim}
-use Prim.Native.Nat.{ℕ, zero, suc, _^_, _≤_, _<_}
+use Prim.Native.Nat.{ℕ, zero, suc, _^_, _<_}
 use native.Mathlib.Nat.{not-suc-le-zero, le-of-suc-le-suc}
 use native.Mathlib.Decide.{ℕ-discrete}
 use native.Mathlib.Omega.{arith}
-use lib.Dec.{T, eqb, eqb→eq, eqb-refl}
-use lib.ListN.{length, getD, set, take, length-set, length-map}
-use lib.Seq.{getD-set-same, getD-take, take-set-lt, length-take-le}
-use borrow.Author.Tests.{eq-eqb, ne-eqb, eqb-true, eqb-false}
-use Rattle.model.specs.Lists.{both, either, any, keep, at, tabulate}
-use Rattle.model.specs.ValueSets.{has, maskOf, members, withoutMask, onlyMask, anyEmpty}
+use lib.Dec.{T, eqb, eqb→eq}
+use lib.ListN.{length, getD, set, length-set, length-map}
+use lib.Seq.{getD-set-same}
+use borrow.Author.Tests.{eq-eqb, eqb-true}
+use Rattle.model.specs.Lists.{both, either, any, at, tabulate}
+use Rattle.model.specs.ValueSets.{has, maskOf, withoutMask, onlyMask}
 use Rattle.model.specs.Problem.{assignments}
 use Rattle.model.specs.Nogood.{Entry, equality, disequality, is, obeysFrom, obeys, obeying, used, filtered}
 use Rattle.model.proofs.Lists.{T-of, of-T, not-of, T-ext, both-i, both-l, both-r, either-l, either-r, either-e, any-i, any-e, keep-i, keep-e, getD-at, at-ext, at-tabulate, length-tabulate, at-set, at-set-other, set-at, set-each, both-less}
-use Rattle.model.proofs.Sets.{has-mask, has-none, mask-lt, mask-i, mask-e, members-i, members-e, member, empty-i, at-zeros}
+use Rattle.model.proofs.Sets.{has-mask, has-none, mask-lt, mask-i, mask-e, members-i, members-e, member, at-zeros}
 use Rattle.model.proofs.Masks.{is-mask}
 use Rattle.model.proofs.Members.{either-no}
 use Rattle.model.proofs.Assignments.{assign-i, assign-e}
-use Rattle.nogood.specs.declared.entry.Step.{Step}
-use Rattle.nogood.specs.declared.entry.Step.the-variants.{Next, Dead, Free, Split}
-use Rattle.nogood.specs.Scan.{stepOf, after, cutStep, keepStep, models, None, Some, Live, Passed, Left, Right}
+use Rattle.nogood.specs.Scan.{models}
 
 -- ---- an assignment drawn from the sets
 abbrev pub Draw : List ℕ → List ℕ → Type 0
@@ -104,9 +102,9 @@ module _ (ss : List ℕ) (x u : ℕ) (es : List Entry) (q : List ℕ → Bool) (
       (both-i (not (is (r .0) x u)) (obeys (r .0) es) (subst (λ (b : Bool). T (not b)) (sym (is-at ss (r .0) x u h (d .0))) (d .1)) (r .3)))
 
   -- an equality parts the assignments: of those that break it nothing more is asked, and the others have its value at its variable
-  parted : (a : List ℕ) → Draw ss a → (b : Bool) → eqb (at a x) u ≡ b → T (obeysFrom (is a x u) a es) → T (other u (at a x)) ⊎ (T (equal u (at a x)) × T (obeys a es))
-  parted a d true e t = inr (T-of (eqb (at a x) u) e, subst (λ (b : Bool). T (obeysFrom b a es)) (is-at ss a x u h d ∙ e) t)
-  parted a d false e t = inl (T-of (not (eqb (at a x) u)) (ap not e))
+  broken-or-kept : (a : List ℕ) → Draw ss a → (b : Bool) → eqb (at a x) u ≡ b → T (obeysFrom (is a x u) a es) → T (other u (at a x)) ⊎ (T (equal u (at a x)) × T (obeys a es))
+  broken-or-kept a d true e t = inr (T-of (eqb (at a x) u) e, subst (λ (b : Bool). T (obeysFrom b a es)) (is-at ss a x u h d ∙ e) t)
+  broken-or-kept a d false e t = inl (T-of (not (eqb (at a x) u)) (ap not e))
 
   not-true : (b : Bool) → T (not b) → b ≡ false
   not-true true t = absurd t
@@ -120,7 +118,7 @@ module _ (ss : List ℕ) (x u : ℕ) (es : List Entry) (q : List ℕ → Bool) (
       ⊎-elim {C = T (either l r)}
       (λ o. either-l l r (models-i (cut ss x (other u)) [] q (m .0) (cut-i ss x (other u) (m .0) h (m .1) o) (m .2) tt))
       (λ o. either-r l r (models-i (cut ss x (equal u)) es q (m .0) (cut-i ss x (equal u) (m .0) h (m .1) (o .0)) (m .2) (o .1)))
-      (parted (m .0) (m .1) (eqb (at (m .0) x) u) refl (m .3)))
+      (broken-or-kept (m .0) (m .1) (eqb (at (m .0) x) u) refl (m .3)))
       (λ t. ⊎-elim {C = T (models ss (equality x u ∷ es) q)}
       (λ s. let m = models-e (cut ss x (other u)) [] q s in
       let d = cut-e ss x (other u) (m .0) h (m .1) in
@@ -164,6 +162,16 @@ kept-only s u h e = sym (is-mask s (λ v. both (has s v) (eqb v u)) h (λ v l. o
 
 pub kept-without : (s u : ℕ) → s < 2 ^ 16 → onlyMask s u ≡ 0 → withoutMask s u ≡ s
 kept-without s u h e = sym (is-mask s (λ v. both (has s v) (not (eqb v u))) h (λ v l. both-less (has s v) (eqb v u) (no-member (equal u) s v l e)))
+
+pub absent-only : (s u : ℕ) → withoutMask s u ≡ s → onlyMask s u ≡ 0
+absent-only s u e =
+    sym (is-mask 0 (λ v. both (has s v) (eqb v u)) (omega arith)
+    (λ v l. has-none v ∙ sym (never (has s v) (eqb v u) (ap (λ (n : ℕ). has n v) (sym e) ∙ has-mask 16 (λ w. both (has s w) (not (eqb w u))) v l))))
+  where
+    never : (b c : Bool) → b ≡ both b (not c) → both b c ≡ false
+    never true true q = q
+    never true false q = refl
+    never false c q = refl
 
 module _ (ss : List ℕ) (x u : ℕ) (es : List Entry) (q : List ℕ → Bool) (h : x < length ss) (b : at ss x < 2 ^ 16) where
   -- every assignment keeps the equality: it says nothing

@@ -2,21 +2,20 @@
 use mathlib.Core.Path.{_≡_, refl, sym, ap, _∙_, subst}
 use mathlib.Core.Bool.{Bool, true, false}
 use mathlib.Core.List.{List, [], _∷_}
-use Prim.Native.Nat.{ℕ, zero, suc, _+_, _^_, _≤_, _<_}
+use Prim.Native.Nat.{ℕ, zero, suc, _+_, _≤_, _<_}
 use native.Mathlib.Nat.{not-suc-le-zero, le-of-suc-le-suc}
 use native.Mathlib.Numerals.{add-one}
 use native.Mathlib.Omega.{arith}
 use lib.Dec.{eqb}
-use lib.ListN.{length, set, take, drop}
-use borrow.Author.Tests.{eqb-false}
+use lib.ListN.{length, drop}
 use Rattle.model.specs.Lists.{at}
-use Rattle.model.specs.ValueSets.{withoutMask, onlyMask}
-use Rattle.model.specs.Nogood.{Entry, equality, disequality, entryBy, entryOf, entries, mark}
+use Rattle.model.specs.ValueSets.{withoutMask}
+use Rattle.model.specs.Nogood.{Entry, equality, disequality, Kind, isEquality, isDisequality, bothAbsent, bothPresent, kindOf, entryIn, entryOf, entries}
 use Rattle.nogood.specs.declared.entry.Step.{Step}
-use Rattle.nogood.specs.declared.entry.Step.the-variants.{Next, Dead, Free, Split}
-use Rattle.nogood.specs.Scan.{stepOf, after, cutStep, Right, Stepped, None, Some, Live, Passed, Left, Outcome}
-use Rattle.nogood.specs.Lists.{Listed, Ready, Fork, Forked, Came, Alive, forced}
-use Rattle.nogood.proofs.Marks.{right-mono, unmarked}
+use Rattle.nogood.specs.declared.entry.Step.the-variants.{Next, Failed, Obeyed, Split}
+use Rattle.nogood.specs.Scan.{stepOf, after, cutStep, Right, Stepped, None, Passed}
+use Rattle.nogood.specs.Lists.{Ready, SplitReached}
+use Rattle.nogood.proofs.Marks.{right-mono}
 use Rattle.nogood.proofs.Front
 
 -- ---- the entries from k on
@@ -45,15 +44,20 @@ never-split : (b : Bool) → cutStep b ≡ Split → ⊥
 never-split true e = let z : _≡_ {A = ℕ} 0 1 = cc in omega arith
 never-split false e = let z : _≡_ {A = ℕ} 0 1 = cc in omega arith
 
-free-after : (rs : List ℕ) (e : Entry) → stepOf rs e ≡ Free → after rs e ≡ rs
-free-after rs (equality x v) h = refl
-free-after rs (disequality x v) h = absurd (Front.never-free (eqb (withoutMask (at rs x) v) 0) h)
+obeyed-after : (rs : List ℕ) (e : Entry) → stepOf rs e ≡ Obeyed → after rs e ≡ rs
+obeyed-after rs (equality x v) h = refl
+obeyed-after rs (disequality x v) h = absurd (Front.never-obeyed (eqb (withoutMask (at rs x) v) 0) h)
 
 -- a split is at an equality
-split-is : (rs : List ℕ) (x e u : ℕ) (b : Bool) → eqb e mark ≡ b → stepOf rs (entryBy b x e u) ≡ Split
-    → (e ≡ mark → ⊥) × (stepOf rs (equality x e) ≡ Split) × (after rs (entryBy b x e u) ≡ rs)
-split-is rs x e u true q h = absurd (never-split (eqb (withoutMask (at rs x) u) 0) h)
-split-is rs x e u false q h = (eqb-false e mark q, h, refl)
+split-is : (rs : List ℕ) (x e u : ℕ) → stepOf rs (entryOf x e u) ≡ Split
+    → (entryOf x e u ≡ equality x e) × (stepOf rs (equality x e) ≡ Split) × (after rs (entryOf x e u) ≡ rs)
+split-is rs x e u h = go (kindOf e u) h
+  where
+    go : (k : Kind) → stepOf rs (entryIn k x e u) ≡ Split → (entryIn k x e u ≡ equality x e) × (stepOf rs (equality x e) ≡ Split) × (after rs (entryIn k x e u) ≡ rs)
+    go isEquality h = (refl, h, refl)
+    go isDisequality h = absurd (never-split (eqb (withoutMask (at rs x) u) 0) h)
+    go bothAbsent h = absurd (never-split (eqb (withoutMask (at rs x) u) 0) h)
+    go bothPresent h = (refl, h, refl)
 
 -- ---- one turn
 module _ {n : ℕ} {ss xs es us : List ℕ} {start : ℕ} (w : Ready n ss xs es us start) where
@@ -68,8 +72,8 @@ module _ {n : ℕ} {ss xs es us : List ℕ} {start : ℕ} (w : Ready n ss xs es 
       abbrev here : Entry
       here = entryOf (at xs i) (at es i) (at us i)
 
-      pub turn-right : Right 16 (entryOf (at xs i) (at es i) (at us i)) × (at rs (at xs i) < 2 ^ 16)
-      turn-right = (right-mono n 16 here (w .live .few) (w .listed .right i h), p .live .small (at xs i))
+      pub turn-right : Right 16 (entryOf (at xs i) (at es i) (at us i))
+      turn-right = right-mono n 16 here (w .live .few) (w .listed .right i h)
 
       now : Passed n ss (drop start (entries xs es us)) rs (here ∷ drop (suc i) (entries xs es us))
       now = Front.pass-as (entry-at xs es us i (w .listed .equals) (w .listed .others) h) p
@@ -80,16 +84,16 @@ module _ {n : ℕ} {ss xs es us : List ℕ} {start : ℕ} (w : Ready n ss xs es 
             subst (λ (l : List ℕ). Passed n ss (drop start (entries xs es us)) l (drop (i + 1) (entries xs es us))) (sym (s .sets))
             (Front.pass-as (ap (λ (k : ℕ). drop k (entries xs es us)) (sym (add-one i))) (Front.pass-next here (drop (suc i) (entries xs es us)) now (w .listed .right i h) (sym (s .step) ∙ e)))
 
-        pub turn-dead : r ≡ Dead → None n ss (drop start (entries xs es us))
-        turn-dead e = Front.pass-dead here (drop (suc i) (entries xs es us)) now (w .listed .right i h) (sym (s .step) ∙ e)
+        pub turn-failed : r ≡ Failed → None n ss (drop start (entries xs es us))
+        turn-failed e = Front.pass-failed here (drop (suc i) (entries xs es us)) now (w .listed .right i h) (sym (s .step) ∙ e)
 
-        pub turn-free : r ≡ Free → Passed n ss (drop start (entries xs es us)) ts []
-        turn-free e =
-            subst (λ (l : List ℕ). Passed n ss (drop start (entries xs es us)) l []) (sym (s .sets ∙ free-after rs here (sym (s .step) ∙ e)))
-            (Front.pass-free here (drop (suc i) (entries xs es us)) now (w .listed .right i h) (sym (s .step) ∙ e))
+        pub turn-obeyed : r ≡ Obeyed → Passed n ss (drop start (entries xs es us)) ts []
+        turn-obeyed e =
+            subst (λ (l : List ℕ). Passed n ss (drop start (entries xs es us)) l []) (sym (s .sets ∙ obeyed-after rs here (sym (s .step) ∙ e)))
+            (Front.pass-obeyed here (drop (suc i) (entries xs es us)) now (w .listed .right i h) (sym (s .step) ∙ e))
 
-        pub turn-split : r ≡ Split → Forked n ss xs es us start ts i
+        pub turn-split : r ≡ Split → SplitReached n ss xs es us start ts i
         turn-split e =
-            let q = split-is rs (at xs i) (at es i) (at us i) (eqb (at es i) mark) refl (sym (s .step) ∙ e) in
-            subst (λ (l : List ℕ). Forked n ss xs es us start l i) (sym (s .sets ∙ q .2))
-            record { fork = record { listed = w .listed; live = p .live; bound = h; unmarked = q .0; split = q .1 }; passed = p }
+            let q = split-is rs (at xs i) (at es i) (at us i) (sym (s .step) ∙ e) in
+            subst (λ (l : List ℕ). SplitReached n ss xs es us start l i) (sym (s .sets ∙ q .2))
+            record { at-split = record { listed = w .listed; live = p .live; bound = h; is-equality = q .0; split = q .1 }; passed = p }

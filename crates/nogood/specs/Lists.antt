@@ -1,19 +1,21 @@
 -- What the answer of the filter means, and what the functions that read the three lists say to each other.
 use mathlib.Core.Path.{_≡_}
 use mathlib.Core.Bool.{Bool, true, false}
-use mathlib.Core.List.{List, [], _∷_, map}
-use Prim.Native.Nat.{ℕ, suc, _+_, _≤_, _<_}
+use mathlib.Core.List.{List, [], map}
+use Prim.Native.Nat.{ℕ, _≤_, _<_}
 use lib.ListN.{length, set, take, drop}
 use Rattle.model.specs.Lists.{at}
-use Rattle.model.specs.ValueSets.{withoutMask, onlyMask}
+use Rattle.model.specs.ValueSets.{onlyMask}
 use Rattle.model.specs.Verdict.{Verdict, accepted, refused}
-use Rattle.model.specs.Nogood.{Entry, equality, disequality, entryOf, entries, mark}
+use Rattle.model.specs.Nogood.{Entry, equality, Kind, isEquality, isDisequality, bothAbsent, bothPresent, entryOf, entries}
 use Rattle.nogood.specs.declared.Answer.{Answer}
 use Rattle.nogood.specs.declared.Answer.the-variants.{Filtered, Refused}
+use Rattle.nogood.specs.declared.Kind as code
+use Rattle.nogood.specs.declared.Kind.the-variants.{Equality, Disequality, BothAbsent, BothPresent}
 use Rattle.nogood.specs.declared.Reached.{Reached}
-use Rattle.nogood.specs.declared.Reached.the-variants.{Dead, End, Split}
+use Rattle.nogood.specs.declared.Reached.the-variants.{Failed, End, Split}
 use Rattle.nogood.specs.declared.entry.Step.the-variants as step
-use Rattle.nogood.specs.Scan.{Right, stepOf, None, Some, Live, Passed, Left}
+use Rattle.nogood.specs.Scan.{Right, stepOf, None, Some, Live, Passed}
 
 -- the number and the item of paper 01 for each answer
 abbrev pub means : Answer → Verdict
@@ -21,6 +23,13 @@ means Filtered = accepted
 means (Refused number item) = refused number item
 
 -- ---- between the functions of the crate: no reader has to believe what follows
+-- an entry's kind as the code has it: with the value that is there
+abbrev pub kindAs : Kind → ℕ → ℕ → code.Kind
+kindAs isEquality equal unequal = Equality equal
+kindAs isDisequality equal unequal = Disequality unequal
+kindAs bothAbsent equal unequal = BothAbsent
+kindAs bothPresent equal unequal = BothPresent
+
 -- lists that passed the questions, for n sets
 pub record Listed (n : ℕ) (xs es us : List ℕ) : Type 0 where
   pub equals : length es ≡ length xs
@@ -34,30 +43,30 @@ pub record Ready (n : ℕ) (ss xs es us : List ℕ) (start : ℕ) : Type 0 where
   pub bound : start ≤ length xs
 
 -- entry k is an equality that some assignments keep and some break
-pub record Fork (n : ℕ) (ss xs es us : List ℕ) (k : ℕ) : Type 0 where
+pub record AtSplit (n : ℕ) (ss xs es us : List ℕ) (k : ℕ) : Type 0 where
   pub listed : Listed n xs es us
   pub live : Live n ss
   pub bound : k < length xs
-  pub unmarked : at es k ≡ mark → ⊥
+  pub is-equality : entryOf (at xs k) (at es k) (at us k) ≡ equality (at xs k) (at es k)
   pub split : stepOf ss (equality (at xs k) (at es k)) ≡ step.Split
 
-pub record Forked (n : ℕ) (ss xs es us : List ℕ) (start : ℕ) (rs : List ℕ) (k : ℕ) : Type 0 where
-  pub fork : Fork n rs xs es us k
+pub record SplitReached (n : ℕ) (ss xs es us : List ℕ) (start : ℕ) (rs : List ℕ) (k : ℕ) : Type 0 where
+  pub at-split : AtSplit n rs xs es us k
   pub passed : Passed n ss (drop start (entries xs es us)) rs (drop k (entries xs es us))
 
-abbrev pub Came : ℕ → List ℕ → List ℕ → List ℕ → List ℕ → ℕ → List ℕ → Reached → Type 0
-Came n ss xs es us start rs Dead = None n ss (drop start (entries xs es us))
-Came n ss xs es us start rs End = Passed n ss (drop start (entries xs es us)) rs []
-Came n ss xs es us start rs (Split k) = Forked n ss xs es us start rs k
+abbrev pub PassResult : ℕ → List ℕ → List ℕ → List ℕ → List ℕ → ℕ → List ℕ → Reached → Type 0
+PassResult n ss xs es us start rs Failed = None n ss (drop start (entries xs es us))
+PassResult n ss xs es us start rs End = Passed n ss (drop start (entries xs es us)) rs []
+PassResult n ss xs es us start rs (Split k) = SplitReached n ss xs es us start rs k
 
 -- the sets with the pair of x and v forced
 abbrev pub forced : List ℕ → ℕ → ℕ → List ℕ
 forced ss x v = set ss x (onlyMask (at ss x) v)
 
 -- some assignment from the sets obeys the entries, or none does
-abbrev pub Alive : Bool → ℕ → List ℕ → List Entry → Type 0
-Alive true n ss es = Some n ss es
-Alive false n ss es = None n ss es
+abbrev pub SomeOrNone : Bool → ℕ → List ℕ → List Entry → Type 0
+SomeOrNone true n ss es = Some n ss es
+SomeOrNone false n ss es = None n ss es
 
 -- ---- the lent sets
 abbrev pub zeros : List ℕ → List ℕ

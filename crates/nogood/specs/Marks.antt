@@ -8,9 +8,9 @@ use Rattle.model.specs.Problem.{assignments}
 use Rattle.model.specs.Nogood.{Entry, obeys}
 
 -- every equality of the entries holds and every disequality too: what comes after them decides
-abbrev pub Idle : List ℕ → List Entry → Type 0
-Idle ds es = (a : List ℕ) → List·Memᴰ a (assignments ds) → (fs : List Entry) → obeys a (es ++ fs) ≡ obeys a fs
+abbrev pub Vacuous : List ℕ → List Entry → Type 0
+Vacuous ds es = (a : List ℕ) → List·Memᴰ a (assignments ds) → (fs : List Entry) → obeys a (es ++ fs) ≡ obeys a fs
 
 -- the entries are obeyed, and whatever comes after them
-abbrev pub Settled : List ℕ → List Entry → Type 0
-Settled ds es = (a : List ℕ) → List·Memᴰ a (assignments ds) → (fs : List Entry) → T (obeys a (es ++ fs))
+abbrev pub ObeyedForGood : List ℕ → List Entry → Type 0
+ObeyedForGood ds es = (a : List ℕ) → List·Memᴰ a (assignments ds) → (fs : List Entry) → T (obeys a (es ++ fs))

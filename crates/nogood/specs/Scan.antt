@@ -2,7 +2,7 @@
 -- No reader has to believe this: it stands between proved functions.
 use mathlib.Core.Path.{_≡_}
 use mathlib.Core.Bool.{Bool, true, false}
-use mathlib.Core.List.{List, [], _∷_}
+use mathlib.Core.List.{List}
 use Prim.Native.Nat.{ℕ, _^_, _≤_, _<_}
 use lib.ListN.{length, set, take}
 use lib.Dec.{T, eqb}
@@ -10,18 +10,18 @@ use Rattle.model.specs.Lists.{any, at}
 use Rattle.model.specs.ValueSets.{withoutMask, onlyMask}
 use Rattle.model.specs.Nogood.{Entry, equality, disequality, obeying, filtered}
 use Rattle.nogood.specs.declared.entry.Step.{Step}
-use Rattle.nogood.specs.declared.entry.Step.the-variants.{Next, Dead, Free, Split}
+use Rattle.nogood.specs.declared.entry.Step.the-variants.{Next, Failed, Obeyed, Split}
 
 -- ---- one entry
 -- a disequality, by whether nothing is left of its variable's set
 abbrev pub cutStep : Bool → Step
-cutStep true = Dead
+cutStep true = Failed
 cutStep false = Next
 
 -- an equality, by whether nothing is left without the value, and nothing with it
 abbrev pub keepStep : Bool → Bool → Step
 keepStep true none = Next
-keepStep false true = Free
+keepStep false true = Obeyed
 keepStep false false = Split
 
 abbrev pub stepOf : List ℕ → Entry → Step
@@ -69,12 +69,12 @@ pub record Passed (n : ℕ) (ss : List ℕ) (es : List Entry) (rs : List ℕ) (f
   pub same : (q : List ℕ → Bool) → models (take n ss) es q ≡ models (take n rs) fs q
 
 -- rs holds what the filter leaves of the first n of ss, and none of it is empty
-pub record Left (n : ℕ) (ss : List ℕ) (es : List Entry) (rs : List ℕ) : Type 0 where
+pub record Remainder (n : ℕ) (ss : List ℕ) (es : List Entry) (rs : List ℕ) : Type 0 where
   pub live : Live n rs
   pub unused : (x : ℕ) → n ≤ x → at rs x ≡ at ss x
   pub left : take n rs ≡ filtered (take n ss) es
 
 -- the outcome of a whole scan, by whether no assignment obeys
-abbrev pub Outcome : Bool → ℕ → List ℕ → List Entry → List ℕ → Type 0
-Outcome true n ss es rs = None n ss es
-Outcome false n ss es rs = Left n ss es rs
+abbrev pub ScanResult : Bool → ℕ → List ℕ → List Entry → List ℕ → Type 0
+ScanResult true n ss es rs = None n ss es
+ScanResult false n ss es rs = Remainder n ss es rs

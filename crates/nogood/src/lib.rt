@@ -5,10 +5,11 @@ ghost use mathlib.Core.Path.{_≡_};
 ghost use Prim.Native.Nat.{ℕ, suc, _≤_, _<_, _^_};
 ghost use lib.ListN.{length, take, drop};
 ghost use Rattle.model.specs.Lists.{at};
-ghost use Rattle.model.specs.Nogood.{entries, entryOf, entryOk, firstWrong, filtered, filterVerdict, setsAfter};
-ghost use Rattle.nogood.specs.Scan.{Stepped, Right, Left, Outcome};
-ghost use Rattle.nogood.specs.Lists.{Ready, Came, Fork, Alive, forced, Loaded, Listed, zeros, means};
+ghost use Rattle.model.specs.Nogood.{kindOf, entries, entryOf, entryOk, firstWrong, filtered, filterVerdict, setsAfter};
+ghost use Rattle.nogood.specs.Scan.{Stepped, Right, Remainder, ScanResult};
+ghost use Rattle.nogood.specs.Lists.{Ready, PassResult, AtSplit, SomeOrNone, forced, Loaded, Listed, zeros, kindAs, means};
 use entry::Step;
+use model::ValueSet;
 
 // The answer of the filter: `means` in specs/Lists.antt gives paper 01's number and item for each case.
 pub enum Answer {
@@ -17,44 +18,74 @@ pub enum Answer {
 }
 
 // How far a pass over the entries came: to an empty set, to the end, or to an equality that some assignments keep and some break.
-pub enum Reached {
-    Dead,
+enum Reached {
+    Failed,
     End,
     Split(usize),
 }
 
-// What an entry of the three lists means, by its two marks (source document 001, section 3): without an equal value it is
-// "variable is not not_equal", and with one "variable = equal". Question 19 has shut out the other cases.
-fn read(sets: &mut [u16; 16], x: usize, equal: u8, not_equal: u8) -> Step
-    requires { ⌜ Right 16 (entryOf x equal «not_equal») × (at (now sets) x < 2 ^ 16) ⌝ }
-    ensures { λ r. ⌜ Stepped (now (sets .entry)) (entryOf x equal «not_equal») (now (sets .exit)) r ⌝ }
-{
-    if equal == 255 {
-        return entry::disequality(sets, x, not_equal);
-    }
-    entry::equality(sets, x, equal)
+// The mark of an absent value.
+const MARK: u8 = 255;
+
+// What an entry of the three lists is, by its two marks (source document 001, section 3), with the value that is there: `kindAs` in
+// specs/Lists.antt has the case for each of model's.
+enum Kind {
+    Equality(u8),
+    Disequality(u8),
+    BothAbsent,
+    BothPresent,
 }
 
-// Question 19 for an entry: its variable is one of the n sets', just one of the two is the mark 255, and the other is below 16.
+fn kind_of(equal: u8, not_equal: u8) -> Kind
+    ensures { λ r. ⌜ r ≡ kindAs (kindOf equal «not_equal») equal «not_equal» ⌝ }
+{
+    if equal == MARK {
+        if not_equal == MARK {
+            return Kind::BothAbsent;
+        }
+        return Kind::Disequality(not_equal);
+    }
+    if not_equal == MARK {
+        return Kind::Equality(equal);
+    }
+    Kind::BothPresent
+}
+
+// One entry of the lists, on the sets. A value is below 16, its own remainder.
+fn read(sets: &mut [u16; 16], x: usize, equal: u8, not_equal: u8) -> Step
+    requires { ⌜ Right 16 (entryOf x equal «not_equal») ⌝ }
+    ensures { λ r. ⌜ Stepped (now (sets .entry)) (entryOf x equal «not_equal») (now (sets .exit)) r ⌝ }
+{
+    let kind = kind_of(equal, not_equal);
+    match kind {
+        Kind::Equality(v) => entry::equality(sets, x, v % 16),
+        Kind::Disequality(v) => entry::disequality(sets, x, v % 16),
+        // Question 19 has shut out both of these.
+        Kind::BothAbsent => entry::disequality(sets, x, not_equal % 16),
+        Kind::BothPresent => entry::equality(sets, x, equal % 16),
+    }
+}
+
+// Question 19 for an entry: its variable is one of the n sets', just one of the two is the mark, and the other is below 16.
 fn right(n: usize, x: u8, equal: u8, not_equal: u8) -> bool
     ensures { λ r. ⌜ r ≡ entryOk n x equal «not_equal» ⌝ }
 {
     if x as usize >= n {
         return false;
     }
-    if equal == 255 {
-        return not_equal < 16;
+    let kind = kind_of(equal, not_equal);
+    match kind {
+        Kind::Equality(v) => v < 16,
+        Kind::Disequality(v) => v < 16,
+        Kind::BothAbsent => false,
+        Kind::BothPresent => false,
     }
-    if not_equal != 255 {
-        return false;
-    }
-    equal < 16
 }
 
-// Passes the entries from a start, until the outcome is settled.
+// Passes the entries from a start, until the result is known.
 fn pass(sets: &mut [u16; 16], index: &[u8], equal: &[u8], not_equal: &[u8], start: usize) -> Reached
     requires { ⌜ ((n : ℕ) × Ready n (now sets) (now index) (now equal) (now «not_equal») start) ⌝ }
-    ensures { λ r. ⌜ ((n : ℕ) → Ready n (now (sets .entry)) (now (index .entry)) (now (equal .entry)) (now («not_equal» .entry)) start → Came n (now (sets .entry)) (now (index .entry)) (now (equal .entry)) (now («not_equal» .entry)) start (now (sets .exit)) r) ⌝ }
+    ensures { λ r. ⌜ ((n : ℕ) → Ready n (now (sets .entry)) (now (index .entry)) (now (equal .entry)) (now («not_equal» .entry)) start → PassResult n (now (sets .entry)) (now (index .entry)) (now (equal .entry)) (now («not_equal» .entry)) start (now (sets .exit)) r) ⌝ }
 {
     let mut i = start;
     while i < index.len() {
@@ -62,8 +93,8 @@ fn pass(sets: &mut [u16; 16], index: &[u8], equal: &[u8], not_equal: &[u8], star
         let step = read(sets, x, equal[i], not_equal[i]);
         match step {
             Step::Next => {}
-            Step::Dead => return Reached::Dead,
-            Step::Free => return Reached::End,
+            Step::Failed => return Reached::Failed,
+            Step::Obeyed => return Reached::End,
             Step::Split => return Reached::Split(i),
         }
         i += 1;
@@ -73,24 +104,24 @@ fn pass(sets: &mut [u16; 16], index: &[u8], equal: &[u8], not_equal: &[u8], star
 
 // At an equality that some assignments keep and some break: whether an assignment that keeps it obeys the entries after it.
 fn stays(sets: &[u16; 16], index: &[u8], equal: &[u8], not_equal: &[u8], k: usize) -> bool
-    requires { ⌜ ((n : ℕ) × Fork n (now sets) (now index) (now equal) (now «not_equal») k) ⌝ }
-    ensures { λ r. ⌜ ((n : ℕ) → Fork n (now (sets .entry)) (now (index .entry)) (now (equal .entry)) (now («not_equal» .entry)) k → Alive r n (forced (now (sets .entry)) (at (now (index .entry)) k) (at (now (equal .entry)) k)) (drop (suc k) (entries (now (index .entry)) (now (equal .entry)) (now («not_equal» .entry))))) ⌝ }
+    requires { ⌜ ((n : ℕ) × AtSplit n (now sets) (now index) (now equal) (now «not_equal») k) ⌝ }
+    ensures { λ r. ⌜ ((n : ℕ) → AtSplit n (now (sets .entry)) (now (index .entry)) (now (equal .entry)) (now («not_equal» .entry)) k → SomeOrNone r n (forced (now (sets .entry)) (at (now (index .entry)) k) (at (now (equal .entry)) k)) (drop (suc k) (entries (now (index .entry)) (now (equal .entry)) (now («not_equal» .entry))))) ⌝ }
 {
     let mut work = *sets;
     let x = index[k] as usize;
     entry::force(&mut work, x, equal[k]);
     let reached = pass(&mut work, index, equal, not_equal, k + 1);
     match reached {
-        Reached::Dead => false,
+        Reached::Failed => false,
         Reached::End => true,
         Reached::Split(_) => true,
     }
 }
 
 // There the value goes where no assignment keeps it, and nothing else does.
-fn settle(sets: &mut [u16; 16], index: &[u8], equal: &[u8], not_equal: &[u8], k: usize)
-    requires { ⌜ ((n : ℕ) × Fork n (now sets) (now index) (now equal) (now «not_equal») k) ⌝ }
-    ensures { λ _. ⌜ ((n : ℕ) → Fork n (now (sets .entry)) (now (index .entry)) (now (equal .entry)) (now («not_equal» .entry)) k → Left n (now (sets .entry)) (drop k (entries (now (index .entry)) (now (equal .entry)) (now («not_equal» .entry)))) (now (sets .exit))) ⌝ }
+fn resolve(sets: &mut [u16; 16], index: &[u8], equal: &[u8], not_equal: &[u8], k: usize)
+    requires { ⌜ ((n : ℕ) × AtSplit n (now sets) (now index) (now equal) (now «not_equal») k) ⌝ }
+    ensures { λ _. ⌜ ((n : ℕ) → AtSplit n (now (sets .entry)) (now (index .entry)) (now (equal .entry)) (now («not_equal» .entry)) k → Remainder n (now (sets .entry)) (drop k (entries (now (index .entry)) (now (equal .entry)) (now («not_equal» .entry)))) (now (sets .exit))) ⌝ }
 {
     if stays(sets, index, equal, not_equal, k) {
         return;
@@ -100,16 +131,16 @@ fn settle(sets: &mut [u16; 16], index: &[u8], equal: &[u8], not_equal: &[u8], k:
 }
 
 // The exact filter on sixteen sets: true where no assignment obeys.
-fn sift(sets: &mut [u16; 16], index: &[u8], equal: &[u8], not_equal: &[u8]) -> bool
+fn propagate(sets: &mut [u16; 16], index: &[u8], equal: &[u8], not_equal: &[u8]) -> bool
     requires { ⌜ ((n : ℕ) × Ready n (now sets) (now index) (now equal) (now «not_equal») 0) ⌝ }
-    ensures { λ r. ⌜ ((n : ℕ) → Ready n (now (sets .entry)) (now (index .entry)) (now (equal .entry)) (now («not_equal» .entry)) 0 → Outcome r n (now (sets .entry)) (entries (now (index .entry)) (now (equal .entry)) (now («not_equal» .entry))) (now (sets .exit))) ⌝ }
+    ensures { λ r. ⌜ ((n : ℕ) → Ready n (now (sets .entry)) (now (index .entry)) (now (equal .entry)) (now («not_equal» .entry)) 0 → ScanResult r n (now (sets .entry)) (entries (now (index .entry)) (now (equal .entry)) (now («not_equal» .entry))) (now (sets .exit))) ⌝ }
 {
     let reached = pass(sets, index, equal, not_equal, 0);
     match reached {
-        Reached::Dead => true,
+        Reached::Failed => true,
         Reached::End => false,
         Reached::Split(k) => {
-            settle(sets, index, equal, not_equal, k);
+            resolve(sets, index, equal, not_equal, k);
             false
         }
     }
@@ -122,11 +153,11 @@ fn load(source: &[u16], target: &mut [u16; 16]) -> bool
 {
     let mut i = 0;
     while i < source.len() {
-        let s = source[i];
-        if s == 0 {
+        let set = ValueSet { bits: source[i] };
+        if set.is_empty() {
             return true;
         }
-        target[i] = s;
+        target[i] = set.bits;
         i += 1;
     }
     false
@@ -148,7 +179,7 @@ fn clear(sets: &mut [u16])
 {
     let mut i = 0;
     while i < sets.len() {
-        sets[i] = 0;
+        sets[i] = ValueSet::EMPTY.bits;
         i += 1;
     }
 }
@@ -163,7 +194,7 @@ fn apply(sets: &mut [u16], index: &[u8], equal: &[u8], not_equal: &[u8])
         clear(sets);
         return;
     }
-    if sift(&mut work, index, equal, not_equal) {
+    if propagate(&mut work, index, equal, not_equal) {
         clear(sets);
         return;
     }

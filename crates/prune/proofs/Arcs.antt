@@ -1,22 +1,23 @@
 -- Constraints on two variables by variable: what the search's tables say of them, and that they take nothing where the arcs hold. Assumes nothing.
-use mathlib.Core.Path.{_≡_, refl, sym, ap₂, _∙_, subst}
-use mathlib.Core.Bool.{Bool, true, false, not}
-use mathlib.Core.Logic.{_⊎_, inl, inr}
+use mathlib.Core.Path.{_≡_, refl, sym, subst}
+use mathlib.Core.Bool.{Bool, true, false}
+use mathlib.Core.Logic.{inl, inr}
 use mathlib.Core.List.{List, [], _∷_, List·Memᴰ, List·Memᴰ·head, List·Memᴰ·tail, List·Memᴰ·not-nil}
-use Prim.Native.Nat.{ℕ, zero, suc, _+_, _<_}
+use Prim.Native.Nat.{ℕ, _<_}
 use native.Mathlib.Nat.{le-of-lt}
 use native.Mathlib.Omega.{arith}
 use native.Mathlib.Decide.{ℕ-discrete}
-use lib.Dec.{T, eqb, ltb, leb, eqb→eq}
+use lib.Dec.{T, eqb, ltb, eqb→eq}
 use lib.ListN.{length}
 use borrow.Author.Tests.{ltb-true, ltb-false}
 use Rattle.model.specs.Lists.{any, at, same}
 use Rattle.model.specs.ValueSets.{has}
-use Rattle.model.specs.Problem.{Problem, Constraint}
+use Rattle.model.specs.Problem.{Problem}
 use Rattle.model.specs.Search.{supported}
-use Rattle.model.proofs.Lists.{of-T, of-not, both-i, any-e, among-i, same-eq, list-2, ascending-sorted}
+use Rattle.model.proofs.Lists.{of-not, any-e, among-i, same-eq, list-2, ascending-sorted}
 use Rattle.model.specs.Pruning.{Inside}
 use Rattle.model.specs.WellFormed.{GoodConstraint}
+use Rattle.layout.specs.Places.{LINKED}
 use Rattle.layout.specs.Layout.{constraintAt}
 use Rattle.layout.specs.Tables.{linkOf, byRows, allowed, goes, Linked}
 use Rattle.layout.specs.Pruning.{Fixed, Arc}
@@ -39,17 +40,17 @@ module _ (p : Problem) where
       go false e = subst T (sym (goes-down p x v y w (ltb-false x y e))) (allowed-none p (linkOf p y x) w v (omega arith))
 
   -- a variable in no constraint that is pruned by variable refuses nothing
-  pub goes-unlinked : (numbers : List ℕ) → Linked p numbers → (x v y w : ℕ) → has (at numbers 70) x ≡ false → T (goes p x v y w)
+  pub goes-unlinked : (numbers : List ℕ) → Linked p numbers → (x v y w : ℕ) → has (at numbers LINKED) x ≡ false → T (goes p x v y w)
   goes-unlinked numbers l x v y w f =
       goes-free x v y w
-      (λ h. of-not (has (at numbers 70) x) f (l .linked x (linkOf p x y) h (link-by-rows p x y h) (subst (λ (s : List ℕ). T (any (eqb x) s)) (sym (link-scope p x y h)) (among-i x (x ∷ y ∷ []) (List·Memᴰ·head refl)))))
-      (λ h. of-not (has (at numbers 70) x) f (l .linked x (linkOf p y x) h (link-by-rows p y x h) (subst (λ (s : List ℕ). T (any (eqb x) s)) (sym (link-scope p y x h)) (among-i x (y ∷ x ∷ []) (List·Memᴰ·tail (List·Memᴰ·head refl))))))
+      (λ h. of-not (has (at numbers LINKED) x) f (l .linked x (linkOf p x y) h (link-by-rows p x y h) (subst (λ (s : List ℕ). T (any (eqb x) s)) (sym (link-scope p x y h)) (among-i x (x ∷ y ∷ []) (List·Memᴰ·head refl)))))
+      (λ h. of-not (has (at numbers LINKED) x) f (l .linked x (linkOf p y x) h (link-by-rows p y x h) (subst (λ (s : List ℕ). T (any (eqb x) s)) (sym (link-scope p y x h)) (among-i x (y ∷ x ∷ []) (List·Memᴰ·tail (List·Memᴰ·head refl))))))
 
   -- ---- arcs
   pub arc-kept : (ds es : List ℕ) (x : ℕ) → Inside es ds → at es x ≡ at ds x → Arc p ds x → Arc p es x
   arc-kept ds es x i e a y w t = let r = a y w (i y w t) in (r .0, (subst (λ (s : ℕ). T (has s (r .0))) (sym e) (r .1 .0), r .1 .1))
 
-  pub arc-free : (numbers : List ℕ) → Linked p numbers → (ds : List ℕ) (x v : ℕ) → has (at numbers 70) x ≡ false → T (has (at ds x) v) → Arc p ds x
+  pub arc-free : (numbers : List ℕ) → Linked p numbers → (ds : List ℕ) (x v : ℕ) → has (at numbers LINKED) x ≡ false → T (has (at ds x) v) → Arc p ds x
   arc-free numbers l ds x v f t y w u = (v, (t, goes-unlinked numbers l x v y w f))
 
   -- ---- from arcs to constraints

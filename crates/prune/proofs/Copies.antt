@@ -1,31 +1,28 @@
 -- The loops that store one number after another, and the one that compares sets. Assumes nothing.
-use mathlib.Core.Path.{_≡_, refl, ap, _∙_, subst}
-use mathlib.Core.Bool.{Bool, not}
-use mathlib.Core.Logic.{_⊎_, inl, inr}
+use mathlib.Core.Path.{_≡_, refl, ap, _∙_}
+use mathlib.Core.Bool.{not}
 use mathlib.Core.List.{List}
 use Prim.Native.Nat.{ℕ, _+_, _*_, _≤_, _<_}
 use native.Mathlib.Omega.{arith}
-use lib.Dec.{T, eqb, ltb}
+use lib.Dec.{eqb}
 use lib.ListN.{length, set}
 use lib.Bits.{bitOr}
-use borrow.Author.Tests.{ltb-true, lt-ltb}
-use Rattle.model.specs.Lists.{both, at}
-use Rattle.model.specs.ValueSets.{has, oneIf}
-use Rattle.model.proofs.Lists.{T-of, of-T, both-l}
-use Rattle.model.proofs.Filling as filling
-use Rattle.model.proofs.Masks.{has-oneIf}
-use Rattle.prune.specs.Steps.{Differ, Loaded, Stored}
+use Rattle.model.specs.Lists.{at}
+use Rattle.model.specs.ValueSets.{oneIf}
+use Rattle.model.specs.Filling as filling
+use Rattle.model.proofs.Filling as loops
+use Rattle.prune.specs.Steps.{Differ, Stored}
 
 -- ---- i numbers stored from a base on
 abbrev pub Filled : (ℕ → ℕ) → ℕ → List ℕ → List ℕ → ℕ → Type 0
 Filled f base ds es i = filling.Filled (λ x. base + x) (λ x v. v ≡ f x) i ds es
 
 pub filled-begin : (f : ℕ → ℕ) (base : ℕ) (ds : List ℕ) → Filled f base ds ds 0
-filled-begin f base ds = filling.filled-begin (λ x. base + x) (λ x v. v ≡ f x) ds
+filled-begin f base ds = loops.filled-begin (λ x. base + x) (λ x v. v ≡ f x) ds
 
--- one more, at the place j
+-- one more, at j
 pub filled-with : (f : ℕ → ℕ) (base : ℕ) (ds es : List ℕ) (i j v : ℕ) → Filled f base ds es i → j ≡ base + i → j < length ds → v ≡ f i → Filled f base ds (set es j v) (i + 1)
-filled-with f base ds es i j v r e h q = filling.filled-turn (λ x. base + x) (λ x v. v ≡ f x) ds es i j v r e h (λ x l z. omega arith) q
+filled-with f base ds es i j v r e h q = loops.filled-turn (λ x. base + x) (λ x v. v ≡ f x) ds es i j v r e h (λ x l z. omega arith) q
 
 pub filled-turn : (f : ℕ → ℕ) (base : ℕ) (ds es : List ℕ) (i j : ℕ) → Filled f base ds es i → j ≡ base + i → j < length ds → Filled f base ds (set es j (f i)) (i + 1)
 filled-turn f base ds es i j r e h = filled-with f base ds es i j (f i) r e h refl
@@ -42,13 +39,13 @@ abbrev pub Differing : List ℕ → List ℕ → ℕ → ℕ → Type 0
 Differing old new all i = filling.Gathered (λ x. not (eqb (at new x) (at old x))) i all
 
 pub differing-begin : (old new : List ℕ) → Differing old new 0 0
-differing-begin old new = filling.gathered-begin (λ x. not (eqb (at new x) (at old x)))
+differing-begin old new = loops.gathered-begin (λ x. not (eqb (at new x) (at old x)))
 
 pub differing-turn : (old new : List ℕ) (all i s : ℕ) → Differing old new all i → s ≡ oneIf (not (eqb (at new i) (at old i))) i → Differing old new (bitOr all s) (i + 1)
-differing-turn old new all i s d e = filling.gathered-turn (λ x. not (eqb (at new x) (at old x))) i all s d (λ x. ap (λ (n : ℕ). has n x) e ∙ has-oneIf (not (eqb (at new i) (at old i))) i x)
+differing-turn old new all i s d e = loops.gathered-turn (λ x. not (eqb (at new x) (at old x))) i all s d e
 
 pub differing-end : (old new : List ℕ) (all i : ℕ) → i ≡ 16 → Differing old new all i → Differ old new all
 differing-end old new all i h d = record {
-  few = λ x t. let q = both-l (ltb x i) (not (eqb (at new x) (at old x))) (subst T (d x) t) in let l = ltb-true x i (of-T (ltb x i) q) in omega arith;
-  differ = λ x l. d x ∙ ap (λ (c : Bool). both c (not (eqb (at new x) (at old x)))) (lt-ltb x i (omega arith));
+  few = λ x t. let l = loops.gathered-lt _ i all x d t in omega arith;
+  differ = λ x l. loops.gathered-is _ i all x d (omega arith);
 }

@@ -2,6 +2,6 @@ pub mod Arcs
 pub mod Copies
 pub mod Marks
 pub mod Pending
-pub mod Settling
-pub mod Sifting
+pub mod FixpointLoop
+pub mod FilterLoop
 pub mod Starts

@@ -7,8 +7,9 @@ use lib.ListN.{length}
 use Rattle.model.specs.Lists.{at}
 use Rattle.model.specs.Problem.{Problem}
 use Rattle.model.specs.Search.{setsAt}
+use Rattle.layout.specs.Places.{MARKS}
 use Rattle.levels.specs.Levels.{Mark}
 use Rattle.prune.specs.Node.{Marked}
 
 pub marked-on : (p : Problem) (work work′ prefix : List ℕ) (k : ℕ) → length (p .symmetries) ≤ 16 → ((i : ℕ) → 16 ≤ i → i < 16 * suc (suc k) → at work′ i ≡ at work i) → Marked p work prefix k → Marked p work′ prefix k
-marked-on p work work′ prefix k f e h = λ x l. subst (Mark p (setsAt p prefix) prefix x) (sym (e (16 * k + 16 + x) (omega arith) (omega arith))) (h x l)
+marked-on p work work′ prefix k f e h = λ x l. subst (Mark p (setsAt p prefix) prefix x) (sym (e (16 * k + MARKS + x) (omega arith) (omega arith))) (h x l)

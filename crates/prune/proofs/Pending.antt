@@ -1,64 +1,65 @@
 -- The loop of `constrain`: constraints by variable and the others by turns, and its ends. Assumes nothing.
 use mathlib.Core.Path.{_≡_, refl, sym, ap, _∙_, subst}
 use mathlib.Core.Bool.{Bool, true, false, not}
-use mathlib.Core.Logic.{_⊎_, inl, inr, ⊎-elim}
-use mathlib.Core.List.{List, [], List·Memᴰ}
+use mathlib.Core.Logic.{_⊎_, ⊎-elim}
+use mathlib.Core.List.{List, List·Memᴰ}
 use Prim.Native.Nat.{ℕ, _+_, _^_, _≤_, _<_}
 use native.Mathlib.Nat.{lt-of-le-of-lt}
 use native.Mathlib.Omega.{arith}
 use lib.Dec.{T, eqb}
-use lib.ListN.{length, getD, take}
+use lib.ListN.{length}
 use lib.Bits.{bitAnd, bitOr, and-le-l}
 use lib.Count.{trailingZeros}
 use Rattle.model.specs.Lists.{both, either, any, at}
-use Rattle.model.specs.ValueSets.{has, anyEmpty}
-use Rattle.model.specs.Problem.{Problem, Constraint}
-use Rattle.model.proofs.Lists.{T-of, of-T, not-of, of-not, both-i, both-l, both-r, either-l, either-r, either-e, among-i}
+use Rattle.model.specs.ValueSets.{has}
+use Rattle.model.specs.Problem.{Problem}
+use Rattle.model.proofs.Lists.{T-of, of-T, not-of, of-not, both-i, both-l, either-l, either-r, either-e, among-i}
 use Rattle.model.proofs.Sets.{has-none, has-lt, member, size, size-inside}
 use Rattle.model.specs.Pruning.{Sets, Inside, Prunes}
 use Rattle.model.proofs.Masks.{has-or, has-and}
 use Rattle.model.proofs.Members.{low-has}
 use Rattle.model.proofs.Firsts.{take-at, take-e, take-i, full-take}
 use Rattle.model.proofs.Prunes.{prunes-none, prunes-then}
+use Rattle.layout.specs.Places.{DEAD, LINKED, OTHERS}
 use Rattle.layout.specs.Layout.{constraintAt}
 use Rattle.layout.specs.Tables.{byRows}
 use Rattle.layout.proofs.Links.{good}
 use Rattle.layout.specs.Pruning.{Given, Lessened, Ended, Fixed, Arc, setsOf}
 use Rattle.links.specs.Links as links
 use Rattle.constraints.specs.Revised as revised
-use Rattle.constraints.specs.Steps.{Gathered}
+use Rattle.constraints.specs.Steps.{Touched}
 use Rattle.constraints.proofs.Rows.{fixed-kept}
-use Rattle.prune.specs.Steps.{Stage, Pending, Steady, SteadyOr}
+use Rattle.prune.specs.Steps.{ArraysHold, Pending, AllConstrained, AllConstrainedOr}
 use Rattle.prune.proofs.Arcs.{arc-kept, arc-free, arcs-fixed}
 
 -- ---- what has happened to the sets before a turn
-pub record Reaching (p : Problem) (ds es : List ℕ) : Type 0 where
+pub record PrunedSoFar (p : Problem) (ds es : List ℕ) : Type 0 where
   pub ways : (prefix : List ℕ) → Prunes p prefix (setsOf p ds) (setsOf p es)
   pub less : Inside es ds
   pub unused : (x : ℕ) → p .variables ≤ x → at es x ≡ at ds x
   pub length-is : length es ≡ length ds
 
-pub reaching-none : (p : Problem) (ds : List ℕ) → Reaching p ds ds
-reaching-none p ds = record { ways = λ prefix. prunes-none p prefix (setsOf p ds); less = λ x v t. t; unused = λ x h. refl; length-is = refl }
+pub pruned-none : (p : Problem) (ds : List ℕ) → PrunedSoFar p ds ds
+pruned-none p ds = record { ways = λ prefix. prunes-none p prefix (setsOf p ds); less = λ x v t. t; unused = λ x h. refl; length-is = refl }
 
-pub reaching-more : (p : Problem) (ds es fs : List ℕ) (changed : ℕ) → length fs ≡ length es → Reaching p ds es → Lessened p es fs changed → Reaching p ds fs
-reaching-more p ds es fs changed e r l = record {
+pub pruned-more : (p : Problem) (ds es fs : List ℕ) (changed : ℕ) → length fs ≡ length es → PrunedSoFar p ds es → Lessened p es fs changed → PrunedSoFar p ds fs
+pruned-more p ds es fs changed e r l = record {
   ways = λ prefix. prunes-then p prefix (setsOf p ds) (setsOf p es) (setsOf p fs) (r .ways prefix) (l .ways prefix);
   less = λ x v t. r .less x v (l .less x v t);
   unused = λ x h. l .kept x (not-of (has changed x) (λ t. let i = l .few x t in omega arith)) ∙ r .unused x h;
   length-is = e ∙ r .length-is;
 }
 
-pub ended-more : (p : Problem) (ds es : List ℕ) → Reaching p ds es → Ended p es → Ended p ds
+pub ended-more : (p : Problem) (ds es : List ℕ) → PrunedSoFar p ds es → Ended p es → Ended p ds
 ended-more p ds es r e = (e .0, (λ prefix. prunes-then p prefix (setsOf p ds) (setsOf p es) (e .0) (r .ways prefix) (e .1 .0 prefix), e .1 .1))
 
-pub steady-dead : (p : Problem) (ds es : List ℕ) → Ended p ds → SteadyOr p ds es true
-steady-dead p ds es e = record { ended = λ q. e; steady = λ q. absurd (subst T q tt) }
+pub all-constrained-dead : (p : Problem) (ds es : List ℕ) → Ended p ds → AllConstrainedOr p ds es true
+all-constrained-dead p ds es e = record { ended = λ q. e; all-constrained = λ q. absurd (subst T q tt) }
 
-pub steady-live : (p : Problem) (ds es : List ℕ) → Steady p ds es → SteadyOr p ds es false
-steady-live p ds es e = record { ended = λ q. absurd (subst T (sym q) tt); steady = λ q. e }
+pub all-constrained-live : (p : Problem) (ds es : List ℕ) → AllConstrained p ds es → AllConstrainedOr p ds es false
+all-constrained-live p ds es e = record { ended = λ q. absurd (subst T (sym q) tt); all-constrained = λ q. e }
 
-module _ {p : Problem} {supports tables numbers : List ℕ} (s : Stage p supports tables numbers) where
+module _ {p : Problem} {supports tables numbers : List ℕ} (s : ArraysHold p supports tables numbers) where
   n-few : p .variables ≤ 16
   n-few = omega (arith, s .wellFormed .few)
 
@@ -82,23 +83,23 @@ module _ {p : Problem} {supports tables numbers : List ℕ} (s : Stage p support
   }
 
   -- ---- a constraint without a changed variable keeps what it had
-  pub still-fixed : (es fs : List ℕ) (changed left : ℕ) → Sets 16 es → Sets 16 fs → ((x : ℕ) → x < p .variables → has changed x ≡ false → at fs x ≡ at es x) → Gathered numbers changed left →
+  pub still-fixed : (es fs : List ℕ) (changed left : ℕ) → Sets 16 es → Sets 16 fs → ((x : ℕ) → x < p .variables → has changed x ≡ false → at fs x ≡ at es x) → Touched numbers changed left →
       (k : ℕ) → k < length (p .constraints) → has left k ≡ false → byRows p k ≡ false → Fixed (setsOf p es) (constraintAt p k) → Fixed (setsOf p fs) (constraintAt p k)
   still-fixed es fs changed left a b kept u k h f r fixed =
       fixed-kept (constraintAt p k) (setsOf p es) (setsOf p fs) fixed
-      (λ y m. let i = good (s .wellFormed) k h .inside y m in take-same es fs a b y i (kept y i (not-of (has changed y) (λ t. of-not (has left k) f (u .gathered-i y k t (touches y k h r i m))))))
+      (λ y m. let i = good (s .wellFormed) k h .inside y m in take-same es fs a b y i (kept y i (not-of (has changed y) (λ t. of-not (has left k) f (u .touched-i y k t (touches y k h r i m))))))
     where
-      touches : (y k : ℕ) → k < length (p .constraints) → byRows p k ≡ false → y < p .variables → List·Memᴰ y (constraintAt p k .scope) → T (has (at numbers (72 + y)) k)
+      touches : (y k : ℕ) → k < length (p .constraints) → byRows p k ≡ false → y < p .variables → List·Memᴰ y (constraintAt p k .scope) → T (has (at numbers (OTHERS + y)) k)
       touches y k h r i m =
-          T-of (has (at numbers (72 + y)) k)
+          T-of (has (at numbers (OTHERS + y)) k)
           (s .indexed .linked .touching y k (omega (arith, n-few)) h
           ∙ of-T (both (any (eqb y) (constraintAt p k .scope)) (not (byRows p k))) (both-i (any (eqb y) (constraintAt p k .scope)) (not (byRows p k)) (among-i y (constraintAt p k .scope) m) (T-of (not (byRows p k)) (ap not r))))
 
-  pub touched-known : (changed left : ℕ) → Gathered numbers changed left → ((x : ℕ) → T (has changed x) → x < 16) → (k : ℕ) → T (has left k) → k < length (p .constraints)
-  touched-known changed left u few k t = let x = u .gathered-e k t in has-lt (length (p .constraints)) (at numbers (72 + x .0)) k (s .indexed .linked .touching-few (x .0) (few (x .0) (x .1))) (x .2)
+  pub touched-known : (changed left : ℕ) → Touched numbers changed left → ((x : ℕ) → T (has changed x) → x < 16) → (k : ℕ) → T (has left k) → k < length (p .constraints)
+  touched-known changed left u few k t = let x = u .touched-e k t in has-lt (length (p .constraints)) (at numbers (OTHERS + x .0)) k (s .indexed .linked .touching-few (x .0) (few (x .0) (x .1))) (x .2)
 
   -- ---- the arcs of a variable that did not change, or that is in no constraint by variable, stay
-  pub still-arc : (es fs : List ℕ) (changed moved : ℕ) → Given p es → Given p fs → Inside fs es → ((x : ℕ) → x < p .variables → has changed x ≡ false → at fs x ≡ at es x) → moved ≡ bitAnd changed (at numbers 70) →
+  pub still-arc : (es fs : List ℕ) (changed moved : ℕ) → Given p es → Given p fs → Inside fs es → ((x : ℕ) → x < p .variables → has changed x ≡ false → at fs x ≡ at es x) → moved ≡ bitAnd changed (at numbers LINKED) →
       (x : ℕ) → x < p .variables → has moved x ≡ false → Arc p (setsOf p es) x → Arc p (setsOf p fs) x
   still-arc es fs changed moved a b less kept q x h f arc = go (has changed x) refl
     where
@@ -106,14 +107,14 @@ module _ {p : Problem} {supports tables numbers : List ℕ} (s : Stage p support
       go true e =
           let z = some-value fs b x h in
           arc-free p numbers (s .indexed .linked) (setsOf p fs) x (z .0)
-          (not-of (has (at numbers 70) x) (λ t. of-not (has moved x) f (subst (λ (m : ℕ). T (has m x)) (sym q) (subst T (sym (has-and changed (at numbers 70) x)) (both-i (has changed x) (has (at numbers 70) x) (T-of (has changed x) e) t)))))
+          (not-of (has (at numbers LINKED) x) (λ t. of-not (has moved x) f (subst (λ (m : ℕ). T (has m x)) (sym q) (subst T (sym (has-and changed (at numbers LINKED) x)) (both-i (has changed x) (has (at numbers LINKED) x) (T-of (has changed x) e) t)))))
           (z .1)
       go false e = arc-kept p (setsOf p es) (setsOf p fs) x (take-less es fs (a .sixteen) (b .sixteen) less) (take-same es fs (a .sixteen) (b .sixteen) x h (kept x h e)) arc
 
   -- ---- one turn: the constraints by variable leave fs of es, the others gs
   module _ {es : List ℕ} {left moved : ℕ} (w : Pending p numbers es left moved) where
-    pub linking : links.Waiting p numbers tables es moved
-    linking = record {
+    pub arcs-pending : links.ArcsPending p numbers tables es moved
+    arcs-pending = record {
       given = w .given;
       wellFormed = s .wellFormed;
       linked = s .indexed .linked;
@@ -122,18 +123,18 @@ module _ {p : Problem} {supports tables numbers : List ℕ} (s : Stage p support
       arcs = w .arcs;
     }
 
-    module _ {fs : List ℕ} {cut : ℕ} (l : links.Linking p es fs cut) (live : cut ≡ 65536 → ⊥) {touched due : ℕ} (u : Gathered numbers cut touched) (d : due ≡ bitOr left touched) where
+    module _ {fs : List ℕ} {cut : ℕ} (l : links.ArcsMade p es fs cut) (live : cut ≡ DEAD → ⊥) {touched due : ℕ} (u : Touched numbers cut touched) (d : due ≡ bitOr left touched) where
       given-1 : Given p fs
       given-1 = given-more es fs cut (w .given) (l .lessened live)
 
-      pub ended-after : (ds : List ℕ) → Reaching p ds es → Ended p fs → Ended p ds
-      ended-after ds r e = ended-more p ds fs (reaching-more p ds es fs cut (l .lessened live .sixteen .0 ∙ sym (w .given .sixteen .0)) r (l .lessened live)) e
+      pub ended-after : (ds : List ℕ) → PrunedSoFar p ds es → Ended p fs → Ended p ds
+      ended-after ds r e = ended-more p ds fs (pruned-more p ds es fs cut (l .lessened live .sixteen .0 ∙ sym (w .given .sixteen .0)) r (l .lessened live)) e
 
       has-due : (k : ℕ) → has due k ≡ either (has left k) (has touched k)
       has-due k = ap (λ (n : ℕ). has n k) d ∙ has-or left touched k
 
-      pub waiting : revised.Waiting p numbers supports fs due
-      waiting = record {
+      pub constraints-pending : revised.ConstraintsPending p numbers supports fs due
+      constraints-pending = record {
         given = given-1;
         wellFormed = s .wellFormed;
         numbered = s .indexed .numbered;
@@ -148,7 +149,7 @@ module _ {p : Problem} {supports tables numbers : List ℕ} (s : Stage p support
             (w .others k h (not-of (has left k) (λ t. of-not (has due k) f (subst T (sym (has-due k)) (either-l (has left k) (has touched k) t)))) r);
       }
 
-      module _ {gs : List ℕ} {pruned : ℕ} (c : revised.Constrained p fs gs pruned) (alive : pruned ≡ 65536 → ⊥) {next : ℕ} (q : next ≡ bitAnd pruned (at numbers 70)) where
+      module _ {gs : List ℕ} {pruned : ℕ} (c : revised.Constrained p fs gs pruned) (alive : pruned ≡ DEAD → ⊥) {next : ℕ} (q : next ≡ bitAnd pruned (at numbers LINKED)) where
         given-2 : Given p gs
         given-2 = given-more fs gs pruned given-1 (c .lessened alive)
 
@@ -160,18 +161,18 @@ module _ {p : Problem} {supports tables numbers : List ℕ} (s : Stage p support
           given = given-2;
           known = λ k t. absurd (of-not (has 0 k) (has-none k) t);
           others = λ k h f r. c .fixed alive k h r;
-          inner = λ x t. c .lessened alive .few x (both-l (has pruned x) (has (at numbers 70) x) (subst T (ap (λ (n : ℕ). has n x) q ∙ has-and pruned (at numbers 70) x) t));
+          inner = λ x t. c .lessened alive .few x (both-l (has pruned x) (has (at numbers LINKED) x) (subst T (ap (λ (n : ℕ). has n x) q ∙ has-and pruned (at numbers LINKED) x) t));
           arcs = arcs-2;
         }
 
-        pub reaching-turn : (ds : List ℕ) → Reaching p ds es → Reaching p ds gs
-        reaching-turn ds r =
-            let a = reaching-more p ds es fs cut (l .lessened live .sixteen .0 ∙ sym (w .given .sixteen .0)) r (l .lessened live) in
-            reaching-more p ds fs gs pruned (c .lessened alive .sixteen .0 ∙ sym (l .lessened live .sixteen .0)) a (c .lessened alive)
+        pub pruned-turn : (ds : List ℕ) → PrunedSoFar p ds es → PrunedSoFar p ds gs
+        pruned-turn ds r =
+            let a = pruned-more p ds es fs cut (l .lessened live .sixteen .0 ∙ sym (w .given .sixteen .0)) r (l .lessened live) in
+            pruned-more p ds fs gs pruned (c .lessened alive .sixteen .0 ∙ sym (l .lessened live .sixteen .0)) a (c .lessened alive)
 
-        pub pending-end : (ds : List ℕ) → Reaching p ds es → next ≡ 0 → Steady p ds gs
+        pub pending-end : (ds : List ℕ) → PrunedSoFar p ds es → next ≡ 0 → AllConstrained p ds gs
         pending-end ds r z =
-            let f = reaching-turn ds r in
+            let f = pruned-turn ds r in
             let arcs : (x : ℕ) → x < p .variables → Arc p (setsOf p gs) x = λ x h. arcs-2 x h (ap (λ (n : ℕ). has n x) z ∙ has-none x) in
             record { ways = f .ways; given = given-2; less = f .less; unused = f .unused; fixed = λ k h. go k h arcs (byRows p k) refl; arcs = arcs }
           where
@@ -181,7 +182,7 @@ module _ {p : Problem} {supports tables numbers : List ℕ} (s : Stage p support
 
         pub pending-less : pruned < 2 ^ 64 → (next ≡ 0 → ⊥) → size gs < size es
         pending-less h n =
-            let m = low-has 64 next (omega arith) (subst (λ (z : ℕ). z < 2 ^ 64) (sym q) (lt-of-le-of-lt (and-le-l pruned (at numbers 70)) h)) .0 in
-            let a : size gs < size fs = c .smaller alive (trailingZeros 64 next) (both-l (has pruned (trailingZeros 64 next)) (has (at numbers 70) (trailingZeros 64 next)) (subst T (ap (λ (z : ℕ). has z (trailingZeros 64 next)) q ∙ has-and pruned (at numbers 70) (trailingZeros 64 next)) m)) in
+            let m = low-has 64 next (omega arith) (subst (λ (z : ℕ). z < 2 ^ 64) (sym q) (lt-of-le-of-lt (and-le-l pruned (at numbers LINKED)) h)) .0 in
+            let a : size gs < size fs = c .smaller alive (trailingZeros 64 next) (both-l (has pruned (trailingZeros 64 next)) (has (at numbers LINKED) (trailingZeros 64 next)) (subst T (ap (λ (z : ℕ). has z (trailingZeros 64 next)) q ∙ has-and pruned (at numbers LINKED) (trailingZeros 64 next)) m)) in
             let b = size-inside fs es (l .lessened live .sixteen .0 ∙ sym (w .given .sixteen .0)) (l .lessened live .less) in
             omega (arith, a, b)

@@ -1,43 +1,43 @@
 -- The sets that `root` and `child` start from are on the way to those at their prefix; what they leave on the stack. Assumes nothing.
-use mathlib.Core.Path.{_≡_, refl, sym, ap, ap₂, _∙_, subst}
+use mathlib.Core.Path.{_≡_, refl, sym, ap, _∙_, subst}
 use mathlib.Core.Bool.{Bool, true, false, not}
-use mathlib.Core.List.{List, [], _∷_, _++_, List·Memᴰ}
-use Prim.Native.Nat.{ℕ, zero, suc, _+_, _-_, _*_, _%_, _^_, _≤_, _<_}
-use native.Mathlib.Nat.{lt-of-lt-of-le, mod-eq-of-lt}
+use mathlib.Core.List.{List, [], List·Memᴰ}
+use Prim.Native.Nat.{ℕ, _+_, _-_, _*_, _%_, _^_, _≤_, _<_}
+use native.Mathlib.Nat.{mod-eq-of-lt}
 use native.Mathlib.Numerals.{add-one}
 use native.Mathlib.Omega.{arith}
 use native.Mathlib.Decide.{ℕ-discrete}
 use lib.Dec.{T, eqb, ltb, eqb-refl}
 use lib.Bits.{bitAnd}
-use lib.ListN.{length, getD, set, take, length-set}
-use lib.Pow.{pow-pos, pow-lt, pow-mono}
-use lib.Seq.{take-suc, take-set-lt, getD-take, length-take-le, set-getD}
+use lib.ListN.{length, set, take}
+use lib.Pow.{pow-pos, pow-lt}
+use lib.Seq.{take-suc, take-set-lt, length-take-le, set-getD}
 use borrow.Author.Tests.{ltb-true, ltb-false, eqb-true}
 use Rattle.model.specs.Lists.{both, any, at}
-use Rattle.model.specs.ValueSets.{has, anyEmpty}
-use Rattle.model.specs.Problem.{Problem, Constraint}
+use Rattle.model.specs.ValueSets.{has, onlyMask, anyEmpty}
+use Rattle.model.specs.Problem.{Problem}
 use Rattle.model.specs.Search.{narrowed, setsAt, isLive}
 use Rattle.model.proofs.Lists.{T-of, of-T, not-of, of-not, at-ext, at-out, both-i, both-l, among-i, mem-at, at-set, at-set-other, at-take}
 use Rattle.model.proofs.Sets.{has-none, has-lt, member, empty-i, inside-refl, set-sets}
 use Rattle.model.specs.Pruning.{Sets, Inside, closed, Way}
 use Rattle.model.proofs.Masks.{has-and, has-not, has-one}
-use Rattle.model.proofs.Members.{one-bit}
+use Rattle.model.proofs.Members.{one-bit, only-member}
 use Rattle.model.proofs.Firsts.{take-at, take-e, take-i, take-sets, take-length, take-full}
-use Rattle.model.proofs.Prune.{Kept, narrowed-e, Largest, largest, fixed-e, way-start, setsAt-live, setsAt-sets, live-closed}
+use Rattle.model.proofs.Prune.{narrowed-e, Largest, largest, fixed-e, way-start, setsAt-live, setsAt-sets, live-closed}
 use Rattle.model.proofs.Child.{child-start}
 use Rattle.model.proofs.Tree.{well-sized}
-use Rattle.model.specs.WellFormed.{GoodConstraint}
+use Rattle.layout.specs.Places.{INITIAL, LINKED, MARKS, OTHERS, VARIABLES}
 use Rattle.layout.specs.Layout.{constraintAt}
 use Rattle.layout.specs.Tables.{byRows}
 use Rattle.layout.proofs.Links.{is-one, good}
-use Rattle.layout.specs.Pruning.{Given, Fixed, Arc, setsOf}
-use Rattle.constraints.specs.Steps.{Gathered}
-use Rattle.links.proofs.Going.{goes-kept}
+use Rattle.layout.specs.Pruning.{Fixed, Arc, setsOf}
+use Rattle.constraints.specs.Steps.{Touched}
+use Rattle.links.proofs.Partners.{goes-kept}
 use Rattle.constraints.proofs.Rows.{fixed-kept}
 use Rattle.levels.specs.Levels.{Mark}
 use Rattle.levels.proofs.Marks.{mark-start, mark-mono, mark-longer}
-use Rattle.prune.specs.Node.{Holds, Ready, Marked, AtNode, Reached, longer}
-use Rattle.prune.specs.Steps.{Stage, Ground, Live, Marking, Nearing, Arrived, Loaded, Stored}
+use Rattle.prune.specs.Node.{Ready, MarksRight, AtNode, Reached, longer}
+use Rattle.prune.specs.Steps.{ArraysHold, BeforeFixpoint, AfterFixpoint, Loaded, Stored}
 use Rattle.prune.proofs.Arcs.{arc-kept, arc-free}
 use Rattle.prune.proofs.Pending.{touched-known}
 
@@ -58,8 +58,8 @@ module _ (n : ℕ) (ds es : List ℕ) (l : length es ≡ 16) (s : Sets n ds) (h 
   padded-take = at-ext (take n es) ds (take-length n es padded-sets h ∙ sym (s .0)) (λ x k. let m : x < n = subst (λ (z : ℕ). x < z) (take-length n es padded-sets h) k in take-at n es padded-sets h x m ∙ e x m)
 
 -- ---- what is left on the stack, where `work` had become `middle` before the fixpoint
-module _ (p : Problem) (few : p .variables ≤ 16) (prefix sets : List ℕ) (k : ℕ) (stack work middle work′ : List ℕ) (is : take k middle ≡ prefix) (size : length middle ≡ length work) (early : (j : ℕ) → j < 16 * k + 16 → at middle j ≡ at work j) where
-  pub reached-dead : Arrived p k middle work′ sets true → Reached p prefix k stack work stack work′ true
+module _ (p : Problem) (few : p .variables ≤ 16) (prefix sets : List ℕ) (k : ℕ) (stack work middle work′ : List ℕ) (is : take k middle ≡ prefix) (size : length middle ≡ length work) (early : (j : ℕ) → j < 16 * k + MARKS → at middle j ≡ at work j) (late : (j : ℕ) → 16 * k + MARKS + 16 ≤ j → at middle j ≡ at work j) where
+  pub reached-dead : AfterFixpoint p k middle work′ sets true → Reached p prefix k stack work stack work′ true
   reached-dead a = record {
     answers = a .answers ∙ ap (λ (z : List ℕ). not (isLive p z)) is;
     holds = λ q. absurd (subst T q tt);
@@ -67,11 +67,12 @@ module _ (p : Problem) (few : p .variables ≤ 16) (prefix sets : List ℕ) (k :
     after = λ i l. refl;
     marked = λ q. absurd (subst T q tt);
     kept = λ j l. a .kept .before j l ∙ early j l;
+    beyond = λ j l. a .kept .after j l ∙ late j l;
     stack-length = refl;
     work-length = a .kept .size ∙ size;
   }
 
-  pub reached-live : (stack′ : List ℕ) → Arrived p k middle work′ sets false → Stored stack k (at sets) stack′ → Reached p prefix k stack work stack′ work′ false
+  pub reached-live : (stack′ : List ℕ) → AfterFixpoint p k middle work′ sets false → Stored stack k (at sets) stack′ → Reached p prefix k stack work stack′ work′ false
   reached-live stack′ a s = record {
     answers = a .answers ∙ ap (λ (z : List ℕ). not (isLive p z)) is;
     holds = λ q. record {
@@ -80,8 +81,9 @@ module _ (p : Problem) (few : p .variables ≤ 16) (prefix sets : List ℕ) (k :
     };
     before = s .before;
     after = s .after;
-    marked = λ q. subst (λ (z : List ℕ). Marking p z prefix work′ k) sets-are (subst (λ (z : List ℕ). Marking p (setsOf p sets) z work′ k) is (a .marking refl));
+    marked = λ q. subst (λ (z : List ℕ). MarksRight p z prefix work′ k) sets-are (subst (λ (z : List ℕ). MarksRight p (setsOf p sets) z work′ k) is (a .marking refl));
     kept = λ j l. a .kept .before j l ∙ early j l;
+    beyond = λ j l. a .kept .after j l ∙ late j l;
     stack-length = s .size;
     work-length = a .kept .size ∙ size;
   }
@@ -92,11 +94,11 @@ module _ (p : Problem) (few : p .variables ≤ 16) (prefix sets : List ℕ) (k :
 way-initial : (p : Problem) (prefix es : List ℕ) → Way p prefix es → Inside es (p .initial)
 way-initial p prefix es w x v t = narrowed-e prefix (p .initial) x v (w .inside x v t) .0
 
-pub stage : {p : Problem} {stack work supports tables numbers : List ℕ} → Ready p stack work supports tables numbers → Stage p supports tables numbers
-stage r = record { indexed = r .indexed; wellFormed = r .wellFormed; constraints = r .constraints; symmetries = r .symmetries }
+pub arrays-hold : {p : Problem} {stack work supports tables numbers : List ℕ} → Ready p stack work supports tables numbers → ArraysHold p supports tables numbers
+arrays-hold r = record { indexed = r .indexed; wellFormed = r .wellFormed; constraints = r .constraints; symmetries = r .symmetries }
 
 -- ---- the root
-pub some-few : {p : Problem} {stack work supports tables numbers : List ℕ} → Ready p stack work supports tables numbers → at numbers 64 < 64
+pub some-few : {p : Problem} {stack work supports tables numbers : List ℕ} → Ready p stack work supports tables numbers → at numbers VARIABLES < 64
 some-few r = omega (arith, r .indexed .numbered .variables, r .wellFormed .few)
 
 pub some-one : (c : ℕ) → c < 64 → 1 ≤ 1 * 2 ^ c % 2 ^ 64
@@ -105,7 +107,7 @@ some-one c h = subst (λ (z : ℕ). 1 ≤ z) (sym (one-bit 64 c h)) (pow-pos c)
 pub ready-few : {p : Problem} {stack work supports tables numbers : List ℕ} → Ready p stack work supports tables numbers → p .variables ≤ 16
 ready-few r = omega (arith, r .wellFormed .few)
 
-module _ {p : Problem} {stack work supports tables numbers : List ℕ} (r : Ready p stack work supports tables numbers) (sets : List ℕ) (l : length sets ≡ 16) (e : (x : ℕ) → x < 16 → at sets x ≡ at numbers (16 + x) % 65536) where
+module _ {p : Problem} {stack work supports tables numbers : List ℕ} (r : Ready p stack work supports tables numbers) (sets : List ℕ) (l : length sets ≡ 16) (e : (x : ℕ) → x < 16 → at sets x ≡ at numbers (INITIAL + x) % 65536) where
   n-16 : p .variables ≤ 16
   n-16 = ready-few r
 
@@ -135,9 +137,9 @@ module _ {p : Problem} {stack work supports tables numbers : List ℕ} (r : Read
   all-of : (n : ℕ) → n < 64 → 1 * 2 ^ n % 2 ^ 64 - 1 ≡ (2 ^ n - 1) - 0
   all-of n h = ap (λ (z : ℕ). z - 1) (one-bit 64 n h) ∙ omega arith
 
-  module _ (every : ℕ) (q : every ≡ 1 * 2 ^ at numbers 64 % 2 ^ 64 - 1) (todo : ℕ) (u : Gathered numbers every todo) where
+  module _ (every : ℕ) (q : every ≡ 1 * 2 ^ at numbers VARIABLES % 2 ^ 64 - 1) (todo : ℕ) (u : Touched numbers every todo) where
     every-is : every ≡ (2 ^ p .variables - 1) - 0
-    every-is = q ∙ all-of (at numbers 64) (some-few r) ∙ ap (λ (z : ℕ). (2 ^ z - 1) - 0) (r .indexed .numbered .variables)
+    every-is = q ∙ all-of (at numbers VARIABLES) (some-few r) ∙ ap (λ (z : ℕ). (2 ^ z - 1) - 0) (r .indexed .numbered .variables)
 
     every-few : (x : ℕ) → T (has every x) → x < 16
     every-few x t =
@@ -154,22 +156,22 @@ module _ {p : Problem} {stack work supports tables numbers : List ℕ} (r : Read
         let x = at (constraintAt p k .scope) 0 in
         let m = mem-at (constraintAt p k .scope) 0 (g .some) in
         let i = g .inside x m in
-        u .gathered-i x k (every-one x i)
-        (T-of (has (at numbers (72 + x)) k)
+        u .touched-i x k (every-one x i)
+        (T-of (has (at numbers (OTHERS + x)) k)
         (r .indexed .linked .touching x k (omega (arith, n-16)) h
         ∙ of-T (both (any (eqb x) (constraintAt p k .scope)) (not (byRows p k))) (both-i (any (eqb x) (constraintAt p k .scope)) (not (byRows p k)) (among-i x (constraintAt p k .scope) m) (T-of (not (byRows p k)) (ap not b)))))
 
     module _ (middle : List ℕ) (c : Stored work 1 (λ i. 0) middle) where
-      zero-mark : (i : ℕ) → i < length (p .symmetries) → at middle (16 * 0 + 16 + i) ≡ 0
+      zero-mark : (i : ℕ) → i < length (p .symmetries) → at middle (16 * 0 + MARKS + i) ≡ 0
       zero-mark i h = c .here i (omega (arith, h, r .symmetries))
 
-      pub root-start : Nearing p middle numbers sets 0 todo (at numbers 70)
+      pub root-start : BeforeFixpoint p middle numbers sets 0 todo (at numbers LINKED)
       root-start = record {
-        ground = record { depth = omega arith; drawn = λ j h. absurd (omega arith); work-length = c .size ∙ r .work-length };
+        prefix-held = record { depth = omega arith; values = λ j h. absurd (omega arith); work-length = c .size ∙ r .work-length };
         live = record { sixteen = sets-16; full = is-full; unused = at-unused };
         pending = record {
           given = record { sixteen = sets-16; full = is-full; inside = subst (λ (z : List ℕ). Inside z (p .initial)) (sym are-initial) (inside-refl (p .initial)) };
-          known = touched-known (stage r) every todo u every-few;
+          known = touched-known (arrays-hold r) every todo u every-few;
           others = λ k h f b. absurd (of-not (has todo k) f (is-due k h b));
           inner = r .indexed .linked .linked-few;
           arcs = arcs;
@@ -178,19 +180,22 @@ module _ {p : Problem} {stack work supports tables numbers : List ℕ} (r : Read
         way = root-way;
       }
         where
-          arcs : (x : ℕ) → x < p .variables → has (at numbers 70) x ≡ false → Arc p (setsOf p sets) x
+          arcs : (x : ℕ) → x < p .variables → has (at numbers LINKED) x ≡ false → Arc p (setsOf p sets) x
           arcs x h f =
               let m = member (at sets x) (sets-16 .1 x) (λ q. let z = sym (at-initial x h) ∙ q in omega (arith, r .wellFormed .nonempty x h, z)) in
               arc-free p numbers (r .indexed .linked) (setsOf p sets) x (m .0) f (take-i (p .variables) sets sets-16 n-16 x (m .0) h (m .2))
 
-      root-early : (j : ℕ) → j < 16 * 0 + 16 → at middle j ≡ at work j
+      root-early : (j : ℕ) → j < 16 * 0 + MARKS → at middle j ≡ at work j
       root-early j h = c .before j (omega arith)
 
-      pub root-dead : (fs work′ : List ℕ) (b : Bool) → Arrived p 0 middle work′ fs b → b ≡ true → Reached p [] 0 stack work stack work′ true
-      root-dead fs work′ b a i = reached-dead p n-16 [] fs 0 stack work middle work′ refl (c .size) root-early (subst (Arrived p 0 middle work′ fs) i a)
+      root-late : (j : ℕ) → 16 * 0 + MARKS + 16 ≤ j → at middle j ≡ at work j
+      root-late j h = c .after j (omega arith)
 
-      pub root-live : (fs work′ stack′ : List ℕ) (b : Bool) → Arrived p 0 middle work′ fs b → b ≡ false → Stored stack 0 (at fs) stack′ → Reached p [] 0 stack work stack′ work′ false
-      root-live fs work′ stack′ b a i t = reached-live p n-16 [] fs 0 stack work middle work′ refl (c .size) root-early stack′ (subst (Arrived p 0 middle work′ fs) i a) t
+      pub root-dead : (fs work′ : List ℕ) (b : Bool) → AfterFixpoint p 0 middle work′ fs b → b ≡ true → Reached p [] 0 stack work stack work′ true
+      root-dead fs work′ b a i = reached-dead p n-16 [] fs 0 stack work middle work′ refl (c .size) root-early root-late (subst (AfterFixpoint p 0 middle work′ fs) i a)
+
+      pub root-live : (fs work′ stack′ : List ℕ) (b : Bool) → AfterFixpoint p 0 middle work′ fs b → b ≡ false → Stored stack 0 (at fs) stack′ → Reached p [] 0 stack work stack′ work′ false
+      root-live fs work′ stack′ b a i t = reached-live p n-16 [] fs 0 stack work middle work′ refl (c .size) root-early root-late stack′ (subst (AfterFixpoint p 0 middle work′ fs) i a) t
 
 -- ---- the child
 module _ {p : Problem} {stack work supports tables numbers : List ℕ} {k : ℕ} (a : AtNode p stack work supports tables numbers k) where
@@ -234,8 +239,8 @@ module _ {p : Problem} {stack work supports tables numbers : List ℕ} {k : ℕ}
       let m = member (at (setsAt p (take k work)) x) (parent-sets .1 x) (parent-full x h) in
       goes-kept p (a .ready .wellFormed) (setsAt p (take k work)) x y w (m .0) (m .2) (fixed-e p (take k work) (setsAt p (take k work)) (parent-largest .fixed) y w u .rows)
 
-  drawn : (j : ℕ) → j < k + 1 → T (has (at (p .initial) j) (at work j))
-  drawn j h = go (ℕ-discrete j k)
+  in-initial : (j : ℕ) → j < k + 1 → T (has (at (p .initial) j) (at work j))
+  in-initial j h = go (ℕ-discrete j k)
     where
       from-parent : (x w : ℕ) → T (has (at (setsAt p (take k work)) x) w) → T (has (at (p .initial) x) w) × (x < length (take k work) → w ≡ at (take k work) x)
       from-parent x w t = narrowed-e (take k work) (p .initial) x w (parent-largest .inside x w t)
@@ -249,9 +254,12 @@ module _ {p : Problem} {stack work supports tables numbers : List ℕ} {k : ℕ}
           subst (λ (z : ℕ). T (has (at (p .initial) j) z)) (r .1 (omega (arith, prefix-length)) ∙ at-take k work j l) (r .0)
 
   -- ---- `work` with the marks of depth k at depth k + 1 too
-  module _ (middle : List ℕ) (c : Stored work (k + 2) (λ e. at work (16 * k + 16 + e)) middle) where
-    pub child-early : (j : ℕ) → j < 16 * (k + 1) + 16 → at middle j ≡ at work j
+  module _ (middle : List ℕ) (c : Stored work (k + 2) (λ e. at work (16 * k + MARKS + e)) middle) where
+    pub child-early : (j : ℕ) → j < 16 * (k + 1) + MARKS → at middle j ≡ at work j
     child-early j h = c .before j (omega arith)
+
+    child-late : (j : ℕ) → 16 * (k + 1) + MARKS + 16 ≤ j → at middle j ≡ at work j
+    child-late j h = c .after j (omega arith)
 
     pub value-is : at middle k ≡ at work k
     value-is = child-early k (omega arith)
@@ -265,12 +273,9 @@ module _ {p : Problem} {stack work supports tables numbers : List ℕ} {k : ℕ}
         (λ i h. let h′ : i < k + 1 = subst (λ (n : ℕ). i < n) (length-take-le (k + 1) middle (omega (arith, k-12, middle-length))) h in at-take (k + 1) middle i h′ ∙ child-early i (omega arith) ∙ sym (at-take (k + 1) work i h′))
         ∙ longer-is
 
-    module _ (sets : List ℕ) (l : Loaded stack k sets) (one todo dirty : ℕ) (o : one ≡ 1 * 2 ^ at middle k % 2 ^ 16)
-        (d : (at sets k ≡ one → todo ≡ 0) × ((at sets k ≡ one → ⊥) → todo ≡ at numbers (72 + k)))
-        (f : (at sets k ≡ one → dirty ≡ 0) × ((at sets k ≡ one → ⊥) → dirty ≡ bitAnd (at numbers 70) (1 * 2 ^ k % 2 ^ 64))) where
-      one-is : one ≡ 2 ^ at work k
-      one-is = o ∙ ap (λ (z : ℕ). 1 * 2 ^ z % 2 ^ 16) value-is ∙ one-bit 16 (at work k) v-lt
-
+    module _ (sets : List ℕ) (l : Loaded stack k sets) (one todo dirty : ℕ) (o : one ≡ onlyMask (at sets k) (at middle k % 16))
+        (d : (at sets k ≡ one → todo ≡ 0) × ((at sets k ≡ one → ⊥) → todo ≡ at numbers (OTHERS + k)))
+        (f : (at sets k ≡ one → dirty ≡ 0) × ((at sets k ≡ one → ⊥) → dirty ≡ bitAnd (at numbers LINKED) (1 * 2 ^ k % 2 ^ 64))) where
       at-parent : (x : ℕ) → x < p .variables → at sets x ≡ at (setsAt p (take k work)) x
       at-parent x h = l .1 x (omega (arith, n-16′)) ∙ a .held .sets x h
 
@@ -282,6 +287,12 @@ module _ {p : Problem} {stack work supports tables numbers : List ℕ} {k : ℕ}
 
       are-parent : setsOf p sets ≡ setsAt p (take k work)
       are-parent = padded-take (p .variables) (setsAt p (take k work)) sets (l .0) parent-sets n-16′ at-parent unused
+
+      value-16 : at middle k % 16 ≡ at work k
+      value-16 = omega (arith, value-is, v-lt)
+
+      one-is : one ≡ 2 ^ at work k
+      one-is = o ∙ ap (onlyMask (at sets k)) value-16 ∙ only-member (at sets k) (at work k) v-lt (subst (λ (z : ℕ). T (has z (at work k))) (sym (at-parent k (a .room))) (a .member))
 
       k-in : k < length sets
       k-in = omega (arith, k-12, l .0)
@@ -334,19 +345,19 @@ module _ {p : Problem} {stack work supports tables numbers : List ℕ} {k : ℕ}
         where
           go : Dec (at sets k ≡ one) → j < length (p .constraints)
           go (yes e) = absurd (of-not (has 0 j) (has-none j) (subst (λ (z : ℕ). T (has z j)) (d .0 e) t))
-          go (no n) = has-lt (length (p .constraints)) (at numbers (72 + k)) j (a .ready .indexed .linked .touching-few k (omega (arith, k-12))) (subst (λ (z : ℕ). T (has z j)) (d .1 n) t)
+          go (no n) = has-lt (length (p .constraints)) (at numbers (OTHERS + k)) j (a .ready .indexed .linked .touching-few k (omega (arith, k-12))) (subst (λ (z : ℕ). T (has z j)) (d .1 n) t)
 
       same : at sets k ≡ one → set sets k one ≡ sets
       unfolding at
       same e = ap (set sets k) (sym e) ∙ set-getD sets k 0
 
       -- a constraint that is not due has the sets that it had
-      steady : (j : ℕ) → j < length (p .constraints) → has todo j ≡ false → byRows p j ≡ false → (y : ℕ) → List·Memᴰ y (constraintAt p j .scope) → at (set sets k one) y ≡ at sets y
-      steady j h n b y m = go (ℕ-discrete (at sets k) one)
+      undue-same : (j : ℕ) → j < length (p .constraints) → has todo j ≡ false → byRows p j ≡ false → (y : ℕ) → List·Memᴰ y (constraintAt p j .scope) → at (set sets k one) y ≡ at sets y
+      undue-same j h n b y m = go (ℕ-discrete (at sets k) one)
         where
-          touches : (y ≡ k) → T (has (at numbers (72 + k)) j)
+          touches : (y ≡ k) → T (has (at numbers (OTHERS + k)) j)
           touches e =
-              T-of (has (at numbers (72 + k)) j)
+              T-of (has (at numbers (OTHERS + k)) j)
               (a .ready .indexed .linked .touching k j (omega (arith, k-12)) h
               ∙ of-T (both (any (eqb k) (constraintAt p j .scope)) (not (byRows p j)))
               (both-i (any (eqb k) (constraintAt p j .scope)) (not (byRows p j)) (among-i k (constraintAt p j .scope) (subst (λ (z : ℕ). List·Memᴰ z (constraintAt p j .scope)) e m)) (T-of (not (byRows p j)) (ap not b))))
@@ -359,20 +370,20 @@ module _ {p : Problem} {stack work supports tables numbers : List ℕ} {k : ℕ}
       others j h n b =
           let g = good (a .ready .wellFormed) j h in
           fixed-kept (constraintAt p j) (setsAt p (take k work)) (setsOf p (set sets k one)) (parent-fixed j h)
-          (λ y m. let i = g .inside y m in take-at (p .variables) (set sets k one) after n-16′ y i ∙ steady j h n b y m ∙ at-parent y i)
+          (λ y m. let i = g .inside y m in take-at (p .variables) (set sets k one) after n-16′ y i ∙ undue-same j h n b y m ∙ at-parent y i)
 
       -- what is dirty is variable k, where it is in a constraint by variable and has changed
-      has-dirty : (at sets k ≡ one → ⊥) → (x : ℕ) → has dirty x ≡ both (has (at numbers 70) x) (eqb x k)
+      has-dirty : (at sets k ≡ one → ⊥) → (x : ℕ) → has dirty x ≡ both (has (at numbers LINKED) x) (eqb x k)
       has-dirty n x =
-          ap (λ (z : ℕ). has z x) (f .1 n) ∙ has-and (at numbers 70) (1 * 2 ^ k % 2 ^ 64) x
-          ∙ ap (both (has (at numbers 70) x)) (ap (λ (z : ℕ). has z x) (one-bit 64 k (omega (arith, k-12))) ∙ has-one k x)
+          ap (λ (z : ℕ). has z x) (f .1 n) ∙ has-and (at numbers LINKED) (1 * 2 ^ k % 2 ^ 64) x
+          ∙ ap (both (has (at numbers LINKED) x)) (ap (λ (z : ℕ). has z x) (one-bit 64 k (omega (arith, k-12))) ∙ has-one k x)
 
       inner : (x : ℕ) → T (has dirty x) → x < p .variables
       inner x t = go (ℕ-discrete (at sets k) one)
         where
           go : Dec (at sets k ≡ one) → x < p .variables
           go (yes e) = absurd (of-not (has 0 x) (has-none x) (subst (λ (z : ℕ). T (has z x)) (f .0 e) t))
-          go (no n) = a .ready .indexed .linked .linked-few x (both-l (has (at numbers 70) x) (eqb x k) (subst T (has-dirty n x) t))
+          go (no n) = a .ready .indexed .linked .linked-few x (both-l (has (at numbers LINKED) x) (eqb x k) (subst T (has-dirty n x) t))
 
       arcs : (x : ℕ) → x < p .variables → has dirty x ≡ false → Arc p (setsOf p (set sets k one)) x
       arcs x h n = go (ℕ-discrete (at sets k) one) (ℕ-discrete x k)
@@ -385,23 +396,23 @@ module _ {p : Problem} {stack work supports tables numbers : List ℕ} {k : ℕ}
           go (no i) (yes e) =
               subst (Arc p (setsOf p (set sets k one))) (sym e)
               (arc-free p numbers (a .ready .indexed .linked) (setsOf p (set sets k one)) k (at work k)
-              (not-of (has (at numbers 70) k) (λ t. of-not (has dirty k) (ap (has dirty) (sym e) ∙ n) (subst T (sym (has-dirty i k)) (both-i (has (at numbers 70) k) (eqb k k) t (eqb-refl k)))))
+              (not-of (has (at numbers LINKED) k) (λ t. of-not (has dirty k) (ap (has dirty) (sym e) ∙ n) (subst T (sym (has-dirty i k)) (both-i (has (at numbers LINKED) k) (eqb k k) t (eqb-refl k)))))
               start-value)
           go (no i) (no m) = kept (take-at (p .variables) (set sets k one) after n-16′ x h ∙ at-set-other sets k one x m ∙ at-parent x h)
 
-      marking : Marking p (setsOf p (set sets k one)) (take (k + 1) middle) middle (k + 1)
+      marking : MarksRight p (setsOf p (set sets k one)) (take (k + 1) middle) middle (k + 1)
       marking e h =
-          let m = mark-longer p (setsAt p (take k work)) (take k work) (at work k) e (at work (16 * k + 16 + e)) (a .marked e h) in
-          let n = mark-mono p (setsAt p (take k work)) (setsOf p (set sets k one)) (longer work k) e (at work (16 * k + 16 + e)) (take-sets (p .variables) (set sets k one) after n-16′ .0 ∙ sym (parent-sets .0)) start-inside m in
-          subst (λ (z : List ℕ). Mark p (setsOf p (set sets k one)) z e (at middle (16 * (k + 1) + 16 + e))) (sym child-prefix)
-          (subst (Mark p (setsOf p (set sets k one)) (longer work k) e) (sym (ap (at middle) place ∙ c .here e (omega (arith, h, a .ready .symmetries)))) n)
+          let m = mark-longer p (setsAt p (take k work)) (take k work) (at work k) e (at work (16 * k + MARKS + e)) (a .marked e h) in
+          let n = mark-mono p (setsAt p (take k work)) (setsOf p (set sets k one)) (longer work k) e (at work (16 * k + MARKS + e)) (take-sets (p .variables) (set sets k one) after n-16′ .0 ∙ sym (parent-sets .0)) start-inside m in
+          subst (λ (z : List ℕ). Mark p (setsOf p (set sets k one)) z e (at middle (16 * (k + 1) + MARKS + e))) (sym child-prefix)
+          (subst (Mark p (setsOf p (set sets k one)) (longer work k) e) (sym (ap (at middle) slot ∙ c .here e (omega (arith, h, a .ready .symmetries)))) n)
         where
-          place : 16 * (k + 1) + 16 + e ≡ 16 * (k + 2) + e
-          place = omega arith
+          slot : 16 * (k + 1) + MARKS + e ≡ 16 * (k + 2) + e
+          slot = omega arith
 
-      pub child-near : Nearing p middle numbers (set sets k one) (k + 1) todo dirty
-      child-near = record {
-        ground = record { depth = omega (arith, a .room); drawn = λ j h. subst (λ (z : ℕ). T (has (at (p .initial) j) z)) (sym (child-early j (omega arith))) (drawn j h); work-length = middle-length };
+      pub child-before : BeforeFixpoint p middle numbers (set sets k one) (k + 1) todo dirty
+      child-before = record {
+        prefix-held = record { depth = omega (arith, a .room); values = λ j h. subst (λ (z : ℕ). T (has (at (p .initial) j) z)) (sym (child-early j (omega arith))) (in-initial j h); work-length = middle-length };
         live = record { sixteen = after; full = start-full; unused = start-unused };
         pending = record {
           given = record { sixteen = after; full = start-full; inside = way-initial p (take (k + 1) middle) (setsOf p (set sets k one)) way };
@@ -414,8 +425,8 @@ module _ {p : Problem} {stack work supports tables numbers : List ℕ} {k : ℕ}
         way = way;
       }
 
-    pub child-dead : (sets work′ : List ℕ) (r : Bool) → Arrived p (k + 1) middle work′ sets r → r ≡ true → Reached p (longer work k) (k + 1) stack work stack work′ true
-    child-dead sets work′ r e q = reached-dead p n-16′ (longer work k) sets (k + 1) stack work middle work′ child-prefix (c .size) child-early (subst (Arrived p (k + 1) middle work′ sets) q e)
+    pub child-dead : (sets work′ : List ℕ) (r : Bool) → AfterFixpoint p (k + 1) middle work′ sets r → r ≡ true → Reached p (longer work k) (k + 1) stack work stack work′ true
+    child-dead sets work′ r e q = reached-dead p n-16′ (longer work k) sets (k + 1) stack work middle work′ child-prefix (c .size) child-early child-late (subst (AfterFixpoint p (k + 1) middle work′ sets) q e)
 
-    pub child-live : (sets work′ stack′ : List ℕ) (r : Bool) → Arrived p (k + 1) middle work′ sets r → r ≡ false → Stored stack (k + 1) (at sets) stack′ → Reached p (longer work k) (k + 1) stack work stack′ work′ false
-    child-live sets work′ stack′ r e q t = reached-live p n-16′ (longer work k) sets (k + 1) stack work middle work′ child-prefix (c .size) child-early stack′ (subst (Arrived p (k + 1) middle work′ sets) q e) t
+    pub child-live : (sets work′ stack′ : List ℕ) (r : Bool) → AfterFixpoint p (k + 1) middle work′ sets r → r ≡ false → Stored stack (k + 1) (at sets) stack′ → Reached p (longer work k) (k + 1) stack work stack′ work′ false
+    child-live sets work′ stack′ r e q t = reached-live p n-16′ (longer work k) sets (k + 1) stack work middle work′ child-prefix (c .size) child-early child-late stack′ (subst (AfterFixpoint p (k + 1) middle work′ sets) q e) t

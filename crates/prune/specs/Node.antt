@@ -1,8 +1,9 @@
 -- What the functions of this crate ask and leave: the sets at a prefix (paper 01, "The search") on a lent stack of thirteen depths.
 -- Depth k has the sets of sixteen variables from 16 k on. The numbers of `work` from 0 to 11 are the prefix, the value of variable j at j;
--- from 16 k + 16 on, the marks of depth k: what is known there of each symmetry's nogoods.
+-- from 16 k + MARKS on, the marks of depth k: what is known there of each symmetry's nogoods.
+-- No reader has to believe this: it stands between proved functions.
 use mathlib.Core.Path.{_≡_}
-use mathlib.Core.Bool.{Bool, true, false, not}
+use mathlib.Core.Bool.{Bool, false, not}
 use mathlib.Core.List.{List, [], _∷_, _++_}
 use Prim.Native.Nat.{ℕ, _+_, _*_, _≤_, _<_}
 use lib.Dec.{T}
@@ -12,6 +13,7 @@ use Rattle.model.specs.ValueSets.{has}
 use Rattle.model.specs.Problem.{Problem}
 use Rattle.model.specs.Search.{setsAt, isLive}
 use Rattle.model.specs.WellFormed.{WellFormed}
+use Rattle.layout.specs.Places.{MARKS}
 use Rattle.layout.specs.Tables.{Indexed}
 use Rattle.levels.specs.Levels.{Mark}
 
@@ -30,9 +32,13 @@ pub record Ready (p : Problem) (stack work supports tables numbers : List ℕ) :
   pub stack-length : length stack ≡ 208
   pub work-length : length work ≡ 256
 
--- the marks of depth k are right at a prefix
+-- the marks of depth k are right for sets at a prefix
+abbrev pub MarksRight : Problem → List ℕ → List ℕ → List ℕ → ℕ → Type 0
+MarksRight p ds prefix work k = (e : ℕ) → e < length (p .symmetries) → Mark p ds prefix e (at work (16 * k + MARKS + e))
+
+-- and for those at the prefix
 abbrev pub Marked : Problem → List ℕ → List ℕ → ℕ → Type 0
-Marked p work prefix k = (e : ℕ) → e < length (p .symmetries) → Mark p (setsAt p prefix) prefix e (at work (16 * k + 16 + e))
+Marked p work prefix k = MarksRight p (setsAt p prefix) prefix work k
 
 -- the prefix of k values that work holds is live, its sets and marks are at depth k, and the next value in work is one of variable k's
 pub record AtNode (p : Problem) (stack work supports tables numbers : List ℕ) (k : ℕ) : Type 0 where
@@ -47,14 +53,15 @@ pub record AtNode (p : Problem) (stack work supports tables numbers : List ℕ) 
 abbrev pub longer : List ℕ → ℕ → List ℕ
 longer work k = take k work ++ (at work k ∷ [])
 
--- the answer is whether the prefix is dead; its sets and marks are at depth k where it is live; no other sets, no value of the prefix and no marks
--- of a smaller depth are changed
+-- the answer is whether the prefix is dead; its sets and marks are at depth k where it is live. What a dead prefix leaves in the sets and marks of depth k
+-- is open; no other set, no value of the prefix and no other mark is changed
 pub record Reached (p : Problem) (prefix : List ℕ) (k : ℕ) (stack work stack′ work′ : List ℕ) (dead : Bool) : Type 0 where
   pub answers : dead ≡ not (isLive p prefix)
   pub holds : dead ≡ false → Holds p stack′ k (setsAt p prefix)
   pub before : (i : ℕ) → i < 16 * k → at stack′ i ≡ at stack i
   pub after : (i : ℕ) → 16 * k + 16 ≤ i → at stack′ i ≡ at stack i
   pub marked : dead ≡ false → Marked p work′ prefix k
-  pub kept : (j : ℕ) → j < 16 * k + 16 → at work′ j ≡ at work j
+  pub kept : (j : ℕ) → j < 16 * k + MARKS → at work′ j ≡ at work j
+  pub beyond : (j : ℕ) → 16 * k + MARKS + 16 ≤ j → at work′ j ≡ at work j
   pub stack-length : length stack′ ≡ length stack
   pub work-length : length work′ ≡ length work

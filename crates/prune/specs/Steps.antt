@@ -1,4 +1,5 @@
 -- What the functions inside this crate say to each other: sixteen sets at hand, of which the first are those of p's variables.
+-- No reader has to believe this: it stands between proved functions.
 use mathlib.Core.Path.{_≡_}
 use mathlib.Core.Bool.{Bool, true, false, not}
 use mathlib.Core.List.{List, List·Memᴰ}
@@ -12,13 +13,14 @@ use Rattle.model.specs.Nogood.{filtered}
 use Rattle.model.specs.Search.{nogoodsOf, setsAt, isLive}
 use Rattle.model.specs.Pruning.{Sets, Inside, Way, Prunes}
 use Rattle.model.specs.WellFormed.{WellFormed}
+use Rattle.layout.specs.Places.{MARKS}
 use Rattle.layout.specs.Layout.{constraintAt}
 use Rattle.layout.specs.Tables.{Indexed, byRows}
 use Rattle.layout.specs.Pruning.{Given, Ended, Fixed, Arc, setsOf}
-use Rattle.levels.specs.Levels.{Mark}
+use Rattle.prune.specs.Node.{MarksRight}
 
 -- the arrays hold p
-pub record Stage (p : Problem) (supports tables numbers : List ℕ) : Type 0 where
+pub record ArraysHold (p : Problem) (supports tables numbers : List ℕ) : Type 0 where
   pub indexed : Indexed p numbers supports tables
   pub wellFormed : WellFormed p
   pub constraints : length (p .constraints) ≤ 32
@@ -34,7 +36,7 @@ pub record Pending (p : Problem) (numbers sets : List ℕ) (todo dirty : ℕ) : 
   pub arcs : (x : ℕ) → x < p .variables → has dirty x ≡ false → Arc p (setsOf p sets) x
 
 -- no constraint takes anything; on the way only values went that a round of pruning takes too, at any prefix
-pub record Steady (p : Problem) (sets sets′ : List ℕ) : Type 0 where
+pub record AllConstrained (p : Problem) (sets sets′ : List ℕ) : Type 0 where
   pub ways : (prefix : List ℕ) → Prunes p prefix (setsOf p sets) (setsOf p sets′)
   pub given : Given p sets′
   pub less : Inside sets′ sets
@@ -42,30 +44,26 @@ pub record Steady (p : Problem) (sets sets′ : List ℕ) : Type 0 where
   pub fixed : (k : ℕ) → k < length (p .constraints) → Fixed (setsOf p sets′) (constraintAt p k)
   pub arcs : (x : ℕ) → x < p .variables → Arc p (setsOf p sets′) x
 
-pub record SteadyOr (p : Problem) (sets sets′ : List ℕ) (dead : Bool) : Type 0 where
+pub record AllConstrainedOr (p : Problem) (sets sets′ : List ℕ) (dead : Bool) : Type 0 where
   pub ended : dead ≡ true → Ended p sets
-  pub steady : dead ≡ false → Steady p sets sets′
+  pub all-constrained : dead ≡ false → AllConstrained p sets sets′
 
 -- ---- the filters
 -- work begins with k values, each of its variable's initial set
-pub record Ground (p : Problem) (work : List ℕ) (k : ℕ) : Type 0 where
+pub record PrefixHeld (p : Problem) (work : List ℕ) (k : ℕ) : Type 0 where
   pub depth : k ≤ p .variables
-  pub drawn : (j : ℕ) → j < k → T (has (at (p .initial) j) (at work j))
+  pub values : (j : ℕ) → j < k → T (has (at (p .initial) j) (at work j))
   pub work-length : length work ≡ 256
 
 -- none of p's sets is empty, and every unused set is {0}
-pub record Live (p : Problem) (sets : List ℕ) : Type 0 where
+pub record LiveSets (p : Problem) (sets : List ℕ) : Type 0 where
   pub sixteen : Sets 16 sets
   pub full : anyEmpty (setsOf p sets) ≡ false
   pub unused : (x : ℕ) → p .variables ≤ x → x < 16 → at sets x ≡ 1
 
--- the marks of depth k are right for sets at a prefix
-abbrev pub Marking : Problem → List ℕ → List ℕ → List ℕ → ℕ → Type 0
-Marking p ds prefix work k = (e : ℕ) → e < length (p .symmetries) → Mark p ds prefix e (at work (16 * k + 16 + e))
-
 -- what the filters of all symmetries, one after another, leave: values that no round keeps went, and where nothing went, no filter takes anything
-pub record AllSifted (p : Problem) (prefix sets sets′ : List ℕ) : Type 0 where
-  pub live : Live p sets′
+pub record AllFiltered (p : Problem) (prefix sets sets′ : List ℕ) : Type 0 where
+  pub live : LiveSets p sets′
   pub less : Inside sets′ sets
   pub way : Prunes p prefix (setsOf p sets) (setsOf p sets′)
   pub fixed : sets′ ≡ sets → (g : List ℕ) → List·Memᴰ g (p .symmetries) → filtered (setsOf p sets) (nogoodsOf p g prefix) ≡ setsOf p sets
@@ -74,33 +72,34 @@ pub record AllSifted (p : Problem) (prefix sets sets′ : List ℕ) : Type 0 whe
 abbrev pub EndedAt : Problem → List ℕ → List ℕ → Type 0
 EndedAt p prefix sets = (es : List ℕ) × (Prunes p prefix (setsOf p sets) es × T (anyEmpty es))
 
--- nothing of `work` is changed but the marks of depth k and what comes after them
-pub record Kept (work work′ : List ℕ) (k : ℕ) : Type 0 where
-  pub before : (j : ℕ) → j < 16 * k + 16 → at work′ j ≡ at work j
+-- nothing of `work` is changed but the marks of depth k
+pub record OnlyMarks (work work′ : List ℕ) (k : ℕ) : Type 0 where
+  pub before : (j : ℕ) → j < 16 * k + MARKS → at work′ j ≡ at work j
+  pub after : (j : ℕ) → 16 * k + MARKS + 16 ≤ j → at work′ j ≡ at work j
   pub size : length work′ ≡ length work
 
-pub record AllSiftedOr (p : Problem) (k : ℕ) (work sets work′ sets′ : List ℕ) (dead : Bool) : Type 0 where
+pub record AllFilteredOr (p : Problem) (k : ℕ) (work sets work′ sets′ : List ℕ) (dead : Bool) : Type 0 where
   pub ended : dead ≡ true → EndedAt p (take k work) sets
-  pub sifted : dead ≡ false → AllSifted p (take k work) sets sets′
-  pub marking : dead ≡ false → Marking p (setsOf p sets′) (take k work) work′ k
-  pub kept : Kept work work′ k
+  pub all-filtered : dead ≡ false → AllFiltered p (take k work) sets sets′
+  pub marking : dead ≡ false → MarksRight p (setsOf p sets′) (take k work) work′ k
+  pub kept : OnlyMarks work work′ k
 
 -- ---- both by turns
 -- on the way to the sets at the prefix
-pub record Nearing (p : Problem) (work numbers sets : List ℕ) (k todo dirty : ℕ) : Type 0 where
-  pub ground : Ground p work k
-  pub live : Live p sets
+pub record BeforeFixpoint (p : Problem) (work numbers sets : List ℕ) (k todo dirty : ℕ) : Type 0 where
+  pub prefix-held : PrefixHeld p work k
+  pub live : LiveSets p sets
   pub pending : Pending p numbers sets todo dirty
-  pub marking : Marking p (setsOf p sets) (take k work) work k
+  pub marking : MarksRight p (setsOf p sets) (take k work) work k
   pub way : Way p (take k work) (setsOf p sets)
 
 -- there: the answer is whether the prefix is dead, and where it is live, the sets are those at the prefix, and the marks are right for them
-pub record Arrived (p : Problem) (k : ℕ) (work work′ sets : List ℕ) (dead : Bool) : Type 0 where
+pub record AfterFixpoint (p : Problem) (k : ℕ) (work work′ sets : List ℕ) (dead : Bool) : Type 0 where
   pub answers : dead ≡ not (isLive p (take k work))
   pub sets-are : dead ≡ false → setsOf p sets ≡ setsAt p (take k work)
-  pub live : dead ≡ false → Live p sets
-  pub marking : dead ≡ false → Marking p (setsOf p sets) (take k work) work′ k
-  pub kept : Kept work work′ k
+  pub live : dead ≡ false → LiveSets p sets
+  pub marking : dead ≡ false → MarksRight p (setsOf p sets) (take k work) work′ k
+  pub kept : OnlyMarks work work′ k
 
 -- the variables whose sets differ
 pub record Differ (old new : List ℕ) (changed : ℕ) : Type 0 where
@@ -112,7 +111,7 @@ pub record Differ (old new : List ℕ) (changed : ℕ) : Type 0 where
 abbrev pub Loaded : List ℕ → ℕ → List ℕ → Type 0
 Loaded stack k sets = (length sets ≡ 16) × ((x : ℕ) → x < 16 → at sets x ≡ at stack (16 * k + x))
 
--- sixteen numbers at a place of a list
+-- sixteen numbers of a list, from 16 k on
 pub record Stored (list : List ℕ) (k : ℕ) (sixteen : ℕ → ℕ) (list′ : List ℕ) : Type 0 where
   pub here : (x : ℕ) → x < 16 → at list′ (16 * k + x) ≡ sixteen x
   pub before : (i : ℕ) → i < 16 * k → at list′ i ≡ at list i

@@ -1,25 +1,24 @@
 // The sets at a prefix (paper 01, "The search"), from those at the prefix with one value less.
+use layout::DEAD;
+use layout::FAILED;
+use layout::INITIAL;
+use layout::LINKED;
+use layout::MARKS;
+use layout::OBEYED;
+use layout::OTHERS;
+use layout::SYMMETRIES;
+use layout::VARIABLES;
+use model::ValueSet;
 ghost use mathlib.Core.Path.{_≡_};
 ghost use mathlib.Core.List.{[]};
-ghost use Prim.Native.Nat.{ℕ, _+_, _*_, _%_, _≤_, _<_};
-ghost use lib.ListN.{length};
+ghost use Prim.Native.Nat.{ℕ, _+_, _*_, _%_, _<_};
+ghost use lib.ListN.{length, take};
 ghost use Rattle.model.specs.Lists.{at};
 ghost use Rattle.model.specs.Problem.{Problem};
-ghost use Rattle.prune.specs.Node.{Ready, AtNode, Reached, longer};
-ghost use Rattle.prune.specs.Steps.{Stage, Pending, SteadyOr, Ground, Live, Marking, AllSiftedOr, Nearing, Arrived, Differ, Loaded, Stored};
+ghost use Rattle.layout.specs.Places.{INITIAL, MARKS};
 ghost use Rattle.layout.specs.Pruning.{setsOf};
-ghost use lib.ListN.{take};
-use layout::DEAD;
-
-// Where `numbers` has the number of variables, that of symmetries, and the variables in a constraint that is pruned by variable.
-const VARIABLES: usize = 64;
-
-const SYMMETRIES: usize = 67;
-
-const LINKED: usize = 70;
-
-// From where on it has the other constraints of each variable.
-const TOUCHING: usize = 72;
+ghost use Rattle.prune.specs.Node.{Ready, MarksRight, AtNode, Reached, longer};
+ghost use Rattle.prune.specs.Steps.{ArraysHold, Pending, AllConstrainedOr, PrefixHeld, LiveSets, AllFilteredOr, BeforeFixpoint, AfterFixpoint, Differ, Loaded, Stored};
 
 // Prunes by the constraints until nothing moves, those by variable and the others by turns; true where a set is empty.
 fn constrain(
@@ -30,8 +29,8 @@ fn constrain(
     todo: u64,
     dirty: u64,
 ) -> bool
-    requires { ⌜ ((p : Problem) × Stage p (now supports) (now tables) (now numbers) × Pending p (now numbers) (now sets) todo dirty) ⌝ }
-    ensures { λ r. ⌜ ((p : Problem) → Stage p (now (supports .entry)) (now (tables .entry)) (now (numbers .entry)) → Pending p (now (numbers .entry)) (now (sets .entry)) todo dirty → SteadyOr p (now (sets .entry)) (now (sets .exit)) r) ⌝ }
+    requires { ⌜ ((p : Problem) × ArraysHold p (now supports) (now tables) (now numbers) × Pending p (now numbers) (now sets) todo dirty) ⌝ }
+    ensures { λ r. ⌜ ((p : Problem) → ArraysHold p (now (supports .entry)) (now (tables .entry)) (now (numbers .entry)) → Pending p (now (numbers .entry)) (now (sets .entry)) todo dirty → AllConstrainedOr p (now (sets .entry)) (now (sets .exit)) r) ⌝ }
 {
     let mut left = todo;
     let mut moved = dirty;
@@ -62,19 +61,19 @@ fn filters(
     numbers: &[u64; 384],
     k: usize,
 ) -> bool
-    requires { ⌜ ((p : Problem) × Stage p (now supports) (now tables) (now numbers) × Ground p (now work) k × Live p (now sets) × Marking p (setsOf p (now sets)) (take k (now work)) (now work) k) ⌝ }
-    ensures { λ r. ⌜ ((p : Problem) → Stage p (now (supports .entry)) (now (tables .entry)) (now (numbers .entry)) → Ground p (now (work .entry)) k → Live p (now (sets .entry)) → Marking p (setsOf p (now (sets .entry))) (take k (now (work .entry))) (now (work .entry)) k → AllSiftedOr p k (now (work .entry)) (now (sets .entry)) (now (work .exit)) (now (sets .exit)) r) ⌝ }
+    requires { ⌜ ((p : Problem) × ArraysHold p (now supports) (now tables) (now numbers) × PrefixHeld p (now work) k × LiveSets p (now sets) × MarksRight p (setsOf p (now sets)) (take k (now work)) (now work) k) ⌝ }
+    ensures { λ r. ⌜ ((p : Problem) → ArraysHold p (now (supports .entry)) (now (tables .entry)) (now (numbers .entry)) → PrefixHeld p (now (work .entry)) k → LiveSets p (now (sets .entry)) → MarksRight p (setsOf p (now (sets .entry))) (take k (now (work .entry))) (now (work .entry)) k → AllFilteredOr p k (now (work .entry)) (now (sets .entry)) (now (work .exit)) (now (sets .exit)) r) ⌝ }
 {
     let g = numbers[SYMMETRIES] as usize;
     let mut e = 0;
     while e < g {
-        let start = work[16 * k + 16 + e];
-        if start != levels::DONE {
+        let start = work[16 * k + MARKS + e];
+        if start != OBEYED {
             let mark = levels::filter(sets, work, tables, e, k, start as usize);
-            if mark == levels::DEAD {
+            if mark == FAILED {
                 return true;
             }
-            work[16 * k + 16 + e] = mark;
+            work[16 * k + MARKS + e] = mark;
         }
         e += 1;
     }
@@ -88,7 +87,7 @@ fn difference(old: &[u16; 16], new: &[u16; 16]) -> u64
     let mut all = 0u64;
     let mut i = 0;
     while i < 16 {
-        all = all | constraints::moved(old[i], new[i], i);
+        all = all | constraints::moved(ValueSet { bits: old[i] }, ValueSet { bits: new[i] }, i);
         i += 1;
     }
     all
@@ -105,8 +104,8 @@ fn fixpoint(
     todo: u64,
     dirty: u64,
 ) -> bool
-    requires { ⌜ ((p : Problem) × Stage p (now supports) (now tables) (now numbers) × Nearing p (now work) (now numbers) (now sets) k todo dirty) ⌝ }
-    ensures { λ r. ⌜ ((p : Problem) → Stage p (now (supports .entry)) (now (tables .entry)) (now (numbers .entry)) → Nearing p (now (work .entry)) (now (numbers .entry)) (now (sets .entry)) k todo dirty → Arrived p k (now (work .entry)) (now (work .exit)) (now (sets .exit)) r) ⌝ }
+    requires { ⌜ ((p : Problem) × ArraysHold p (now supports) (now tables) (now numbers) × BeforeFixpoint p (now work) (now numbers) (now sets) k todo dirty) ⌝ }
+    ensures { λ r. ⌜ ((p : Problem) → ArraysHold p (now (supports .entry)) (now (tables .entry)) (now (numbers .entry)) → BeforeFixpoint p (now (work .entry)) (now (numbers .entry)) (now (sets .entry)) k todo dirty → AfterFixpoint p k (now (work .entry)) (now (work .exit)) (now (sets .exit)) r) ⌝ }
 {
     let mut left = todo;
     let mut moved = dirty;
@@ -152,20 +151,20 @@ fn store(stack: &mut [u16; 208], k: usize, sets: &[u16; 16])
 // The initial sets.
 fn initial(numbers: &[u64; 384], sets: &mut [u16; 16])
     requires { ⌜ length (now sets) ≡ 16 ⌝ }
-    ensures { λ _. ⌜ (length (now (sets .exit)) ≡ 16) × ((x : ℕ) → x < 16 → at (now (sets .exit)) x ≡ at (now (numbers .entry)) (16 + x) % 65536) ⌝ }
+    ensures { λ _. ⌜ (length (now (sets .exit)) ≡ 16) × ((x : ℕ) → x < 16 → at (now (sets .exit)) x ≡ at (now (numbers .entry)) (INITIAL + x) % 65536) ⌝ }
 {
     let mut i = 0;
     while i < 16 {
-        sets[i] = (numbers[16 + i] % 65536) as u16;
+        sets[i] = (numbers[INITIAL + i] % 65536) as u16;
         i += 1;
     }
 }
 
 // What is due of `all` once a set has become one value: nothing where it was that already.
-fn due(old: u16, one: u16, all: u64) -> u64
-    ensures { λ r. ⌜ ((old ≡ one → r ≡ 0) × ((old ≡ one → ⊥) → r ≡ all)) ⌝ }
+fn due(old: ValueSet, one: ValueSet, all: u64) -> u64
+    ensures { λ r. ⌜ ((old .bits ≡ one .bits → r ≡ 0) × ((old .bits ≡ one .bits → ⊥) → r ≡ all)) ⌝ }
 {
-    if old == one { 0 } else { all }
+    if old.bits == one.bits { 0 } else { all }
 }
 
 // The marks of depth 0: nothing is known yet.
@@ -175,7 +174,7 @@ fn clear_marks(work: &mut [u64; 256])
 {
     let mut e = 0;
     while e < 16 {
-        work[16 + e] = 0;
+        work[MARKS + e] = 0;
         e += 1;
     }
 }
@@ -183,11 +182,13 @@ fn clear_marks(work: &mut [u64; 256])
 // What is known at depth k is known at depth k + 1.
 fn copy_marks(work: &mut [u64; 256], k: usize)
     requires { ⌜ (k < 12) × (length (now work) ≡ 256) ⌝ }
-    ensures { λ _. ⌜ Stored (now (work .entry)) (k + 2) (λ e. at (now (work .entry)) (16 * k + 16 + e)) (now (work .exit)) ⌝ }
+    ensures { λ _. ⌜ Stored (now (work .entry)) (k + 2) (λ e. at (now (work .entry)) (16 * k + MARKS + e)) (now (work .exit)) ⌝ }
 {
     let mut e = 0;
     while e < 16 {
-        work[16 * k + 32 + e] = work[16 * k + 16 + e];
+        let here = 16 * k + MARKS + e;
+        let next = 16 * (k + 1) + MARKS + e;
+        work[next] = work[here];
         e += 1;
     }
 }
@@ -239,10 +240,11 @@ pub fn child(
     let mut sets = [1u16; 16];
     load(stack, k, &mut sets);
     copy_marks(work, k);
-    let one = 1u16 << work[k];
-    let todo = due(sets[k], one, numbers[TOUCHING + k]);
-    let dirty = due(sets[k], one, numbers[LINKED] & (1u64 << k));
-    sets[k] = one;
+    let old = ValueSet { bits: sets[k] };
+    let one = old.only((work[k] % 16) as u16);
+    let todo = due(old, one, numbers[OTHERS + k]);
+    let dirty = due(old, one, numbers[LINKED] & (1u64 << k));
+    sets[k] = one.bits;
     let dead = fixpoint(
         &mut sets,
         work,

@@ -1,8 +1,6 @@
 -- The text of an ending, in parts.
-use mathlib.Core.Path.{_≡_}
-use mathlib.Core.List.{List, _∷_, _++_, map}
-use Prim.Native.Nat.{ℕ, _+_}
-use lib.ListN.{length, take, drop}
+use mathlib.Core.List.{List, _∷_, map}
+use Prim.Native.Nat.{ℕ}
 use Rattle.model.specs.Lists.{flat}
 use Rattle.model.specs.Run.{Ending, listedPlans, plansIn}
 use Rattle.model.specs.Report.{decimal, resultText}

@@ -1,15 +1,18 @@
 -- The facts that the walks of `settle` and `try_value` need at each call, and what the tests of the code say of numbers. Assumes nothing.
-use mathlib.Core.Path.{_≡_, sym, subst}
+use mathlib.Core.Path.{_≡_, sym, ap, _∙_, subst}
 use mathlib.Core.Bool.{not}
 use mathlib.Core.List.{List}
-use Prim.Native.Nat.{ℕ, zero, suc, _+_, _-_, _*_, _^_, _<_}
+use Prim.Native.Nat.{ℕ, zero, suc, _+_, _*_, _^_, _<_}
 use native.Mathlib.Nat.{zero-lt-suc}
 use native.Mathlib.Omega.{arith}
 use lib.Dec.{T, T-not, eqb, eqb→eq, eqb-refl}
-use lib.Bits.{bitAnd}
 use Rattle.model.specs.Lists.{at}
+use Rattle.model.specs.ValueSets.{withoutMask, lowestOf}
 use Rattle.model.specs.Problem.{Problem}
-use Rattle.search.specs.Pair.{AtValues, AtValue, Walked, Entered, tried, lowestTried}
+use Rattle.model.specs.Run.{Tally}
+use Rattle.layout.specs.Places.{ALL, DEEPER}
+use Rattle.search.specs.Walk.{withNode}
+use Rattle.search.specs.Pair.{settling, Countable, Counted, AtValues, AtValue, Walked, Entered, tried, lowestTried}
 use Rattle.search.proofs.Turns.{turn-asks, turn-goes, values-ask, μ-settle, rest-falls}
 
 -- ---- tests
@@ -28,45 +31,56 @@ eq-of m n z = eqb→eq m n (not-not (eqb m n) z)
     not-not mathlib.Core.Bool.false z = absurd z
 
 -- ---- `settle`: the values but the lowest are j
-module _ (p : Problem) (stack work supports tables numbers list : List ℕ) (made k m : ℕ) (h : AtValues p stack work supports tables numbers list made k m) (some : 0 < m) (small : m < 2 ^ 16)
-    (stack′ work′ list′ : List ℕ) (made′ stop : ℕ) (d : Walked p (lowestTried p work k m) stack work numbers list made k stack′ work′ list′ made′ stop) (j : ℕ) (is : j ≡ bitAnd m (m - 1)) where
-  pub rest-asks : AtValues p stack′ work′ supports tables numbers list′ made′ k j
-  rest-asks = subst (AtValues p stack′ work′ supports tables numbers list′ made′ k) (sym is) (turn-asks p stack work supports tables numbers list made k m h some small stack′ work′ list′ made′ stop d)
+module _ (p : Problem) (stack work supports tables numbers list : List ℕ) (tally : Tally) (k m : ℕ) (h : AtValues p stack work supports tables numbers list tally k m) (some : 0 < m) (small : m < 2 ^ 16)
+    (stack′ work′ list′ : List ℕ) (tally′ : Tally) (stop : ℕ) (d : Walked p (lowestTried p work k m) stack work numbers list tally k stack′ work′ list′ tally′ stop) (j : ℕ) (is : j ≡ withoutMask m (lowestOf m)) where
+  pub rest-asks : AtValues p stack′ work′ supports tables numbers list′ tally′ k j
+  rest-asks = subst (AtValues p stack′ work′ supports tables numbers list′ tally′ k) (sym is) (turn-asks p stack work supports tables numbers list tally k m h some small stack′ work′ list′ tally′ stop d)
 
-  pub rest-goes : stop ≡ 0 → (stack″ work″ list″ : List ℕ) (made″ stop″ : ℕ) → Walked p (tried p work′ k j) stack′ work′ numbers list′ made′ k stack″ work″ list″ made″ stop″ →
-      Walked p (tried p work k m) stack work numbers list made k stack″ work″ list″ made″ stop″
-  rest-goes g stack″ work″ list″ made″ stop″ w =
-      turn-goes p stack work supports tables numbers list made k m h some small stack′ work′ list′ made′ stop d g stack″ work″ list″ made″ stop″
-      (subst (λ (i : ℕ). Walked p (tried p work′ k i) stack′ work′ numbers list′ made′ k stack″ work″ list″ made″ stop″) is w)
+  pub rest-goes : stop ≡ ALL → (stack″ work″ list″ : List ℕ) (tally″ : Tally) (stop″ : ℕ) → Walked p (tried p work′ k j) stack′ work′ numbers list′ tally′ k stack″ work″ list″ tally″ stop″ →
+      Walked p (tried p work k m) stack work numbers list tally k stack″ work″ list″ tally″ stop″
+  rest-goes g stack″ work″ list″ tally″ stop″ w =
+      turn-goes p stack work supports tables numbers list tally k m h some small stack′ work′ list′ tally′ stop d g stack″ work″ list″ tally″ stop″
+      (subst (λ (i : ℕ). Walked p (tried p work′ k i) stack′ work′ numbers list′ tally′ k stack″ work″ list″ tally″ stop″) is w)
 
-pub fewer : (k m j : ℕ) → 0 < m → j ≡ bitAnd m (m - 1) → μ-settle k j < μ-settle k m
-fewer k m j some is = subst (λ (i : ℕ). μ-settle k i < μ-settle k m) (sym is) (rest-falls k m some)
+pub others-fall : (k m j : ℕ) → 0 < m → m < 2 ^ 16 → j ≡ withoutMask m (lowestOf m) → μ-settle k j < μ-settle k m
+others-fall k m j some small is = subst (λ (i : ℕ). μ-settle k i < μ-settle k m) (sym is) (rest-falls k m some small)
 
--- ---- `try_value`: the tally has one trial more, and `enter` has answered
-module _ (p : Problem) (stack work supports tables numbers list : List ℕ) (made k m : ℕ) (g : AtValue p stack work supports tables numbers list made k m) where
-  pub place-few : k < 12
-  place-few = let i = g .values .prefix .inner in let f = g .values .prefix .ready .wellFormed .few in omega arith
+-- ---- `try_value`: x is the variable of its depth, the tally has one node of it more, and `enter` has answered
+module _ (p : Problem) (stack work supports tables numbers list : List ℕ) (tally : Tally) (k m : ℕ) (g : AtValue p stack work supports tables numbers list tally k m) where
+  pub variable-few : k < 12
+  variable-few = let i = g .values .prefix .inner in let f = g .values .prefix .ready .wellFormed .few in omega arith
 
-  pub trial-fits : (k < 12) × (made + 1 < 2 ^ 32)
-  trial-fits = (place-few, let a = g .values .prefix .allowed in let d = g .due in let l = g .values .prefix .limited in omega arith)
+  module _ (x : ℕ) (at-x : x ≡ settling numbers k) where
+    pub node-counts : Countable x tally
+    node-counts = record {
+      few = subst (λ (y : ℕ). y < 12) (sym at-x) (g .values .prefix .order k variable-few);
+      summed = g .values .prefix .summed;
+      fits = let a = g .values .prefix .allowed in let d = g .due in let l = g .values .prefix .limited in omega arith;
+    }
 
-  module _ (stack′ work′ list′ : List ℕ) (step : ℕ) (w : Entered p stack work supports tables numbers list made k m stack′ work′ list′ step) (made′ : ℕ) (one : made′ ≡ made + 1) where
-    pub entered-stops : (step ≡ 3 → ⊥) → Walked p (lowestTried p work k m) stack work numbers list made k stack′ work′ list′ made′ step
-    entered-stops n = subst (λ (t : ℕ). Walked p (lowestTried p work k m) stack work numbers list made k stack′ work′ list′ t step) (sym one) (w .walked n)
+    module _ (stack′ work′ list′ : List ℕ) (step : ℕ) (w : Entered p stack work supports tables numbers list tally k m stack′ work′ list′ step) (tally′ : Tally) (one : Counted x tally tally′) where
+      abbrev next : Tally
+      next = withNode (settling numbers k) tally
 
-    module _ (e : step ≡ 3) where
-      pub next-few : k + 1 < 12
-      next-few = let i = w .next e .inner in let f = g .values .prefix .ready .wellFormed .few in omega arith
+      is-next : tally′ ≡ next
+      is-next = one .is ∙ ap (λ (y : ℕ). withNode y tally) at-x
 
-      module _ (values : ℕ) (all : values ≡ at stack′ (17 * (k + 1))) where
-        pub next-asks : AtValues p stack′ work′ supports tables numbers list′ made′ (k + 1) values
-        next-asks =
-            subst (λ (t : ℕ). AtValues p stack′ work′ supports tables numbers list′ t (k + 1) values) (sym one)
-            (subst (AtValues p stack′ work′ supports tables numbers list′ (made + 1) (k + 1)) (sym all) (values-ask p stack′ work′ supports tables numbers list′ (made + 1) (k + 1) (w .next e)))
+      pub entered-stops : (step ≡ DEEPER → ⊥) → Walked p (lowestTried p work k m) stack work numbers list tally k stack′ work′ list′ tally′ step
+      entered-stops n = subst (λ (t : Tally). Walked p (lowestTried p work k m) stack work numbers list tally k stack′ work′ list′ t step) (sym is-next) (w .walked n)
 
-        pub next-goes : (stack″ work″ list″ : List ℕ) (made″ stop : ℕ) → Walked p (tried p work′ (k + 1) values) stack′ work′ numbers list′ made′ (k + 1) stack″ work″ list″ made″ stop →
-            Walked p (lowestTried p work k m) stack work numbers list made k stack″ work″ list″ made″ stop
-        next-goes stack″ work″ list″ made″ stop v =
-            w .then e stack″ work″ list″ made″ stop
-            (subst (λ (t : ℕ). Walked p (tried p work′ (k + 1) (at stack′ (17 * (k + 1)))) stack′ work′ numbers list′ t (k + 1) stack″ work″ list″ made″ stop) one
-            (subst (λ (i : ℕ). Walked p (tried p work′ (k + 1) i) stack′ work′ numbers list′ made′ (k + 1) stack″ work″ list″ made″ stop) all v))
+      module _ (e : step ≡ DEEPER) where
+        pub next-few : k + 1 < 12
+        next-few = let i = w .next e .inner in let f = g .values .prefix .ready .wellFormed .few in omega arith
+
+        module _ (values : ℕ) (all : values ≡ at stack′ (17 * (k + 1))) where
+          pub next-asks : AtValues p stack′ work′ supports tables numbers list′ tally′ (k + 1) values
+          next-asks =
+              subst (λ (t : Tally). AtValues p stack′ work′ supports tables numbers list′ t (k + 1) values) (sym is-next)
+              (subst (AtValues p stack′ work′ supports tables numbers list′ next (k + 1)) (sym all) (values-ask p stack′ work′ supports tables numbers list′ next (k + 1) (w .next e)))
+
+          pub next-goes : (stack″ work″ list″ : List ℕ) (tally″ : Tally) (stop : ℕ) → Walked p (tried p work′ (k + 1) values) stack′ work′ numbers list′ tally′ (k + 1) stack″ work″ list″ tally″ stop →
+              Walked p (lowestTried p work k m) stack work numbers list tally k stack″ work″ list″ tally″ stop
+          next-goes stack″ work″ list″ tally″ stop v =
+              w .then e stack″ work″ list″ tally″ stop
+              (subst (λ (t : Tally). Walked p (tried p work′ (k + 1) (at stack′ (17 * (k + 1)))) stack′ work′ numbers list′ t (k + 1) stack″ work″ list″ tally″ stop) is-next
+              (subst (λ (i : ℕ). Walked p (tried p work′ (k + 1) i) stack′ work′ numbers list′ tally′ (k + 1) stack″ work″ list″ tally″ stop) all v))

@@ -9,6 +9,6 @@ pub mod Facts
 pub mod Sheets
 pub mod Whole
 pub mod Demands
-pub mod Again
+pub mod Reborrow
 pub mod Loans
 pub mod Locals

@@ -8,12 +8,13 @@ use native.Mathlib.Numerals.{add-one}
 use native.Mathlib.Omega.{arith}
 use lib.ListN.{length, set, length-set}
 use Rattle.model.specs.Lists.{at}
+use Rattle.model.proofs.Lists.{at-set, at-set-other}
+use Rattle.layout.specs.Places.{PLANS, ALL, FULL}
 use Rattle.search.specs.Walk.{overwritten, listed}
-use Rattle.search.specs.Pair.{prefixOf, Room, Listed, stateOf}
+use Rattle.search.specs.Pair.{prefixOf, ListRoom, Listed, stateOf}
 use Rattle.search.proofs.Walk.{listed-full, listed-kept}
-use Rattle.search.proofs.Prefix.{at-set, at-other}
 
-module _ (n room : ℕ) (list : List ℕ) (plans : ℕ) (h : Room n room list plans) where
+module _ (n room : ℕ) (list : List ℕ) (plans : ℕ) (h : ListRoom n room list plans) where
   pub listed-within : plans ≤ room
   listed-within = go (decLe plans room)
     where
@@ -37,22 +38,22 @@ module _ (n room : ℕ) (list : List ℕ) (plans : ℕ) (h : Room n room list pl
       let l = fits-one e in
       let m : suc plans * 1 ≤ suc plans * n = mul-le-mul-left (suc plans) (h .some) in omega arith
 
-module _ (n room : ℕ) (work list : List ℕ) (h : Room n room list (at work 12)) where
-  pub full-now : at work 12 ≡ room → Listed n work list work list 2
+module _ (n room : ℕ) (work list : List ℕ) (h : ListRoom n room list (at work PLANS)) where
+  pub full-now : at work PLANS ≡ room → Listed n work list work list FULL
   full-now e = record {
-    state = λ made. sym (listed-full n (prefixOf work n) (stateOf made work 0 list) (subst (λ (k : ℕ). length list < suc k * n) (sym e) (h .most)));
+    state = λ tally. sym (listed-full n (prefixOf work n) (stateOf tally work ALL list) (subst (λ (k : ℕ). length list < suc k * n) (sym e) (h .most)));
     known = omega arith;
     others = λ i o. refl;
     work-length = refl;
   }
 
-  pub kept-now : (list′ : List ℕ) → length work ≡ 256 → (at work 12 ≡ room → ⊥) → list′ ≡ overwritten (at work 12 * n) (prefixOf work n) list →
-      Listed n work list (set work 12 (at work 12 + 1)) list′ 0
+  pub kept-now : (list′ : List ℕ) → length work ≡ 256 → (at work PLANS ≡ room → ⊥) → list′ ≡ overwritten (at work PLANS * n) (prefixOf work n) list →
+      Listed n work list (set work PLANS (at work PLANS + 1)) list′ ALL
   kept-now list′ w e q = record {
-    state = λ made.
-        ap₂ (λ (k : ℕ) (l : List ℕ). record { made = made; plans = k; stop = 0; list = l }) (at-set work 12 (at work 12 + 1) (omega arith) ∙ add-one (at work 12)) q
-        ∙ sym (listed-kept n (prefixOf work n) (stateOf made work 0 list) (fits-one n room list (at work 12) h e));
+    state = λ tally.
+        ap₂ (λ (k : ℕ) (l : List ℕ). record { tally = tally; plans = k; stop = ALL; list = l }) (at-set work PLANS (at work PLANS + 1) (omega arith) ∙ add-one (at work PLANS)) q
+        ∙ sym (listed-kept n (prefixOf work n) (stateOf tally work ALL list) (fits-one n room list (at work PLANS) h e));
     known = omega arith;
-    others = λ i o. at-other work 12 i (at work 12 + 1) o;
-    work-length = length-set work 12 (at work 12 + 1);
+    others = λ i o. at-set-other work PLANS (at work PLANS + 1) i o;
+    work-length = length-set work PLANS (at work PLANS + 1);
   }

@@ -1,5 +1,5 @@
--- Calls in a walk that holds references and lends them again. What a call is lent is a chain, one link for each reference that the walk holds and
--- each number that the callee takes, in the callee's order. Nothing here is of the crate: it can be copied as it stands, with `Again.antt`.
+-- Calls in a walk that holds references and lends them reborrow. What a call is lent is a chain, one link for each reference that the walk holds and
+-- each number that the callee takes, in the callee's order. Nothing here is of the crate: it can be copied as it stands, with `Reborrow.antt`.
 --     One              what is lent at one lifetime: held before the call, handed to the callee (a token, and what it owns), kept meanwhile, what the
 --                      callee says of the last value, held after the call
 --     mut, slice       a `&mut T`, a `&mut [T]`.        look     a `&mut T`, lent as a `&T`.        shr     a `&T`, copied
@@ -36,7 +36,7 @@ use denote.Slice.{MutSlice, Room, sliceVal, finally}
 use denote.Lend.{LentAgain, lends-again, comes-back, lends-shr, lends-ref, ref-back}
 use denote.Steps.{nothing, facts, heard}
 use denote.Triple.Call.{calls-from}
-use Rattle.search.proofs.Again as again
+use Rattle.search.proofs.Reborrow as reborrow
 
 -- owning the reference at the value x, and the slice at the list ys; n is the count in the slice's machine value
 abbrev pub at-ref : (R : RattleType) → Lft → ℕ → ℕ → GName → R .Denot → Fml
@@ -240,21 +240,21 @@ module _ {M : Type 1} (𝓤 : URA M) (H : Heap 𝓤) (A : Atoms 𝓤) (W : Given
     own-slice m = at-sl S (m .0 ∷ []) b o n (m .1) ys
 
     abbrev kept-slice : ℕ × GName → Fml
-    kept-slice m = again.LentAgain S κ (m .0 ∷ []) q γ b o (m .1) ys
+    kept-slice m = reborrow.LentAgain S κ (m .0 ∷ []) q γ b o (m .1) ys
 
     abbrev last-slice : ℕ × GName → List (S .Denot) → Fml
     last-slice m zs = fsep (finally S (m .1) zs) (feq ℕ (length zs) (length ys))
 
-    sl-lends : (κ′ : Lft) → ent 𝓤 (sep 𝓤 ⟦ at-sl S κ b o n γ ys ⟧ (A .lft κ q)) (H .⇛ (ex 𝓤 (λ (γ₁ : GName). sep 𝓤 ⟦ at-sl S κ′ b o n γ₁ ys ⟧ ⟦ again.LentAgain S κ κ′ q γ b o γ₁ ys ⟧)))
+    sl-lends : (κ′ : Lft) → ent 𝓤 (sep 𝓤 ⟦ at-sl S κ b o n γ ys ⟧ (A .lft κ q)) (H .⇛ (ex 𝓤 (λ (γ₁ : GName). sep 𝓤 ⟦ at-sl S κ′ b o n γ₁ ys ⟧ ⟦ reborrow.LentAgain S κ κ′ q γ b o γ₁ ys ⟧)))
     sl-lends κ′ =
-        subst (λ (m : ℕ). ent 𝓤 (sep 𝓤 ⟦ at-sl S κ b o m γ ys ⟧ (A .lft κ q)) (H .⇛ (ex 𝓤 (λ (γ₁ : GName). sep 𝓤 ⟦ at-sl S κ′ b o m γ₁ ys ⟧ ⟦ again.LentAgain S κ κ′ q γ b o γ₁ ys ⟧)))) e
-        (again.lends-again S κ κ′ q γ b o 𝓤 H A W (named 0) (named 0) ys)
+        subst (λ (m : ℕ). ent 𝓤 (sep 𝓤 ⟦ at-sl S κ b o m γ ys ⟧ (A .lft κ q)) (H .⇛ (ex 𝓤 (λ (γ₁ : GName). sep 𝓤 ⟦ at-sl S κ′ b o m γ₁ ys ⟧ ⟦ reborrow.LentAgain S κ κ′ q γ b o γ₁ ys ⟧)))) e
+        (reborrow.lends-again S κ κ′ q γ b o 𝓤 H A W (named 0) (named 0) ys)
 
     sl-back : (κ′ : Lft) (γ₁ : GName) (zs : List (S .Denot)) → length zs ≡ length ys
-        → ent 𝓤 (sep 𝓤 (A .dead κ′) (sep 𝓤 ⟦ again.LentAgain S κ κ′ q γ b o γ₁ ys ⟧ ⟦ finally S γ₁ zs ⟧)) (H .⇛ (sep 𝓤 ⟦ at-sl S κ b o n γ zs ⟧ (A .lft κ q)))
+        → ent 𝓤 (sep 𝓤 (A .dead κ′) (sep 𝓤 ⟦ reborrow.LentAgain S κ κ′ q γ b o γ₁ ys ⟧ ⟦ finally S γ₁ zs ⟧)) (H .⇛ (sep 𝓤 ⟦ at-sl S κ b o n γ zs ⟧ (A .lft κ q)))
     sl-back κ′ γ₁ zs l =
-        subst (λ (m : ℕ). ent 𝓤 (sep 𝓤 (A .dead κ′) (sep 𝓤 ⟦ again.LentAgain S κ κ′ q γ b o γ₁ ys ⟧ ⟦ finally S γ₁ zs ⟧)) (H .⇛ (sep 𝓤 ⟦ at-sl S κ b o m γ zs ⟧ (A .lft κ q)))) e
-        (again.comes-back S κ κ′ q γ b o 𝓤 H A W (named 0) (named 0) ys γ₁ zs (subst (Room S) (sym e) room) l)
+        subst (λ (m : ℕ). ent 𝓤 (sep 𝓤 (A .dead κ′) (sep 𝓤 ⟦ reborrow.LentAgain S κ κ′ q γ b o γ₁ ys ⟧ ⟦ finally S γ₁ zs ⟧)) (H .⇛ (sep 𝓤 ⟦ at-sl S κ b o m γ zs ⟧ (A .lft κ q)))) e
+        (reborrow.comes-back S κ κ′ q γ b o 𝓤 H A W (named 0) (named 0) ys γ₁ zs (subst (Room S) (sym e) room) l)
 
     pub slice-goes : ent 𝓤 ⟦ held-slice ys ⟧ (H .⇛ (ex 𝓤 (Handed tok-slice own-slice kept-slice)))
     slice-goes =

@@ -1,20 +1,24 @@
--- The walk along the nodes of the tree, from nothing made and nothing listed, is the run: it comes to the ending of model's `resultOf`, and the
--- list then holds the run's rows at its front and all bytes after them as they came. Assumes nothing.
+-- The walk along the nodes of the tree, from nothing counted and nothing listed, is the run: it comes to the ending of model's `resultOf`, the tally
+-- has the nodes made, counted in the order, and the list the run's rows at its front and all bytes after them as they came. Assumes nothing.
 use mathlib.Core.Path.{_≡_, refl, sym, ap, ap₂, _∙_, subst}
 use mathlib.Core.Bool.{Bool, true, false}
 use mathlib.Core.List.{List, [], _∷_, _++_, append-nil}
-use Prim.Native.Nat.{ℕ, suc, _+_, _*_, _≤_}
+use Prim.Native.Nat.{ℕ, zero, suc, _+_, _*_, _≤_}
+use native.Mathlib.Numerals.{add-one}
 use native.Mathlib.Omega.{arith}
 use lib.Dec.{eqb, leb}
-use lib.ListN.{length, drop, length-append, length-drop}
+use lib.ListN.{length, take, drop, length-append, length-drop}
 use lib.Seq.{take-at, drop-append-add, drop-drop}
 use borrow.Author.Tests.{leb-true, leb-false, eqb-true, eqb-false}
-use Rattle.model.specs.Lists.{flat}
+use Rattle.model.specs.Lists.{flat, keep, tabulate}
 use Rattle.model.specs.Problem.{Problem}
 use Rattle.model.specs.Search.{isPlan, nodes}
-use Rattle.model.specs.Run.{spent, full, Result, search, resultOf, written}
+use Rattle.model.specs.Run.{spent, full, plansIn, nodesIn, Result, search, resultOf, written, Tally, settledBy, countsBy}
 use Rattle.model.proofs.Lists.{flat-append}
-use Rattle.search.specs.Walk.{State, overwritten, visit, walk, stateAt}
+use Rattle.model.proofs.Runs.{turn, search-turn}
+use Rattle.model.proofs.Tally.{counts-snoc}
+use Rattle.layout.specs.Places.{ALL}
+use Rattle.search.specs.Walk.{withNode, noNodes, State, overwritten, listed, counted, visit, walk, stopIn, tallyBy}
 use Rattle.search.proofs.Walk.{listed-full, listed-kept, visit-spent, visit-other, visit-plan, walk-stopped, plan-sized}
 
 -- rows of n bytes
@@ -40,46 +44,49 @@ length-written : (rows : List (List ℕ)) (out : List ℕ) → length (flat rows
 unfolding written
 length-written rows out h = simp (length-append, length-drop) (omega arith)
 
-abbrev turn : Bool → Bool → Bool → Result → Result → Result → Result → Result
-turn true c d s n f y = s
-turn false false d s n f y = n
-turn false true false s n f y = f
-turn false true true s n f y = y
+-- the next node of a list
+take-next : {A : Type 0} (k : ℕ) (l : List A) (a : A) (rest : List A) → drop k l ≡ a ∷ rest → take (suc k) l ≡ take k l ++ (a ∷ [])
+take-next zero [] a rest e = absurd (let z = ap length e in omega arith)
+take-next {A} zero (x ∷ l) a rest e = ap (λ (r : List A). take 1 r) e
+take-next (suc k) [] a rest e = absurd (let z = ap length e in omega arith)
+take-next {A} (suc k) (x ∷ l) a rest e = ap (λ (r : List A). x ∷ r) (take-next k l a rest e)
 
-turn-is : (b c d : Bool) (s n f y : Result) →
-    _≡_ {A = Result} (elim b [ true ↦ s | false ↦ elim c [ false ↦ n | true ↦ elim d [ false ↦ f | true ↦ y ] ] ]) (turn b c d s n f y)
-turn-is true c d s n f y = refl
-turn-is false false d s n f y = refl
-turn-is false true false s n f y = refl
-turn-is false true true s n f y = refl
+drop-next : {A : Type 0} (k : ℕ) (l : List A) (a : A) (rest : List A) → drop k l ≡ a ∷ rest → drop (suc k) l ≡ rest
+drop-next {A} k l a rest e = ap (λ (n : ℕ). drop n l) (sym (add-one k)) ∙ sym (drop-drop 1 k l) ∙ ap (drop 1) e
 
-module _ (p : Problem) (limit : ℕ) (out : List ℕ) where
+module _ (p : Problem) (order : ℕ → ℕ) (limit : ℕ) (out : List ℕ) where
   -- the state after nodes that listed these rows
   abbrev from : ℕ → List (List ℕ) → State
-  from made rows = record { made = made; plans = length rows; stop = 0; list = written rows out }
+  from made rows = record { tally = tallyBy order p made; plans = length rows; stop = ALL; list = written rows out }
 
   abbrev to : Result → State
-  to r = stateAt (r .ending) (written (r .rows) out)
+  to r = record { tally = tallyBy order p (nodesIn (r .ending)); plans = plansIn (r .ending); stop = stopIn (r .ending); list = written (r .rows) out }
 
-  -- one node of model's run, by its three tests
-  search-turn : (t : List ℕ) (ts : List (List ℕ)) (made : ℕ) (rows : List (List ℕ)) →
-      search p limit (length out) (t ∷ ts) made rows ≡
-      turn (eqb made limit) (isPlan p t) (leb (suc (length rows) * p .variables) (length out))
-      (record { ending = spent (length rows) made; rows = rows }) (search p limit (length out) ts (suc made) rows)
-      (record { ending = full (length rows) (suc made); rows = rows }) (search p limit (length out) ts (suc made) (rows ++ (t ∷ [])))
-  unfolding search
-  search-turn t ts made rows = turn-is (eqb made limit) (isPlan p t) (leb (suc (length rows) * p .variables) (length out)) _ _ _ _
+  -- the tally of the nodes made, and of the next
+  tally-next : (made : ℕ) (t : List ℕ) (ts : List (List ℕ)) → drop made (nodes p) ≡ t ∷ ts → withNode (order (settledBy t)) (tallyBy order p made) ≡ tallyBy order p (suc made)
+  unfolding tallyBy
+  tally-next made t ts e =
+      ap₂ (λ (n : ℕ) (l : List ℕ). record { nodes = n; counts = l }) (add-one made)
+      (sym (counts-snoc (λ u. order (settledBy u)) (take made (nodes p)) t) ∙ ap (countsBy (λ u. order (settledBy u))) (sym (take-next made (nodes p) t ts e)))
 
-  walk-search : (ts : List (List ℕ)) (made : ℕ) (rows : List (List ℕ)) → length (flat rows) ≡ length rows * p .variables → length rows * p .variables ≤ length out →
-      walk p limit ts (from made rows) ≡ to (search p limit (length out) ts made rows)
+  nodes-by : (made : ℕ) → tallyBy order p made .nodes ≡ made
+  unfolding tallyBy
+  nodes-by made = refl
+
+  walk-search : (ts : List (List ℕ)) (made : ℕ) (rows : List (List ℕ)) → drop made (nodes p) ≡ ts → length (flat rows) ≡ length rows * p .variables → length rows * p .variables ≤ length out →
+      walk p order limit ts (from made rows) ≡ to (search p limit (length out) ts made rows)
   unfolding walk search
-  walk-search [] made rows z h = refl
-  walk-search (t ∷ ts) made rows z h =
-      go (walk-search ts (suc made) rows z h) (walk-search ts (suc made) (rows ++ (t ∷ []))) (eqb made limit) refl (isPlan p t) refl (leb (suc (length rows) * p .variables) (length out)) refl
-      ∙ ap to (sym (search-turn t ts made rows))
+  walk-search [] made rows d z h = refl
+  walk-search (t ∷ ts) made rows d z h =
+      go (walk-search ts (suc made) rows (drop-next made (nodes p) t ts d) z h) (walk-search ts (suc made) (rows ++ (t ∷ [])) (drop-next made (nodes p) t ts d))
+      (eqb made limit) refl (isPlan p t) refl (leb (suc (length rows) * p .variables) (length out)) refl
+      ∙ ap to (sym (search-turn p limit (length out) t ts made rows))
     where
       s : State
       s = from made rows
+
+      x : ℕ
+      x = order (settledBy t)
 
       S : Result
       S = record { ending = spent (length rows) made; rows = rows }
@@ -96,31 +103,39 @@ module _ (p : Problem) (limit : ℕ) (out : List ℕ) where
       same : length (written rows out) ≡ length out
       same = length-written rows out (omega arith)
 
-      go : walk p limit ts (from (suc made) rows) ≡ to (search p limit (length out) ts (suc made) rows) →
+      next : counted x (from made rows) ≡ from (suc made) rows
+      next = ap (λ (a : Tally). record { tally = a; plans = length rows; stop = ALL; list = written rows out }) (tally-next made t ts d)
+
+      due : eqb made limit ≡ false → from made rows .tally .nodes ≡ limit → ⊥
+      due e q = eqb-false made limit e (sym (nodes-by made) ∙ q)
+
+      go : walk p order limit ts (from (suc made) rows) ≡ to (search p limit (length out) ts (suc made) rows) →
           (length (flat (rows ++ (t ∷ []))) ≡ length (rows ++ (t ∷ [])) * p .variables → length (rows ++ (t ∷ [])) * p .variables ≤ length out →
-          walk p limit ts (from (suc made) (rows ++ (t ∷ []))) ≡ to (search p limit (length out) ts (suc made) (rows ++ (t ∷ [])))) →
+          walk p order limit ts (from (suc made) (rows ++ (t ∷ []))) ≡ to (search p limit (length out) ts (suc made) (rows ++ (t ∷ [])))) →
           (b : Bool) → eqb made limit ≡ b → (c : Bool) → isPlan p t ≡ c → (d : Bool) → leb (suc (length rows) * p .variables) (length out) ≡ d →
-          walk p limit ts (visit p limit t s) ≡ to (turn b c d S N F Y)
-      go ih jh true e c e′ d e″ =
-          ap (walk p limit ts) (visit-spent p limit t s refl (eqb-true made limit e))
-          ∙ walk-stopped p limit ts _ (λ q. omega arith)
-      go ih jh false e false e′ d e″ =
-          ap (walk p limit ts) (visit-other p limit t s refl (eqb-false made limit e) e′) ∙ ih
+          walk p order limit ts (visit p order limit t s) ≡ to (turn b c d S N F Y)
+      go ih jh true e c e′ d′ e″ =
+          ap (walk p order limit ts) (visit-spent p order limit t s refl (nodes-by made ∙ eqb-true made limit e))
+          ∙ walk-stopped p order limit ts _ (λ q. omega arith)
+      go ih jh false e false e′ d′ e″ =
+          ap (walk p order limit ts) (visit-other p order limit t s refl (due e) e′ ∙ next) ∙ ih
       go ih jh false e true e′ false e″ =
           let l = leb-false (suc (length rows) * p .variables) (length out) e″ in
-          ap (walk p limit ts) (visit-plan p limit t s refl (eqb-false made limit e) e′ ∙ listed-full (p .variables) t _ (let q = same in omega arith))
-          ∙ walk-stopped p limit ts _ (λ q. omega arith)
+          ap (walk p order limit ts)
+          (visit-plan p order limit t s refl (due e) e′ ∙ ap (listed (p .variables) t) next ∙ listed-full (p .variables) t _ (let q = same in omega arith))
+          ∙ walk-stopped p order limit ts _ (λ q. omega arith)
       go ih jh false e true e′ true e″ =
           let l = leb-true (suc (length rows) * p .variables) (length out) e″ in
           let g : length (rows ++ (t ∷ [])) ≡ suc (length rows) = length-append rows (t ∷ []) ∙ omega arith in
           let f : length (flat (rows ++ (t ∷ []))) ≡ length (flat rows) + length t = ap length (flat-snoc rows t) ∙ length-append (flat rows) t in
           let z′ = plan-sized p t e′ in
           let q : suc (length rows) * p .variables ≡ length rows * p .variables + p .variables = omega arith in
-          ap (walk p limit ts) (visit-plan p limit t s refl (eqb-false made limit e) e′ ∙ listed-kept (p .variables) t _ (let q = same in omega arith)
-          ∙ ap₂ (λ (k : ℕ) (l : List ℕ). record { made = suc made; plans = k; stop = 0; list = l }) (sym g) (written-snoc rows t out (length rows * p .variables) z))
+          ap (walk p order limit ts)
+          (visit-plan p order limit t s refl (due e) e′ ∙ ap (listed (p .variables) t) next ∙ listed-kept (p .variables) t _ (let q = same in omega arith)
+          ∙ ap₂ (λ (k : ℕ) (l : List ℕ). record { tally = tallyBy order p (suc made); plans = k; stop = ALL; list = l }) (sym g) (written-snoc rows t out (length rows * p .variables) z))
           ∙ jh (f ∙ (omega arith) ∙ ap (λ (k : ℕ). k * p .variables) (sym g)) (subst (λ (k : ℕ). k * p .variables ≤ length out) (sym g) l)
 
-  -- the whole tree
-  pub outcome : walk p limit (nodes p) (record { made = 0; plans = 0; stop = 0; list = out }) ≡ stateAt (resultOf p limit (length out) .ending) (written (resultOf p limit (length out) .rows) out)
-  unfolding resultOf written flat
-  outcome = walk-search (nodes p) 0 [] (omega arith) (omega arith)
+  -- the whole tree, from nothing counted and nothing listed
+  pub outcome : walk p order limit (nodes p) (record { tally = noNodes; plans = 0; stop = ALL; list = out }) ≡ to (resultOf p limit (length out))
+  unfolding resultOf written flat tallyBy countsBy tabulate keep
+  outcome = walk-search (nodes p) 0 [] refl (omega arith) (omega arith)

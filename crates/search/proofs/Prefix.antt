@@ -5,8 +5,8 @@ use Prim.Native.Nat.{ℕ, suc, _+_, _≤_, _<_}
 use native.Mathlib.Numerals.{add-one}
 use native.Mathlib.Decide.{decLt}
 use native.Mathlib.Omega.{arith}
-use lib.ListN.{length, take, drop, getD, set, length-append, List·getD-append}
-use lib.Seq.{length-take-le, getD-take, getD-set-same, getD-set-other, getD-at, paste}
+use lib.ListN.{length, take, drop, getD, length-append, List·getD-append}
+use lib.Seq.{length-take-le, getD-take, getD-at, paste}
 use Rattle.model.specs.Lists.{at, tabulate}
 use Rattle.model.proofs.Lists.{length-tabulate, at-tabulate, at-ext}
 use Rattle.search.specs.Walk.{overwritten}
@@ -31,14 +31,6 @@ prefix-ext v w k h = prefix-is (prefixOf v k) w k (length-prefix v k) (λ i m. p
 pub prefix-take : (work : List ℕ) (k : ℕ) → k ≤ length work → take k work ≡ prefixOf work k
 unfolding at
 prefix-take work k h = prefix-is (take k work) work k (length-take-le k work h) (λ i m. getD-take k work i 0 m)
-
-pub at-set : (l : List ℕ) (i v : ℕ) → i < length l → at (set l i v) i ≡ v
-unfolding at
-at-set l i v h = getD-set-same l i v 0 h
-
-pub at-other : (l : List ℕ) (i j v : ℕ) → (j ≡ i → ⊥) → at (set l i v) j ≡ at l j
-unfolding at
-at-other l i j v h = getD-set-other l i j v 0 h
 
 pub prefix-snoc : (work : List ℕ) (k : ℕ) → prefixOf work k ++ (at work k ∷ []) ≡ prefixOf work (suc k)
 unfolding at

@@ -2,19 +2,21 @@
 use mathlib.Core.Path.{_≡_, refl, ap, ap₂, _∙_}
 use mathlib.Core.Bool.{Bool, true, false}
 use mathlib.Core.List.{List, [], _∷_, _++_, map}
-use Prim.Native.Nat.{ℕ, suc, _-_, _^_, _<_}
+use Prim.Native.Nat.{ℕ, suc, _^_, _<_}
 use native.Mathlib.Omega.{arith}
 use lib.Dec.{eqb}
 use lib.ListN.{length}
-use lib.Bits.{bitAnd}
 use borrow.Author.Tests.{eq-eqb, ne-eqb}
 use Rattle.model.specs.Lists.{both, at, flat}
-use Rattle.model.specs.ValueSets.{lowestOf}
+use Rattle.model.specs.ValueSets.{withoutMask, lowestOf}
 use Rattle.model.specs.Problem.{Problem}
 use Rattle.model.specs.Search.{setsAt, isLive, isPlan, nodesBelow}
+use Rattle.model.specs.Run.{settledBy}
 use Rattle.model.proofs.Sets.{members-of-none}
+use Rattle.model.proofs.Members.{both-no, members-lowest}
+use Rattle.layout.specs.Places.{ALL}
 use Rattle.search.specs.Walk.{State, listed, counted, exhausted, walk, nodesFor}
-use Rattle.search.proofs.Laws.{both-none, members-first, dead-below}
+use Rattle.search.proofs.Laws.{dead-below}
 use Rattle.search.proofs.Walk.{visit-spent, visit-other, visit-plan, walk-append, walk-stopped}
 
 is-plan : (p : Problem) (t : List ℕ) → length t ≡ p .variables → isLive p t ≡ true → isPlan p t ≡ true
@@ -23,52 +25,52 @@ is-plan p t e l = ap₂ both (eq-eqb (length t) (p .variables) e) l
 
 dead-no-plan : (p : Problem) (t : List ℕ) → isLive p t ≡ false → isPlan p t ≡ false
 unfolding isPlan
-dead-no-plan p t l = ap (both (eqb (length t) (p .variables))) l ∙ both-none (eqb (length t) (p .variables))
+dead-no-plan p t l = ap (both (eqb (length t) (p .variables))) l ∙ both-no (eqb (length t) (p .variables))
 
 short-no-plan : (p : Problem) (t : List ℕ) → (length t ≡ p .variables → ⊥) → isPlan p t ≡ false
 unfolding isPlan
 short-no-plan p t e = ap (λ (b : Bool). both b (isLive p t)) (ne-eqb (length t) (p .variables) e)
 
-module _ (p : Problem) (limit k : ℕ) (prefix : List ℕ) where
-  pub below-is : nodesBelow p (suc k) prefix ≡ nodesFor p k prefix (at (setsAt p prefix) (length prefix))
-  unfolding nodesBelow nodesFor
-  below-is = refl
+pub below-is : (p : Problem) (k : ℕ) (prefix : List ℕ) → nodesBelow p (suc k) prefix ≡ nodesFor p k prefix (at (setsAt p prefix) (length prefix))
+unfolding nodesBelow nodesFor
+below-is p k prefix = refl
 
-  pub step-none : (s : State) → walk p limit (nodesFor p k prefix 0) s ≡ s
+module _ (p : Problem) (order : ℕ → ℕ) (limit k : ℕ) (prefix : List ℕ) where
+  pub step-none : (s : State) → walk p order limit (nodesFor p k prefix 0) s ≡ s
   unfolding walk nodesFor flat
-  step-none s = ap (λ (l : List ℕ). walk p limit (flat (map (λ v. (prefix ++ (v ∷ [])) ∷ nodesBelow p k (prefix ++ (v ∷ []))) l)) s) members-of-none
+  step-none s = ap (λ (l : List ℕ). walk p order limit (flat (map (λ v. (prefix ++ (v ∷ [])) ∷ nodesBelow p k (prefix ++ (v ∷ []))) l)) s) members-of-none
 
-  module _ (m : ℕ) (some : 0 < m) (small : m < 2 ^ 16) (s : State) (going : s .stop ≡ 0) where
+  module _ (m : ℕ) (some : 0 < m) (small : m < 2 ^ 16) (s : State) (going : s .stop ≡ ALL) where
     abbrev pub node : List ℕ
     node = prefix ++ (lowestOf m ∷ [])
 
     abbrev pub more : List (List ℕ)
-    more = nodesFor p k prefix (bitAnd m (m - 1))
+    more = nodesFor p k prefix (withoutMask m (lowestOf m))
 
     first : nodesFor p k prefix m ≡ node ∷ (nodesBelow p k node ++ more)
     unfolding nodesFor flat
-    first = ap (λ (l : List ℕ). flat (map (λ v. (prefix ++ (v ∷ [])) ∷ nodesBelow p k (prefix ++ (v ∷ []))) l)) (members-first m some small)
+    first = ap (λ (l : List ℕ). flat (map (λ v. (prefix ++ (v ∷ [])) ∷ nodesBelow p k (prefix ++ (v ∷ []))) l)) (members-lowest m some small)
 
     -- one value: its node, the nodes below, then the other values
-    pub step : walk p limit (nodesFor p k prefix m) s ≡ walk p limit more (walk p limit (node ∷ nodesBelow p k node) s)
-    step = ap (λ (l : List (List ℕ)). walk p limit l s) first ∙ walk-append p limit (node ∷ nodesBelow p k node) more s
+    pub step : walk p order limit (nodesFor p k prefix m) s ≡ walk p order limit more (walk p order limit (node ∷ nodesBelow p k node) s)
+    step = ap (λ (l : List (List ℕ)). walk p order limit l s) first ∙ walk-append p order limit (node ∷ nodesBelow p k node) more s
 
-    pub step-spent : s .made ≡ limit → walk p limit (nodesFor p k prefix m) s ≡ exhausted s
+    pub step-spent : s .tally .nodes ≡ limit → walk p order limit (nodesFor p k prefix m) s ≡ exhausted s
     unfolding walk
     step-spent e =
-        ap (λ (l : List (List ℕ)). walk p limit l s) first ∙ ap (walk p limit (nodesBelow p k node ++ more)) (visit-spent p limit node s going e)
-        ∙ walk-stopped p limit (nodesBelow p k node ++ more) (exhausted s) (λ q. omega arith)
+        ap (λ (l : List (List ℕ)). walk p order limit l s) first ∙ ap (walk p order limit (nodesBelow p k node ++ more)) (visit-spent p order limit node s going e)
+        ∙ walk-stopped p order limit (nodesBelow p k node ++ more) (exhausted s) (λ q. omega arith)
 
   -- ---- a node and those below it: dead, a plan, or neither
-  module _ (t : List ℕ) (s : State) (going : s .stop ≡ 0) (allowed : s .made ≡ limit → ⊥) where
-    pub node-dead : isLive p t ≡ false → walk p limit (t ∷ nodesBelow p k t) s ≡ counted s
+  module _ (t : List ℕ) (s : State) (going : s .stop ≡ ALL) (allowed : s .tally .nodes ≡ limit → ⊥) where
+    pub node-dead : isLive p t ≡ false → walk p order limit (t ∷ nodesBelow p k t) s ≡ counted (order (settledBy t)) s
     unfolding walk
-    node-dead d = ap₂ (walk p limit) (dead-below p k t d) (visit-other p limit t s going allowed (dead-no-plan p t d))
+    node-dead d = ap₂ (walk p order limit) (dead-below p k t d) (visit-other p order limit t s going allowed (dead-no-plan p t d))
 
-    pub node-plan : isLive p t ≡ true → length t ≡ p .variables → k ≡ 0 → walk p limit (t ∷ nodesBelow p k t) s ≡ listed (p .variables) t (counted s)
+    pub node-plan : isLive p t ≡ true → length t ≡ p .variables → k ≡ 0 → walk p order limit (t ∷ nodesBelow p k t) s ≡ listed (p .variables) t (counted (order (settledBy t)) s)
     unfolding walk nodesBelow
-    node-plan l n z = ap₂ (λ (j : ℕ) (u : State). walk p limit (nodesBelow p j t) u) z (visit-plan p limit t s going allowed (is-plan p t n l))
+    node-plan l n z = ap₂ (λ (j : ℕ) (u : State). walk p order limit (nodesBelow p j t) u) z (visit-plan p order limit t s going allowed (is-plan p t n l))
 
-    pub node-inner : (length t ≡ p .variables → ⊥) → walk p limit (t ∷ nodesBelow p k t) s ≡ walk p limit (nodesBelow p k t) (counted s)
+    pub node-inner : (length t ≡ p .variables → ⊥) → walk p order limit (t ∷ nodesBelow p k t) s ≡ walk p order limit (nodesBelow p k t) (counted (order (settledBy t)) s)
     unfolding walk
-    node-inner n = ap (walk p limit (nodesBelow p k t)) (visit-other p limit t s going allowed (short-no-plan p t n))
+    node-inner n = ap (walk p order limit (nodesBelow p k t)) (visit-other p order limit t s going allowed (short-no-plan p t n))

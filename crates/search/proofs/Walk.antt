@@ -10,6 +10,8 @@ use borrow.Author.Tests.{leb-true, leb-false, eqb-true, eqb-false, eq-eqb, ne-eq
 use Rattle.model.specs.Lists.{both}
 use Rattle.model.specs.Problem.{Problem}
 use Rattle.model.specs.Search.{isPlan, isLive}
+use Rattle.model.specs.Run.{settledBy}
+use Rattle.layout.specs.Places.{ALL, FULL}
 use Rattle.search.specs.Walk.{State, overwritten, listed, counted, exhausted, visit, walk}
 
 pub length-overwritten : (i : ℕ) (row list : List ℕ) → i + length row ≤ length list → length (overwritten i row list) ≡ length list
@@ -17,47 +19,47 @@ unfolding overwritten
 length-overwritten i row list h = simp (length-append, length-take, length-drop) (omega arith)
 
 -- ---- a plan is found
-pub listed-full : (n : ℕ) (row : List ℕ) (s : State) → length (s .list) < suc (s .plans) * n → listed n row s ≡ record { made = s .made; plans = s .plans; stop = 2; list = s .list }
+pub listed-full : (n : ℕ) (row : List ℕ) (s : State) → length (s .list) < suc (s .plans) * n → listed n row s ≡ record { tally = s .tally; plans = s .plans; stop = FULL; list = s .list }
 unfolding listed
 listed-full n row s h = rw (lt-leb (suc (s .plans) * n) (length (s .list)) h)
 
 pub listed-kept : (n : ℕ) (row : List ℕ) (s : State) → suc (s .plans) * n ≤ length (s .list) →
-    listed n row s ≡ record { made = s .made; plans = suc (s .plans); stop = 0; list = overwritten (s .plans * n) row (s .list) }
+    listed n row s ≡ record { tally = s .tally; plans = suc (s .plans); stop = ALL; list = overwritten (s .plans * n) row (s .list) }
 unfolding listed
 listed-kept n row s h = rw (le-leb (suc (s .plans) * n) (length (s .list)) h)
 
-module _ (p : Problem) (limit : ℕ) where
+module _ (p : Problem) (order : ℕ → ℕ) (limit : ℕ) where
   -- ---- one node
-  pub visit-stopped : (t : List ℕ) (s : State) → (s .stop ≡ 0 → ⊥) → visit p limit t s ≡ s
+  pub visit-stopped : (t : List ℕ) (s : State) → (s .stop ≡ ALL → ⊥) → visit p order limit t s ≡ s
   unfolding visit
-  visit-stopped t s h = rw (ne-eqb (s .stop) 0 h)
+  visit-stopped t s h = rw (ne-eqb (s .stop) ALL h)
 
-  pub visit-spent : (t : List ℕ) (s : State) → s .stop ≡ 0 → s .made ≡ limit → visit p limit t s ≡ exhausted s
+  pub visit-spent : (t : List ℕ) (s : State) → s .stop ≡ ALL → s .tally .nodes ≡ limit → visit p order limit t s ≡ exhausted s
   unfolding visit
-  visit-spent t s g h = rw (eq-eqb (s .stop) 0 g, eq-eqb (s .made) limit h)
+  visit-spent t s g h = rw (eq-eqb (s .stop) ALL g, eq-eqb (s .tally .nodes) limit h)
 
-  pub visit-other : (t : List ℕ) (s : State) → s .stop ≡ 0 → (s .made ≡ limit → ⊥) → isPlan p t ≡ false → visit p limit t s ≡ counted s
+  pub visit-other : (t : List ℕ) (s : State) → s .stop ≡ ALL → (s .tally .nodes ≡ limit → ⊥) → isPlan p t ≡ false → visit p order limit t s ≡ counted (order (settledBy t)) s
   unfolding visit
-  visit-other t s g h e = rw (eq-eqb (s .stop) 0 g, ne-eqb (s .made) limit h, e)
+  visit-other t s g h e = rw (eq-eqb (s .stop) ALL g, ne-eqb (s .tally .nodes) limit h, e)
 
-  pub visit-plan : (t : List ℕ) (s : State) → s .stop ≡ 0 → (s .made ≡ limit → ⊥) → isPlan p t ≡ true → visit p limit t s ≡ listed (p .variables) t (counted s)
+  pub visit-plan : (t : List ℕ) (s : State) → s .stop ≡ ALL → (s .tally .nodes ≡ limit → ⊥) → isPlan p t ≡ true → visit p order limit t s ≡ listed (p .variables) t (counted (order (settledBy t)) s)
   unfolding visit
-  visit-plan t s g h e = rw (eq-eqb (s .stop) 0 g, ne-eqb (s .made) limit h, e)
+  visit-plan t s g h e = rw (eq-eqb (s .stop) ALL g, ne-eqb (s .tally .nodes) limit h, e)
 
   -- ---- along a list
-  pub walk-append : (ts us : List (List ℕ)) (s : State) → walk p limit (ts ++ us) s ≡ walk p limit us (walk p limit ts s)
+  pub walk-append : (ts us : List (List ℕ)) (s : State) → walk p order limit (ts ++ us) s ≡ walk p order limit us (walk p order limit ts s)
   unfolding walk
   walk-append [] us s = refl
-  walk-append (t ∷ ts) us s = walk-append ts us (visit p limit t s)
+  walk-append (t ∷ ts) us s = walk-append ts us (visit p order limit t s)
 
-  pub walk-stopped : (ts : List (List ℕ)) (s : State) → (s .stop ≡ 0 → ⊥) → walk p limit ts s ≡ s
+  pub walk-stopped : (ts : List (List ℕ)) (s : State) → (s .stop ≡ ALL → ⊥) → walk p order limit ts s ≡ s
   unfolding walk
   walk-stopped [] s h = refl
-  walk-stopped (t ∷ ts) s h = ap (walk p limit ts) (visit-stopped t s h) ∙ walk-stopped ts s h
+  walk-stopped (t ∷ ts) s h = ap (walk p order limit ts) (visit-stopped t s h) ∙ walk-stopped ts s h
 
 -- ---- what holds all along: the nodes made are within the limit, the list keeps its length, and the plans listed fit in it
 pub record Fits (p : Problem) (limit room : ℕ) (s : State) : Type 0 where
-  pub allowed : s .made ≤ limit
+  pub allowed : s .tally .nodes ≤ limit
   pub sized : length (s .list) ≡ room
   pub roomy : s .plans * p .variables ≤ room
 
@@ -69,7 +71,7 @@ plan-sized p t e = go (eqb (length t) (p .variables)) refl e
     go true q h = eqb-true (length t) (p .variables) q
     go false q h = absurd (subst T (sym h) tt)
 
-module _ (p : Problem) (limit room : ℕ) where
+module _ (p : Problem) (order : ℕ → ℕ) (limit room : ℕ) where
   listed-fits : (t : List ℕ) (s : State) → length t ≡ p .variables → Fits p limit room s → Fits p limit room (listed (p .variables) t s)
   listed-fits t s e f = go (leb (suc (s .plans) * p .variables) (length (s .list))) refl
     where
@@ -83,24 +85,24 @@ module _ (p : Problem) (limit room : ℕ) where
           subst (Fits p limit room) (sym (listed-full (p .variables) t s (leb-false (suc (s .plans) * p .variables) (length (s .list)) q)))
           record { allowed = f .allowed; sized = f .sized; roomy = f .roomy }
 
-  pub visit-fits : (t : List ℕ) (s : State) → Fits p limit room s → Fits p limit room (visit p limit t s)
-  visit-fits t s f = go (eqb (s .stop) 0) refl (eqb (s .made) limit) refl (isPlan p t) refl
+  pub visit-fits : (t : List ℕ) (s : State) → Fits p limit room s → Fits p limit room (visit p order limit t s)
+  visit-fits t s f = go (eqb (s .stop) ALL) refl (eqb (s .tally .nodes) limit) refl (isPlan p t) refl
     where
-      go : (a : Bool) → eqb (s .stop) 0 ≡ a → (b : Bool) → eqb (s .made) limit ≡ b → (c : Bool) → isPlan p t ≡ c → Fits p limit room (visit p limit t s)
-      go false d b e c h = subst (Fits p limit room) (sym (visit-stopped p limit t s (eqb-false (s .stop) 0 d))) f
+      go : (a : Bool) → eqb (s .stop) ALL ≡ a → (b : Bool) → eqb (s .tally .nodes) limit ≡ b → (c : Bool) → isPlan p t ≡ c → Fits p limit room (visit p order limit t s)
+      go false d b e c h = subst (Fits p limit room) (sym (visit-stopped p order limit t s (eqb-false (s .stop) ALL d))) f
       go true d true e c h =
-          subst (Fits p limit room) (sym (visit-spent p limit t s (eqb-true (s .stop) 0 d) (eqb-true (s .made) limit e)))
+          subst (Fits p limit room) (sym (visit-spent p order limit t s (eqb-true (s .stop) ALL d) (eqb-true (s .tally .nodes) limit e)))
           record { allowed = f .allowed; sized = f .sized; roomy = f .roomy }
       go true d false e false h =
-          let n = eqb-false (s .made) limit e in
-          subst (Fits p limit room) (sym (visit-other p limit t s (eqb-true (s .stop) 0 d) n h))
+          let n = eqb-false (s .tally .nodes) limit e in
+          subst (Fits p limit room) (sym (visit-other p order limit t s (eqb-true (s .stop) ALL d) n h))
           record { allowed = let l = f .allowed in omega arith; sized = f .sized; roomy = f .roomy }
       go true d false e true h =
-          let n = eqb-false (s .made) limit e in
-          subst (Fits p limit room) (sym (visit-plan p limit t s (eqb-true (s .stop) 0 d) n h))
-          (listed-fits t (counted s) (plan-sized p t h) record { allowed = let l = f .allowed in omega arith; sized = f .sized; roomy = f .roomy })
+          let n = eqb-false (s .tally .nodes) limit e in
+          subst (Fits p limit room) (sym (visit-plan p order limit t s (eqb-true (s .stop) ALL d) n h))
+          (listed-fits t (counted (order (settledBy t)) s) (plan-sized p t h) record { allowed = let l = f .allowed in omega arith; sized = f .sized; roomy = f .roomy })
 
-  pub walk-fits : (ts : List (List ℕ)) (s : State) → Fits p limit room s → Fits p limit room (walk p limit ts s)
+  pub walk-fits : (ts : List (List ℕ)) (s : State) → Fits p limit room s → Fits p limit room (walk p order limit ts s)
   unfolding walk
   walk-fits [] s f = f
-  walk-fits (t ∷ ts) s f = walk-fits ts (visit p limit t s) (visit-fits t s f)
+  walk-fits (t ∷ ts) s f = walk-fits ts (visit p order limit t s) (visit-fits t s f)

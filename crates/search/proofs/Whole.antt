@@ -3,35 +3,40 @@
 use mathlib.Core.Path.{_≡_, refl, sym, ap, ap₂, _∙_, subst}
 use mathlib.Core.Bool.{Bool, true, false}
 use mathlib.Core.List.{List, []}
-use Prim.Native.Nat.{ℕ, suc, _+_, _*_, _/_, _%_, _^_, _≤_, _<_}
-use native.Mathlib.Nat.{div-add-mod', mod-lt, sub-zero}
+use Prim.Native.Nat.{ℕ, zero, suc, _+_, _*_, _/_, _%_, _^_, _≤_, _<_}
+use native.Mathlib.Nat.{div-add-mod', mod-lt, sub-zero, not-suc-le-zero}
+use native.Mathlib.Decide.{decLt}
 use native.Mathlib.Omega.{arith}
-use lib.Dec.{eqb}
+use lib.Dec.{T, eqb}
 use borrow.Author.Tests.{not-true, not-false, eqb-true, eqb-false}
-use lib.ListN.{length, set, length-set}
-use Rattle.model.specs.Lists.{at}
+use lib.ListN.{length, take, set, length-set, length-replicate}
+use Rattle.model.specs.Lists.{at, choose, total}
 use Rattle.model.specs.ValueSets.{has}
 use Rattle.model.specs.Problem.{Problem}
 use Rattle.model.specs.Search.{isLive, setsAt, nodes, nodesBelow}
 use Rattle.model.specs.Verdict.{Verdict, accepted, refused}
 use Rattle.model.specs.Sheet.{verdictOf, problemOf}
-use Rattle.model.specs.Run.{finished, spent, full, ended, resultOf, written, answerFor, answerOf, listFor, listOf, tallyFor, tallyOf, nodesIn}
+use Rattle.model.specs.Run.{finished, spent, full, ended, resultOf, answerFor, answerOf, listFor, listOf, Tally, settledBy, tallyAt, tallyFor, tallyOf, plansIn, nodesIn}
 use Rattle.model.specs.Run as Run
-use Rattle.model.proofs.Lists.{T-of}
+use Rattle.model.specs.WellFormed.{WellFormed}
+use Rattle.model.proofs.Lists.{T-of, at-set, at-set-other}
+use Rattle.model.proofs.Tally.{counts-ext, settled-few, tally-nodes}
+use Rattle.layout.specs.Places.{VARIABLES, VALUES, CONSTRAINTS, SYMMETRIES, LIMIT, ROOM, LINKED, BY-ROWS, OTHERS, LOOSE, ORDER, LANES, PLANS, NUMBER, ITEM, ALL, SPENT, DEEPER, REFUSED}
 use Rattle.layout.specs.Layout.{Numbers, Compiled}
+use Rattle.layout.specs.Tables.{Linked, Indexed}
 use Rattle.sheet.specs.Form.{Zeros}
 use Rattle.index.specs.Index.{Compact, Made}
 use Rattle.prune.specs.Node.{Ready, Holds, Marked, Reached}
-use Rattle.search.specs.Walk.{State, walk, stateAt}
-use Rattle.search.specs.Pair.{prefixOf, stateOf, Room, AtPrefix, AtValues, Walked, tried}
+use Rattle.search.specs.Walk.{noNodes, Summed, State, walk, stopIn, tallyBy}
+use Rattle.search.specs.Pair.{prefixOf, settling, Cleared, stateOf, ListRoom, AtPrefix, AtValues, Walked, tried}
 use Rattle.search.specs.Meaning.{means}
-use Rattle.search.specs.Whole.{Prepared, Explored, Stopped, Answered}
+use Rattle.search.specs.Whole.{ordered, Prepared, RunTo, Explored, Stopped, Answered}
 use Rattle.search.specs.declared.Answer.{Answer}
 use Rattle.search.proofs.Laws.{dead-below}
 use Rattle.search.proofs.Outcome.{outcome}
-use Rattle.search.proofs.Sheets.{Stated, stated, answer-refused, list-refused}
+use Rattle.search.proofs.Sheets.{WithinLimits, within-limits, answer-refused, list-refused}
 use Rattle.search.proofs.Turns.{values-ask, tried-all}
-use Rattle.search.proofs.Prefix.{prefix-zero, at-set, at-other}
+use Rattle.search.proofs.Prefix.{prefix-zero}
 
 -- ---- the numbers with the limit and the room among them
 numbers-kept : (p : Problem) (numbers numbers′ : List ℕ) → p .variables ≤ 12 → length (p .constraints) ≤ 32 → ((i : ℕ) → i < 68 → at numbers′ i ≡ at numbers i) → Numbers p numbers → Numbers p numbers′
@@ -42,32 +47,79 @@ numbers-kept p numbers numbers′ f c e h = record {
   unused = λ x l m. e (16 + x) (omega arith) ∙ h .unused x l m;
   arity = λ k l. ap (λ (s : ℕ). s % 256) (e (32 + k) (omega arith)) ∙ h .arity k l;
   scope = λ k i l m. ap (λ (s : ℕ). s / 256 ^ suc i % 256) (e (32 + k) (omega arith)) ∙ h .scope k i l m;
-  variables = e 64 (omega arith) ∙ h .variables;
-  values = e 65 (omega arith) ∙ h .values;
-  constraints = e 66 (omega arith) ∙ h .constraints;
-  symmetries = e 67 (omega arith) ∙ h .symmetries;
+  variables = e VARIABLES (omega arith) ∙ h .variables;
+  values = e VALUES (omega arith) ∙ h .values;
+  constraints = e CONSTRAINTS (omega arith) ∙ h .constraints;
+  symmetries = e SYMMETRIES (omega arith) ∙ h .symmetries;
 }
+
+-- ---- and with the order among them: the tables that the search reads stand elsewhere
+linked-kept : (p : Problem) (numbers numbers′ : List ℕ) → ((i : ℕ) → i < ORDER → at numbers′ i ≡ at numbers i) → Linked p numbers → Linked p numbers′
+linked-kept p numbers numbers′ e h = record {
+  by-rows = λ k l. ap (λ (s : ℕ). has s k) (e BY-ROWS (omega arith)) ∙ h .by-rows k l;
+  linked = λ x k l t u. subst (λ (s : ℕ). T (has s x)) (sym (e LINKED (omega arith))) (h .linked x k l t u);
+  linked-few = λ x t. h .linked-few x (subst (λ (s : ℕ). T (has s x)) (e LINKED (omega arith)) t);
+  touching = λ x k l m. ap (λ (s : ℕ). has s k) (e (OTHERS + x) (omega arith)) ∙ h .touching x k l m;
+  touching-few = λ x l. subst (λ (s : ℕ). s < 2 ^ length (p .constraints)) (sym (e (OTHERS + x) (omega arith))) (h .touching-few x l);
+  loose = λ x u v y w t. h .loose x u v y w (subst (λ (s : ℕ). T (has s x)) (e LOOSE (omega arith)) t);
+}
+
+indexed-kept : (p : Problem) (numbers numbers′ supports tables : List ℕ) → p .variables ≤ 12 → length (p .constraints) ≤ 32 → ((i : ℕ) → i < ORDER → at numbers′ i ≡ at numbers i) → ((i : ℕ) → LANES ≤ i → at numbers′ i ≡ at numbers i) →
+    Indexed p numbers supports tables → Indexed p numbers′ supports tables
+indexed-kept p numbers numbers′ supports tables f c low high h = record {
+  numbered = numbers-kept p numbers numbers′ f c (λ i l. low i (omega arith)) (h .numbered);
+  supported = h .supported;
+  linked = linked-kept p numbers numbers′ low (h .linked);
+  rowed = h .rowed;
+  worded = λ k u v w a b d e. ap (λ (s : ℕ). has s (8 * v + w)) (high (LANES + 8 * k + u) (omega arith)) ∙ h .worded k u v w a b d e;
+  imageTables = h .imageTables;
+}
+
+ordered-other : (n i : ℕ) (l : List ℕ) → ((j : ℕ) → j < n → i ≡ ORDER + j → ⊥) → at (ordered n l) i ≡ at l i
+unfolding ordered
+ordered-other zero i l h = refl
+ordered-other (suc n) i l h = at-set-other (ordered n l) (ORDER + n) n i (h n (omega arith)) ∙ ordered-other n i l (λ j m. h j (omega arith))
+
+pub length-ordered : (n : ℕ) (l : List ℕ) → length (ordered n l) ≡ length l
+unfolding ordered
+length-ordered zero l = refl
+length-ordered (suc n) l = length-set (ordered n l) (ORDER + n) n ∙ length-ordered n l
+
+ordered-at : (n k : ℕ) (l : List ℕ) → ORDER + n ≤ length l → k < n → at (ordered n l) (ORDER + k) ≡ k
+unfolding ordered
+ordered-at zero k l h m = absurd (not-suc-le-zero m)
+ordered-at (suc n) k l h m = go (ordered-at n k l (omega arith)) (decLt k n)
+  where
+    go : (k < n → at (ordered n l) (ORDER + k) ≡ k) → Dec (k < n) → at (set (ordered n l) (ORDER + n) n) (ORDER + k) ≡ k
+    go ih (yes d) = at-set-other (ordered n l) (ORDER + n) n (ORDER + k) (λ e. omega arith) ∙ ih d
+    go ih (no d) =
+        let e : n ≡ k = omega arith in
+        ap (λ (j : ℕ). at (set (ordered n l) (ORDER + n) n) (ORDER + j)) (sym e) ∙ at-set (ordered n l) (ORDER + n) n (let s = length-ordered n l in omega arith) ∙ e
+
+pub none-summed : Summed noNodes
+unfolding total
+none-summed = record { twelve = length-replicate {A = ℕ} 12 0; sum = refl }
 
 module _ (b : List ℕ) (accepts : verdictOf b ≡ accepted) where
   abbrev p : Problem
   p = problemOf b
 
-  abbrev fits : Stated p
-  fits = stated b accepts
+  abbrev fits : WithinLimits p
+  fits = within-limits b accepts
 
   module _ (numbers supports images : List ℕ) (h : Compiled p numbers supports images) where
-    pub some-variables : 0 < at numbers 64
+    pub some-variables : 0 < at numbers VARIABLES
     some-variables = subst (λ (n : ℕ). 0 < n) (sym (h .numbered .variables)) (fits .wellFormed .some)
 
-    module _ (limit : ℕ) (small : limit < 2 ^ 32) (size room : ℕ) (rooms : room ≡ size / at numbers 64) (long : length numbers ≡ 384) (bounded : List ℕ) (put : bounded ≡ set (set numbers 68 limit) 69 room) where
+    module _ (limit : ℕ) (small : limit < 2 ^ 32) (size room : ℕ) (rooms : room ≡ size / at numbers VARIABLES) (long : length numbers ≡ 384) (bounded : List ℕ) (put : bounded ≡ set (set numbers LIMIT limit) ROOM room) where
       kept : (i : ℕ) → i < 68 → at bounded i ≡ at numbers i
-      kept i l = ap (λ (l : List ℕ). at l i) put ∙ at-other (set numbers 68 limit) 69 i room (λ e. omega arith) ∙ at-other numbers 68 i limit (λ e. omega arith)
+      kept i l = ap (λ (l : List ℕ). at l i) put ∙ at-set-other (set numbers LIMIT limit) ROOM room i (λ e. omega arith) ∙ at-set-other numbers LIMIT limit i (λ e. omega arith)
 
-      at-limit : at bounded 68 ≡ limit
-      at-limit = ap (λ (l : List ℕ). at l 68) put ∙ at-other (set numbers 68 limit) 69 68 room (λ e. omega arith) ∙ at-set numbers 68 limit (omega arith)
+      at-limit : at bounded LIMIT ≡ limit
+      at-limit = ap (λ (l : List ℕ). at l LIMIT) put ∙ at-set-other (set numbers LIMIT limit) ROOM room LIMIT (λ e. omega arith) ∙ at-set numbers LIMIT limit (omega arith)
 
-      at-room : at bounded 69 ≡ room
-      at-room = ap (λ (l : List ℕ). at l 69) put ∙ at-set (set numbers 68 limit) 69 room (let l = length-set numbers 68 limit in omega arith)
+      at-room : at bounded ROOM ≡ room
+      at-room = ap (λ (l : List ℕ). at l ROOM) put ∙ at-set (set numbers LIMIT limit) ROOM room (let l = length-set numbers LIMIT limit in omega arith)
 
       pub compact : (tables : List ℕ) → length tables ≡ 55296 → Compact p bounded supports images tables
       compact tables lt = record {
@@ -75,14 +127,26 @@ module _ (b : List ℕ) (accepts : verdictOf b ≡ accepted) where
         wellFormed = fits .wellFormed;
         constraints = fits .constraints;
         symmetries = fits .symmetries;
-        numbers-length = ap length put ∙ length-set (set numbers 68 limit) 69 room ∙ length-set numbers 68 limit ∙ long;
+        numbers-length = ap length put ∙ length-set (set numbers LIMIT limit) ROOM room ∙ length-set numbers LIMIT limit ∙ long;
         tables-length = lt;
       }
 
-      module _ (tables numbers′ tables′ : List ℕ) (made : Made p bounded supports tables numbers′ tables′) where
+      module _ (tables indexed tables′ : List ℕ) (made : Made p bounded supports tables indexed tables′) (numbers′ : List ℕ) (orders : numbers′ ≡ ordered 12 indexed) where
+        low : (i : ℕ) → i < ORDER → at numbers′ i ≡ at indexed i
+        low i l = ap (λ (m : List ℕ). at m i) orders ∙ ordered-other 12 i indexed (λ j m e. omega arith)
+
+        high : (i : ℕ) → LANES ≤ i → at numbers′ i ≡ at indexed i
+        high i l = ap (λ (m : List ℕ). at m i) orders ∙ ordered-other 12 i indexed (λ j m e. omega arith)
+
+        indexed-length : length indexed ≡ 384
+        indexed-length = made .numbers-length ∙ ap length put ∙ length-set (set numbers LIMIT limit) ROOM room ∙ length-set numbers LIMIT limit ∙ long
+
+        settles : (k : ℕ) → k < 12 → settling numbers′ k ≡ k
+        settles k l = ap (λ (m : List ℕ). at m (ORDER + k)) orders ∙ ordered-at 12 k indexed (let e = indexed-length in omega arith) l
+
         pub ready : (stack work : List ℕ) → length stack ≡ 208 → length work ≡ 256 → Ready p stack work supports tables′ numbers′
         ready stack work ls lw = record {
-          indexed = made .indexed;
+          indexed = indexed-kept p indexed numbers′ supports tables′ (fits .wellFormed .few) (fits .constraints) low high (made .indexed);
           wellFormed = fits .wellFormed;
           constraints = fits .constraints;
           symmetries = fits .symmetries;
@@ -90,7 +154,7 @@ module _ (b : List ℕ) (accepts : verdictOf b ≡ accepted) where
           work-length = lw;
         }
 
-        empty-room : (list : List ℕ) → length list ≡ size → Room (p .variables) room list 0
+        empty-room : (list : List ℕ) → length list ≡ size → ListRoom (p .variables) room list 0
         empty-room list same =
             let n = fits .wellFormed .some in
             let e : room ≡ length list / p .variables = rooms ∙ ap₂ _/_ (sym same) (h .numbered .variables) in
@@ -99,14 +163,14 @@ module _ (b : List ℕ) (accepts : verdictOf b ≡ accepted) where
             record { some = n; fits = omega arith; most = omega arith; listed = omega arith }
 
         module _ (stack work stack′ work′ : List ℕ) (dead : Bool) (ls : length stack ≡ 208) (blank : Zeros 256 work) (q : Reached p [] 0 stack work stack′ work′ dead) where
-          plans-none : at work′ 12 ≡ 0
-          plans-none = q .kept 12 (omega arith) ∙ blank .blank 12
+          plans-none : at work′ PLANS ≡ 0
+          plans-none = q .kept PLANS (omega arith) ∙ blank .blank PLANS
 
-          limited : at numbers′ 68 ≡ limit
-          limited = made .kept 68 (omega arith) ∙ at-limit
+          limited : at numbers′ LIMIT ≡ limit
+          limited = low LIMIT (omega arith) ∙ made .kept LIMIT (omega arith) ∙ at-limit
 
-          start : dead ≡ false → (list : List ℕ) → length list ≡ size → (count : ℕ) → count ≡ 0 → AtPrefix p stack′ work′ supports tables′ numbers′ list count 0
-          start e list same count none = record {
+          start : dead ≡ false → (list : List ℕ) → length list ≡ size → AtPrefix p stack′ work′ supports tables′ numbers′ list noNodes 0
+          start e list same = record {
             ready = ready stack′ work′ (q .stack-length ∙ ls) (q .work-length ∙ blank .sized);
             inner = fits .wellFormed .some;
             live = T-of (isLive p (prefixOf work′ 0)) (ap (isLive p) (prefix-zero work′) ∙ not-false (isLive p []) (sym (q .answers) ∙ e));
@@ -114,10 +178,12 @@ module _ (b : List ℕ) (accepts : verdictOf b ≡ accepted) where
             marked = subst (λ (t : List ℕ). Marked p work′ t 0) (sym (prefix-zero work′)) (q .marked e);
             limited = subst (λ (k : ℕ). k < 2 ^ 32) (sym limited) small;
             allowed = omega arith;
-            room = subst (Room (p .variables) (at numbers′ 69) list) (sym plans-none) (subst (λ (k : ℕ). Room (p .variables) k list 0) (sym (made .kept 69 (omega arith) ∙ at-room)) (empty-room list same));
+            summed = none-summed;
+            order = λ j l. subst (λ (k : ℕ). k < 12) (sym (settles j l)) l;
+            room = subst (ListRoom (p .variables) (at numbers′ ROOM) list) (sym plans-none) (subst (λ (k : ℕ). ListRoom (p .variables) k list 0) (sym (low ROOM (omega arith) ∙ made .kept ROOM (omega arith) ∙ at-room)) (empty-room list same));
           }
 
-          pub prepared-dead : dead ≡ true → Prepared b limit size stack′ work′ supports tables′ numbers′ 0
+          pub prepared-dead : dead ≡ true → Prepared b limit size stack′ work′ supports tables′ numbers′ ALL
           prepared-dead e = record {
             refused = λ z. absurd (omega arith);
             accepted = λ z. accepts;
@@ -125,10 +191,11 @@ module _ (b : List ℕ) (accepts : verdictOf b ≡ accepted) where
             dead = λ z. not-true (isLive p []) (sym (q .answers) ∙ e);
             known = λ z y. absurd (y refl);
             bounded = λ z. absurd (omega arith);
+            order = λ z. absurd (omega arith);
             live = λ z. absurd (omega arith);
           }
 
-          pub prepared-live : dead ≡ false → Prepared b limit size stack′ work′ supports tables′ numbers′ 3
+          pub prepared-live : dead ≡ false → Prepared b limit size stack′ work′ supports tables′ numbers′ DEEPER
           prepared-live e = record {
             refused = λ z. absurd (omega arith);
             accepted = λ z. accepts;
@@ -136,15 +203,16 @@ module _ (b : List ℕ) (accepts : verdictOf b ≡ accepted) where
             dead = λ z. absurd (omega arith);
             known = λ z y. refl;
             bounded = λ z. limited;
+            order = λ z. settles;
             live = λ z. start e;
           }
 
 pub prepared-refused : (b : List ℕ) (limit size number item : ℕ) (stack work supports tables numbers : List ℕ) → verdictOf b ≡ refused number item → number < 2 ^ 8 → length work ≡ 256 →
-    Prepared b limit size stack (set (set work 13 number) 14 item) supports tables numbers 4
+    Prepared b limit size stack (set (set work NUMBER number) ITEM item) supports tables numbers REFUSED
 prepared-refused b limit size number item stack work supports tables numbers v small long =
-    let l = length-set work 13 number in
-    let e : at (set (set work 13 number) 14 item) 13 ≡ number = at-other (set work 13 number) 14 13 item (λ z. omega arith) ∙ at-set work 13 number (omega arith) in
-    let f : at (set (set work 13 number) 14 item) 14 ≡ item = at-set (set work 13 number) 14 item (omega arith) in
+    let l = length-set work NUMBER number in
+    let e : at (set (set work NUMBER number) ITEM item) NUMBER ≡ number = at-set-other (set work NUMBER number) ITEM item NUMBER (λ z. omega arith) ∙ at-set work NUMBER number (omega arith) in
+    let f : at (set (set work NUMBER number) ITEM item) ITEM ≡ item = at-set (set work NUMBER number) ITEM item (omega arith) in
     record {
       refused = λ z. record { verdict = v ∙ ap₂ refused (sym e) (sym f); number = subst (λ (k : ℕ). k < 2 ^ 8) (sym e) small };
       accepted = λ z. absurd (z refl);
@@ -152,131 +220,151 @@ prepared-refused b limit size number item stack work supports tables numbers v s
       dead = λ z. absurd (omega arith);
       known = λ z. absurd (z refl);
       bounded = λ z. absurd (omega arith);
+      order = λ z. absurd (omega arith);
       live = λ z. absurd (omega arith);
     }
 
 -- ---- the search of what was prepared
 abbrev zeroth : List ℕ → State
-zeroth list = record { made = 0; plans = 0; stop = 0; list = list }
+zeroth list = record { tally = noNodes; plans = 0; stop = ALL; list = list }
 
-stop-in : (e : Run.Ending) (list : List ℕ) → stateAt e list .stop < 3
-stop-in (finished k u) list = omega arith
-stop-in (spent k u) list = omega arith
-stop-in (full k u) list = omega arith
+-- in the order 0, 1, .. the counts are the defined ones
+tally-same : (p : Problem) → WellFormed p → (order : ℕ → ℕ) → ((k : ℕ) → k < 12 → order k ≡ k) → (k : ℕ) → tallyBy order p k ≡ tallyAt p k
+unfolding tallyBy tallyAt
+tally-same p w order same k =
+    ap (λ (l : List ℕ). record { nodes = k; counts = l })
+    (counts-ext (λ t. order (settledBy t)) settledBy (take k (nodes p)) (λ t m. same (settledBy t) (let s = settled-few p k t m in let f = w .few in omega arith)))
+
+stop-in : (e : Run.Ending) → stopIn e < DEEPER
+stop-in (finished k u) = omega arith
+stop-in (spent k u) = omega arith
+stop-in (full k u) = omega arith
+
+-- a walk along all nodes is the run
+run-to : (p : Problem) → WellFormed p → (order : ℕ → ℕ) → ((k : ℕ) → k < 12 → order k ≡ k) → (limit : ℕ) (list work′ list′ : List ℕ) (tally′ : Tally) (stop : ℕ) →
+    stateOf tally′ work′ stop list′ ≡ walk p order limit (nodes p) (zeroth list) → RunTo p (resultOf p limit (length list)) list work′ list′ tally′ stop
+run-to p w order same limit list work′ list′ tally′ stop h =
+    let s = h ∙ outcome p order limit list in
+    let e = resultOf p limit (length list) .ending in
+    record {
+      tally = ap (λ (x : State). x .tally) s ∙ tally-same p w order same (nodesIn e);
+      plans = ap (λ (x : State). x .plans) s;
+      stopped = ap (λ (x : State). x .stop) s;
+      wrote = ap (λ (x : State). x .list) s;
+    }
 
 module _ (b : List ℕ) (limit : ℕ) (list stack work supports tables numbers : List ℕ) (step : ℕ) (h : Prepared b limit (length list) stack work supports tables numbers step) where
-  pub explored-refused : (tally stop : ℕ) → step ≡ 4 → stop ≡ 4 → Explored b limit list tally work list tally stop
+  pub explored-refused : (tally : Tally) (stop : ℕ) → step ≡ REFUSED → stop ≡ REFUSED → Explored b limit list tally work list tally stop
   explored-refused tally stop e s = record {
     refused = λ z. (h .refused e, refl, refl);
     accepted = λ z. absurd (z s);
     ended = λ z. absurd (z s);
+    summed = λ z. absurd (z s);
     known = λ z. absurd (z s);
   }
 
-  pub explored-dead : (tally tally′ stop : ℕ) → step ≡ 0 → stop ≡ 0 → tally′ ≡ 0 → Explored b limit list tally work list tally′ stop
+  well : (step ≡ REFUSED → ⊥) → WellFormed (problemOf b)
+  well n = within-limits b (h .accepted n) .wellFormed
+
+  pub explored-dead : (tally tally′ : Tally) (stop : ℕ) → step ≡ ALL → stop ≡ ALL → Cleared tally′ → Explored b limit list tally work list tally′ stop
   unfolding nodes walk
   explored-dead tally tally′ stop e s t = record {
     refused = λ z. absurd (omega arith);
     accepted = λ z. h .accepted (λ f. omega arith);
-    ended = λ z.
-        ap₂ (λ (j : ℕ) (k : ℕ). record { made = j; plans = k; stop = stop; list = list }) t (h .begun (λ f. omega arith))
-        ∙ ap (λ (k : ℕ). record { made = 0; plans = 0; stop = k; list = list }) s
-        ∙ sym (ap (λ (ts : List (List ℕ)). walk (problemOf b) limit ts (zeroth list)) (dead-below (problemOf b) (problemOf b .variables) [] (h .dead e)));
+    ended = λ z. run-to (problemOf b) (well (λ f. omega arith)) (λ k. k) (λ k l. refl) limit list work list tally′ stop none;
+    summed = λ z. t .summed;
     known = λ z. omega arith;
   }
+    where
+      none : stateOf tally′ work stop list ≡ walk (problemOf b) (λ k. k) limit (nodes (problemOf b)) (zeroth list)
+      none =
+          ap₂ (λ (a : Tally) (k : ℕ). record { tally = a; plans = k; stop = stop; list = list }) (t .is) (h .begun (λ f. omega arith))
+          ∙ ap (λ (k : ℕ). record { tally = noNodes; plans = 0; stop = k; list = list }) s
+          ∙ sym (ap (λ (ts : List (List ℕ)). walk (problemOf b) (λ k. k) limit ts (zeroth list)) (dead-below (problemOf b) (problemOf b .variables) [] (h .dead e)))
 
-  module _ (e : step ≡ 3) (count : ℕ) (none : count ≡ 0) (values : ℕ) (all : values ≡ at stack (17 * 0)) where
+  module _ (e : step ≡ DEEPER) (count : Tally) (none : Cleared count) (values : ℕ) (all : values ≡ at stack (17 * 0)) where
     abbrev given : AtPrefix (problemOf b) stack work supports tables numbers list count 0
-    given = h .live e list refl count none
+    given = subst (λ (t : Tally). AtPrefix (problemOf b) stack work supports tables numbers list t 0) (sym (none .is)) (h .live e list refl)
 
     pub start-asks : AtValues (problemOf b) stack work supports tables numbers list count 0 values
     start-asks = subst (AtValues (problemOf b) stack work supports tables numbers list count 0) (sym all) (values-ask (problemOf b) stack work supports tables numbers list count 0 given)
 
-    module _ (tally : ℕ) (stack′ work′ list′ : List ℕ) (tally′ stop : ℕ) (w : Walked (problemOf b) (tried (problemOf b) work 0 values) stack work numbers list count 0 stack′ work′ list′ tally′ stop) where
-      whole : stateOf tally′ work′ stop list′ ≡ walk (problemOf b) limit (nodes (problemOf b)) (zeroth list)
+    module _ (tally : Tally) (stack′ work′ list′ : List ℕ) (tally′ : Tally) (stop : ℕ) (w : Walked (problemOf b) (tried (problemOf b) work 0 values) stack work numbers list count 0 stack′ work′ list′ tally′ stop) where
+      whole : stateOf tally′ work′ stop list′ ≡ walk (problemOf b) (settling numbers) limit (nodes (problemOf b)) (zeroth list)
       unfolding nodes
       whole =
           w .state
-          ∙ ap₂ (λ (k : ℕ) (ts : List (List ℕ)). walk (problemOf b) k ts (stateOf count work 0 list)) (h .bounded e)
+          ∙ ap₂ (λ (k : ℕ) (ts : List (List ℕ)). walk (problemOf b) (settling numbers) k ts (stateOf count work ALL list)) (h .bounded e)
           (ap (tried (problemOf b) work 0) all ∙ tried-all (problemOf b) stack work supports tables numbers list count 0 given ∙ ap₂ (nodesBelow (problemOf b)) (sub-zero (problemOf b .variables)) (prefix-zero work))
-          ∙ ap₂ (λ (j k : ℕ). walk (problemOf b) limit (nodesBelow (problemOf b) (problemOf b .variables) []) (record { made = j; plans = k; stop = 0; list = list })) none (h .begun (λ f. omega arith))
+          ∙ ap₂ (λ (a : Tally) (k : ℕ). walk (problemOf b) (settling numbers) limit (nodesBelow (problemOf b) (problemOf b .variables) []) (record { tally = a; plans = k; stop = ALL; list = list })) (none .is) (h .begun (λ f. omega arith))
 
-      stop-known : stop < 3
-      stop-known =
-          let x = resultOf (problemOf b) limit (length list) in
-          subst (λ (s : State). s .stop < 3) (sym (whole ∙ outcome (problemOf b) limit list)) (stop-in (x .ending) (written (x .rows) list))
+      abbrev ended-so : RunTo (problemOf b) (resultOf (problemOf b) limit (length list)) list work′ list′ tally′ stop
+      ended-so = run-to (problemOf b) (well (λ f. omega arith)) (settling numbers) (h .order e) limit list work′ list′ tally′ stop whole
+
+      stop-known : stop < DEEPER
+      stop-known = let s = stop-in (resultOf (problemOf b) limit (length list) .ending) in let q = ended-so .stopped in omega arith
 
       pub explored : Explored b limit list tally work′ list′ tally′ stop
       explored = record {
         refused = λ z. absurd (let k = stop-known in omega arith);
         accepted = λ z. h .accepted (λ f. omega arith);
-        ended = λ z. whole;
+        ended = λ z. ended-so;
+        summed = λ z. w .summed;
         known = λ z. stop-known;
       }
 
 -- ---- the answer
-pub stopped : (b : List ℕ) (limit : ℕ) (list : List ℕ) (tally : ℕ) (work′ list′ : List ℕ) (tally′ stop : ℕ) → Explored b limit list tally work′ list′ tally′ stop → Stopped work′ stop
+pub stopped : (b : List ℕ) (limit : ℕ) (list : List ℕ) (tally : Tally) (work′ list′ : List ℕ) (tally′ : Tally) (stop : ℕ) → Explored b limit list tally work′ list′ tally′ stop → Stopped work′ stop
 stopped b limit list tally work′ list′ tally′ stop h = record { number = λ z. h .refused z .0 .number; known = h .known }
 
--- a state tells its ending
-abbrev pickEnding : Bool → Run.Ending → Run.Ending → Run.Ending
-pickEnding true a c = a
-pickEnding false a c = c
+-- an ending is known by its figures and how it stopped
+abbrev endingBy : ℕ → ℕ → ℕ → Run.Ending
+endingBy plans made stop = choose (eqb stop ALL) (finished plans made) (choose (eqb stop SPENT) (spent plans made) (full plans made))
 
-abbrev endingIn : State → Run.Ending
-endingIn s = pickEnding (eqb (s .stop) 0) (finished (s .plans) (s .made)) (pickEnding (eqb (s .stop) 1) (spent (s .plans) (s .made)) (full (s .plans) (s .made)))
-
-ending-in : (e : Run.Ending) (list : List ℕ) → endingIn (stateAt e list) ≡ e
-ending-in (finished k u) list = refl
-ending-in (spent k u) list = refl
-ending-in (full k u) list = refl
-
-list-in : (e : Run.Ending) (list : List ℕ) → stateAt e list .list ≡ list
-list-in (finished k u) list = refl
-list-in (spent k u) list = refl
-list-in (full k u) list = refl
-
-made-in : (e : Run.Ending) (list : List ℕ) → nodesIn e ≡ stateAt e list .made
-made-in (finished k u) list = refl
-made-in (spent k u) list = refl
-made-in (full k u) list = refl
+ending-by : (e : Run.Ending) → endingBy (plansIn e) (nodesIn e) (stopIn e) ≡ e
+ending-by (finished k u) = refl
+ending-by (spent k u) = refl
+ending-by (full k u) = refl
 
 -- what the contract of a run says
-pub record Said (b : List ℕ) (limit : ℕ) (list : List ℕ) (tally : ℕ) (list′ : List ℕ) (tally′ : ℕ) (r : Answer) : Type 0 where
+pub record Said (b : List ℕ) (limit : ℕ) (list : List ℕ) (tally : Tally) (list′ : List ℕ) (tally′ : Tally) (r : Answer) : Type 0 where
   pub answer : means r ≡ answerOf b limit list
   pub lists : list′ ≡ listOf b limit list
   pub counts : tally′ ≡ tallyOf b limit list tally
 
-module _ (b : List ℕ) (limit : ℕ) (list : List ℕ) (tally : ℕ) (work′ list′ : List ℕ) (tally′ stop : ℕ) (h : Explored b limit list tally work′ list′ tally′ stop) (r : Answer) (a : Answered work′ tally′ stop r) where
-  said-refused : stop ≡ 4 → Said b limit list tally list′ tally′ r
+module _ (b : List ℕ) (limit : ℕ) (list : List ℕ) (tally : Tally) (work′ list′ : List ℕ) (tally′ : Tally) (stop : ℕ) (h : Explored b limit list tally work′ list′ tally′ stop) (made : ℕ) (is : made ≡ tally′ .nodes) (r : Answer) (a : Answered work′ made stop r) where
+  said-refused : stop ≡ REFUSED → Said b limit list tally list′ tally′ r
   unfolding tallyOf
   said-refused e =
       let f = h .refused e in
-      let q = answer-refused b (at work′ 13) (at work′ 14) (f .0 .verdict) limit list in
+      let q = answer-refused b (at work′ NUMBER) (at work′ ITEM) (f .0 .verdict) limit list in
       record {
         answer = a .refused e ∙ q;
-        lists = f .1 ∙ list-refused b (at work′ 13) (at work′ 14) (f .0 .verdict) limit list;
-        counts = f .2 ∙ ap (λ (u : Run.Answer). tallyFor u tally) q;
+        lists = f .1 ∙ list-refused b (at work′ NUMBER) (at work′ ITEM) (f .0 .verdict) limit list;
+        counts = f .2 ∙ ap (λ (u : Run.Answer). tallyFor u (problemOf b) tally) q;
       }
 
-  said-ended : (stop ≡ 4 → ⊥) → Said b limit list tally list′ tally′ r
+  said-ended : (stop ≡ REFUSED → ⊥) → Said b limit list tally list′ tally′ r
   unfolding answerOf answerFor listOf listFor tallyOf
   said-ended n =
       let x = resultOf (problemOf b) limit (length list) in
       let f = a .ended n in
+      let o = h .ended n in
       let v = h .accepted n in
-      let s : stateAt (f .0) list′ ≡ stateAt (x .ending) (written (x .rows) list) = f .2 list′ ∙ h .ended n ∙ outcome (problemOf b) limit list in
-      let e : f .0 ≡ x .ending = sym (ending-in (f .0) list′) ∙ ap endingIn s ∙ ending-in (x .ending) (written (x .rows) list) in
+      let m : nodesIn (f .0) ≡ nodesIn (x .ending) = f .3 ∙ is ∙ ap (λ (t : Tally). t .nodes) (o .tally) ∙ tally-nodes (problemOf b) (nodesIn (x .ending)) in
+      let s : endingBy (plansIn (f .0)) (nodesIn (f .0)) (stopIn (f .0)) ≡ endingBy (plansIn (x .ending)) (nodesIn (x .ending)) (stopIn (x .ending)) =
+      ap₂ (λ (i j : ℕ). endingBy i j (stopIn (f .0))) (f .2 ∙ o .plans) m ∙ ap (endingBy (plansIn (x .ending)) (nodesIn (x .ending))) (f .4 ∙ o .stopped) in
+      let e : f .0 ≡ x .ending = sym (ending-by (f .0)) ∙ s ∙ ending-by (x .ending) in
       let q : ended (x .ending) ≡ answerOf b limit list = ap (λ (u : Verdict). answerFor u b limit (length list)) (sym v) in
       record {
         answer = f .1 ∙ ap ended e ∙ q;
-        lists = sym (list-in (f .0) list′) ∙ ap (λ (t : State). t .list) s ∙ list-in (x .ending) (written (x .rows) list) ∙ ap (λ (u : Verdict). listFor u b limit list) (sym v);
-        counts = sym (ap (λ (t : State). t .made) (f .2 list′)) ∙ sym (made-in (f .0) list′) ∙ ap nodesIn e ∙ ap (λ (u : Run.Answer). tallyFor u tally) q;
+        lists = o .wrote ∙ ap (λ (u : Verdict). listFor u b limit list) (sym v);
+        counts = o .tally ∙ ap (λ (u : Run.Answer). tallyFor u (problemOf b) tally) q;
       }
 
   pub said : Said b limit list tally list′ tally′ r
-  said = go (eqb stop 4) refl
+  said = go (eqb stop REFUSED) refl
     where
-      go : (c : Bool) → eqb stop 4 ≡ c → Said b limit list tally list′ tally′ r
-      go true e = said-refused (eqb-true stop 4 e)
-      go false e = said-ended (eqb-false stop 4 e)
+      go : (c : Bool) → eqb stop REFUSED ≡ c → Said b limit list tally list′ tally′ r
+      go true e = said-refused (eqb-true stop REFUSED e)
+      go false e = said-ended (eqb-false stop REFUSED e)

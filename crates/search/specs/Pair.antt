@@ -9,59 +9,84 @@ use Rattle.model.specs.Lists.{at, tabulate}
 use Rattle.model.specs.ValueSets.{has, lowestOf}
 use Rattle.model.specs.Problem.{Problem}
 use Rattle.model.specs.Search.{setsAt, isLive, nodesBelow}
+use Rattle.model.specs.Run.{Tally}
+use Rattle.layout.specs.Places.{LIMIT, ROOM, ORDER, PLANS, MARKS, ALL, DEEPER}
 use Rattle.prune.specs.Node.{Ready, Holds, Marked}
-use Rattle.search.specs.Walk.{State, listed, walk, nodesFor}
+use Rattle.search.specs.Walk.{Summed, withNode, noNodes, State, listed, walk, nodesFor}
 
 -- the prefix: the first k numbers of `work`
 unfoldable pub prefixOf : List ℕ → ℕ → List ℕ
 prefixOf work k = tabulate k (at work)
 
--- how far a run has come: the nodes made stand in the tally, the plans listed at 12 of `work`
-abbrev pub stateOf : ℕ → List ℕ → ℕ → List ℕ → State
-stateOf made work stop list = record { made = made; plans = at work 12; stop = stop; list = list }
+-- the variable that is settled at depth k, by which its nodes are counted
+abbrev pub settling : List ℕ → ℕ → ℕ
+settling numbers k = at numbers (ORDER + k)
 
--- at 69 of the numbers stands how many plans of n bytes the list has room for; those listed so far are among them
-pub record Room (n room : ℕ) (list : List ℕ) (plans : ℕ) : Type 0 where
+-- a node of variable x may be counted, and is
+pub record Countable (x : ℕ) (t : Tally) : Type 0 where
+  pub few : x < 12
+  pub summed : Summed t
+  pub fits : t .nodes + 1 < 2 ^ 32
+
+pub record Counted (x : ℕ) (t t′ : Tally) : Type 0 where
+  pub is : t′ ≡ withNode x t
+  pub summed : Summed t′
+
+-- the tally is set to nothing
+pub record Cleared (t : Tally) : Type 0 where
+  pub is : t ≡ noNodes
+  pub summed : Summed t
+
+-- how far a run has come: the plans listed stand in `work`
+abbrev pub stateOf : Tally → List ℕ → ℕ → List ℕ → State
+stateOf tally work stop list = record { tally = tally; plans = at work PLANS; stop = stop; list = list }
+
+-- the list has room for so many plans of n bytes, as the numbers say, and those listed so far are among them
+pub record ListRoom (n room : ℕ) (list : List ℕ) (plans : ℕ) : Type 0 where
   pub some : 0 < n
   pub fits : room * n ≤ length list
   pub most : length list < suc room * n
   pub listed : plans * n ≤ length list
 
--- a plan was found: the answer is 2 where it has no room, else it is listed, and counted in `work`
+-- a plan was found: the answer is FULL where it has no room, else it is listed, and counted in `work`
 pub record Listed (n : ℕ) (work list work′ list′ : List ℕ) (stop : ℕ) : Type 0 where
-  pub state : (made : ℕ) → stateOf made work′ stop list′ ≡ listed n (prefixOf work n) (stateOf made work 0 list)
-  pub known : stop < 3
-  pub others : (i : ℕ) → (i ≡ 12 → ⊥) → at work′ i ≡ at work i
+  pub state : (tally : Tally) → stateOf tally work′ stop list′ ≡ listed n (prefixOf work n) (stateOf tally work ALL list)
+  pub known : stop < DEEPER
+  pub others : (i : ℕ) → (i ≡ PLANS → ⊥) → at work′ i ≡ at work i
   pub work-length : length work′ ≡ length work
 
--- the prefix of k values in `work` is live, its sets and marks stand at depth k, and a run goes on that may make as many nodes as at 68 of the numbers
-pub record AtPrefix (p : Problem) (stack work supports tables numbers list : List ℕ) (made k : ℕ) : Type 0 where
+-- the prefix of k values in `work` is live, its sets and marks stand at depth k, and a run goes on that may make as many nodes as the numbers say,
+-- whose counts add up, and go by an order of twelve variables
+pub record AtPrefix (p : Problem) (stack work supports tables numbers list : List ℕ) (tally : Tally) (k : ℕ) : Type 0 where
   pub ready : Ready p stack work supports tables numbers
   pub inner : k < p .variables
   pub live : T (isLive p (prefixOf work k))
   pub held : Holds p stack k (setsAt p (prefixOf work k))
   pub marked : Marked p work (prefixOf work k) k
-  pub limited : at numbers 68 < 2 ^ 32
-  pub allowed : made ≤ at numbers 68
-  pub room : Room (p .variables) (at numbers 69) list (at work 12)
+  pub limited : at numbers LIMIT < 2 ^ 32
+  pub allowed : tally .nodes ≤ at numbers LIMIT
+  pub summed : Summed tally
+  pub order : (j : ℕ) → j < 12 → settling numbers j < 12
+  pub room : ListRoom (p .variables) (at numbers ROOM) list (at work PLANS)
 
 -- and m has values of variable k's set alone
-pub record AtValues (p : Problem) (stack work supports tables numbers list : List ℕ) (made k m : ℕ) : Type 0 where
-  pub prefix : AtPrefix p stack work supports tables numbers list made k
+pub record AtValues (p : Problem) (stack work supports tables numbers list : List ℕ) (tally : Tally) (k m : ℕ) : Type 0 where
+  pub prefix : AtPrefix p stack work supports tables numbers list tally k
   pub inside : (v : ℕ) → T (has m v) → T (has (at (setsAt p (prefixOf work k)) k) v)
 
 -- and there is a value to try, and a node left to make
-pub record AtValue (p : Problem) (stack work supports tables numbers list : List ℕ) (made k m : ℕ) : Type 0 where
-  pub values : AtValues p stack work supports tables numbers list made k m
+pub record AtValue (p : Problem) (stack work supports tables numbers list : List ℕ) (tally : Tally) (k m : ℕ) : Type 0 where
+  pub values : AtValues p stack work supports tables numbers list tally k m
   pub some : 0 < m
-  pub due : made ≡ at numbers 68 → ⊥
+  pub due : tally .nodes ≡ at numbers LIMIT → ⊥
 
--- a walk along the nodes ts; no set and no mark of a depth up to k and no value of the prefix is changed
-pub record Walked (p : Problem) (ts : List (List ℕ)) (stack work numbers list : List ℕ) (made k : ℕ) (stack′ work′ list′ : List ℕ) (made′ stop : ℕ) : Type 0 where
-  pub state : stateOf made′ work′ stop list′ ≡ walk p (at numbers 68) ts (stateOf made work 0 list)
+-- a walk along the nodes ts, after which the counts still add up; no set and no mark of a depth up to k and no value of the prefix is changed
+pub record Walked (p : Problem) (ts : List (List ℕ)) (stack work numbers list : List ℕ) (tally : Tally) (k : ℕ) (stack′ work′ list′ : List ℕ) (tally′ : Tally) (stop : ℕ) : Type 0 where
+  pub state : stateOf tally′ work′ stop list′ ≡ walk p (settling numbers) (at numbers LIMIT) ts (stateOf tally work ALL list)
+  pub summed : Summed tally′
   pub sets : (i : ℕ) → i < 16 * suc k → at stack′ i ≡ at stack i
   pub values : (i : ℕ) → i < k → at work′ i ≡ at work i
-  pub marks : (i : ℕ) → 16 ≤ i → i < 16 * suc (suc k) → at work′ i ≡ at work i
+  pub marks : (i : ℕ) → MARKS ≤ i → i < 16 * suc (suc k) → at work′ i ≡ at work i
   pub stack-length : length stack′ ≡ length stack
   pub work-length : length work′ ≡ length work
 
@@ -75,10 +100,10 @@ lowestNode work k m = prefixOf work k ++ (lowestOf m ∷ [])
 abbrev pub lowestTried : Problem → List ℕ → ℕ → ℕ → List (List ℕ)
 lowestTried p work k m = lowestNode work k m ∷ nodesBelow p (p .variables - (k + 1)) (lowestNode work k m)
 
--- the lowest value's node is made, the tally aside: the answer is 3 where nodes are below it, which are not walked along yet
-pub record Entered (p : Problem) (stack work supports tables numbers list : List ℕ) (made k m : ℕ) (stack′ work′ list′ : List ℕ) (step : ℕ) : Type 0 where
-  pub walked : (step ≡ 3 → ⊥) → Walked p (lowestTried p work k m) stack work numbers list made k stack′ work′ list′ (made + 1) step
-  pub next : step ≡ 3 → AtPrefix p stack′ work′ supports tables numbers list′ (made + 1) (k + 1)
-  pub then : step ≡ 3 → (stack″ work″ list″ : List ℕ) (made″ stop : ℕ) →
-      Walked p (tried p work′ (k + 1) (at stack′ (17 * (k + 1)))) stack′ work′ numbers list′ (made + 1) (k + 1) stack″ work″ list″ made″ stop →
-      Walked p (lowestTried p work k m) stack work numbers list made k stack″ work″ list″ made″ stop
+-- the lowest value's node is made, but for its count: the answer is DEEPER where nodes are below it, which are not walked along yet
+pub record Entered (p : Problem) (stack work supports tables numbers list : List ℕ) (tally : Tally) (k m : ℕ) (stack′ work′ list′ : List ℕ) (step : ℕ) : Type 0 where
+  pub walked : (step ≡ DEEPER → ⊥) → Walked p (lowestTried p work k m) stack work numbers list tally k stack′ work′ list′ (withNode (settling numbers k) tally) step
+  pub next : step ≡ DEEPER → AtPrefix p stack′ work′ supports tables numbers list′ (withNode (settling numbers k) tally) (k + 1)
+  pub then : step ≡ DEEPER → (stack″ work″ list″ : List ℕ) (tally″ : Tally) (stop : ℕ) →
+      Walked p (tried p work′ (k + 1) (at stack′ (17 * (k + 1)))) stack′ work′ numbers list′ (withNode (settling numbers k) tally) (k + 1) stack″ work″ list″ tally″ stop →
+      Walked p (lowestTried p work k m) stack work numbers list tally k stack″ work″ list″ tally″ stop

@@ -1,20 +1,34 @@
--- A run as a walk along a list of nodes (paper 01, "The search"): what each node does to the counts and to the caller's list.
+-- A run as a walk along a list of nodes (paper 01, "The search"): what each node does to the tally and to the caller's list.
 -- The search goes down the tree and takes one step for each node; proofs/Walk has the laws that join the steps, and proofs/Outcome says that
 -- the walk along all nodes of the tree is the run of model's `search`.
-use mathlib.Core.Bool.{Bool, true, false}
+use mathlib.Core.Path.{_≡_}
 use mathlib.Core.List.{List, [], _∷_, _++_, map}
 use Prim.Native.Nat.{ℕ, suc, _+_, _*_}
-use lib.ListN.{length, take, drop}
+use lib.ListN.{length, take, drop, set, replicate}
 use lib.Dec.{leb, eqb}
-use Rattle.model.specs.Lists.{flat, choose}
+use Rattle.model.specs.Lists.{flat, choose, at, total}
 use Rattle.model.specs.ValueSets.{members}
 use Rattle.model.specs.Problem.{Problem}
-use Rattle.model.specs.Search.{isPlan, nodesBelow}
-use Rattle.model.specs.Run.{Ending, finished, spent, full}
+use Rattle.model.specs.Search.{isPlan, nodesBelow, nodes}
+use Rattle.model.specs.Run.{Ending, finished, spent, full, Tally, settledBy, countsBy}
+use Rattle.layout.specs.Places.{ALL, SPENT, FULL}
 
--- how far a run has come: the nodes made, the plans listed, 0 while it goes on, 1 once it is spent and 2 once it is full, and the list
+-- one node more, which settles variable x
+abbrev pub withNode : ℕ → Tally → Tally
+withNode x t = record { nodes = t .nodes + 1; counts = set (t .counts) x (at (t .counts) x + 1) }
+
+-- nothing counted
+abbrev pub noNodes : Tally
+noNodes = record { nodes = 0; counts = replicate 12 0 }
+
+-- twelve counts, which add up to the nodes: so it is at every moment of a run (paper 02, #107)
+pub record Summed (t : Tally) : Type 0 where
+  pub twelve : length (t .counts) ≡ 12
+  pub sum : total (t .counts) ≡ t .nodes
+
+-- how far a run has come: the tally, the plans listed, ALL while it goes on, SPENT and FULL once it is, and the list
 pub record State : Type 0 where
-  pub made : ℕ
+  pub tally : Tally
   pub plans : ℕ
   pub stop : ℕ
   pub list : List ℕ
@@ -27,33 +41,38 @@ overwritten i row list = take i list ++ row ++ drop (i + length row) list
 unfoldable pub listed : ℕ → List ℕ → State → State
 listed n row s =
     choose (leb (suc (s .plans) * n) (length (s .list)))
-    (record { made = s .made; plans = suc (s .plans); stop = 0; list = overwritten (s .plans * n) row (s .list) })
-    (record { made = s .made; plans = s .plans; stop = 2; list = s .list })
+    (record { tally = s .tally; plans = suc (s .plans); stop = ALL; list = overwritten (s .plans * n) row (s .list) })
+    (record { tally = s .tally; plans = s .plans; stop = FULL; list = s .list })
 
-abbrev pub counted : State → State
-counted s = record { made = suc (s .made); plans = s .plans; stop = 0; list = s .list }
+abbrev pub counted : ℕ → State → State
+counted x s = record { tally = withNode x (s .tally); plans = s .plans; stop = ALL; list = s .list }
 
 abbrev pub exhausted : State → State
-exhausted s = record { made = s .made; plans = s .plans; stop = 1; list = s .list }
+exhausted s = record { tally = s .tally; plans = s .plans; stop = SPENT; list = s .list }
 
--- one node: nothing once the run has stopped; spent where the nodes made equal the limit; else one node more, and a plan is listed
-unfoldable pub visit : Problem → ℕ → List ℕ → State → State
-visit p limit t s =
-    choose (eqb (s .stop) 0)
-    (choose (eqb (s .made) limit) (exhausted s)
-    (choose (isPlan p t) (listed (p .variables) t (counted s)) (counted s)))
+-- one node: nothing once the run has stopped; spent where the nodes made equal the limit; else one node more, and a plan is listed.
+-- A node that settles p's variable j is counted as one of variable `order j`
+unfoldable pub visit : Problem → (ℕ → ℕ) → ℕ → List ℕ → State → State
+visit p order limit t s =
+    choose (eqb (s .stop) ALL)
+    (choose (eqb (s .tally .nodes) limit) (exhausted s)
+    (choose (isPlan p t) (listed (p .variables) t (counted (order (settledBy t)) s)) (counted (order (settledBy t)) s)))
     s
 
-unfoldable pub walk : Problem → ℕ → List (List ℕ) → State → State
-walk p limit [] s = s
-walk p limit (t ∷ ts) s = walk p limit ts (visit p limit t s)
+unfoldable pub walk : Problem → (ℕ → ℕ) → ℕ → List (List ℕ) → State → State
+walk p order limit [] s = s
+walk p order limit (t ∷ ts) s = walk p order limit ts (visit p order limit t s)
 
 -- the nodes of the values in a set, k variables left to settle after this one: for each value its node and the nodes below
 unfoldable pub nodesFor : Problem → ℕ → List ℕ → ℕ → List (List ℕ)
 nodesFor p k prefix set = flat (map (λ v. (prefix ++ (v ∷ [])) ∷ nodesBelow p k (prefix ++ (v ∷ []))) (members set))
 
--- where a run is that ended so, with this list
-abbrev pub stateAt : Ending → List ℕ → State
-stateAt (finished plans made) list = record { made = made; plans = plans; stop = 0; list = list }
-stateAt (spent plans made) list = record { made = made; plans = plans; stop = 1; list = list }
-stateAt (full plans made) list = record { made = made; plans = plans; stop = 2; list = list }
+-- how a run stopped that ended so
+abbrev pub stopIn : Ending → ℕ
+stopIn (finished plans made) = ALL
+stopIn (spent plans made) = SPENT
+stopIn (full plans made) = FULL
+
+-- the first k nodes of the tree, counted in an order
+unfoldable pub tallyBy : (ℕ → ℕ) → Problem → ℕ → Tally
+tallyBy order p k = record { nodes = k; counts = countsBy (λ t. order (settledBy t)) (take k (nodes p)) }

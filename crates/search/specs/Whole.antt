@@ -2,19 +2,26 @@
 use mathlib.Core.Path.{_≡_}
 use mathlib.Core.Bool.{false}
 use mathlib.Core.List.{List, []}
-use Prim.Native.Nat.{ℕ, _^_, _<_}
-use lib.ListN.{length}
+use Prim.Native.Nat.{ℕ, zero, suc, _+_, _^_, _<_}
+use lib.ListN.{length, set}
 use Rattle.model.specs.Lists.{at}
-use Rattle.model.specs.Search.{isLive, nodes}
+use Rattle.model.specs.Problem.{Problem}
+use Rattle.model.specs.Search.{isLive}
 use Rattle.model.specs.Verdict.{accepted, refused}
 use Rattle.model.specs.Sheet.{verdictOf, problemOf}
-use Rattle.model.specs.Run.{refusal, ended}
+use Rattle.model.specs.Run.{refusal, ended, plansIn, nodesIn, Result, resultOf, written, Tally, tallyAt}
 use Rattle.model.specs.Run as Run
+use Rattle.layout.specs.Places.{LIMIT, ORDER, PLANS, NUMBER, ITEM, ALL, DEEPER, REFUSED}
 use Rattle.sheet.specs.Form.{Zeros}
-use Rattle.search.specs.Walk.{walk, stateAt}
-use Rattle.search.specs.Pair.{stateOf, AtPrefix}
+use Rattle.search.specs.Walk.{noNodes, Summed, stopIn}
+use Rattle.search.specs.Pair.{settling, AtPrefix}
 use Rattle.search.specs.Meaning.{means}
 use Rattle.search.specs.declared.Answer.{Answer}
+
+-- the first numbers of the order are put: variable j is settled at depth j
+unfoldable pub ordered : ℕ → List ℕ → List ℕ
+ordered zero numbers = numbers
+ordered (suc k) numbers = set (ordered k numbers) (ORDER + k) k
 
 -- new arrays
 pub record Blank (stack work supports tables numbers : List ℕ) : Type 0 where
@@ -26,30 +33,39 @@ pub record Blank (stack work supports tables numbers : List ℕ) : Type 0 where
 
 -- a refusal's number and item stand in `work`
 pub record Refusal (b work : List ℕ) : Type 0 where
-  pub verdict : verdictOf b ≡ refused (at work 13) (at work 14)
-  pub number : at work 13 < 2 ^ 8
+  pub verdict : verdictOf b ≡ refused (at work NUMBER) (at work ITEM)
+  pub number : at work NUMBER < 2 ^ 8
 
--- the sheet b is refused (4), or all that the search reads of it is made, for a list of this size: its empty prefix is dead (0), or the search may begin (3)
+-- the sheet b is refused, or all that the search reads of it is made, for a list of this size: its empty prefix is dead, or the search may begin
 pub record Prepared (b : List ℕ) (limit size : ℕ) (stack work supports tables numbers : List ℕ) (step : ℕ) : Type 0 where
-  pub refused : step ≡ 4 → Refusal b work
-  pub accepted : (step ≡ 4 → ⊥) → verdictOf b ≡ accepted
-  pub begun : (step ≡ 4 → ⊥) → at work 12 ≡ 0
-  pub dead : step ≡ 0 → isLive (problemOf b) [] ≡ false
-  pub known : (step ≡ 4 → ⊥) → (step ≡ 0 → ⊥) → step ≡ 3
-  pub bounded : step ≡ 3 → at numbers 68 ≡ limit
-  pub live : step ≡ 3 → (list : List ℕ) → length list ≡ size → (made : ℕ) → made ≡ 0 → AtPrefix (problemOf b) stack work supports tables numbers list made 0
+  pub refused : step ≡ REFUSED → Refusal b work
+  pub accepted : (step ≡ REFUSED → ⊥) → verdictOf b ≡ accepted
+  pub begun : (step ≡ REFUSED → ⊥) → at work PLANS ≡ 0
+  pub dead : step ≡ ALL → isLive (problemOf b) [] ≡ false
+  pub known : (step ≡ REFUSED → ⊥) → (step ≡ ALL → ⊥) → step ≡ DEEPER
+  pub bounded : step ≡ DEEPER → at numbers LIMIT ≡ limit
+  pub order : step ≡ DEEPER → (k : ℕ) → k < 12 → settling numbers k ≡ k
+  pub live : step ≡ DEEPER → (list : List ℕ) → length list ≡ size → AtPrefix (problemOf b) stack work supports tables numbers list noNodes 0
 
--- the sheet is refused (4), and nothing else is changed; or the walk along all nodes of its tree has stopped so
-pub record Explored (b : List ℕ) (limit : ℕ) (list : List ℕ) (tally : ℕ) (work′ list′ : List ℕ) (tally′ stop : ℕ) : Type 0 where
-  pub refused : stop ≡ 4 → Refusal b work′ × (list′ ≡ list) × (tally′ ≡ tally)
-  pub accepted : (stop ≡ 4 → ⊥) → verdictOf b ≡ accepted
-  pub ended : (stop ≡ 4 → ⊥) → stateOf tally′ work′ stop list′ ≡ walk (problemOf b) limit (nodes (problemOf b)) (record { made = 0; plans = 0; stop = 0; list = list })
-  pub known : (stop ≡ 4 → ⊥) → stop < 3
+-- the run of p has come to its end: the tally, the plans, how it stopped, and the list
+pub record RunTo (p : Problem) (r : Result) (list work′ list′ : List ℕ) (tally′ : Tally) (stop : ℕ) : Type 0 where
+  pub tally : tally′ ≡ tallyAt p (nodesIn (r .ending))
+  pub plans : at work′ PLANS ≡ plansIn (r .ending)
+  pub stopped : stop ≡ stopIn (r .ending)
+  pub wrote : list′ ≡ written (r .rows) list
+
+-- the sheet is refused, and nothing else is changed; or its run has come to its end, and the counts add up
+pub record Explored (b : List ℕ) (limit : ℕ) (list : List ℕ) (tally : Tally) (work′ list′ : List ℕ) (tally′ : Tally) (stop : ℕ) : Type 0 where
+  pub refused : stop ≡ REFUSED → Refusal b work′ × (list′ ≡ list) × (tally′ ≡ tally)
+  pub accepted : (stop ≡ REFUSED → ⊥) → verdictOf b ≡ accepted
+  pub ended : (stop ≡ REFUSED → ⊥) → RunTo (problemOf b) (resultOf (problemOf b) limit (length list)) list work′ list′ tally′ stop
+  pub summed : (stop ≡ REFUSED → ⊥) → Summed tally′
+  pub known : (stop ≡ REFUSED → ⊥) → stop < DEEPER
 
 pub record Stopped (work : List ℕ) (stop : ℕ) : Type 0 where
-  pub number : stop ≡ 4 → at work 13 < 2 ^ 8
-  pub known : (stop ≡ 4 → ⊥) → stop < 3
+  pub number : stop ≡ REFUSED → at work NUMBER < 2 ^ 8
+  pub known : (stop ≡ REFUSED → ⊥) → stop < DEEPER
 
-pub record Answered (work : List ℕ) (trials stop : ℕ) (r : Answer) : Type 0 where
-  pub refused : stop ≡ 4 → means r ≡ refusal (at work 13) (at work 14)
-  pub ended : (stop ≡ 4 → ⊥) → (e : Run.Ending) × (means r ≡ ended e) × ((list : List ℕ) → stateAt e list ≡ stateOf trials work stop list)
+pub record Answered (work : List ℕ) (made stop : ℕ) (r : Answer) : Type 0 where
+  pub refused : stop ≡ REFUSED → means r ≡ refusal (at work NUMBER) (at work ITEM)
+  pub ended : (stop ≡ REFUSED → ⊥) → (e : Run.Ending) × (means r ≡ ended e) × (plansIn e ≡ at work PLANS) × (nodesIn e ≡ made) × (stopIn e ≡ stop)

@@ -1,34 +1,35 @@
 // The search (paper 01): to settle a variable is to try its values; to try a value is to settle the next variable.
+use layout::ALL;
+use layout::DEEPER;
+use layout::FULL;
+use layout::ITEM;
+use layout::LIMIT;
+use layout::NUMBER;
+use layout::ORDER;
+use layout::PLANS;
+use layout::REFUSED;
+use layout::ROOM;
+use layout::SPENT;
+use layout::VARIABLES;
+use model::ValueSet;
 ghost use mathlib.Core.Path.{_≡_};
-ghost use Prim.Native.Nat.{ℕ, _+_, _*_, _^_, _≤_, _<_, _-_};
+ghost use Prim.Native.Nat.{ℕ, _+_, _*_, _^_, _≤_, _<_};
 ghost use lib.ListN.{length, set};
-ghost use lib.Bits.{bitAnd};
 ghost use Rattle.model.specs.Lists.{at};
+ghost use Rattle.model.specs.ValueSets.{withoutMask, lowestOf};
 ghost use Rattle.model.specs.Problem.{Problem};
 ghost use Rattle.model.specs.Run.{answerOf, listOf, tallyOf};
-ghost use Rattle.search.specs.Walk.{overwritten};
-ghost use Rattle.search.specs.Pair.{prefixOf, Room, Listed, AtValues, AtValue, Walked, Entered, tried, lowestTried};
-ghost use Rattle.search.specs.Meaning.{means};
-ghost use Rattle.search.specs.Whole.{Blank, Prepared, Explored, Stopped, Answered};
+ghost use Rattle.model.specs.Run as Run;
+ghost use Rattle.layout.specs.Places.{VARIABLES, LIMIT, ROOM, ORDER, PLANS};
+ghost use Rattle.search.specs.Walk.{noNodes, overwritten};
+ghost use Rattle.search.specs.Pair.{prefixOf, settling, Countable, Counted, Cleared, ListRoom, Listed, AtValues, AtValue, Walked, Entered, tried, lowestTried};
+ghost use Rattle.search.specs.Meaning.{means, tallyIn};
+ghost use Rattle.search.specs.Whole.{ordered, Blank, Prepared, Explored, Stopped, Answered};
 
-// Where `numbers` has the number of variables, the node limit and the number of plans that the list has room for.
-const VARIABLES: usize = 64;
-
-const LIMIT: usize = 68;
-
-const ROOM: usize = 69;
-
-// Where `work` has the number of plans listed.
-const PLANS: usize = 12;
-
-// Where it has the number and the item of a refusal.
-const NUMBER: usize = 13;
-
-const ITEM: usize = 14;
-
-// What a run counts (the paper's tally): the trials made.
+// What a run counts (the paper's tally): the nodes made (its trials), and of these the nodes that settle each of twelve variables.
 pub struct Tally {
-    pub trials: u32,
+    pub nodes: u32,
+    pub counts: [u32; 12],
 }
 
 // How a run ends; each ending carries the plans listed and the nodes made.
@@ -43,42 +44,56 @@ pub enum Answer {
     Ended(Ending),
 }
 
-// A tally with one trial more, of a value of variable k.
-fn with_trial(t: Tally, k: usize) -> Tally
-    requires { ⌜ (k < 12) × (t .trials + 1 < 2 ^ 32) ⌝ }
-    ensures { λ r. ⌜ r .trials ≡ t .trials + 1 ⌝ }
-{
-    let trials = t.trials + 1;
-    Tally { trials: trials }
+// A run's answer, and what it counted.
+pub struct CountedRun {
+    pub answer: Answer,
+    pub tally: Tally,
 }
 
-// Adds a trial of a value of variable k.
-fn add_trial(t: &mut Tally, k: usize)
-    requires { ⌜ (k < 12) × (now t .trials + 1 < 2 ^ 32) ⌝ }
-    ensures { λ _. ⌜ now (t .exit) .trials ≡ now (t .entry) .trials + 1 ⌝ }
+// A tally with one node more, which settles variable x.
+fn with_node(t: Tally, x: usize) -> Tally
+    requires { ⌜ Countable x (tallyIn t) ⌝ }
+    ensures { λ r. ⌜ Counted x (tallyIn t) (tallyIn r) ⌝ }
 {
-    *t = with_trial(*t, k);
+    let mut counts = t.counts;
+    counts[x] = counts[x] + 1;
+    let nodes = t.nodes + 1;
+    Tally {
+        nodes: nodes,
+        counts: counts,
+    }
+}
+
+// Adds a node that settles variable x.
+fn add_node(t: &mut Tally, x: usize)
+    requires { ⌜ Countable x (tallyIn (now t)) ⌝ }
+    ensures { λ _. ⌜ Counted x (tallyIn (now (t .entry))) (tallyIn (now (t .exit))) ⌝ }
+{
+    *t = with_node(*t, x);
 }
 
 // The tally of nothing.
-fn no_trials() -> Tally
-    ensures { λ r. ⌜ r .trials ≡ 0 ⌝ }
+fn no_nodes() -> Tally
+    ensures { λ r. ⌜ Cleared (tallyIn r) ⌝ }
 {
-    Tally { trials: 0 }
+    Tally {
+        nodes: 0,
+        counts: [0; 12],
+    }
 }
 
 // Sets a tally to nothing.
 fn reset(t: &mut Tally)
-    ensures { λ _. ⌜ now (t .exit) .trials ≡ 0 ⌝ }
+    ensures { λ _. ⌜ Cleared (tallyIn (now (t .exit))) ⌝ }
 {
-    *t = no_trials();
+    *t = no_nodes();
 }
 
-// The trials made.
-fn trials(t: &Tally) -> u32
-    ensures { λ r. ⌜ r ≡ now (t .entry) .trials ⌝ }
+// The nodes made.
+fn nodes_made(t: &Tally) -> u32
+    ensures { λ r. ⌜ r ≡ now (t .entry) .nodes ⌝ }
 {
-    t.trials
+    t.nodes
 }
 
 // Writes the first n numbers of `work`, each a byte, over the list from `start` on.
@@ -93,20 +108,20 @@ fn keep(list: &mut [u8], work: &[u64], n: usize, start: usize)
     }
 }
 
-// A plan was found: 2 where its bytes have no room, else the plan is listed and counted.
+// A plan was found: FULL where its bytes have no room, else the plan is listed and counted.
 fn list_plan(work: &mut [u64; 256], numbers: &[u64; 384], list: &mut [u8]) -> u8
-    requires { ⌜ Room (at (now numbers) 64) (at (now numbers) 69) (now list) (at (now work) 12) ⌝ }
-    requires { ⌜ (at (now numbers) 64 ≤ 12) × ((i : ℕ) → i < at (now numbers) 64 → at (now work) i < 256) × (length (now work) ≡ 256) ⌝ }
-    ensures { λ r. ⌜ Listed (at (now (numbers .entry)) 64) (now (work .entry)) (now (list .entry)) (now (work .exit)) (now (list .exit)) r ⌝ }
+    requires { ⌜ ListRoom (at (now numbers) VARIABLES) (at (now numbers) ROOM) (now list) (at (now work) PLANS) ⌝ }
+    requires { ⌜ (at (now numbers) VARIABLES ≤ 12) × ((i : ℕ) → i < at (now numbers) VARIABLES → at (now work) i < 256) × (length (now work) ≡ 256) ⌝ }
+    ensures { λ r. ⌜ Listed (at (now (numbers .entry)) VARIABLES) (now (work .entry)) (now (list .entry)) (now (work .exit)) (now (list .exit)) r ⌝ }
 {
     let plans = work[PLANS] as usize;
     if plans == numbers[ROOM] as usize {
-        return 2;
+        return FULL;
     }
     let n = numbers[VARIABLES] as usize;
     keep(list, work, n, plans * n);
     work[PLANS] = (plans + 1) as u64;
-    0
+    ALL
 }
 
 // The values of the set of variable k at depth k.
@@ -119,22 +134,31 @@ fn candidates(stack: &[u16; 208], k: usize) -> u16
 
 // The values but the lowest.
 fn rest(m: u16) -> u16
-    requires { ⌜ 0 < m ⌝ }
-    ensures { λ r. ⌜ r ≡ bitAnd m (m - 1) ⌝ }
+    ensures { λ r. ⌜ r ≡ withoutMask m (lowestOf m) ⌝ }
 {
-    m & (m - 1)
+    let values = ValueSet { bits: m };
+    let others = values.without_lowest();
+    others.bits
 }
 
-// The number of trials that a run may make.
+// The number of nodes that a run may make.
 fn limit(numbers: &[u64; 384]) -> u32
-    requires { ⌜ at (now numbers) 68 < 2 ^ 32 ⌝ }
-    ensures { λ r. ⌜ r ≡ at (now (numbers .entry)) 68 ⌝ }
+    requires { ⌜ at (now numbers) LIMIT < 2 ^ 32 ⌝ }
+    ensures { λ r. ⌜ r ≡ at (now (numbers .entry)) LIMIT ⌝ }
 {
     numbers[LIMIT] as u32
 }
 
-// Makes the node of the lowest value m of variable k: 0 where it is dead or its plan was listed, 2 where a plan has no room,
-// 3 where the next variable is to be settled.
+// The variable that is settled at depth k.
+fn variable_at(numbers: &[u64; 384], k: usize) -> usize
+    requires { ⌜ k < 12 ⌝ }
+    ensures { λ r. ⌜ r ≡ settling (now (numbers .entry)) k ⌝ }
+{
+    numbers[ORDER + k] as usize
+}
+
+// Makes the node of the lowest of the values m of variable k: ALL where it is dead or its plan was listed, FULL where a plan has no room,
+// DEEPER where the next variable is to be settled.
 fn enter(
     stack: &mut [u16; 208],
     work: &mut [u64; 256],
@@ -145,20 +169,22 @@ fn enter(
     k: usize,
     m: u16,
 ) -> u8
-    requires { ⌜ ((p : Problem) × ((made : ℕ) × AtValue p (now stack) (now work) (now supports) (now tables) (now numbers) (now list) made k m)) ⌝ }
-    ensures { λ r. ⌜ ((p : Problem) (made : ℕ) → AtValue p (now (stack .entry)) (now (work .entry)) (now (supports .entry)) (now (tables .entry)) (now (numbers .entry)) (now (list .entry)) made k m → Entered p (now (stack .entry)) (now (work .entry)) (now (supports .entry)) (now (tables .entry)) (now (numbers .entry)) (now (list .entry)) made k m (now (stack .exit)) (now (work .exit)) (now (list .exit)) r) ⌝ }
+    requires { ⌜ ((p : Problem) × ((tally : Run.Tally) × AtValue p (now stack) (now work) (now supports) (now tables) (now numbers) (now list) tally k m)) ⌝ }
+    ensures { λ r. ⌜ ((p : Problem) (tally : Run.Tally) → AtValue p (now (stack .entry)) (now (work .entry)) (now (supports .entry)) (now (tables .entry)) (now (numbers .entry)) (now (list .entry)) tally k m → Entered p (now (stack .entry)) (now (work .entry)) (now (supports .entry)) (now (tables .entry)) (now (numbers .entry)) (now (list .entry)) tally k m (now (stack .exit)) (now (work .exit)) (now (list .exit)) r) ⌝ }
 {
-    work[k] = u16::trailing_zeros(m) as u64;
+    let values = ValueSet { bits: m };
+    let lowest = values.lowest();
+    work[k] = lowest as u64;
     if prune::child(stack, work, supports, tables, numbers, k) {
-        return 0;
+        return ALL;
     }
     if k + 1 == numbers[VARIABLES] as usize {
         return list_plan(work, numbers, list);
     }
-    3
+    DEEPER
 }
 
-// Walks along the nodes of the values m of variable k, lowest first: 0, or 1 once the run is spent, or 2 once it is full.
+// Walks along the nodes of the values m of variable k, lowest first: ALL, or SPENT or FULL once the run is.
 fn settle(
     stack: &mut [u16; 208],
     work: &mut [u64; 256],
@@ -170,17 +196,17 @@ fn settle(
     k: usize,
     m: u16,
 ) -> u8
-    requires { ⌜ ((p : Problem) × AtValues p (now stack) (now work) (now supports) (now tables) (now numbers) (now list) (now tally .trials) k m) ⌝ }
-    ensures { λ r. ⌜ ((p : Problem) → AtValues p (now (stack .entry)) (now (work .entry)) (now (supports .entry)) (now (tables .entry)) (now (numbers .entry)) (now (list .entry)) (now (tally .entry) .trials) k m → Walked p (tried p (now (work .entry)) k m) (now (stack .entry)) (now (work .entry)) (now (numbers .entry)) (now (list .entry)) (now (tally .entry) .trials) k (now (stack .exit)) (now (work .exit)) (now (list .exit)) (now (tally .exit) .trials) r) ⌝ }
+    requires { ⌜ ((p : Problem) × AtValues p (now stack) (now work) (now supports) (now tables) (now numbers) (now list) (tallyIn (now tally)) k m) ⌝ }
+    ensures { λ r. ⌜ ((p : Problem) → AtValues p (now (stack .entry)) (now (work .entry)) (now (supports .entry)) (now (tables .entry)) (now (numbers .entry)) (now (list .entry)) (tallyIn (now (tally .entry))) k m → Walked p (tried p (now (work .entry)) k m) (now (stack .entry)) (now (work .entry)) (now (numbers .entry)) (now (list .entry)) (tallyIn (now (tally .entry))) k (now (stack .exit)) (now (work .exit)) (now (list .exit)) (tallyIn (now (tally .exit))) r) ⌝ }
 {
     if m == 0 {
-        return 0;
+        return ALL;
     }
-    if trials(tally) == limit(numbers) {
-        return 1;
+    if nodes_made(tally) == limit(numbers) {
+        return SPENT;
     }
     let stop = try_value(stack, work, supports, tables, numbers, list, tally, k, m);
-    if stop != 0 {
+    if stop != ALL {
         return stop;
     }
     settle(
@@ -196,7 +222,7 @@ fn settle(
     )
 }
 
-// Walks along the node of the lowest value m of variable k and those below it, which are the next variable's.
+// Walks along the node of the lowest of the values m of variable k and those below it, which are the next variable's.
 fn try_value(
     stack: &mut [u16; 208],
     work: &mut [u64; 256],
@@ -208,12 +234,13 @@ fn try_value(
     k: usize,
     m: u16,
 ) -> u8
-    requires { ⌜ ((p : Problem) × AtValue p (now stack) (now work) (now supports) (now tables) (now numbers) (now list) (now tally .trials) k m) ⌝ }
-    ensures { λ r. ⌜ ((p : Problem) → AtValue p (now (stack .entry)) (now (work .entry)) (now (supports .entry)) (now (tables .entry)) (now (numbers .entry)) (now (list .entry)) (now (tally .entry) .trials) k m → Walked p (lowestTried p (now (work .entry)) k m) (now (stack .entry)) (now (work .entry)) (now (numbers .entry)) (now (list .entry)) (now (tally .entry) .trials) k (now (stack .exit)) (now (work .exit)) (now (list .exit)) (now (tally .exit) .trials) r) ⌝ }
+    requires { ⌜ ((p : Problem) × AtValue p (now stack) (now work) (now supports) (now tables) (now numbers) (now list) (tallyIn (now tally)) k m) ⌝ }
+    ensures { λ r. ⌜ ((p : Problem) → AtValue p (now (stack .entry)) (now (work .entry)) (now (supports .entry)) (now (tables .entry)) (now (numbers .entry)) (now (list .entry)) (tallyIn (now (tally .entry))) k m → Walked p (lowestTried p (now (work .entry)) k m) (now (stack .entry)) (now (work .entry)) (now (numbers .entry)) (now (list .entry)) (tallyIn (now (tally .entry))) k (now (stack .exit)) (now (work .exit)) (now (list .exit)) (tallyIn (now (tally .exit))) r) ⌝ }
 {
-    add_trial(tally, k);
+    let x = variable_at(numbers, k);
+    add_node(tally, x);
     let step = enter(stack, work, supports, tables, numbers, list, k, m);
-    if step != 3 {
+    if step != DEEPER {
         return step;
     }
     let values = candidates(stack, k + 1);
@@ -232,15 +259,27 @@ fn try_value(
 
 // Puts the node limit and the number of plans that there is room for among the numbers, which are lent as a slice: that tells their length.
 fn put_bounds(numbers: &mut [u64], limit: u64, room: u64)
-    requires { ⌜ 69 < length (now numbers) ⌝ }
-    ensures { λ _. ⌜ now (numbers .exit) ≡ set (set (now (numbers .entry)) 68 limit) 69 room ⌝ }
+    requires { ⌜ ROOM < length (now numbers) ⌝ }
+    ensures { λ _. ⌜ now (numbers .exit) ≡ set (set (now (numbers .entry)) LIMIT limit) ROOM room ⌝ }
 {
     numbers[LIMIT] = limit;
     numbers[ROOM] = room;
 }
 
-// Puts the questions to the sheet, and makes of it all that the search reads: 4 where it is refused, whose number and item then stand in `work`;
-// 0 where the empty prefix is dead, else 3.
+// Puts the order 0, 1, .. of the variables among the numbers.
+fn put_order(numbers: &mut [u64])
+    requires { ⌜ ORDER + 12 ≤ length (now numbers) ⌝ }
+    ensures { λ _. ⌜ now (numbers .exit) ≡ ordered 12 (now (numbers .entry)) ⌝ }
+{
+    let mut k = 0;
+    while k < 12 {
+        numbers[ORDER + k] = k as u64;
+        k += 1;
+    }
+}
+
+// Puts the questions to the sheet, and makes of it all that the search reads: REFUSED where it is, and its number and item then stand in `work`;
+// ALL where the empty prefix is dead, else DEEPER.
 fn prepare(
     stack: &mut [u16; 208],
     work: &mut [u64; 256],
@@ -262,43 +301,44 @@ fn prepare(
             let room = size / n;
             put_bounds(numbers, limit as u64, room as u64);
             index::index(numbers, supports, &images, tables);
+            put_order(numbers);
             if prune::root(stack, work, supports, tables, numbers) {
-                0
+                ALL
             } else {
-                3
+                DEEPER
             }
         }
         sheet::Answer::Refused { number, item } => {
             work[NUMBER] = number as u64;
             work[ITEM] = item as u64;
-            4
+            REFUSED
         }
     }
 }
 
-// The answer of a run that has stopped so, with what stands in `work` and this many trials.
-fn answered(work: &[u64; 256], trials: u32, stop: u8) -> Answer
+// The answer of a run that has stopped so, with what stands in `work` and this many nodes.
+fn answered(work: &[u64; 256], made: u32, stop: u8) -> Answer
     requires { ⌜ Stopped (now work) stop ⌝ }
-    ensures { λ r. ⌜ Answered (now (work .entry)) trials stop r ⌝ }
+    ensures { λ r. ⌜ Answered (now (work .entry)) made stop r ⌝ }
 {
-    if stop == 4 {
+    if stop == REFUSED {
         return Answer::Refused {
             number: work[NUMBER] as u8,
             item: work[ITEM] as usize,
         };
     }
     let plans = work[PLANS] as usize;
-    let nodes = trials as usize;
-    if stop == 0 {
+    let nodes = made as usize;
+    if stop == ALL {
         return Answer::Ended(Ending::Finished(plans, nodes));
     }
-    if stop == 1 {
+    if stop == SPENT {
         return Answer::Ended(Ending::Spent(plans, nodes));
     }
     Answer::Ended(Ending::Full(plans, nodes))
 }
 
-// The run on arrays that are lent: the questions, then the search. 4 where the sheet is refused, else how the search stopped.
+// The run on arrays that are lent: the questions, then the search. REFUSED where the sheet is, else how the search stopped.
 fn explore(
     stack: &mut [u16; 208],
     work: &mut [u64; 256],
@@ -311,7 +351,7 @@ fn explore(
     tally: &mut Tally,
 ) -> u8
     requires { ⌜ Blank (now stack) (now work) (now supports) (now tables) (now numbers) ⌝ }
-    ensures { λ r. ⌜ Explored (now (sheet .entry)) limit (now (list .entry)) (now (tally .entry) .trials) (now (work .exit)) (now (list .exit)) (now (tally .exit) .trials) r ⌝ }
+    ensures { λ r. ⌜ Explored (now (sheet .entry)) limit (now (list .entry)) (tallyIn (now (tally .entry))) (now (work .exit)) (now (list .exit)) (tallyIn (now (tally .exit))) r ⌝ }
 {
     let step = prepare(
         stack,
@@ -323,21 +363,21 @@ fn explore(
         limit,
         list.len(),
     );
-    if step == 4 {
+    if step == REFUSED {
         return step;
     }
     reset(tally);
-    if step == 0 {
+    if step == ALL {
         return step;
     }
     let m = candidates(stack, 0);
     settle(stack, work, supports, tables, numbers, list, tally, 0, m)
 }
 
-// A run (paper 01) that counts its trials in a tally that is lent: the questions first, then the search, with a node limit (the paper's allowance)
+// A run (paper 01) that counts its nodes in a tally that is lent: the questions first, then the search, with a node limit (the paper's allowance)
 // and a list for the plans. The tally is set to nothing once the questions are passed; a refusal leaves it as it came.
 pub fn run_with(sheet: &[u8], limit: u32, list: &mut [u8], tally: &mut Tally) -> Answer
-    ensures { λ r. ⌜ (means r ≡ answerOf (now (sheet .entry)) limit (now (list .entry))) × (now (list .exit) ≡ listOf (now (sheet .entry)) limit (now (list .entry))) × (now (tally .exit) .trials ≡ tallyOf (now (sheet .entry)) limit (now (list .entry)) (now (tally .entry) .trials)) ⌝ }
+    ensures { λ r. ⌜ (means r ≡ answerOf (now (sheet .entry)) limit (now (list .entry))) × (now (list .exit) ≡ listOf (now (sheet .entry)) limit (now (list .entry))) × (tallyIn (now (tally .exit)) ≡ tallyOf (now (sheet .entry)) limit (now (list .entry)) (tallyIn (now (tally .entry)))) ⌝ }
 {
     let mut stack = [0u16; 208];
     let mut work = [0u64; 256];
@@ -355,14 +395,27 @@ pub fn run_with(sheet: &[u8], limit: u32, list: &mut [u8], tally: &mut Tally) ->
         list,
         tally,
     );
-    answered(&work, trials(tally), stop)
+    answered(&work, nodes_made(tally), stop)
 }
 
-// A run with a tally of its own.
+// A run with a tally of its own, which begins at nothing and is handed out with the answer.
+pub fn run_counted(sheet: &[u8], limit: u32, list: &mut [u8]) -> CountedRun
+    ensures { λ r. ⌜ (means (r .answer) ≡ answerOf (now (sheet .entry)) limit (now (list .entry))) × (now (list .exit) ≡ listOf (now (sheet .entry)) limit (now (list .entry))) × (tallyIn (r .tally) ≡ tallyOf (now (sheet .entry)) limit (now (list .entry)) noNodes) ⌝ }
+{
+    let mut tally = no_nodes();
+    let answer = run_with(sheet, limit, list, &mut tally);
+    CountedRun {
+        answer: answer,
+        tally: tally,
+    }
+}
+
+// A run whose tally is not asked for.
 pub fn run(sheet: &[u8], limit: u32, list: &mut [u8]) -> Answer
     ensures { λ r. ⌜ means r ≡ answerOf (now (sheet .entry)) limit (now (list .entry)) ⌝ }
     ensures { λ _. ⌜ now (list .exit) ≡ listOf (now (sheet .entry)) limit (now (list .entry)) ⌝ }
 {
-    let mut tally = no_trials();
-    run_with(sheet, limit, list, &mut tally)
+    let r = run_counted(sheet, limit, list);
+    let answer = r.answer;
+    answer
 }

@@ -5,24 +5,21 @@ use mathlib.Core.List.{List, [], _∷_, _++_, map, List·Memᴰ, List·Memᴰ·h
 use Prim.Native.Nat.{ℕ, zero, suc, _+_, _<_}
 use native.Mathlib.Omega.{arith}
 use native.Mathlib.Numerals.{add-one}
-use lib.ListN.{length, getD}
+use lib.ListN.{getD}
 use Rattle.model.specs.Lists.{either, any, below, upFrom}
 use Rattle.model.proofs.Lists.{any-cons, upFrom-add, map-append, below-e}
+use Rattle.model.proofs.Members.{either-no}
 
-either-assoc : (a b c : Bool) → either a (either b c) ≡ either (either a b) c
+pub either-assoc : (a b c : Bool) → either (either a b) c ≡ either a (either b c)
 either-assoc true b c = refl
 either-assoc false b c = refl
-
-either-none : (a : Bool) → either a false ≡ a
-either-none true = refl
-either-none false = refl
 
 module _ {A : Type 0} where
   any-append : (p : A → Bool) (l m : List A) → any p (l ++ m) ≡ either (any p l) (any p m)
   unfolding any
   any-append p [] m = refl
   any-append p (x ∷ l) m =
-      any-cons p x (l ++ m) ∙ ap (either (p x)) (any-append p l m) ∙ either-assoc (p x) (any p l) (any p m)
+      any-cons p x (l ++ m) ∙ ap (either (p x)) (any-append p l m) ∙ sym (either-assoc (p x) (any p l) (any p m))
       ∙ ap (λ (t : Bool). either t (any p m)) (sym (any-cons p x l))
 
   -- one more
@@ -33,7 +30,7 @@ module _ {A : Type 0} where
       ∙ ap (λ (l : List ℕ). any p (map f l)) (upFrom-add 0 k 1)
       ∙ ap (any p) (map-append f (upFrom 0 k) (upFrom (0 + k) 1))
       ∙ any-append p (map f (upFrom 0 k)) (f (0 + k) ∷ [])
-      ∙ ap (either (any p (map f (upFrom 0 k)))) (any-cons p (f (0 + k)) [] ∙ either-none (p (f (0 + k))) ∙ ap (λ (n : ℕ). p (f n)) (let e : 0 + k ≡ k = omega arith in e))
+      ∙ ap (either (any p (map f (upFrom 0 k)))) (any-cons p (f (0 + k)) [] ∙ either-no (p (f (0 + k))) ∙ ap (λ (n : ℕ). p (f n)) (let e : 0 + k ≡ k = omega arith in e))
 
   pub any-none : (p : A → Bool) (f : ℕ → A) → any p (map f (below 0)) ≡ false
   unfolding below upFrom any
@@ -55,18 +52,9 @@ pub any-same : {A B : Type 0} (p : A → Bool) (q : B → Bool) (f : ℕ → A) 
 any-same p q f g k h =
     any-map p f (below k) ∙ any-ext (λ j. p (f j)) (λ j. q (g j)) (below k) (λ j m. h j (below-e k j m)) ∙ sym (any-map q g (below k))
 
--- as many as numbers below k
-pub length-below : {A : Type 0} (f : ℕ → A) (k : ℕ) → length (map f (below k)) ≡ k
+pub getD-below : {A : Type 0} (f : ℕ → A) (k e : ℕ) (x : A) → e < k → getD (map f (below k)) e x ≡ f e
 unfolding below upFrom
-length-below f k = from 0 k
-  where
-    from : (a k : ℕ) → length (map f (upFrom a k)) ≡ k
-    from a zero = refl
-    from a (suc k) = ap suc (from (suc a) k)
-
-pub at-below : {A : Type 0} (f : ℕ → A) (k e : ℕ) (x : A) → e < k → getD (map f (below k)) e x ≡ f e
-unfolding below upFrom
-at-below {A} f k e x l = from 0 k e l ∙ ap f (let z : 0 + e ≡ e = omega arith in z)
+getD-below {A} f k e x l = from 0 k e l ∙ ap f (let z : 0 + e ≡ e = omega arith in z)
   where
     from : (a k e : ℕ) → e < k → getD (map f (upFrom a k)) e x ≡ f (a + e)
     from a zero e l = absurd (omega arith)

@@ -9,10 +9,10 @@ use borrow.Author.Tests.{leb-true}
 use Rattle.model.specs.Lists.{both}
 use Rattle.model.proofs.Lists.{both-r, T-of, of-T}
 use Rattle.model.specs.Verdict.{Verdict, refused, ask}
-use Rattle.model.specs.Sheet.{headerOf, Header as Numbers}
-use Rattle.sheet.specs.Read.{stated}
-use Rattle.sheet.specs.Parts.{headerAsked, headerVerdict}
-use Rattle.sheet.specs.declared.read.Header.{Header}
+use Rattle.model.specs.Sheet.{headerOf, headerVerdict, Header as Numbers}
+use Rattle.reader.specs.Read.{stated}
+use Rattle.reader.specs.declared.Header.{Header}
+use Rattle.sheet.specs.Parts.{headerAsked}
 
 -- a question passed, and one that is not
 pub pass : (c : Bool) (n i : ℕ) (v w : Verdict) → c ≡ true → v ≡ w → ask c n i v ≡ w
@@ -25,5 +25,5 @@ pub in-range : (n : ℕ) → both (leb 1 n) (leb n 12) ≡ true → n ≤ 12
 in-range n e = leb-true n 12 (of-T (leb n 12) (both-r (leb 1 n) (leb n 12) (T-of (both (leb 1 n) (leb n 12)) e)))
 
 -- what was asked of the header as read was asked of the sheet's
-pub heading : (h : Header) (b : List ℕ) (later v : Verdict) → stated h ≡ headerOf b → headerAsked (stated h) (length b) later ≡ v → headerVerdict b later ≡ v
-heading h b later v e p = subst (λ (k : Numbers). headerAsked k (length b) later ≡ v) e p
+pub heading : (h : Header) (b : List ℕ) (later v : Verdict) → stated h ≡ headerOf b → headerVerdict (stated h) (length b) later ≡ v → headerAsked b later ≡ v
+heading h b later v e p = subst (λ (k : Numbers). headerVerdict k (length b) later ≡ v) e p

@@ -16,12 +16,12 @@ use Rattle.model.proofs.Sets.{has-none}
 use Rattle.model.proofs.Masks.{is-mask}
 use Rattle.model.proofs.Accepted.{length-words}
 use Rattle.layout.specs.Layout.{place}
-use Rattle.sheet.specs.Fill.{rowKey, rowFits, supportsWith, supported}
+use Rattle.sheet.specs.Fill.{rowKey, rowFits, supportsWith, withRows}
 use Rattle.sheet.specs.Steps.{offsetAt, supportsTo}
 use Rattle.sheet.proofs.Any.{any-same}
 use Rattle.sheet.proofs.Keys.{keyFrom, Digits, key-same, key-snoc, key-place, key-words, key-bound}
 use Rattle.sheet.proofs.RowsTest.{digits}
-use Rattle.sheet.proofs.Support.{supported-length, supported-at, supported-small, supported-low, supported-high}
+use Rattle.sheet.proofs.Support.{rows-length, rows-at, rows-small, rows-low, rows-high}
 use Rattle.sheet.proofs.Touch.{Good}
 
 -- the key of a row that passed
@@ -70,35 +70,35 @@ module _ (b : List ℕ) (n d o c : ℕ) (d16 : d ≤ 16) (c32 : c ≤ 32) (good 
       m : List ℕ
       m = supportsTo b o k l
 
-      more : Backed b o k l m → Backed b o (suc k) l (supported b from a (256 * k) r m)
+      more : Backed b o k l m → Backed b o (suc k) l (withRows b from a (256 * k) r m)
       more t =
           let keys = row-small b n d p d16 (good k (omega arith)) in
           let room : 256 * k + 256 ≤ length m = omega (arith, t .sized) in
           record {
-            sized = supported-length b from a (256 * k) r keys m room r ∙ t .sized;
-            small = supported-small b from a (256 * k) r keys m room r (omega arith) (t .small);
-            rest = λ y z. supported-high b from a (256 * k) r keys m room r (omega arith) y (omega arith) ∙ t .rest y (omega arith);
+            sized = rows-length b from a (256 * k) r keys m room r ∙ t .sized;
+            small = rows-small b from a (256 * k) r keys m room r (omega arith) (t .small);
+            rest = λ y z. rows-high b from a (256 * k) r keys m room r (omega arith) y (omega arith) ∙ t .rest y (omega arith);
             holds = λ j q v z u w. slot keys room t j q v z u w (eqb j k) refl;
           }
         where
           own : ((i : ℕ) → i < r → rowKey b from a i < 4096) → 256 * k + 256 ≤ length m → Backed b o k l m → (q v : ℕ) → v < 16 →
-              has (at (supported b from a (256 * k) r m) (256 * k + q)) v ≡ any (eqb (16 * q + v)) (map (rowKey b from a) (below r))
+              has (at (withRows b from a (256 * k) r m) (256 * k + q)) v ≡ any (eqb (16 * q + v)) (map (rowKey b from a) (below r))
           own keys room t q v w =
               let e : (16 * q + v) / 16 ≡ q = omega arith in
               let f : (16 * q + v) % 16 ≡ v = omega arith in
-              let x = supported b from a (256 * k) r m in
+              let x = withRows b from a (256 * k) r m in
               ap₂ (λ (i u : ℕ). has (at x (256 * k + i)) u) (sym e) (sym f)
-              ∙ supported-at b from a (256 * k) r keys m room r (omega arith) (16 * q + v)
+              ∙ rows-at b from a (256 * k) r keys m room r (omega arith) (16 * q + v)
               ∙ ap (λ (s : Bool). either s (any (eqb (16 * q + v)) (map (rowKey b from a) (below r))))
               (ap (λ (s : ℕ). has s ((16 * q + v) % 16)) (t .rest (256 * k + (16 * q + v) / 16) (omega arith) ∙ blank (256 * k + (16 * q + v) / 16)) ∙ has-none ((16 * q + v) % 16))
 
           slot : ((i : ℕ) → i < r → rowKey b from a i < 4096) → 256 * k + 256 ≤ length m → Backed b o k l m → (j q v : ℕ) → j < suc k → q < 256 → v < 16 → (s : Bool) → eqb j k ≡ s →
-              has (at (supported b from a (256 * k) r m) (256 * j + q)) v ≡ any (eqb (16 * q + v)) (keysAt b (offsetAt b o j))
+              has (at (withRows b from a (256 * k) r m) (256 * j + q)) v ≡ any (eqb (16 * q + v)) (keysAt b (offsetAt b o j))
           slot keys room t j q v z u w true e =
-              subst (λ (i : ℕ). has (at (supported b from a (256 * k) r m) (256 * i + q)) v ≡ any (eqb (16 * q + v)) (keysAt b (offsetAt b o i))) (sym (eqb-true j k e)) (own keys room t q v w)
+              subst (λ (i : ℕ). has (at (withRows b from a (256 * k) r m) (256 * i + q)) v ≡ any (eqb (16 * q + v)) (keysAt b (offsetAt b o i))) (sym (eqb-true j k e)) (own keys room t q v w)
           slot keys room t j q v z u w false e =
               let d : j ≡ k → ⊥ = eqb-false j k e in
-              ap (λ (s : ℕ). has s v) (supported-low b from a (256 * k) r keys m room r (omega arith) (256 * j + q) (omega arith)) ∙ t .holds j q v (omega arith) u w
+              ap (λ (s : ℕ). has s v) (rows-low b from a (256 * k) r keys m room r (omega arith) (256 * j + q) (omega arith)) ∙ t .holds j q v (omega arith) u w
 
 -- ---- what the sets say of the rows
 digits-of : (vs : List ℕ) → ((i : ℕ) → i < length vs → at vs i < 16) → Digits vs

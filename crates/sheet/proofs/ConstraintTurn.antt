@@ -10,10 +10,10 @@ use lib.Dec.{T, leb, ltb, eqb}
 use borrow.Author.Tests.{le-leb, lt-leb, leb-true, eqb-true, eqb-false}
 use Rattle.model.specs.Lists.{both, all, ascending, rowsAscend}
 use Rattle.model.specs.Verdict.{Verdict, refused}
-use Rattle.model.specs.Sheet.{Header, headerOf, word, scopeAt, rowsAt, afterAt}
+use Rattle.model.specs.Sheet.{Header, headerOf, word, scopeAt, rowsAt, afterAt, constraintVerdict}
 use Rattle.model.proofs.Lists.{both-l, both-r, T-of, of-T}
 use Rattle.sheet.specs.Fill.{order, numbersWith, supportsWith, ScopeAsked, RowsAsked}
-use Rattle.sheet.specs.Steps.{constraintVerdict, ConstraintAsked}
+use Rattle.sheet.specs.Steps.{ConstraintAsked}
 use Rattle.sheet.specs.declared.constraints.Step.the-variants.{Next, Refused}
 use Rattle.sheet.proofs.RowsTest.{order-two, rows-ascend, rows-fall, rows-fit, row-unfit}
 

@@ -7,9 +7,9 @@ use native.Mathlib.Omega.{arith}
 use lib.Dec.{eqb}
 use borrow.Author.Tests.{eq-eqb, ne-eqb}
 use Rattle.model.specs.Verdict.{Verdict, refused, ask}
-use Rattle.model.specs.Sheet.{Header, headerOf, afterAt, constraintsVerdict}
+use Rattle.model.specs.Sheet.{headerOf, afterAt, constraintVerdict, constraintsVerdict}
 use Rattle.sheet.specs.Fill.{numbersWith, supportsWith}
-use Rattle.sheet.specs.Steps.{constraintVerdict, stepThen, ConstraintAsked, offsetAt, numbersTo, supportsTo, ConstraintsAsked}
+use Rattle.sheet.specs.Steps.{stepThen, ConstraintAsked, offsetAt, numbersTo, supportsTo, ConstraintsAsked}
 use Rattle.sheet.specs.declared.Answer.the-variants.{Accepted, Refused as RefusedBy}
 use Rattle.sheet.specs.declared.constraints.Step.{Step}
 use Rattle.sheet.specs.declared.constraints.Step.the-variants.{Next, Refused}
@@ -36,7 +36,7 @@ constraints-none b c o numbers supports e l =
 module _ (b : List ℕ) (c : ℕ) (numbers supports : List ℕ) (k o : ℕ) (numbers′ supports′ : List ℕ) (t : ConstraintsTo b c numbers supports k o numbers′ supports′) (l : k < c) where
   open-one : (later : Verdict) → constraintsVerdict b (headerOf b) c 0 (headerOf b .second) later
       ≡ constraintVerdict b (headerOf b) k o (constraintsVerdict b (headerOf b) (c - (k + 1)) (suc k) (afterAt b o) later)
-  unfolding constraintsVerdict constraintVerdict
+  unfolding constraintsVerdict
   open-one later = t .passed later ∙ ap (λ (m : ℕ). constraintsVerdict b (headerOf b) m k o later) (let z : c - k ≡ suc (c - (k + 1)) = omega arith in z)
 
   pub constraints-no : (number : ℕ) (n s : List ℕ) (w : Step) → c ≡ headerOf b .constraints → w ≡ Refused number → ConstraintAsked b o k numbers′ supports′ n s w → ConstraintsAsked b numbers supports n s (RefusedBy number k)

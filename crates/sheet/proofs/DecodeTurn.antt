@@ -7,7 +7,7 @@ use native.Mathlib.Omega.{arith}
 use native.Mathlib.Nat.{not-suc-le-zero, div-add-mod', mod-lt, div-lt-iff-lt-mul, mul-le-mul-right, suc-mul, mul-comm}
 use native.Mathlib.Numerals.{add-one}
 use lib.Dec.{T, eqb, ltb, ltb→lt, eqb→eq}
-use lib.ListN.{length, set, length-set}
+use lib.ListN.{length, set}
 use borrow.Author.Tests.{eqb-true, eqb-false}
 use lib.Arith.{digits-lt, digits-div, digits-mod}
 use Rattle.model.specs.Lists.{at, both, all, below}
@@ -15,59 +15,35 @@ use Rattle.model.specs.ValueSets.{has}
 use Rattle.model.specs.Verdict.{accepted, isAccepted}
 use Rattle.model.specs.Problem.{Problem, isPair, pair}
 use Rattle.model.specs.Sheet.{headerOf, word, words, tableAt, problemOf, permutesPairs, distinct, verdictOf}
-use Rattle.model.proofs.Lists.{both-l, all-e, below-i}
+use Rattle.model.proofs.Lists.{both-l, all-e, below-i, length-below}
 use Rattle.model.proofs.Accepted.{Passed, passed, at-words}
-use Rattle.layout.specs.Layout.{Images, symmetryAt}
-use Rattle.sheet.specs.Decoding.{codeOf, Decodable, Decoded}
-use Rattle.sheet.proofs.Arrays.{at-same, at-other}
-use Rattle.sheet.proofs.Any.{length-below, at-below}
+use Rattle.model.proofs.Filling.{filled-turn}
+use Rattle.model.specs.Filling.{Filled}
+use Rattle.layout.specs.Layout.{Images, symmetryAt, pairCode}
+use Rattle.symmetry.proofs.Codes.{code-small, code-inj}
+use Rattle.sheet.specs.Decoding.{Decodable, Decoded}
+use Rattle.sheet.proofs.Any.{getD-below}
 use Rattle.sheet.proofs.Passed.{is-accepted}
 use Rattle.sheet.proofs.TablesTurn.{tableOffset, table-room}
 
--- ---- codes
-pub quotient-small : (q d : ℕ) → 1 ≤ d → q < 12 * d → q / d < 12
-quotient-small q d h l = div-lt-iff-lt-mul h .1 l
-
-pub remainder-small : (q d : ℕ) → 1 ≤ d → q % d < d
-remainder-small q d h = mod-lt q h
-
-pub code-small : (q d : ℕ) → 1 ≤ d → d ≤ 16 → q < 12 * d → codeOf d q < 192
-code-small q d h k l = omega (arith, quotient-small q d h l, remainder-small q d h)
-
-code-inj : (q r d : ℕ) → 1 ≤ d → d ≤ 16 → codeOf d q ≡ codeOf d r → q ≡ r
-code-inj q r d h k e =
-    let a : q % d < d = remainder-small q d h in
-    let b : r % d < d = remainder-small r d h in
-    let x : q / d ≡ r / d = omega arith in
-    let y : q % d ≡ r % d = omega arith in
-    sym (div-add-mod' q d) ∙ ap₂ (λ (i j : ℕ). i * d + j) x y ∙ div-add-mod' r d
-
 -- ---- one table
-pub decode-none : (b : List ℕ) (from d base : ℕ) (old : List ℕ) → length old ≡ 26112 → Decoded b from 0 d base old old
-decode-none b from d base old e = record { sized = e; images = λ q l. absurd (not-suc-le-zero l); low = λ i l. refl }
+-- the images of the first k pair numbers, and nothing else changed
+abbrev pub DecodedTo : List ℕ → ℕ → ℕ → ℕ → ℕ → List ℕ → List ℕ → Type 0
+DecodedTo b from d base k old new = Filled (λ q. base + pairCode d q) (λ q w. w ≡ pairCode d (word b (from + 2 * q))) k old new
 
-pub decode-more : (b : List ℕ) (from count d base k : ℕ) (old new : List ℕ) (y slot code : ℕ) → Decodable b from count d base old → k < count → y ≡ word b (from + 2 * k) → slot ≡ codeOf d k → code ≡ codeOf d y →
-    Decoded b from k d base old new → Decoded b from (k + 1) d base old (set new (base + slot) code)
-decode-more b from count d base k old new y slot code f l ey es ec t =
-    record {
-      sized = length-set new (base + slot) code ∙ t .sized;
-      images = λ q m. here q m (eqb q k) refl;
-      low = λ i m. at-other new (base + slot) i code (λ e. omega arith) ∙ t .low i m;
-    }
-  where
-    here : (q : ℕ) → q < k + 1 → (s : Bool) → eqb q k ≡ s → at (set new (base + slot) code) (base + codeOf d q) ≡ codeOf d (word b (from + 2 * q))
-    here q m true e =
-        let z : q ≡ k = eqb-true q k e in
-        ap (λ (i : ℕ). at (set new (base + slot) code) (base + i)) (ap (codeOf d) z ∙ sym es)
-        ∙ at-same new (base + slot) code (omega (arith, code-small k d (f .some) (f .few) (omega (arith, f .small)), t .sized, f .room))
-        ∙ ec ∙ ap (codeOf d) (ey ∙ ap (λ (i : ℕ). word b (from + 2 * i)) (sym z))
-    here q m false e =
-        let n : q ≡ k → ⊥ = eqb-false q k e in
-        at-other new (base + slot) (base + codeOf d q) code (λ z. n (code-inj q k d (f .some) (f .few) (let w : codeOf d q ≡ codeOf d k = omega arith in w)))
-        ∙ t .images q (omega arith)
+module _ (b : List ℕ) (from count d base : ℕ) (old : List ℕ) (f : Decodable b from count d base old) where
+  -- what is asked of a pair number to have a code
+  pub coded : (q : ℕ) → q < count → (1 ≤ d) × (d ≤ 16) × (q < 12 * d)
+  coded q l = (f .some, f .few, omega (arith, f .small))
 
-pub decode-end : (b : List ℕ) (from count d base k : ℕ) (old new : List ℕ) → count ≤ k → k ≤ count → Decoded b from k d base old new → Decoded b from count d base old new
-decode-end b from count d base k old new l m t = let e : k ≡ count = omega arith in subst (λ (i : ℕ). Decoded b from i d base old new) e t
+  pub decode-more : (k y slot code : ℕ) (new : List ℕ) → k < count → y ≡ word b (from + 2 * k) → (slot ≡ pairCode d k) × (slot < 192) → code ≡ pairCode d y →
+      DecodedTo b from d base k old new → DecodedTo b from d base (k + 1) old (set new (base + slot) code)
+  decode-more k y slot code new l ey es ec t =
+      filled-turn (λ q. base + pairCode d q) _ old new k (base + slot) code t (ap (λ (x : ℕ). base + x) (es .0)) (omega (arith, es .1, f .room, f .sized))
+      (λ v m e. let z : v ≡ k = code-inj v k d (f .some) (f .few) (let w : pairCode d v ≡ pairCode d k = omega arith in w) in omega arith) (ec ∙ ap (pairCode d) ey)
+
+pub decode-end : (b : List ℕ) (from count d base k : ℕ) (old new : List ℕ) → count ≤ k → k ≤ count → DecodedTo b from d base k old new → Decoded b from count d base old new
+decode-end b from count d base k old new l m t = record { sized = t .size; images = λ q h. t .here q (omega arith); others = λ i n. t .other i (λ q h. n q (omega arith)) }
 
 -- ---- all tables
 is-lt : (p : Problem) (y : ℕ) → T (isPair p y) → y < p .variables * p .values
@@ -104,7 +80,7 @@ module _ (b : List ℕ) (v : verdictOf b ≡ accepted) where
 pub record ImagesTo (b : List ℕ) (e o : ℕ) (new : List ℕ) : Type 0 where
   pub here : o ≡ tableOffset b e
   pub sized : length new ≡ 26112
-  pub images : (f q : ℕ) → f < e → q < headerOf b .variables * headerOf b .values → at new (192 * f + codeOf (headerOf b .values) q) ≡ codeOf (headerOf b .values) (word b (tableOffset b f + 2 * q))
+  pub images : (f q : ℕ) → f < e → q < headerOf b .variables * headerOf b .values → at new (192 * f + pairCode (headerOf b .values) q) ≡ pairCode (headerOf b .values) (word b (tableOffset b f + 2 * q))
 
 pub images-none : (b : List ℕ) (o : ℕ) (new : List ℕ) → o ≡ headerOf b .third → length new ≡ 26112 → ImagesTo b 0 o new
 images-none b o new e s =
@@ -116,16 +92,16 @@ images-none b o new e s =
 
 module _ (b : List ℕ) (v : verdictOf b ≡ accepted) (e o : ℕ) (new : List ℕ) (t : ImagesTo b e o new) (l : e < headerOf b .symmetries) (count d : ℕ) (ed : d ≡ headerOf b .values) (ec : count ≡ headerOf b .variables * headerOf b .values) where
   product : headerOf b .variables * headerOf b .values ≤ 12 * headerOf b .values
-  product = mul-le-mul-right (headerOf b .values) (accept b v .few)
+  product = mul-le-mul-right (headerOf b .values) (accept b v .header .few)
 
   pub decodable : Decodable b o count d (192 * e) new
   decodable =
       record {
-        some = omega (arith, accept b v .one);
-        few = omega (arith, accept b v .sixteen);
+        some = omega (arith, accept b v .header .one);
+        few = omega (arith, accept b v .header .sixteen);
         small = omega (arith, product);
-        whole = omega (arith, t .here, table-room b e (sym (accept b v .whole) ∙ accept b v .fits) l);
-        room = omega (arith, accept b v .symmetries);
+        whole = omega (arith, t .here, table-room b e (sym (accept b v .header .whole) ∙ accept b v .fits) l);
+        room = omega (arith, accept b v .header .symmetries);
         sized = t .sized;
         pairs = λ q m. subst₂ (λ (x y : ℕ). word b (x + 2 * q) < y) (sym (t .here)) (sym ec) (in-table b v e l q (omega arith));
       }
@@ -137,27 +113,27 @@ module _ (b : List ℕ) (v : verdictOf b ≡ accepted) (e o : ℕ) (new : List �
       let z : (e + 1) * nd ≡ e * nd + nd = ap (λ (x : ℕ). x * nd) (add-one e) ∙ w in
       record {
         here = omega (arith, t .here);
-        sized = u .sized;
+        sized = u .sized ∙ t .sized;
         images = λ g q m h. slot g q m h (eqb g e) refl;
       }
     where
-      slot : (g q : ℕ) → g < e + 1 → q < headerOf b .variables * headerOf b .values → (s : Bool) → eqb g e ≡ s → at next (192 * g + codeOf (headerOf b .values) q) ≡ codeOf (headerOf b .values) (word b (tableOffset b g + 2 * q))
+      slot : (g q : ℕ) → g < e + 1 → q < headerOf b .variables * headerOf b .values → (s : Bool) → eqb g e ≡ s → at next (192 * g + pairCode (headerOf b .values) q) ≡ pairCode (headerOf b .values) (word b (tableOffset b g + 2 * q))
       slot g q m h true x =
           let y : g ≡ e = eqb-true g e x in
-          ap₂ (λ (i j : ℕ). at next (192 * i + codeOf j q)) y (sym ed) ∙ u .images q (omega arith)
-          ∙ ap₂ (λ (i j : ℕ). codeOf j (word b (i + 2 * q))) (t .here ∙ ap (tableOffset b) (sym y)) ed
+          ap₂ (λ (i j : ℕ). at next (192 * i + pairCode j q)) y (sym ed) ∙ u .images q (omega arith)
+          ∙ ap₂ (λ (i j : ℕ). pairCode j (word b (i + 2 * q))) (t .here ∙ ap (tableOffset b) (sym y)) ed
       slot g q m h false x =
           let n : g ≡ e → ⊥ = eqb-false g e x in
-          u .low (192 * g + codeOf (headerOf b .values) q) (omega (arith, code-small q (headerOf b .values) (accept b v .one) (accept b v .sixteen) (omega (arith, product))))
-          ∙ t .images g q (omega arith) h
+          let s = code-small q (headerOf b .values) (accept b v .header .one) (accept b v .header .sixteen) (omega (arith, product)) in
+          u .others (192 * g + pairCode (headerOf b .values) q) (λ r l z. omega arith) ∙ t .images g q (omega arith) h
 
 -- ---- the pair of a variable and a value
-pair-code : (x w d : ℕ) → w < d → codeOf d (x * d + w) ≡ 16 * x + w
+pair-code : (x w d : ℕ) → w < d → pairCode d (x * d + w) ≡ 16 * x + w
 pair-code x w d l = ap₂ (λ (i j : ℕ). 16 * i + j) (digits-div x l) (digits-mod x l)
 
 symmetry-is : (b : List ℕ) (e : ℕ) → e < headerOf b .symmetries → symmetryAt (problemOf b) e ≡ tableAt b (headerOf b) e
 unfolding problemOf
-symmetry-is b e l = at-below (tableAt b (headerOf b)) (headerOf b .symmetries) e [] l
+symmetry-is b e l = getD-below (tableAt b (headerOf b)) (headerOf b .symmetries) e [] l
 
 pub images-all : (b : List ℕ) → verdictOf b ≡ accepted → (e o : ℕ) (new : List ℕ) → headerOf b .symmetries ≤ e → ImagesTo b e o new → Images (problemOf b) new
 unfolding problemOf pair
@@ -168,5 +144,5 @@ images-all b v e o new l t g x w hg hx hw =
     let hg′ : g < headerOf b .symmetries = subst (λ (i : ℕ). g < i) (length-below (tableAt b (headerOf b)) (headerOf b .symmetries)) hg in
     let hq : q < n * d = digits-lt hx hw in
     let image : at (symmetryAt (problemOf b) g) q ≡ word b (tableOffset b g + 2 * q) = ap (λ (r : List ℕ). at r q) (symmetry-is b g hg′) ∙ table-at b v g hg′ q hq in
-    ap (at new) (let z : 192 * g + 16 * x + w ≡ 192 * g + codeOf d q = (let y = pair-code x w d hw in omega arith) in z)
-    ∙ t .images g q (omega arith) hq ∙ ap (codeOf d) (sym image)
+    ap (at new) (let z : 192 * g + 16 * x + w ≡ 192 * g + pairCode d q = (let y = pair-code x w d hw in omega arith) in z)
+    ∙ t .images g q (omega arith) hq ∙ ap (pairCode d) (sym image)

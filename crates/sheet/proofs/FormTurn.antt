@@ -9,16 +9,16 @@ use lib.Dec.{T}
 use lib.ListN.{length}
 use Rattle.model.specs.Lists.{at}
 use Rattle.model.specs.Verdict.{Verdict, accepted, refused, ask, isAccepted}
-use Rattle.model.specs.Sheet.{Header as Numbers′, headerOf, problemOf, constraintsVerdict}
+use Rattle.model.specs.Sheet.{Header as Numbers′, headerOf, problemOf, tablesFit, formVerdict}
 use Rattle.layout.specs.Layout.{Numbers, Supports}
 use Rattle.sheet.specs.Meaning.{means, andThen, Answers}
-use Rattle.sheet.specs.Parts.{headerVerdict, setsAsked, tablesFit, formVerdict, Fit, AllSets, SetsAsked, entries}
+use Rattle.sheet.specs.Parts.{headerAsked, setsAsked, Fit, AllSets, SetsAsked, entries}
 use Rattle.sheet.specs.Steps.{constraintsAsked, ConstraintsAsked, numbersTo, supportsTo}
 use Rattle.sheet.specs.Form.{Zeros, counted, FormAsked}
-use Rattle.sheet.specs.Read.{stated}
+use Rattle.reader.specs.Read.{stated}
+use Rattle.reader.specs.declared.Header.{Header}
 use Rattle.sheet.specs.declared.Answer.{Answer}
 use Rattle.sheet.specs.declared.Answer.the-variants.{Accepted, Refused}
-use Rattle.sheet.specs.declared.read.Header.{Header}
 use Rattle.sheet.proofs.Passed.{fit, good, is-accepted}
 use Rattle.sheet.proofs.Numbered.{numbered, supports-hold}
 
@@ -51,36 +51,36 @@ refusal b numbers supports r n i e a =
     never : r ≡ Accepted → ⊥
     never q = let z : _≡_ {A = ℕ} 0 1 = cc in omega arith
 
-pub fit-of : (b : List ℕ) (r : Answer) → r ≡ Accepted → Answers (headerVerdict b) r → Fit b
-fit-of b r e a = fit b accepted (is-accepted (headerVerdict b accepted) (no-no (headerVerdict b) r e a accepted)) .0
+pub fit-of : (b : List ℕ) (r : Answer) → r ≡ Accepted → Answers (headerAsked b) r → Fit b
+fit-of b r e a = fit b accepted (is-accepted (headerAsked b accepted) (no-no (headerAsked b) r e a accepted)) .0
 
 module _ (b : List ℕ) where
   abbrev ends : Verdict → Verdict
   ends later = ask (tablesFit (headerOf b)) 14 0 later
 
-  pub form-heading : (numbers supports : List ℕ) (r : Answer) (n i : ℕ) → r ≡ Refused n i → Answers (headerVerdict b) r → FormAsked b numbers supports r
+  pub form-heading : (numbers supports : List ℕ) (r : Answer) (n i : ℕ) → r ≡ Refused n i → Answers (headerAsked b) r → FormAsked b numbers supports r
   unfolding formVerdict
-  form-heading numbers supports r n i e a = refusal b numbers supports r n i e (first-no (headerVerdict b) (λ later. setsAsked b (constraintsAsked b (ends later))) r n i e a)
+  form-heading numbers supports r n i e a = refusal b numbers supports r n i e (first-no (headerAsked b) (λ later. setsAsked b (constraintsAsked b (ends later))) r n i e a)
 
-  module _ (r₁ : Answer) (e₁ : r₁ ≡ Accepted) (a₁ : Answers (headerVerdict b) r₁) where
+  module _ (r₁ : Answer) (e₁ : r₁ ≡ Accepted) (a₁ : Answers (headerAsked b) r₁) where
     pub form-sets : (numbers supports old new : List ℕ) (m : ℕ) (r : Answer) (n i : ℕ) → r ≡ Refused n i → SetsAsked b m old new r → FormAsked b numbers supports r
     unfolding formVerdict
     form-sets numbers supports old new m r n i e a =
         refusal b numbers supports r n i e
-        (λ later. no-no (headerVerdict b) r₁ e₁ a₁ _ ∙ first-no (setsAsked b) (λ v. constraintsAsked b (ends v)) r n i e (a .answers) later)
+        (λ later. no-no (headerAsked b) r₁ e₁ a₁ _ ∙ first-no (setsAsked b) (λ v. constraintsAsked b (ends v)) r n i e (a .answers) later)
 
     module _ (m : ℕ) (old mid : List ℕ) (r₂ : Answer) (e₂ : r₂ ≡ Accepted) (a₂ : SetsAsked b m old mid r₂) where
       pub form-constraints : (sup numbers supports : List ℕ) (r : Answer) (n i : ℕ) → r ≡ Refused n i → ConstraintsAsked b mid sup numbers supports r → FormAsked b numbers supports r
       unfolding formVerdict
       form-constraints sup numbers supports r n i e a =
           refusal b numbers supports r n i e
-          (λ later. no-no (headerVerdict b) r₁ e₁ a₁ _ ∙ no-no (setsAsked b) r₂ e₂ (a₂ .answers) _ ∙ first-no (constraintsAsked b) ends r n i e (a .answers) later)
+          (λ later. no-no (headerAsked b) r₁ e₁ a₁ _ ∙ no-no (setsAsked b) r₂ e₂ (a₂ .answers) _ ∙ first-no (constraintsAsked b) ends r n i e (a .answers) later)
 
       module _ (sup numbers supports : List ℕ) (r₃ : Answer) (e₃ : r₃ ≡ Accepted) (a₃ : ConstraintsAsked b mid sup numbers supports r₃) (h : Header) (eh : stated h ≡ headerOf b) (t : Bool) (et : t ≡ tablesFit (stated h)) where
         asked : (v : Bool) → t ≡ v → (later : Verdict) → formVerdict b later ≡ ask v 14 0 later
         unfolding formVerdict
         asked v q later =
-            no-no (headerVerdict b) r₁ e₁ a₁ _ ∙ no-no (setsAsked b) r₂ e₂ (a₂ .answers) _ ∙ no-no (constraintsAsked b) r₃ e₃ (a₃ .answers) _
+            no-no (headerAsked b) r₁ e₁ a₁ _ ∙ no-no (setsAsked b) r₂ e₂ (a₂ .answers) _ ∙ no-no (constraintsAsked b) r₃ e₃ (a₃ .answers) _
             ∙ ap (λ (x : Bool). ask x 14 0 later) (ap tablesFit (sym eh) ∙ sym et ∙ q)
 
         pub form-length : t ≡ false → FormAsked b numbers supports (Refused 14 0)

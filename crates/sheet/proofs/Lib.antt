@@ -1,4 +1,3 @@
-pub mod Arrays
 pub mod Asking
 pub mod SetsTurn
 pub mod Words

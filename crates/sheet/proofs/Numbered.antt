@@ -11,6 +11,7 @@ use Rattle.model.specs.Lists.{at, both, either, any, below, same}
 use Rattle.model.specs.ValueSets.{has, maskOf}
 use Rattle.model.specs.Problem.{Constraint}
 use Rattle.model.specs.Sheet.{headerOf, word, words, scopeAt, rowsAt, problemOf, constraintsFrom, tableAt}
+use Rattle.model.proofs.Lists.{length-below, at-set, at-set-other}
 use Rattle.model.proofs.Sets.{has-none}
 use Rattle.model.proofs.Accepted.{length-words, at-words}
 use Rattle.layout.specs.Layout.{Numbers, Supports, constraintAt, place}
@@ -18,8 +19,6 @@ use Rattle.sheet.specs.Parts.{Fit, AllSets, entries}
 use Rattle.sheet.specs.Fill.{packed}
 use Rattle.sheet.specs.Steps.{offsetAt, numbersTo, supportsTo}
 use Rattle.sheet.specs.Form.{counted}
-use Rattle.sheet.proofs.Arrays.{at-same, at-other}
-use Rattle.sheet.proofs.Any.{length-below}
 use Rattle.sheet.proofs.Touch.{Good, Held, held, packed-arity, packed-at}
 use Rattle.sheet.proofs.Backing.{Backed, backed, set-of-rows}
 use Rattle.sheet.proofs.Passed.{length-constraints, constraint-at}
@@ -28,8 +27,8 @@ use Rattle.sheet.proofs.Passed.{length-constraints, constraint-at}
 module _ (n d c g : ℕ) (l : List ℕ) (long : length l ≡ entries) where
   counted-low : (i : ℕ) → i < 64 → at (counted n d c g l) i ≡ at l i
   counted-low i h =
-      at-other (set (set (set l 64 n) 65 d) 66 c) 67 i g (λ e. omega arith) ∙ at-other (set (set l 64 n) 65 d) 66 i c (λ e. omega arith)
-      ∙ at-other (set l 64 n) 65 i d (λ e. omega arith) ∙ at-other l 64 i n (λ e. omega arith)
+      at-set-other (set (set (set l 64 n) 65 d) 66 c) 67 g i (λ e. omega arith) ∙ at-set-other (set (set l 64 n) 65 d) 66 c i (λ e. omega arith)
+      ∙ at-set-other (set l 64 n) 65 d i (λ e. omega arith) ∙ at-set-other l 64 n i (λ e. omega arith)
 
   long1 : length (set l 64 n) ≡ entries
   long1 = length-set l 64 n ∙ long
@@ -42,19 +41,19 @@ module _ (n d c g : ℕ) (l : List ℕ) (long : length l ≡ entries) where
 
   counted-n : at (counted n d c g l) 64 ≡ n
   counted-n =
-      at-other (set (set (set l 64 n) 65 d) 66 c) 67 64 g (λ e. omega arith) ∙ at-other (set (set l 64 n) 65 d) 66 64 c (λ e. omega arith)
-      ∙ at-other (set l 64 n) 65 64 d (λ e. omega arith) ∙ at-same l 64 n (omega arith)
+      at-set-other (set (set (set l 64 n) 65 d) 66 c) 67 g 64 (λ e. omega arith) ∙ at-set-other (set (set l 64 n) 65 d) 66 c 64 (λ e. omega arith)
+      ∙ at-set-other (set l 64 n) 65 d 64 (λ e. omega arith) ∙ at-set l 64 n (omega arith)
 
   counted-d : at (counted n d c g l) 65 ≡ d
   counted-d =
-      at-other (set (set (set l 64 n) 65 d) 66 c) 67 65 g (λ e. omega arith) ∙ at-other (set (set l 64 n) 65 d) 66 65 c (λ e. omega arith)
-      ∙ at-same (set l 64 n) 65 d (omega (arith, long1))
+      at-set-other (set (set (set l 64 n) 65 d) 66 c) 67 g 65 (λ e. omega arith) ∙ at-set-other (set (set l 64 n) 65 d) 66 c 65 (λ e. omega arith)
+      ∙ at-set (set l 64 n) 65 d (omega (arith, long1))
 
   counted-c : at (counted n d c g l) 66 ≡ c
-  counted-c = at-other (set (set (set l 64 n) 65 d) 66 c) 67 66 g (λ e. omega arith) ∙ at-same (set (set l 64 n) 65 d) 66 c (omega (arith, long2))
+  counted-c = at-set-other (set (set (set l 64 n) 65 d) 66 c) 67 g 66 (λ e. omega arith) ∙ at-set (set (set l 64 n) 65 d) 66 c (omega (arith, long2))
 
   counted-g : at (counted n d c g l) 67 ≡ g
-  counted-g = at-same (set (set (set l 64 n) 65 d) 66 c) 67 g (omega (arith, long3))
+  counted-g = at-set (set (set (set l 64 n) 65 d) 66 c) 67 g (omega (arith, long3))
 
 -- ---- the constraints of the problem
 module _ (b : List ℕ) where
@@ -87,7 +86,7 @@ module _ (b : List ℕ) where
     module _ (l m : List ℕ) (long : length l ≡ entries) (blank : (i : ℕ) → at l i ≡ 0) (sets : AllSets b (headerOf b .variables) l m) where
       abbrev t : Held b (headerOf b .second) (headerOf b .constraints) m (numbersTo b (headerOf b .second) (headerOf b .constraints) m)
       t =
-          held b (headerOf b .variables) (headerOf b .values) (headerOf b .second) (headerOf b .constraints) (omega (arith, f .few)) good m (sets .sized) (f .constraints)
+          held b (headerOf b .variables) (headerOf b .values) (headerOf b .second) (headerOf b .constraints) (omega (arith, f .few)) good m (sets .sized ∙ long) (f .constraints)
           (λ x h. sets .low x h ∙ blank x) (headerOf b .constraints) (omega arith)
 
       abbrev mid : List ℕ
@@ -97,7 +96,7 @@ module _ (b : List ℕ) where
       new = counted (headerOf b .variables) (headerOf b .values) (headerOf b .constraints) (headerOf b .symmetries) mid
 
       sized : length mid ≡ entries
-      sized = t .sized ∙ sets .sized
+      sized = t .sized ∙ sets .sized ∙ long
 
       low : (i : ℕ) → i < 64 → at new i ≡ at mid i
       low = counted-low (headerOf b .variables) (headerOf b .values) (headerOf b .constraints) (headerOf b .symmetries) mid sized

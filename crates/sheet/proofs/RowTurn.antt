@@ -2,18 +2,15 @@
 use mathlib.Core.Path.{_≡_, refl, sym, ap, ap₂, _∙_, subst}
 use mathlib.Core.Bool.{Bool, true, false}
 use mathlib.Core.List.{List, [], _∷_}
-use Prim.Native.Nat.{ℕ, zero, suc, _+_, _*_, _/_, _%_, _^_, _≤_, _<_}
+use Prim.Native.Nat.{ℕ, zero, suc, _+_, _*_, _^_, _≤_, _<_}
 use native.Mathlib.Omega.{arith}
 use native.Mathlib.Nat.{not-suc-le-zero, pow-suc, mul-le-mul-right, suc-mul}
 use native.Mathlib.Numerals.{add-one}
-use lib.Bits.{bitOr}
-use lib.ListN.{set, getD}
 use lib.Dec.{T, ltb, ltb→lt, lt→ltb, eqb}
 use borrow.Author.Tests.{eqb-true, eqb-false}
-use Rattle.model.specs.Lists.{all, at, choose}
+use Rattle.model.specs.Lists.{all, choose}
 use Rattle.model.specs.Sheet.{word, words}
-use Rattle.sheet.specs.Fill.{keyTo, rowKey, rowFits, leastKey, order, support, supported, RowRead, RowsAsked}
-use Rattle.model.proofs.Masks.{shl-one}
+use Rattle.sheet.specs.Fill.{keyTo, rowKey, rowFits, leastKey, order, withRow, withRows, RowRead, RowsAsked}
 use Rattle.sheet.proofs.Words.{words-all-i, words-all-e}
 
 -- ---- one row
@@ -65,11 +62,6 @@ key-bad b o a d i v l m e =
       bad = λ h t. let q : word b (o + 2 * i) < d = ltb→lt (word b (o + 2 * i)) d (words-all-e (λ w. ltb w d) b o a t i l) in omega arith;
     }
 
--- ---- the support sets
-pub support-is : (base key : ℕ) (l : List ℕ) → set l (base + key / 16) (bitOr (getD l (base + key / 16) 0) (1 * 2 ^ (key % 16) % 2 ^ 16)) ≡ support base key l
-unfolding support at
-support-is base key l = ap (λ (n : ℕ). set l (base + key / 16) (bitOr (getD l (base + key / 16) 0) n)) (shl-one (key % 16) (omega arith))
-
 -- ---- the rows
 -- i rows were read, and the next stands at an offset
 pub record RowsTo (b : List ℕ) (from a d base : ℕ) (old : List ℕ) (i : ℕ) (new : List ℕ) (refused least next : ℕ) : Type 0 where
@@ -77,10 +69,10 @@ pub record RowsTo (b : List ℕ) (from a d base : ℕ) (old : List ℕ) (i : ℕ
   pub floor : least ≡ leastKey b from a i
   pub ordered : refused ≡ order b from a i
   pub fits : (j : ℕ) → j < i → T (rowFits b from a d j)
-  pub stored : new ≡ supported b from a base i old
+  pub stored : new ≡ withRows b from a base i old
 
 pub rows-none : (b : List ℕ) (from a d base : ℕ) (old : List ℕ) → RowsTo b from a d base old 0 old 0 0 from
-unfolding leastKey order supported
+unfolding leastKey order withRows
 rows-none b from a d base old =
     record {
       here = omega arith;
@@ -109,9 +101,9 @@ module _ (b : List ℕ) (from a d base : ℕ) (old : List ℕ) (i : ℕ) (new : 
         passed = λ q. absurd (q refl);
       }
 
-  pub rows-more : (key next-refused : ℕ) (stored : List ℕ) → key < 4096 → RowRead b next a d key → next-refused ≡ choose (ltb key least) 13 refused → stored ≡ support base key new →
+  pub rows-more : (key next-refused : ℕ) (stored : List ℕ) → key < 4096 → RowRead b next a d key → next-refused ≡ choose (ltb key least) 13 refused → stored ≡ withRow base key new →
       RowsTo b from a d base old (i + 1) stored next-refused (key + 1) (next + 2 * a)
-  unfolding leastKey order supported
+  unfolding leastKey order withRows
   rows-more key q stored l r e es =
       let k = row-here key l r in
       let z : suc i ≡ i + 1 = omega arith in
@@ -120,7 +112,7 @@ module _ (b : List ℕ) (from a d base : ℕ) (old : List ℕ) (i : ℕ) (new : 
         floor = ap (λ (n : ℕ). n + 1) (k .0) ∙ ap (leastKey b from a) z;
         ordered = e ∙ ap₂ (λ (x y : ℕ). choose (ltb x y) 13 refused) (k .0) (t .floor) ∙ ap (choose (ltb (rowKey b from a i) (leastKey b from a i)) 13) (t .ordered) ∙ ap (order b from a) z;
         fits = λ j h. below j h (eqb j i) refl (k .1);
-        stored = es ∙ ap₂ (λ (n : ℕ) (x : List ℕ). support base n x) (k .0) (t .stored) ∙ ap (λ (n : ℕ). supported b from a base n old) z;
+        stored = es ∙ ap₂ (λ (n : ℕ) (x : List ℕ). withRow base n x) (k .0) (t .stored) ∙ ap (λ (n : ℕ). withRows b from a base n old) z;
       }
     where
       below : (j : ℕ) → j < i + 1 → (t : Bool) → eqb j i ≡ t → T (rowFits b from a d i) → T (rowFits b from a d j)
@@ -141,5 +133,5 @@ module _ (b : List ℕ) (from a d base : ℕ) (old : List ℕ) (i : ℕ) (new : 
       let e : i ≡ n = omega arith in
       record {
         refused = λ q. absurd (order-not i (sym (t .ordered) ∙ q));
-        passed = λ _. (t .ordered ∙ ap (order b from a) e, λ j h. t .fits j (omega arith), t .stored ∙ ap (λ (k : ℕ). supported b from a base k old) e);
+        passed = λ _. (t .ordered ∙ ap (order b from a) e, λ j h. t .fits j (omega arith), t .stored ∙ ap (λ (k : ℕ). withRows b from a base k old) e);
       }

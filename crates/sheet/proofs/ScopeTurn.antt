@@ -13,14 +13,14 @@ use borrow.Author.Tests.{eqb-true, eqb-false}
 use Rattle.model.specs.Lists.{all, at, both, ascending}
 use Rattle.model.specs.Sheet.{word, words}
 use Rattle.model.proofs.Lists.{both-i, both-l, both-r, of-T, not-of}
+use Rattle.model.proofs.Members.{one-bit}
 use Rattle.sheet.specs.Fill.{touch, touched, packed, leastAt, ScopeAsked}
-use Rattle.sheet.proofs.Arrays.{one-bit}
 use Rattle.sheet.proofs.Words.{words-all-i, words-all-e}
 use Rattle.sheet.proofs.Ascend.{ascending-i, ascending-e}
 
 pub touch-is : (k x : ℕ) (l : List ℕ) → k < 64 → set l x (bitOr (getD l x 0) (1 * 2 ^ k % 2 ^ 64)) ≡ touch k x l
 unfolding touch at
-touch-is k x l h = ap (λ (u : ℕ). set l x (bitOr (getD l x 0) u)) (one-bit k h)
+touch-is k x l h = ap (λ (u : ℕ). set l x (bitOr (getD l x 0) u)) (one-bit 64 k h)
 
 -- the first i variables of the scope were read
 pub record ScopeTo (b : List ℕ) (from a n k : ℕ) (old : List ℕ) (i : ℕ) (new : List ℕ) (pack unit least : ℕ) : Type 0 where

@@ -1,18 +1,21 @@
 -- The turns of the loops over the initial sets: what is asked and what is stored for one variable. Assumes nothing.
 use mathlib.Core.Path.{_≡_, refl, sym, ap, _∙_, subst}
 use mathlib.Core.Bool.{Bool, true, false, not}
-use mathlib.Core.List.{List, [], _∷_}
-use Prim.Native.Nat.{ℕ, zero, suc, _+_, _-_, _*_, _^_, _≤_, _<_}
+use mathlib.Core.List.{List, _∷_}
+use Prim.Native.Nat.{ℕ, suc, _+_, _-_, _*_, _^_, _≤_, _<_}
 use native.Mathlib.Omega.{arith}
-use lib.ListN.{length, set, length-set}
-use lib.Dec.{eqb, ltb}
-use borrow.Author.Tests.{eqb-true, eqb-false}
-use Rattle.model.specs.Lists.{both, at, below, upFrom}
+use lib.ListN.{length, set}
+use lib.Dec.{eqb, leb, ltb}
+use borrow.Author.Tests.{lt-ltb, le-ltb, ltb-true, ltb-false, leb-true, leb-false}
+use Rattle.model.specs.Lists.{both, below, upFrom}
+use Rattle.model.specs.ValueSets.{fullMask}
 use Rattle.model.specs.Verdict.{Verdict, refused, ask}
 use Rattle.model.specs.Sheet.{Header, word, headerOf, setsVerdict}
-use Rattle.sheet.specs.Parts.{Unused, Initial, AllSets, SetsAsked, entries}
+use Rattle.model.proofs.Masks.{shl-one, shl-pos, full-op, full-all}
+use Rattle.model.proofs.Filling.{filled-turn}
+use Rattle.model.specs.Filling.{Filled}
+use Rattle.sheet.specs.Parts.{ZeroSets, AllSets, SetsAsked, entries}
 use Rattle.sheet.specs.declared.Answer.the-variants.{Accepted, Refused}
-use Rattle.sheet.proofs.Arrays.{at-same, at-other}
 
 -- ---- the question
 -- the variables before x passed
@@ -41,10 +44,27 @@ module _ (b : List ℕ) (h : Header) (n x : ℕ) (l : x < n) (p : PassedTo b h n
   unfolding setsVerdict
   passed-not e later = open-one later ∙ ap (λ (t : Bool). ask t 8 x (setsVerdict b h (upFrom (suc x) (n - (x + 1))) later)) e
 
+-- the full set of a width is the last number below the power
+full-is : (d : ℕ) → d ≤ 16 → fullMask d + 1 ≡ 2 ^ d
+full-is d h = go (ltb d 16) refl
+  where
+    go : (t : Bool) → ltb d 16 ≡ t → fullMask d + 1 ≡ 2 ^ d
+    go true e = let l : d < 16 = ltb-true d 16 e in omega (arith, full-op d l, shl-one d l, shl-pos d l)
+    go false e = let z : d ≡ 16 = (let l = ltb-false d 16 e in omega arith) in subst (λ (k : ℕ). fullMask k + 1 ≡ 2 ^ k) (sym z) (ap (λ (m : ℕ). m + 1) (sym (full-all 16 (omega arith))))
+
+below-full : (s d : ℕ) → d ≤ 16 → leb s (fullMask d) ≡ ltb s (2 ^ d)
+below-full s d h = go (leb s (fullMask d)) refl
+  where
+    go : (t : Bool) → leb s (fullMask d) ≡ t → t ≡ ltb s (2 ^ d)
+    go true e = let l = leb-true s (fullMask d) e in sym (lt-ltb s (2 ^ d) (omega (arith, full-is d h)))
+    go false e = let l = leb-false s (fullMask d) e in sym (le-ltb s (2 ^ d) (omega (arith, full-is d h)))
+
 -- the code's test is the question's
-pub set-test : (b : List ℕ) (v x s limit d : ℕ) (r t : Bool) → r ≡ both (ltb s limit) (not (eqb s 0)) → s ≡ word b (16 + 2 * x) → limit ≡ 2 ^ d → d ≡ v → r ≡ t →
+pub set-test : (b : List ℕ) (v x s full d : ℕ) (r t : Bool) → r ≡ both (leb s full) (not (eqb s 0)) → s ≡ word b (16 + 2 * x) → full ≡ fullMask d → d ≡ v → d ≤ 16 → r ≡ t →
     both (ltb (word b (16 + 2 * x)) (2 ^ v)) (not (eqb (word b (16 + 2 * x)) 0)) ≡ t
-set-test b v x s limit d r t e es el ed q = rw (← es, ← ed, ← el) (sym e ∙ q)
+set-test b v x s full d r t e es ef ed h q =
+    subst (λ (w : ℕ). both (ltb w (2 ^ v)) (not (eqb w 0)) ≡ t) es
+    (ap (λ (c : Bool). both c (not (eqb s 0))) (ap (λ (k : ℕ). ltb s (2 ^ k)) (sym ed) ∙ sym (below-full s d h) ∙ ap (leb s) (sym ef)) ∙ sym e ∙ q)
 
 pub passed-all : (b : List ℕ) (h : Header) (n x : ℕ) → n ≤ x → PassedTo b h n x → (later : Verdict) → setsVerdict b h (below n) later ≡ later
 unfolding setsVerdict upFrom
@@ -65,65 +85,25 @@ sets-accepted b n old new e p f =
     }
 
 -- ---- the stores
-pub unused-none : (n : ℕ) (old : List ℕ) → length old ≡ entries → Unused n n old old
-unused-none n old e =
-    record {
-      sized = e;
-      unused = λ x l m. absurd (omega arith);
-      low = λ i l. refl;
-      high = λ i l. refl;
-    }
+-- the sets of the first x variables are {0}, or those of the sheet, and nothing else changed
+abbrev pub ZeroTo : ℕ → List ℕ → List ℕ → Type 0
+ZeroTo x old new = Filled (λ y. 16 + y) (λ y w. w ≡ 1) x old new
 
-pub unused-more : (n x : ℕ) (old new : List ℕ) → n ≤ x → x < 16 → Unused n x old new → Unused n (x + 1) old (set new (16 + x) 1)
-unused-more n x old new l m u =
-    record {
-      sized = length-set new (16 + x) 1 ∙ u .sized;
-      unused = λ y p q. at-y y p q (eqb y x) refl;
-      low = λ i p. at-other new (16 + x) i 1 (λ e. omega arith) ∙ u .low i p;
-      high = λ i p. at-other new (16 + x) i 1 (λ e. omega arith) ∙ u .high i (omega arith);
-    }
-  where
-    at-y : (y : ℕ) → n ≤ y → y < x + 1 → (t : Bool) → eqb y x ≡ t → at (set new (16 + x) 1) (16 + y) ≡ 1
-    at-y y p q true e = ap (λ (z : ℕ). at (set new (16 + x) 1) (16 + z)) (eqb-true y x e) ∙ at-same new (16 + x) 1 (omega (arith, u .sized))
-    at-y y p q false e =
-        let d : y ≡ x → ⊥ = eqb-false y x e in
-        at-other new (16 + x) (16 + y) 1 (λ r. d (omega arith)) ∙ u .unused y p (omega arith)
+abbrev pub InitialTo : List ℕ → ℕ → List ℕ → List ℕ → Type 0
+InitialTo b x old new = Filled (λ y. 16 + y) (λ y w. w ≡ word b (16 + 2 * y)) x old new
 
-pub unused-all : (n x : ℕ) (old new : List ℕ) → 16 ≤ x → x ≤ 16 → Unused n x old new → Unused n 16 old new
-unused-all n x old new l m u = let e : x ≡ 16 = omega arith in subst (λ (k : ℕ). Unused n k old new) e u
+pub set-stored : (P : ℕ → ℕ → Type 0) (x s : ℕ) (old new : List ℕ) → x < 16 → length old ≡ entries → P x s → Filled (λ y. 16 + y) P x old new → Filled (λ y. 16 + y) P (x + 1) old (set new (16 + x) s)
+set-stored P x s old new h e p f = filled-turn (λ y. 16 + y) P old new x (16 + x) s f refl (omega arith) (λ y l q. omega arith) p
 
-pub initial-none : (b old : List ℕ) → length old ≡ entries → Initial b 0 old old
-initial-none b old e =
-    record {
-      sized = e;
-      initial = λ x l. absurd (omega arith);
-      low = λ i l. refl;
-      high = λ i l. refl;
-    }
+pub zero-sets : (x : ℕ) (old new : List ℕ) → 16 ≤ x → x ≤ 16 → ZeroTo x old new → ZeroSets old new
+zero-sets x old new l m f = record { sized = f .size; sets = λ y h. f .here y (omega arith); others = λ i n. f .other i (λ y h. n y (omega arith)) }
 
-pub initial-more : (b : List ℕ) (x s : ℕ) (old new : List ℕ) → x < 16 → s ≡ word b (16 + 2 * x) → Initial b x old new → Initial b (x + 1) old (set new (16 + x) s)
-initial-more b x s old new m v u =
+pub sets-whole : (b : List ℕ) (n x : ℕ) (old mid new : List ℕ) → n ≤ 16 → n ≤ x → x ≤ n → ZeroSets old mid → InitialTo b x mid new → AllSets b n old new
+sets-whole b n x old mid new l g h z f =
     record {
-      sized = length-set new (16 + x) s ∙ u .sized;
-      initial = λ y q. at-y y q (eqb y x) refl;
-      low = λ i p. at-other new (16 + x) i s (λ e. omega arith) ∙ u .low i p;
-      high = λ i p. at-other new (16 + x) i s (λ e. omega arith) ∙ u .high i (omega arith);
-    }
-  where
-    at-y : (y : ℕ) → y < x + 1 → (t : Bool) → eqb y x ≡ t → at (set new (16 + x) s) (16 + y) ≡ word b (16 + 2 * y)
-    at-y y q true e =
-        ap (λ (z : ℕ). at (set new (16 + x) s) (16 + z)) (eqb-true y x e) ∙ at-same new (16 + x) s (omega (arith, u .sized)) ∙ v
-        ∙ ap (λ (z : ℕ). word b (16 + 2 * z)) (sym (eqb-true y x e))
-    at-y y q false e =
-        let d : y ≡ x → ⊥ = eqb-false y x e in
-        at-other new (16 + x) (16 + y) s (λ r. d (omega arith)) ∙ u .initial y (omega arith)
-
-pub sets-whole : (b : List ℕ) (n x : ℕ) (old mid new : List ℕ) → n ≤ 16 → n ≤ x → x ≤ n → Initial b x old mid → Unused n 16 mid new → AllSets b n old new
-sets-whole b n x old mid new l g h f u =
-    record {
-      sized = u .sized;
-      initial = λ x p. u .low (16 + x) (omega arith) ∙ f .initial x (omega arith);
-      unused = u .unused;
-      low = λ i p. u .low i (omega arith) ∙ f .low i p;
-      high = λ i p. u .high i p ∙ f .high i (omega arith);
+      sized = f .size ∙ z .sized;
+      initial = λ y p. f .here y (omega arith);
+      unused = λ y p q. f .other (16 + y) (λ v r e. omega arith) ∙ z .sets y q;
+      low = λ i p. f .other i (λ v r e. omega arith) ∙ z .others i (λ v r e. omega arith);
+      high = λ i p. f .other i (λ v r e. omega arith) ∙ z .others i (λ v r e. omega arith);
     }

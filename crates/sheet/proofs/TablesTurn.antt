@@ -15,7 +15,7 @@ use Rattle.symmetry.specs.Table.{Asked, tableOf, answerOf, tableAnswer}
 use Rattle.sheet.specs.Meaning.{means}
 use Rattle.sheet.specs.Form.{Formed}
 use Rattle.sheet.specs.declared.Answer.the-variants.{Accepted, Refused}
-use Rattle.sheet.proofs.Stating.{left}
+use Rattle.sheet.proofs.Stating.{form-passed}
 
 -- the offset of a table
 abbrev pub tableOffset : List ℕ → ℕ → ℕ
@@ -59,7 +59,7 @@ asked-no false t e k later q z = ap (λ (x : ℕ). refused x e) (sym q)
 pub table-asked : (b numbers supports : List ℕ) (e o : ℕ) → Formed b numbers supports → TablesTo b e o → e < headerOf b .symmetries → Asked (problemOf b) b o numbers supports
 unfolding problemOf
 table-asked b numbers supports e o f t l =
-    let r = left b (f .passed) in
+    let r = form-passed b (f .passed) in
     record {
       ready = record { framed = record { stated = r .states; numbered = f .numbered }; supported = f .supported };
       whole = subst (λ (x : ℕ). x + 2 * (headerOf b .variables * headerOf b .values) ≤ length b) (sym (t .here)) (table-room b e (r .filled) l);

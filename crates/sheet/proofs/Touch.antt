@@ -13,20 +13,13 @@ use borrow.Author.Tests.{eqb-true, eqb-false, lt-ltb, le-ltb, ltb-true, ltb-fals
 use Rattle.model.specs.Lists.{at, both, either, any, below, ascending}
 use Rattle.model.specs.ValueSets.{has}
 use Rattle.model.specs.Sheet.{word, words, scopeAt}
+use Rattle.model.proofs.Lists.{at-set, at-set-other}
 use Rattle.model.proofs.Masks.{has-or, has-one}
+use Rattle.model.proofs.Members.{both-no, both-yes, either-no}
 use Rattle.sheet.specs.Parts.{entries}
 use Rattle.sheet.specs.Fill.{touch, touched, packed, rowFits, numbersWith}
 use Rattle.sheet.specs.Steps.{offsetAt, numbersTo}
-use Rattle.sheet.proofs.Arrays.{at-same, at-other}
-use Rattle.sheet.proofs.Any.{any-more, any-none}
-
-either-false : (a : Bool) → either a false ≡ a
-either-false true = refl
-either-false false = refl
-
-both-false : (a : Bool) → both a false ≡ false
-both-false true = refl
-both-false false = refl
+use Rattle.sheet.proofs.Any.{either-assoc, any-more, any-none}
 
 split : (a b c d : Bool) → either (either a (both b c)) (both b d) ≡ either a (both b (either c d))
 split true b c d = refl
@@ -41,15 +34,11 @@ touch-at k x y j l h = go (eqb y x) refl
     go : (t : Bool) → eqb y x ≡ t → has (at (set l x (bitOr (at l x) (2 ^ k))) y) j ≡ either (has (at l y) j) (both (eqb j k) t)
     go true e =
         let q : y ≡ x = eqb-true y x e in
-        ap (λ (z : ℕ). has (at (set l x (bitOr (at l x) (2 ^ k))) z) j) q ∙ ap (λ (s : ℕ). has s j) (at-same l x (bitOr (at l x) (2 ^ k)) h)
-        ∙ has-or (at l x) (2 ^ k) j ∙ ap₂ either (ap (λ (z : ℕ). has (at l z) j) (sym q)) (has-one k j ∙ sym (both-true (eqb j k)))
-      where
-        both-true : (a : Bool) → both a true ≡ a
-        both-true true = refl
-        both-true false = refl
+        ap (λ (z : ℕ). has (at (set l x (bitOr (at l x) (2 ^ k))) z) j) q ∙ ap (λ (s : ℕ). has s j) (at-set l x (bitOr (at l x) (2 ^ k)) h)
+        ∙ has-or (at l x) (2 ^ k) j ∙ ap₂ either (ap (λ (z : ℕ). has (at l z) j) (sym q)) (has-one k j ∙ sym (both-yes (eqb j k)))
     go false e =
-        ap (λ (s : ℕ). has s j) (at-other l x y (bitOr (at l x) (2 ^ k)) (eqb-false y x e))
-        ∙ sym (ap (either (has (at l y) j)) (both-false (eqb j k)) ∙ either-false (has (at l y) j))
+        ap (λ (s : ℕ). has s j) (at-set-other l x (bitOr (at l x) (2 ^ k)) y (eqb-false y x e))
+        ∙ sym (ap (either (has (at l y) j)) (both-no (eqb j k)) ∙ either-no (has (at l y) j))
 
 touch-small : (k x y : ℕ) (l : List ℕ) → at l y < 2 ^ suc k → at l x < 2 ^ suc k → x < length l → at (touch k x l) y < 2 ^ suc k
 unfolding touch
@@ -57,9 +46,9 @@ touch-small k x y l p q h = go (eqb y x) refl
   where
     go : (t : Bool) → eqb y x ≡ t → at (set l x (bitOr (at l x) (2 ^ k))) y < 2 ^ suc k
     go true e =
-        subst (λ (s : ℕ). s < 2 ^ suc k) (sym (ap (at (set l x (bitOr (at l x) (2 ^ k)))) (eqb-true y x e) ∙ at-same l x (bitOr (at l x) (2 ^ k)) h))
+        subst (λ (s : ℕ). s < 2 ^ suc k) (sym (ap (at (set l x (bitOr (at l x) (2 ^ k)))) (eqb-true y x e) ∙ at-set l x (bitOr (at l x) (2 ^ k)) h))
         (or-lt (suc k) (at l x) (2 ^ k) q (pow-lt (let z : k < suc k = omega arith in z)))
-    go false e = subst (λ (s : ℕ). s < 2 ^ suc k) (sym (at-other l x y (bitOr (at l x) (2 ^ k)) (eqb-false y x e))) p
+    go false e = subst (λ (s : ℕ). s < 2 ^ suc k) (sym (at-set-other l x (bitOr (at l x) (2 ^ k)) y (eqb-false y x e))) p
 
 -- variables below 16
 module _ (b : List ℕ) (from k a : ℕ) (small : (j : ℕ) → j < a → word b (from + 2 * j) < 16) (l : List ℕ) (long : 16 ≤ length l) where
@@ -75,7 +64,7 @@ module _ (b : List ℕ) (from k a : ℕ) (small : (j : ℕ) → j < a → word b
   unfolding touched words
   touched-at zero h y j =
       sym (ap (λ (t : Bool). either (has (at l y) j) (both (eqb j k) t)) (any-none (eqb y) (λ i. word b (from + 2 * i)))
-      ∙ ap (either (has (at l y) j)) (both-false (eqb j k)) ∙ either-false (has (at l y) j))
+      ∙ ap (either (has (at l y) j)) (both-no (eqb j k)) ∙ either-no (has (at l y) j))
   touched-at (suc i) h y j =
       touch-at k (word b (from + 2 * i)) y j (touched b from k i l) (within i (omega arith))
       ∙ ap (λ (t : Bool). either t (both (eqb j k) (eqb y (word b (from + 2 * i))))) (touched-at i (omega arith) y j)
@@ -92,7 +81,7 @@ module _ (b : List ℕ) (from k a : ℕ) (small : (j : ℕ) → j < a → word b
   unfolding touched touch
   touched-high zero h y m = refl
   touched-high (suc i) h y m =
-      at-other (touched b from k i l) (word b (from + 2 * i)) y _ (λ e. (let q = small i (omega arith) in omega arith)) ∙ touched-high i (omega arith) y m
+      at-set-other (touched b from k i l) (word b (from + 2 * i)) _ y (λ e. (let q = small i (omega arith) in omega arith)) ∙ touched-high i (omega arith) y m
 
 -- ---- the arity and the scope in one number
 module _ (b : List ℕ) (from : ℕ) where
@@ -145,7 +134,7 @@ below-next j k p = go (ltb j k) refl (eqb j k) refl
       where
         flip : (p t : Bool) → either p (both t p) ≡ p
         flip true t = refl
-        flip false t = both-false t
+        flip false t = both-no t
     go false e true q = sym (ap (λ (r : Bool). both r p) (lt-ltb j (suc k) (let h : j ≡ k = eqb-true j k q in omega arith)))
     go false e false q = sym (ap (λ (r : Bool). both r p) (le-ltb j (suc k) (let h : k ≤ j = ltb-false j k e in let n : j ≡ k → ⊥ = eqb-false j k q in omega arith)))
 
@@ -157,17 +146,13 @@ own j k f = go (eqb j k) refl
     go true e = ap f (sym (eqb-true j k e))
     go false e = refl
 
-either-assoc : (a b c : Bool) → either (either a b) c ≡ either a (either b c)
-either-assoc true b c = refl
-either-assoc false b c = refl
-
 module _ (b : List ℕ) (n d o c : ℕ) (n16 : n ≤ 16) (good : (j : ℕ) → j < c → Good b n d (offsetAt b o j)) (l : List ℕ) (long : length l ≡ entries) (c32 : c ≤ 32) (blank : (x : ℕ) → x < 16 → at l x ≡ 0) where
   pub held : (k : ℕ) → k ≤ c → Held b o k l (numbersTo b o k l)
   unfolding numbersTo scopeAt
   held zero h =
       record {
         sized = refl;
-        touching = λ x j m. sym (ap (λ (t : Bool). either (has (at l x) j) (both t (any (eqb x) (scopeAt b (offsetAt b o j))))) (le-ltb j 0 (omega arith)) ∙ either-false (has (at l x) j));
+        touching = λ x j m. sym (ap (λ (t : Bool). either (has (at l x) j) (both t (any (eqb x) (scopeAt b (offsetAt b o j))))) (le-ltb j 0 (omega arith)) ∙ either-no (has (at l x) j));
         touching-few = λ x m. (let q = blank x m in omega arith);
         kept = λ i p q. refl;
         packs = λ j m. absurd (not-suc-le-zero m);
@@ -195,17 +180,17 @@ module _ (b : List ℕ) (n d o c : ℕ) (n16 : n ≤ 16) (good : (j : ℕ) → j
           record {
             sized = length-set (touched b (q + 4) k a m) (32 + k) p ∙ e ∙ t .sized;
             touching = λ x j z.
-                ap (λ (s : ℕ). has s j) (at-other (touched b (q + 4) k a m) (32 + k) x p (λ w. omega arith))
+                ap (λ (s : ℕ). has s j) (at-set-other (touched b (q + 4) k a m) (32 + k) p x (λ w. omega arith))
                 ∙ touched-at b (q + 4) k a small m room a (omega arith) x j
                 ∙ ap₂ either (t .touching x j z) (own j k (λ i. any (eqb x) (scopeAt b (offsetAt b o i))))
                 ∙ either-assoc (has (at l x) j) (both (ltb j k) (any (eqb x) (scopeAt b (offsetAt b o j)))) (both (eqb j k) (any (eqb x) (scopeAt b (offsetAt b o j))))
                 ∙ ap (either (has (at l x) j)) (below-next j k (any (eqb x) (scopeAt b (offsetAt b o j))));
             touching-few = λ x z.
-                subst (λ (s : ℕ). s < 2 ^ suc k) (sym (at-other (touched b (q + 4) k a m) (32 + k) x p (λ w. omega arith)))
+                subst (λ (s : ℕ). s < 2 ^ suc k) (sym (at-set-other (touched b (q + 4) k a m) (32 + k) p x (λ w. omega arith)))
                 (touched-small b (q + 4) k a small m room a (omega arith) (λ y v. lt-of-lt-of-le (t .touching-few y v) (pow-mono (let u : k ≤ suc k = omega arith in u))) x z);
-            kept = λ i u v. at-other (touched b (q + 4) k a m) (32 + k) i p (λ w. omega arith) ∙ touched-high b (q + 4) k a small m room a (omega arith) i u ∙ t .kept i u v;
+            kept = λ i u v. at-set-other (touched b (q + 4) k a m) (32 + k) p i (λ w. omega arith) ∙ touched-high b (q + 4) k a small m room a (omega arith) i u ∙ t .kept i u v;
             packs = λ j z. slot small room t j z (eqb j k) refl;
-            rest = λ i u. at-other (touched b (q + 4) k a m) (32 + k) i p (λ w. omega arith) ∙ touched-high b (q + 4) k a small m room a (omega arith) i (omega arith) ∙ t .rest i (omega arith);
+            rest = λ i u. at-set-other (touched b (q + 4) k a m) (32 + k) p i (λ w. omega arith) ∙ touched-high b (q + 4) k a small m room a (omega arith) i (omega arith) ∙ t .rest i (omega arith);
           }
         where
           slot : ((j : ℕ) → j < a → word b (q + 4 + 2 * j) < 16) → 16 ≤ length m → Held b o k l m → (j : ℕ) → j < suc k → (s : Bool) → eqb j k ≡ s →
@@ -213,9 +198,9 @@ module _ (b : List ℕ) (n d o c : ℕ) (n16 : n ≤ 16) (good : (j : ℕ) → j
           slot small room t j z true w =
               let v : j ≡ k = eqb-true j k w in
               ap (λ (i : ℕ). at (set (touched b (q + 4) k a m) (32 + k) p) (32 + i)) v
-              ∙ at-same (touched b (q + 4) k a m) (32 + k) p (omega (arith, touched-length b (q + 4) k a small m room a, t .sized))
+              ∙ at-set (touched b (q + 4) k a m) (32 + k) p (omega (arith, touched-length b (q + 4) k a small m room a, t .sized))
               ∙ ap (λ (i : ℕ). packed b (offsetAt b o i + 4) (word b (offsetAt b o i)) (word b (offsetAt b o i))) (sym v)
           slot small room t j z false w =
               let v : j ≡ k → ⊥ = eqb-false j k w in
-              at-other (touched b (q + 4) k a m) (32 + k) (32 + j) p (λ u. v (omega arith))
+              at-set-other (touched b (q + 4) k a m) (32 + k) p (32 + j) (λ u. v (omega arith))
               ∙ touched-high b (q + 4) k a small m room a (omega arith) (32 + j) (omega arith) ∙ t .packs j (omega arith)

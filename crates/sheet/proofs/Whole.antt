@@ -6,22 +6,21 @@ use native.Mathlib.Omega.{arith}
 use lib.ListN.{length, replicate, length-replicate}
 use Rattle.model.specs.Lists.{at}
 use Rattle.model.specs.Verdict.{Verdict, accepted, refused}
-use Rattle.model.specs.Sheet.{headerOf, problemOf, symmetriesVerdict, verdictOf}
+use Rattle.model.specs.Sheet.{problemOf, formVerdict, symmetriesVerdict, verdictOf}
+use Rattle.model.proofs.Lists.{at-replicate}
 use Rattle.layout.specs.Layout.{Numbers, Supports, Images, Compiled}
 use Rattle.sheet.specs.Meaning.{means, andThen, Answers}
-use Rattle.sheet.specs.Parts.{headerAsked, formVerdict, Fit}
 use Rattle.sheet.specs.Form.{Zeros, Formed, FormAsked, Compilation}
 use Rattle.sheet.specs.declared.Answer.{Answer}
 use Rattle.sheet.specs.declared.Answer.the-variants.{Accepted, Refused}
-use Rattle.sheet.proofs.Arrays.{at-zeros}
-use Rattle.sheet.proofs.Stating.{left}
+use Rattle.sheet.proofs.Stating.{form-passed}
 
 pub zeros : (n : ℕ) → Zeros n (replicate n 0)
-zeros n = record { sized = length-replicate n 0; blank = at-zeros n }
+zeros n = record { sized = length-replicate n 0; blank = at-replicate n }
 
 -- the tables' questions come after the others
 parts : (b : List ℕ) → verdictOf b ≡ formVerdict b (symmetriesVerdict (problemOf b) 0 (problemOf b .symmetries))
-unfolding verdictOf formVerdict headerAsked
+unfolding verdictOf
 parts b = refl
 
 pub whole-no : (b numbers supports : List ℕ) (r : Answer) (n i : ℕ) → r ≡ Refused n i → FormAsked b numbers supports r → means r ≡ verdictOf b
@@ -33,7 +32,7 @@ whole-yes b numbers supports r t e a q =
     q ∙ sym (parts b ∙ a .answers _ ∙ ap (λ (x : Answer). andThen (means x) (symmetriesVerdict (problemOf b) 0 (problemOf b .symmetries))) e)
 
 pub long : (b numbers supports : List ℕ) (r : Answer) → r ≡ Accepted → FormAsked b numbers supports r → 16 ≤ length b
-long b numbers supports r e a = left b (a .formed e .passed) .fits .long
+long b numbers supports r e a = form-passed b (a .formed e .passed) .fits .long
 
 -- a refusal leaves the arrays free
 pub compile-no : (b numbers supports images : List ℕ) (r : Answer) (n i : ℕ) → r ≡ Refused n i → means r ≡ verdictOf b → Compilation b numbers supports images r

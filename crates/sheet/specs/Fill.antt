@@ -7,7 +7,9 @@ use lib.ListN.{length, set}
 use lib.Bits.{bitOr}
 use lib.Dec.{T, ltb}
 use Rattle.model.specs.Lists.{at, all, both, ascending, choose}
+use Rattle.model.specs.ValueSets.{unionMask}
 use Rattle.model.specs.Sheet.{word, words}
+use Rattle.layout.specs.Places.{SCOPES}
 
 -- ---- scopes
 -- constraint k touches variable x
@@ -53,21 +55,21 @@ unfoldable pub order : List ℕ → ℕ → ℕ → ℕ → ℕ
 order b from a zero = 0
 order b from a (suc i) = choose (ltb (rowKey b from a i) (leastKey b from a i)) 13 (order b from a i)
 
--- a key goes to the support sets from a base on
-unfoldable pub support : ℕ → ℕ → List ℕ → List ℕ
-support base key l = set l (base + key / 16) (bitOr (at l (base + key / 16)) (2 ^ (key % 16)))
+-- the support sets from a base on with the row of a key, and with the first i rows
+unfoldable pub withRow : ℕ → ℕ → List ℕ → List ℕ
+withRow base key l = set l (base + key / 16) (unionMask (at l (base + key / 16)) (2 ^ (key % 16)))
 
-unfoldable pub supported : List ℕ → ℕ → ℕ → ℕ → ℕ → List ℕ → List ℕ
-supported b from a base zero l = l
-supported b from a base (suc i) l = support base (rowKey b from a i) (supported b from a base i l)
+unfoldable pub withRows : List ℕ → ℕ → ℕ → ℕ → ℕ → List ℕ → List ℕ
+withRows b from a base zero l = l
+withRows b from a base (suc i) l = withRow base (rowKey b from a i) (withRows b from a base i l)
 
 -- ---- one constraint
 -- what constraint k at an offset adds to the numbers and to the support sets
 abbrev pub numbersWith : List ℕ → ℕ → ℕ → List ℕ → List ℕ
-numbersWith b o k l = set (touched b (o + 4) k (word b o) l) (32 + k) (packed b (o + 4) (word b o) (word b o))
+numbersWith b o k l = set (touched b (o + 4) k (word b o) l) (SCOPES + k) (packed b (o + 4) (word b o) (word b o))
 
 abbrev pub supportsWith : List ℕ → ℕ → ℕ → List ℕ → List ℕ
-supportsWith b o k l = supported b (o + 4 + 2 * word b o) (word b o) (256 * k) (word b (o + 2)) l
+supportsWith b o k l = withRows b (o + 4 + 2 * word b o) (word b o) (256 * k) (word b (o + 2)) l
 
 -- ---- what the functions say
 -- the key of a row at an offset, 4096 where a value is not below d
@@ -78,9 +80,9 @@ pub record RowRead (b : List ℕ) (o a d r : ℕ) : Type 0 where
 -- questions 12 and 13 to n rows
 pub record RowsAsked (b : List ℕ) (from a n d base : ℕ) (old new : List ℕ) (r : ℕ) : Type 0 where
   pub refused : r ≡ 12 → (i : ℕ) × (i < n) × (T (rowFits b from a d i) → ⊥)
-  pub passed : (r ≡ 12 → ⊥) → (r ≡ order b from a n) × ((i : ℕ) → i < n → T (rowFits b from a d i)) × (new ≡ supported b from a base n old)
+  pub passed : (r ≡ 12 → ⊥) → (r ≡ order b from a n) × ((i : ℕ) → i < n → T (rowFits b from a d i)) × (new ≡ withRows b from a base n old)
 
 -- question 11 to the scope of a variables at an offset
 pub record ScopeAsked (b : List ℕ) (from a n k : ℕ) (old new : List ℕ) (r : Bool) : Type 0 where
   pub answers : r ≡ both (all (λ x. ltb x n) (words b from a)) (ascending (words b from a))
-  pub stored : r ≡ true → new ≡ set (touched b from k a old) (32 + k) (packed b from a a)
+  pub stored : r ≡ true → new ≡ set (touched b from k a old) (SCOPES + k) (packed b from a a)

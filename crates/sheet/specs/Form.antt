@@ -5,10 +5,10 @@ use Prim.Native.Nat.{ℕ}
 use lib.ListN.{length, set}
 use Rattle.model.specs.Lists.{at}
 use Rattle.model.specs.Verdict.{accepted}
-use Rattle.model.specs.Sheet.{problemOf, verdictOf}
+use Rattle.model.specs.Sheet.{problemOf, formVerdict, verdictOf}
+use Rattle.layout.specs.Places.{VARIABLES, VALUES, CONSTRAINTS, SYMMETRIES}
 use Rattle.layout.specs.Layout.{Numbers, Supports, Compiled}
 use Rattle.sheet.specs.Meaning.{means, Answers}
-use Rattle.sheet.specs.Parts.{formVerdict}
 use Rattle.sheet.specs.declared.Answer.{Answer}
 use Rattle.sheet.specs.declared.Answer.the-variants.{Accepted}
 
@@ -19,7 +19,7 @@ pub record Zeros (n : ℕ) (l : List ℕ) : Type 0 where
 
 -- the counts at their places
 abbrev pub counted : ℕ → ℕ → ℕ → ℕ → List ℕ → List ℕ
-counted n d c g l = set (set (set (set l 64 n) 65 d) 66 c) 67 g
+counted n d c g l = set (set (set (set l VARIABLES n) VALUES d) CONSTRAINTS c) SYMMETRIES g
 
 -- a sheet that passed questions 1 to 14, and two arrays that hold its problem
 pub record Formed (b : List ℕ) (numbers supports : List ℕ) : Type 0 where

@@ -1,6 +1,5 @@
 -- What the answers mean, and what the parts of the questioning say.
 pub mod Meaning
-pub mod Read
 pub mod Parts
 pub mod Fill
 pub mod Steps

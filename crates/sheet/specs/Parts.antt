@@ -1,50 +1,21 @@
--- The questions in parts, each with what is asked after it.
-use mathlib.Core.Bool.{Bool}
+-- The questions in parts, each with what is asked after it, and what the first parts leave.
 use mathlib.Core.List.{List}
 use mathlib.Core.Path.{_≡_}
 use Prim.Native.Nat.{ℕ, _+_, _*_, _≤_, _<_}
 use lib.ListN.{length}
-use lib.Dec.{leb, eqb}
-use Rattle.model.specs.Lists.{both, below, at}
-use Rattle.model.specs.Verdict.{Verdict, ask}
+use Rattle.model.specs.Lists.{below, at}
+use Rattle.model.specs.Verdict.{Verdict}
+use Rattle.model.specs.Sheet.{headerOf, word, headerVerdict, setsVerdict}
+use Rattle.layout.specs.Places.{INITIAL, SCOPES}
 use Rattle.sheet.specs.Meaning.{Answers}
 use Rattle.sheet.specs.declared.Answer.{Answer}
 use Rattle.sheet.specs.declared.Answer.the-variants.{Accepted}
-use Rattle.model.specs.Sheet.{Header, headerOf, word, setsVerdict, constraintsVerdict}
 
--- the test of question 7
-abbrev pub offsetsFit : Header → Bool
-offsetsFit h =
-    both (eqb (h .first) 16) (both (eqb (h .second) (16 + 2 * h .variables)) (both (leb (h .second) (h .third)) (leb (h .third) (h .size))))
+-- ---- questions 1 to 7
+abbrev pub headerAsked : List ℕ → Verdict → Verdict
+headerAsked b later = headerVerdict (headerOf b) (length b) later
 
--- questions 1 to 7 to a header h of n bytes
-unfoldable pub headerAsked : Header → ℕ → Verdict → Verdict
-headerAsked h n later =
-    ask (leb 16 n) 1 0
-    (ask (both (leb 1 (h .variables)) (leb (h .variables) 12)) 2 0
-    (ask (both (leb 1 (h .values)) (leb (h .values) 16)) 3 0
-    (ask (leb (h .constraints) 32) 4 0
-    (ask (leb (h .symmetries) 16) 5 0
-    (ask (eqb (h .size) n) 6 0
-    (ask (offsetsFit h) 7 0 later))))))
-
-abbrev pub headerVerdict : List ℕ → Verdict → Verdict
-headerVerdict b later = headerAsked (headerOf b) (length b) later
-
--- the test of question 14
-abbrev pub tablesFit : Header → Bool
-tablesFit h = eqb (h .size) (h .third + 2 * (h .symmetries * (h .variables * h .values)))
-
--- questions 1 to 14
-unfoldable pub formVerdict : List ℕ → Verdict → Verdict
-formVerdict b later =
-    let h = headerOf b in
-    headerVerdict b
-    (setsVerdict b h (below (h .variables))
-    (constraintsVerdict b h (h .constraints) 0 (h .second)
-    (ask (tablesFit h) 14 0 later)))
-
--- what questions 1 to 7 leave
+-- what they leave
 pub record Fit (b : List ℕ) : Type 0 where
   pub long : 16 ≤ length b
   pub some : 1 ≤ headerOf b .variables
@@ -66,27 +37,19 @@ entries = 384
 abbrev pub setsAsked : List ℕ → Verdict → Verdict
 setsAsked b later = setsVerdict b (headerOf b) (below (headerOf b .variables)) later
 
--- {0} for each variable from n up to k, and nothing else changed
-pub record Unused (n k : ℕ) (old new : List ℕ) : Type 0 where
-  pub sized : length new ≡ entries
-  pub unused : (x : ℕ) → n ≤ x → x < k → at new (16 + x) ≡ 1
-  pub low : (i : ℕ) → i < 16 + n → at new i ≡ at old i
-  pub high : (i : ℕ) → 16 + k ≤ i → at new i ≡ at old i
+-- {0} for each of sixteen variables, and nothing else changed
+pub record ZeroSets (old new : List ℕ) : Type 0 where
+  pub sized : length new ≡ length old
+  pub sets : (x : ℕ) → x < 16 → at new (INITIAL + x) ≡ 1
+  pub others : (i : ℕ) → ((x : ℕ) → x < 16 → INITIAL + x ≡ i → ⊥) → at new i ≡ at old i
 
--- the initial sets of the variables below k, and nothing else changed
-pub record Initial (b : List ℕ) (k : ℕ) (old new : List ℕ) : Type 0 where
-  pub sized : length new ≡ entries
-  pub initial : (x : ℕ) → x < k → at new (16 + x) ≡ word b (16 + 2 * x)
-  pub low : (i : ℕ) → i < 16 → at new i ≡ at old i
-  pub high : (i : ℕ) → 16 + k ≤ i → at new i ≡ at old i
-
--- the sets of all sixteen variables
+-- the initial sets of n variables, {0} for the others up to sixteen, and nothing else changed
 pub record AllSets (b : List ℕ) (n : ℕ) (old new : List ℕ) : Type 0 where
-  pub sized : length new ≡ entries
-  pub initial : (x : ℕ) → x < n → at new (16 + x) ≡ word b (16 + 2 * x)
-  pub unused : (x : ℕ) → n ≤ x → x < 16 → at new (16 + x) ≡ 1
-  pub low : (i : ℕ) → i < 16 → at new i ≡ at old i
-  pub high : (i : ℕ) → 32 ≤ i → at new i ≡ at old i
+  pub sized : length new ≡ length old
+  pub initial : (x : ℕ) → x < n → at new (INITIAL + x) ≡ word b (16 + 2 * x)
+  pub unused : (x : ℕ) → n ≤ x → x < 16 → at new (INITIAL + x) ≡ 1
+  pub low : (i : ℕ) → i < INITIAL → at new i ≡ at old i
+  pub high : (i : ℕ) → SCOPES ≤ i → at new i ≡ at old i
 
 pub record SetsAsked (b : List ℕ) (n : ℕ) (old new : List ℕ) (r : Answer) : Type 0 where
   pub answers : Answers (setsAsked b) r

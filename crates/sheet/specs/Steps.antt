@@ -1,11 +1,9 @@
 -- What asking one constraint, and all of them, says.
 use mathlib.Core.Path.{_≡_}
 use mathlib.Core.List.{List}
-use Prim.Native.Nat.{ℕ, zero, suc, _+_, _≤_}
-use lib.Dec.{leb, ltb, eqb}
-use Rattle.model.specs.Lists.{both, all, ascending, rowsAscend}
-use Rattle.model.specs.Verdict.{Verdict, refused, ask}
-use Rattle.model.specs.Sheet.{Header, headerOf, word, scopeAt, rowsAt, afterAt, constraintsVerdict}
+use Prim.Native.Nat.{ℕ, zero, suc, _≤_}
+use Rattle.model.specs.Verdict.{Verdict, refused}
+use Rattle.model.specs.Sheet.{headerOf, afterAt, constraintVerdict, constraintsVerdict}
 use Rattle.sheet.specs.Fill.{numbersWith, supportsWith}
 use Rattle.sheet.specs.Meaning.{Answers}
 use Rattle.sheet.specs.declared.Answer.{Answer}
@@ -14,16 +12,6 @@ use Rattle.sheet.specs.declared.constraints.Step.{Step}
 use Rattle.sheet.specs.declared.constraints.Step.the-variants.{Next, Refused}
 
 -- ---- one constraint
--- questions 9 to 13 to constraint k at an offset
-unfoldable pub constraintVerdict : List ℕ → Header → ℕ → ℕ → Verdict → Verdict
-constraintVerdict b h k o later =
-    ask (leb (o + 4) (h .third)) 9 k
-    (ask (both (both (leb 1 (word b o)) (leb (word b o) 3)) (leb (word b (o + 2)) 256)) 10 k
-    (ask (leb (afterAt b o) (h .third)) 9 k
-    (ask (both (all (λ x. ltb x (h .variables)) (scopeAt b o)) (ascending (scopeAt b o))) 11 k
-    (ask (all (all (λ w. ltb w (h .values))) (rowsAt b o)) 12 k
-    (ask (rowsAscend (rowsAt b o)) 13 k later)))))
-
 -- the answer for constraint k, and what is asked after it
 abbrev pub stepThen : Step → ℕ → Verdict → Verdict
 stepThen (Next next) k later = later

@@ -1,8 +1,9 @@
 // Questions 9 to 13, and what they store of each constraint: its scope, and the set of constraints that touch a variable.
 use crate::Answer;
-use crate::read::Header;
 use crate::rows;
-use reader::word_at;
+use layout::SCOPES;
+use reader::Header;
+use reader::read_word;
 use symmetry::Numbers;
 ghost use Prim.Native.Nat.{_+_, _*_, _≤_, _<_};
 ghost use mathlib.Core.Path.{_≡_};
@@ -12,7 +13,7 @@ ghost use Rattle.model.specs.Lists.{both};
 ghost use Rattle.model.specs.Sheet.{headerOf};
 ghost use Rattle.sheet.specs.Fill.{touch as touchAt, ScopeAsked};
 ghost use Rattle.sheet.specs.Parts.{Fit};
-ghost use Rattle.sheet.specs.Read.{stated};
+ghost use Rattle.reader.specs.Read.{stated};
 ghost use Rattle.sheet.specs.Steps.{ConstraintAsked, ConstraintsAsked};
 
 // The answer for one constraint: where the next stands, or the number of the first "no".
@@ -52,7 +53,7 @@ fn scope(sheet: &[u8], from: usize, a: usize, n: usize, k: usize, numbers: &mut 
     let mut least = 0;
     let mut i = 0;
     while i < a {
-        let x = word_at(sheet, from + 2 * i);
+        let x = read_word(sheet, from + 2 * i);
         if x < least {
             return false;
         }
@@ -65,7 +66,7 @@ fn scope(sheet: &[u8], from: usize, a: usize, n: usize, k: usize, numbers: &mut 
         least = x + 1;
         i += 1;
     }
-    numbers[32 + k] = packed as u64;
+    numbers[SCOPES + k] = packed as u64;
     true
 }
 
@@ -86,8 +87,8 @@ fn constraint(
     if third < o + 4 {
         return Step::Refused(9);
     }
-    let a = word_at(sheet, o);
-    let r = word_at(sheet, o + 2);
+    let a = read_word(sheet, o);
+    let r = read_word(sheet, o + 2);
     if !counts_fit(a, r) {
         return Step::Refused(10);
     }

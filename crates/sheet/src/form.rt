@@ -2,14 +2,20 @@
 use crate::Answer;
 use crate::constraints;
 use crate::heading;
-use crate::read::Header;
 use crate::sets;
+use layout::CONSTRAINTS;
+use layout::SYMMETRIES;
+use layout::VALUES;
+use layout::VARIABLES;
+use reader::Header;
+use reader::read_header;
 use symmetry::Numbers;
 ghost use Prim.Native.Nat.{_^_, _≤_, _<_};
 ghost use mathlib.Core.Path.{_≡_};
+ghost use Rattle.model.specs.Sheet.{tablesFit};
+ghost use Rattle.reader.specs.Read.{stated};
 ghost use Rattle.sheet.specs.Form.{Zeros, counted, FormAsked};
-ghost use Rattle.sheet.specs.Parts.{entries, tablesFit};
-ghost use Rattle.sheet.specs.Read.{stated};
+ghost use Rattle.sheet.specs.Parts.{entries};
 
 // Question 14: the symmetries' tables fill the rest.
 fn tables_fit(h: Header) -> bool
@@ -22,10 +28,10 @@ fn tables_fit(h: Header) -> bool
 fn store_counts(h: Header, numbers: &mut Numbers)
     ensures { λ _. ⌜ now (numbers .exit) ≡ counted (h .variables) (h .values) (h .constraints) (h .symmetries) (now (numbers .entry)) ⌝ }
 {
-    numbers[64] = h.variables as u64;
-    numbers[65] = h.values as u64;
-    numbers[66] = h.constraints as u64;
-    numbers[67] = h.symmetries as u64;
+    numbers[VARIABLES] = h.variables as u64;
+    numbers[VALUES] = h.values as u64;
+    numbers[CONSTRAINTS] = h.constraints as u64;
+    numbers[SYMMETRIES] = h.symmetries as u64;
 }
 
 // The arrays are lent full of zeros.
@@ -37,7 +43,7 @@ pub fn ask(sheet: &[u8], numbers: &mut Numbers, supports: &mut [u16; 8192]) -> A
     let Answer::Accepted = first else {
         return first;
     };
-    let h = Header::read(sheet);
+    let h = read_header(sheet);
     let second = sets::ask(sheet, h.variables, h.values, numbers);
     let Answer::Accepted = second else {
         return second;

@@ -1,13 +1,15 @@
 // Questions 1 to 7, on the header.
 use crate::Answer;
-use crate::read::Header;
+use reader::Header;
+use reader::read_header;
 ghost use Prim.Native.Nat.{_≤_};
 ghost use mathlib.Core.Path.{_≡_};
 ghost use lib.Dec.{leb};
 ghost use Rattle.model.specs.Lists.{both};
+ghost use Rattle.model.specs.Sheet.{offsetsFit};
+ghost use Rattle.reader.specs.Read.{stated};
 ghost use Rattle.sheet.specs.Meaning.{Answers};
-ghost use Rattle.sheet.specs.Parts.{offsetsFit, headerVerdict};
-ghost use Rattle.sheet.specs.Read.{stated};
+ghost use Rattle.sheet.specs.Parts.{headerAsked};
 
 fn within(x: usize, low: usize, high: usize) -> bool
     ensures { λ r. ⌜ r ≡ both (leb low x) (leb x high) ⌝ }
@@ -30,12 +32,12 @@ fn offsets_fit(h: Header) -> bool
 }
 
 pub fn ask(sheet: &[u8]) -> Answer
-    ensures { λ r. ⌜ Answers (headerVerdict (now (sheet .entry))) r ⌝ }
+    ensures { λ r. ⌜ Answers (headerAsked (now (sheet .entry))) r ⌝ }
 {
     if sheet.len() < 16 {
         return Answer::Refused { number: 1, item: 0 };
     }
-    let h = Header::read(sheet);
+    let h = read_header(sheet);
     if !within(h.variables, 1, 12) {
         return Answer::Refused { number: 2, item: 0 };
     }

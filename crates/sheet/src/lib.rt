@@ -5,13 +5,14 @@ ghost use Rattle.model.specs.Sheet.{verdictOf};
 ghost use Rattle.sheet.specs.Meaning.{means};
 ghost use Rattle.sheet.specs.Form.{Zeros, Compilation};
 
-pub mod constraints; // questions 9 to 13
-pub mod form; // questions 1 to 14
-pub mod heading; // questions 1 to 7
-pub mod read; // the header
-pub mod rows; // questions 12 and 13 to one constraint
-pub mod sets; // question 8
-pub mod tables; // questions 15 and 16, and the images
+mod constraints; // questions 9 to 13
+mod form; // questions 1 to 14
+mod heading; // questions 1 to 7
+mod rows; // questions 12 and 13 to one constraint
+mod sets; // question 8
+mod tables; // questions 15 and 16, and the images
+
+use reader::read_header;
 
 // The first "no", with its number and item, or that there is none.
 pub enum Answer {
@@ -29,7 +30,7 @@ pub fn question(sheet: &[u8]) -> Answer
     let Answer::Accepted = first else {
         return first;
     };
-    let h = read::Header::read(sheet);
+    let h = read_header(sheet);
     tables::ask(sheet, h, &numbers, &supports)
 }
 
@@ -48,7 +49,7 @@ pub fn compile(
     let Answer::Accepted = first else {
         return first;
     };
-    let h = read::Header::read(sheet);
+    let h = read_header(sheet);
     let second = tables::ask(sheet, h, numbers, supports);
     let Answer::Accepted = second else {
         return second;

@@ -1,10 +1,11 @@
 // Questions 12 and 13 to the rows of one constraint, and its support sets.
-use reader::word_at;
+use model::ValueSet;
+use reader::read_word;
 ghost use Prim.Native.Nat.{_+_, _*_, _≤_, _<_};
 ghost use mathlib.Core.Path.{_≡_};
 ghost use lib.ListN.{length};
 ghost use lib.Dec.{ltb};
-ghost use Rattle.sheet.specs.Fill.{support as supportAt, RowRead, RowsAsked};
+ghost use Rattle.sheet.specs.Fill.{withRow, RowRead, RowsAsked};
 ghost use Rattle.model.specs.Lists.{choose};
 
 // The row of a values at an offset as one number, a hexadecimal digit for each value; 4096 where one is not below d.
@@ -16,7 +17,7 @@ fn key(sheet: &[u8], o: usize, a: usize, d: usize) -> usize
     let mut key = 0;
     let mut i = 0;
     while i < a {
-        let v = word_at(sheet, o + 2 * i);
+        let v = read_word(sheet, o + 2 * i);
         if d <= v {
             return 4096;
         }
@@ -34,12 +35,16 @@ fn ordered(key: usize, least: usize, refused: u8) -> u8
 }
 
 // A row into the support sets from a base on: its last value to the set for the values before it.
-fn support(base: usize, key: usize, supports: &mut [u16; 8192])
+fn add_row(base: usize, key: usize, supports: &mut [u16; 8192])
     requires { ⌜ (key < 4096) × (base + 256 ≤ 8192) ⌝ }
-    ensures { λ _. ⌜ now (supports .exit) ≡ supportAt base key (now (supports .entry)) ⌝ }
+    ensures { λ _. ⌜ now (supports .exit) ≡ withRow base key (now (supports .entry)) ⌝ }
 {
     let slot = base + key / 16;
-    supports[slot] = supports[slot] | (1u16 << (key % 16));
+    let before = ValueSet {
+        bits: supports[slot],
+    };
+    let last = ValueSet::full(16).only((key % 16) as u16);
+    supports[slot] = before.union(last).bits;
 }
 
 // The first "no" of 12 and 13 to the n rows of a values from an offset on, 0 where there is none.
@@ -67,7 +72,7 @@ pub fn ask(
         }
         refused = ordered(key, least, refused);
         least = key + 1;
-        support(base, key, supports);
+        add_row(base, key, supports);
         at = at + 2 * a;
         i += 1;
     }

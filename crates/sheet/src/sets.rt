@@ -1,38 +1,39 @@
 // Question 8, and the initial sets, into `numbers` from 16 on.
 use crate::Answer;
-use reader::word_at;
+use layout::INITIAL;
+use model::ValueSet;
+use reader::read_word;
 use symmetry::Numbers;
-ghost use Prim.Native.Nat.{_^_, _≤_};
+ghost use Prim.Native.Nat.{_≤_};
 ghost use mathlib.Core.Bool.{not};
 ghost use mathlib.Core.Path.{_≡_};
 ghost use lib.ListN.{length};
-ghost use lib.Dec.{ltb, eqb};
+ghost use lib.Dec.{leb, eqb};
 ghost use Rattle.model.specs.Lists.{both};
 ghost use Rattle.model.specs.Sheet.{headerOf};
-ghost use Rattle.sheet.specs.Parts.{Fit, entries, SetsAsked, Unused};
+ghost use Rattle.sheet.specs.Parts.{Fit, entries, SetsAsked, ZeroSets};
 
-// The first number that is no set of d values.
-fn limit(d: usize) -> usize
-    requires { ⌜ d ≤ 16 ⌝ }
-    ensures { λ r. ⌜ r ≡ 2 ^ d ⌝ }
+// Whether a number is a set that is not empty, of values of the full set.
+fn is_set(s: usize, full: ValueSet) -> bool
+    ensures { λ r. ⌜ r ≡ both (leb s (full .bits)) (not (eqb s 0)) ⌝ }
 {
-    1usize << d
+    if s <= full.bits as usize {
+        let set = ValueSet { bits: s as u16 };
+        !set.is_empty()
+    } else {
+        false
+    }
 }
 
-fn is_set(s: usize, limit: usize) -> bool
-    ensures { λ r. ⌜ r ≡ both (ltb s limit) (not (eqb s 0)) ⌝ }
+// The set {0} for each of the sixteen variables: it stays for those from n up.
+fn fill(numbers: &mut Numbers)
+    requires { ⌜ length (now numbers) ≡ entries ⌝ }
+    ensures { λ _. ⌜ ZeroSets (now (numbers .entry)) (now (numbers .exit)) ⌝ }
 {
-    if s < limit { s != 0 } else { false }
-}
-
-// The set {0} for each variable from n up.
-fn fill_unused(n: usize, numbers: &mut Numbers)
-    requires { ⌜ (n ≤ 16) × (length (now numbers) ≡ entries) ⌝ }
-    ensures { λ _. ⌜ Unused n 16 (now (numbers .entry)) (now (numbers .exit)) ⌝ }
-{
-    let mut x = n;
+    let first = ValueSet::full(1);
+    let mut x = 0;
     while x < 16 {
-        numbers[16 + x] = 1;
+        numbers[INITIAL + x] = first.bits as u64;
         x += 1;
     }
 }
@@ -41,16 +42,16 @@ pub fn ask(sheet: &[u8], n: usize, d: usize, numbers: &mut Numbers) -> Answer
     requires { ⌜ Fit (now sheet) × (n ≡ headerOf (now sheet) .variables) × (d ≡ headerOf (now sheet) .values) × (length (now numbers) ≡ entries) ⌝ }
     ensures { λ r. ⌜ SetsAsked (now (sheet .entry)) n (now (numbers .entry)) (now (numbers .exit)) r ⌝ }
 {
-    let limit = limit(d);
+    fill(numbers);
+    let full = ValueSet::full(d as u16);
     let mut x = 0;
     while x < n {
-        let s = word_at(sheet, 16 + 2 * x);
-        if !is_set(s, limit) {
+        let s = read_word(sheet, 16 + 2 * x);
+        if !is_set(s, full) {
             return Answer::Refused { number: 8, item: x };
         }
-        numbers[16 + x] = s as u64;
+        numbers[INITIAL + x] = s as u64;
         x += 1;
     }
-    fill_unused(n, numbers);
     Answer::Accepted
 }

@@ -1,18 +1,18 @@
 // Questions 15 and 16 to each table of symmetries, and the images of the pairs.
 use crate::Answer;
-use crate::read::Header;
-use reader::word_at;
+use reader::Header;
+use reader::read_word;
 use symmetry::Numbers;
+use symmetry::pair_code;
 ghost use mathlib.Core.Path.{_≡_};
-ghost use Prim.Native.Nat.{_*_, _≤_, _<_};
 ghost use lib.ListN.{length};
 ghost use Rattle.model.specs.Verdict.{accepted};
 ghost use Rattle.model.specs.Sheet.{headerOf, problemOf, symmetriesVerdict, verdictOf};
 ghost use Rattle.layout.specs.Layout.{Images};
 ghost use Rattle.sheet.specs.Meaning.{means};
 ghost use Rattle.sheet.specs.Form.{Formed};
-ghost use Rattle.sheet.specs.Decoding.{codeOf, Decodable, Decoded};
-ghost use Rattle.sheet.specs.Read.{stated};
+ghost use Rattle.sheet.specs.Decoding.{Decodable, Decoded};
+ghost use Rattle.reader.specs.Read.{stated};
 
 pub fn ask(sheet: &[u8], h: Header, numbers: &Numbers, supports: &[u16; 8192]) -> Answer
     requires { ⌜ Formed (now sheet) (now numbers) (now supports) × (stated h ≡ headerOf (now sheet)) ⌝ }
@@ -33,14 +33,6 @@ pub fn ask(sheet: &[u8], h: Header, numbers: &Numbers, supports: &[u16; 8192]) -
     Answer::Accepted
 }
 
-// A pair number as 16 times its variable plus its value.
-fn code(q: usize, d: usize) -> usize
-    requires { ⌜ (1 ≤ d) × (d ≤ 16) × (q < 12 * d) ⌝ }
-    ensures { λ r. ⌜ (r ≡ codeOf d q) × (r < 192) ⌝ }
-{
-    16 * (q / d) + q % d
-}
-
 // The images of a table of pair numbers, 192 bytes from a base on.
 fn decode(sheet: &[u8], from: usize, count: usize, d: usize, base: usize, images: &mut [u8; 26112])
     requires { ⌜ Decodable (now sheet) from count d base (now images) ⌝ }
@@ -48,8 +40,8 @@ fn decode(sheet: &[u8], from: usize, count: usize, d: usize, base: usize, images
 {
     let mut q = 0;
     while q < count {
-        let y = word_at(sheet, from + 2 * q);
-        images[base + code(q, d)] = code(y, d) as u8;
+        let y = read_word(sheet, from + 2 * q);
+        images[base + pair_code(q, d)] = pair_code(y, d) as u8;
         q += 1;
     }
 }

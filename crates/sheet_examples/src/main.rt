@@ -89,8 +89,8 @@ fn put_series(b: &mut [u8; 65536], at: usize, count: usize, series: usize)
     }
 }
 
-// 32 rules on places 0, 1, 2, of 256 rows each.
-fn rules(b: &mut [u8; 65536]) {
+// 32 constraints on the variables 0, 1, 2, of 256 rows each.
+fn constraints(b: &mut [u8; 65536]) {
     let head = [3u8, 0, 0, 1, 2];
     let mut at = 40;
     while at < 49512 {
@@ -101,14 +101,14 @@ fn rules(b: &mut [u8; 65536]) {
     }
 }
 
-// The longest sheet, 55,656 bytes: twelve places, sixteen values, 32 rules of 256 rows, sixteen exchanges.
+// The longest sheet, 55,656 bytes: twelve variables, sixteen values, 32 constraints of 256 rows, sixteen symmetries.
 fn longest(b: &mut [u8; 65536]) {
     let header = [12u8, 16, 32, 16, 16, 40];
     put_all(b, 0, &header);
     put(b, 12, 49512);
     put(b, 14, 55656);
     put_series(b, 16, 12, 0);
-    rules(b);
+    constraints(b);
     put_series(b, 49512, 3072, 2);
 }
 
@@ -165,12 +165,12 @@ fn digits(line: &[u8], from: usize) -> Found
 fn change(b: &mut [u8; 65536], line: &[u8], from: usize) {
     let mut at = from;
     while at < line.len() {
-        let place = number(line, at);
-        let v = number(line, place.end);
-        if place.done || v.done {
+        let offset = number(line, at);
+        let v = number(line, offset.end);
+        if offset.done || v.done {
             return;
         }
-        put(b, place.value, v.value);
+        put(b, offset.value, v.value);
         if v.end <= at {
             return;
         }

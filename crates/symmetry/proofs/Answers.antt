@@ -1,4 +1,4 @@
--- From what the code finds to the answer to questions 15 and 16, and from the answer to the verdict. Assumes nothing.
+-- From what the code finds to the answer to questions 15 and 16. Assumes nothing.
 use mathlib.Core.Path.{_≡_, refl, sym, ap, ap₂, _∙_}
 use mathlib.Core.Bool.{Bool, true, false}
 use mathlib.Core.List.{List, []}
@@ -8,17 +8,15 @@ use Rattle.model.specs.Lists.{all, at, below, both}
 use Rattle.model.specs.ValueSets.{members}
 use Rattle.model.specs.Problem.{Problem, Constraint, respects}
 use Rattle.model.specs.Sheet.{permutesPairs}
-use Rattle.model.specs.Verdict.{Verdict, ask}
 use Rattle.model.proofs.Lists.{T-of}
-use Rattle.symmetry.specs.Table.{Laid, Asked, tableOf, answerOf, tableAnswer, verdictBy}
+use Rattle.symmetry.specs.Table.{TableAt, Asked, tableOf, answerOf, tableAnswer}
 use Rattle.symmetry.specs.Forbidden.{Decoded, Short, Lent, keeps, doublings}
 use Rattle.symmetry.proofs.Codes.{decoded-coded}
 use Rattle.symmetry.proofs.Respects.{respects-are}
 
--- ---- the code's answer
 module _ (p : Problem) (sheet : List ℕ) (offset : ℕ) (numbers supports : List ℕ) (a : Asked p sheet offset numbers supports) where
-  pub asked-laid : Laid p sheet offset numbers
-  asked-laid = record { framed = a .ready .framed; whole = a .whole }
+  pub asked-table : TableAt p sheet offset numbers
+  asked-table = record { framed = a .ready .framed; whole = a .whole }
 
   -- 15 where the table does not permute the pairs
   pub answer-15 : permutesPairs p (tableOf p sheet offset) ≡ false → 15 ≡ tableAnswer p sheet offset
@@ -42,13 +40,3 @@ module _ (p : Problem) (sheet : List ℕ) (offset : ℕ) (numbers supports : Lis
       -- else by the constraints' forbidden sets
       pub answer-last : (c r : Bool) → v ≡ true → c ≡ all (λ c. keeps p codes c (c .scope) []) (p .constraints) → c ≡ r → answerOf true r ≡ tableAnswer p sheet offset
       answer-last c r f ec e = ap₂ (λ (x y : Bool). answerOf true (both x y)) (sym f) (sym e) ∙ after c ec
-
--- ---- the verdict
-asked-by : (b c : Bool) (item : ℕ) (later : Verdict) → ask b 15 item (ask c 16 item later) ≡ verdictBy (answerOf b c) item later
-asked-by false c item later = refl
-asked-by true false item later = refl
-asked-by true true item later = refl
-
-pub table-verdict : (p : Problem) (sheet : List ℕ) (offset item : ℕ) (later : Verdict) →
-    ask (permutesPairs p (tableOf p sheet offset)) 15 item (ask (respects p (tableOf p sheet offset)) 16 item later) ≡ verdictBy (tableAnswer p sheet offset) item later
-table-verdict p sheet offset item later = asked-by (permutesPairs p (tableOf p sheet offset)) (respects p (tableOf p sheet offset)) item later

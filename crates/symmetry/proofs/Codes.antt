@@ -16,7 +16,7 @@ use Rattle.model.specs.Sheet.{permutesPairs, distinct}
 use Rattle.model.proofs.Lists.{both-i, both-l, both-r, all-e, below-i}
 use Rattle.model.proofs.Sets.{has-lt}
 use Rattle.model.specs.WellFormed.{GoodConstraint}
-use Rattle.layout.specs.Layout.{constraintAt}
+use Rattle.layout.specs.Layout.{constraintAt, pairCode}
 use Rattle.symmetry.specs.Table.{Stated}
 use Rattle.symmetry.specs.Forbidden.{numberOf, PairCode, MaybePair, Decoded, Coded}
 
@@ -24,6 +24,18 @@ mem-getD : {A : Type 0} (l : List A) (i : ℕ) (d : A) → i < length l → List
 mem-getD [] i d h = absurd (not-suc-le-zero h)
 mem-getD (x ∷ l) zero d h = List·Memᴰ·head refl
 mem-getD (x ∷ l) (suc i) d h = List·Memᴰ·tail (mem-getD l i d (le-of-suc-le-suc h))
+
+-- ---- the code of a pair number
+pub code-small : (q d : ℕ) → 1 ≤ d → d ≤ 16 → q < 12 * d → pairCode d q < 192
+code-small q d h k l = omega (arith, div-lt-iff-lt-mul h .1 l, mod-lt q h)
+
+pub code-inj : (q r d : ℕ) → 1 ≤ d → d ≤ 16 → pairCode d q ≡ pairCode d r → q ≡ r
+code-inj q r d h k e =
+    let a : q % d < d = mod-lt q h in
+    let b : r % d < d = mod-lt r h in
+    let x : q / d ≡ r / d = omega arith in
+    let y : q % d ≡ r % d = omega arith in
+    sym (div-add-mod' q d) ∙ ap₂ (λ (i j : ℕ). i * d + j) x y ∙ div-add-mod' r d
 
 module _ (p : Problem) (w : Stated p) where
   pub constraint-in : (k : ℕ) → k < length (p .constraints) → List·Memᴰ (constraintAt p k) (p .constraints)

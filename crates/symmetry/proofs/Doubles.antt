@@ -1,76 +1,79 @@
 -- The walk of a variable's forbidden sets: one pair further. Assumes nothing.
 use mathlib.Core.Path.{_≡_, refl, sym, ap, ap₂, _∙_, subst}
-use mathlib.Core.Bool.{Bool, true, false, not}
+use mathlib.Core.Bool.{Bool, true, false}
 use mathlib.Core.List.{List, [], _∷_}
 use mathlib.Core.Logic.{inl, inr}
-use Prim.Native.Nat.{ℕ, _+_, _-_, _*_, _/_, _%_, _^_, _≤_, _<_}
-use native.Mathlib.Nat.{lt-of-le-of-lt}
+use Prim.Native.Nat.{ℕ, _+_, _*_, _^_, _<_}
 use native.Mathlib.Omega.{arith}
 use lib.Dec.{T}
-use lib.ListN.{length}
-use lib.Bits.{bitAnd, and-le-l}
-use lib.Count.{trailingZeros}
-use Rattle.model.specs.Lists.{all, at, both}
-use Rattle.model.specs.ValueSets.{has, members, lowestOf}
+use Rattle.model.specs.Lists.{at, both}
+use Rattle.model.specs.ValueSets.{has, members, lowestOf, withoutMask}
 use Rattle.model.specs.Problem.{Problem}
-use Rattle.model.proofs.Sets.{members-of-none}
-use Rattle.symmetry.specs.Table.{Stated}
+use Rattle.model.proofs.Sets.{mask-lt, members-of-none}
+use Rattle.model.proofs.Lowest.{lowest-in, without-e, without-less, members-lowest}
 use Rattle.symmetry.specs.Forbidden.{blocked, numberOf, PairCode, Lent, Beside, Doubling, allBlocked, besides, doublings}
 use Rattle.symmetry.proofs.Codes.{init-16, init-small}
-use Rattle.symmetry.proofs.Laws.{trailing-least, has-lowest, rest-has, members-step, all-ext}
+use Rattle.symmetry.proofs.Laws.{all-ext}
 use Rattle.symmetry.proofs.Walks.{none-before}
 
--- ---- one pair further
-pub doubling-start : (p : Problem) (numbers supports codes : List ℕ) (short x set : ℕ) → Lent p numbers supports codes short → x < p .variables → set ≡ at numbers (16 + x) → Doubling p codes x set
+pub doubling-start : (p : Problem) (numbers supports codes : List ℕ) (short x set : ℕ) → Lent p numbers supports codes short → x < p .variables → set ≡ at (p .initial) x → Doubling p codes x set
 doubling-start p numbers supports codes short x set l h e =
-    let q : set ≡ at (p .initial) x = e ∙ l .ready .framed .numbered .initial x h in
-    subst (Doubling p codes x) (sym q) (record { small = init-small p (l .ready .framed .stated) x h; allowed = λ u t. t; whole = refl })
+    subst (Doubling p codes x) (sym e) (record { small = init-small p (l .ready .framed .stated) x h; allowed = λ u t. t; whole = refl })
 
-module _ (p : Problem) (numbers supports codes : List ℕ) (short x set : ℕ) (l : Lent p numbers supports codes short) (h : x < p .variables) (s : Doubling p codes x set) where
-  lowest : (set ≡ 0 → ⊥) → trailingZeros 64 set ≡ lowestOf set
-  lowest n = trailing-least 64 16 set (omega arith) (s .small) n
+-- v is the lowest member, `new` the set without it
+module _ (p : Problem) (numbers supports codes : List ℕ) (short x set : ℕ) (l : Lent p numbers supports codes short) (h : x < p .variables) (s : Doubling p codes x set) (n : set ≡ 0 → ⊥) (v new : ℕ) (ev : v ≡ lowestOf set) (en : new ≡ withoutMask set v) where
+  value : T (has (at (p .initial) x) v)
+  value = subst (λ (u : ℕ). T (has (at (p .initial) x) u)) (sym ev) (s .allowed (lowestOf set) (lowest-in set (s .small) n))
 
-  value : (set ≡ 0 → ⊥) → T (has (at (p .initial) x) (trailingZeros 64 set))
-  value n = subst (λ (u : ℕ). T (has (at (p .initial) x) u)) (sym (lowest n)) (s .allowed (lowestOf set) (has-lowest 16 set (s .small) n))
+  pub doubling-spot : 16 * x + v < 256
+  doubling-spot = omega (arith, h, init-16 p (l .ready .framed .stated) x _ h value, l .ready .framed .stated .few)
 
-  pub doubling-spot : (set ≡ 0 → ⊥) → 16 * x + trailingZeros 64 set < 256
-  doubling-spot n = omega (arith, h, init-16 p (l .ready .framed .stated) x _ h (value n), l .ready .framed .stated .few)
+  pub doubling-less : new < set
+  doubling-less = subst (λ (m : ℕ). m < set) (sym (en ∙ ap (withoutMask set) ev)) (without-less set (lowestOf set) (s .small) (lowest-in set (s .small) n))
+
+  small : new < 2 ^ 16
+  small = subst (λ (m : ℕ). m < 2 ^ 16) (sym en) (mask-lt 16 _)
+
+  allowed : (u : ℕ) → T (has new u) → T (has (at (p .initial) x) u)
+  allowed u t = s .allowed u (without-e set v u (subst (λ (m : ℕ). T (has m u)) en t) .0)
 
   -- the pair with the lowest value, beside those with the others
-  module _ (n : set ≡ 0 → ⊥) (a : ℕ) (e : a ≡ at codes (16 * x + trailingZeros 64 set)) where
-    pub doubling-beside : Beside p numbers supports codes short x (bitAnd set (set - 1)) 255 a
+  module _ (a : ℕ) (e : a ≡ at codes (16 * x + v)) where
+    pub doubling-beside : Beside p numbers supports codes short x new 255 a
     doubling-beside =
         record {
           lent = l;
           variable = h;
-          values = λ u t. s .allowed u (rest-has set u t);
-          small = lt-of-le-of-lt (and-le-l set (set - 1)) (s .small);
+          values = allowed;
+          small = small;
           first = inl refl;
-          second = inr (subst (PairCode p) (sym e) (l .coded x (trailingZeros 64 set) h (value n)));
+          second = inr (subst (PairCode p) (sym e) (l .coded x v h value));
         }
 
-    pub doubling-are : (r : Bool) → r ≡ allBlocked p codes x 255 a (members (bitAnd set (set - 1))) → r ≡ besides p codes x (trailingZeros 64 set) (members (bitAnd set (set - 1)))
+    pub doubling-are : (r : Bool) → r ≡ allBlocked p codes x 255 a (members new) → r ≡ besides p codes x v (members new)
     doubling-are r q =
         q
-        ∙ all-ext _ _ (members (bitAnd set (set - 1)))
-        (λ v m. none-before p (l .ready .framed .stated) _ ∙ ap (λ (y : ℕ). blocked p (numberOf p y ∷ numberOf p (at codes (16 * x + v)) ∷ [])) e)
+        ∙ all-ext _ _ (members new)
+        (λ u m. none-before p (l .ready .framed .stated) _ ∙ ap (λ (y : ℕ). blocked p (numberOf p y ∷ numberOf p (at codes (16 * x + u)) ∷ [])) e)
 
-  turn : (set ≡ 0 → ⊥) → both (besides p codes x (trailingZeros 64 set) (members (bitAnd set (set - 1)))) (doublings p codes x (members (bitAnd set (set - 1)))) ≡ doublings p codes x (members (at (p .initial) x))
+  turn : both (besides p codes x v (members new)) (doublings p codes x (members new)) ≡ doublings p codes x (members (at (p .initial) x))
   unfolding doublings
-  turn n = ap (λ (u : ℕ). both (besides p codes x u (members (bitAnd set (set - 1)))) (doublings p codes x (members (bitAnd set (set - 1))))) (lowest n) ∙ ap (doublings p codes x) (sym (members-step set (s .small) n)) ∙ s .whole
+  turn =
+      ap₂ (λ (u m : ℕ). both (besides p codes x u (members m)) (doublings p codes x (members m))) ev (en ∙ ap (withoutMask set) ev)
+      ∙ ap (doublings p codes x) (sym (members-lowest set (s .small) n)) ∙ s .whole
 
-  module _ (n : set ≡ 0 → ⊥) (r : Bool) (e : r ≡ besides p codes x (trailingZeros 64 set) (members (bitAnd set (set - 1)))) where
+  module _ (r : Bool) (e : r ≡ besides p codes x v (members new)) where
     pub doubling-stop : r ≡ false → false ≡ doublings p codes x (members (at (p .initial) x))
-    doubling-stop f = ap (λ (b : Bool). both b (doublings p codes x (members (bitAnd set (set - 1))))) (sym f ∙ e) ∙ turn n
+    doubling-stop f = ap (λ (b : Bool). both b (doublings p codes x (members new))) (sym f ∙ e) ∙ turn
 
-    pub doubling-rest : r ≡ true → Doubling p codes x (bitAnd set (set - 1))
+    pub doubling-rest : r ≡ true → Doubling p codes x new
     doubling-rest f =
         record {
-          small = lt-of-le-of-lt (and-le-l set (set - 1)) (s .small);
-          allowed = λ u t. s .allowed u (rest-has set u t);
-          whole = ap (λ (b : Bool). both b (doublings p codes x (members (bitAnd set (set - 1))))) (sym f ∙ e) ∙ turn n;
+          small = small;
+          allowed = allowed;
+          whole = ap (λ (b : Bool). both b (doublings p codes x (members new))) (sym f ∙ e) ∙ turn;
         }
 
-  pub doubling-over : set ≡ 0 → true ≡ doublings p codes x (members (at (p .initial) x))
-  unfolding doublings
-  doubling-over z = sym (ap (λ (n : ℕ). doublings p codes x (members n)) z ∙ ap (doublings p codes x) members-of-none) ∙ s .whole
+pub doubling-over : (p : Problem) (codes : List ℕ) (x set : ℕ) → Doubling p codes x set → set ≡ 0 → true ≡ doublings p codes x (members (at (p .initial) x))
+unfolding doublings
+doubling-over p codes x set s z = sym (ap (λ (n : ℕ). doublings p codes x (members n)) z ∙ ap (doublings p codes x) members-of-none) ∙ s .whole

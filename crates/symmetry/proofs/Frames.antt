@@ -1,24 +1,26 @@
 -- What the numbers hold: scopes, pairs, and the constraints on fewer than three variables. Assumes nothing.
 use mathlib.Core.Path.{_≡_, refl, sym, ap, ap₂, _∙_, subst}
-use mathlib.Core.Bool.{Bool, true, false, not}
-use mathlib.Core.List.{List, [], _∷_}
+use mathlib.Core.Bool.{Bool, false}
+use mathlib.Core.List.{List}
 use Prim.Native.Nat.{ℕ, zero, suc, _+_, _*_, _/_, _%_, _^_, _≤_, _<_}
-use native.Mathlib.Nat.{not-suc-le-zero, pow-suc, mul-le-mul, mod-eq-of-lt}
+use native.Mathlib.Nat.{pow-suc, mul-le-mul}
 use native.Mathlib.Omega.{arith}
-use lib.Dec.{T, eqb, ltb}
+use lib.Dec.{eqb, ltb}
 use lib.ListN.{length}
-use lib.Pow.{pow-add, pow-lt}
-use lib.Bits.{bitOr}
-use borrow.Author.Tests.{eqb-true, eqb-false, eq-eqb, lt-ltb, le-ltb}
-use Rattle.model.specs.Lists.{at, both, either}
+use lib.Pow.{pow-add}
+use lib.Bits.{bitOr, or-zero-r}
+use borrow.Author.Tests.{lt-ltb, le-ltb}
+use Rattle.model.specs.Lists.{at, both}
 use Rattle.model.specs.ValueSets.{has}
 use Rattle.model.specs.Problem.{Problem, isPair}
-use Rattle.model.proofs.Lists.{T-of, either-l, either-r}
-use Rattle.model.proofs.Masks.{has-or, has-one}
+use Rattle.model.proofs.Sets.{has-none}
+use Rattle.model.proofs.Members.{one-has}
+use Rattle.model.proofs.Filling.{gathered-begin, gathered-more}
+use Rattle.model.specs.Filling.{Gathered}
 use Rattle.layout.specs.Layout.{constraintAt}
-use Rattle.symmetry.specs.Table.{Stated, Framed}
+use Rattle.symmetry.specs.Table.{Framed}
 use Rattle.symmetry.specs.Forbidden.{Short}
-use Rattle.symmetry.proofs.Codes.{good, div-small, mod-small}
+use Rattle.symmetry.proofs.Codes.{good, div-small, mod-small, init-small}
 
 pow-256 : (i : ℕ) → 256 ^ suc i ≡ 2 ^ (8 * i + 8)
 pow-256 zero = refl
@@ -53,47 +55,46 @@ module _ (p : Problem) (numbers : List ℕ) (f : Framed p numbers) where
     within : q < n * d → q < p .variables * p .values
     within l = subst (λ (m : ℕ). q < m) (size-is n d e h) l
 
-    pub pair-variable : q < n * d → q / d < 12
-    pair-variable l =
-        let s = sizes n d e h in
-        subst (λ (m : ℕ). q / m < 12) (sym (s .1)) (omega (arith, div-small p (f .stated) q (within l), f .stated .few))
+    pub pair-variable : q < n * d → q / d < p .variables
+    pair-variable l = let s = sizes n d e h in subst (λ (m : ℕ). q / m < p .variables) (sym (s .1)) (div-small p (f .stated) q (within l))
 
     pub pair-value : q % d < 16
     pair-value = let s = sizes n d e h in subst (λ (m : ℕ). q % m < 16) (sym (s .1)) (omega (arith, mod-small p (f .stated) q, f .stated .sixteen))
 
-    pub is-pair : (r : ℕ) → q < n * d → r ≡ at numbers (16 + q / d) → eqb (r / 2 ^ (q % d) % 2) 1 ≡ isPair p q
-    unfolding isPair has
+    pub is-pair : (r : ℕ) → q < n * d → ((x : ℕ) → x ≡ q / d → x < p .variables → r ≡ at (p .initial) x) → has r (q % d) ≡ isPair p q
+    unfolding isPair
     is-pair r l i =
         let s = sizes n d e h in
-        let z : r ≡ at (p .initial) (q / p .values) = i ∙ ap (λ (m : ℕ). at numbers (16 + q / m)) (s .1) ∙ f .numbered .initial (q / p .values) (div-small p (f .stated) q (within l)) in
-        ap₂ (λ (a m : ℕ). eqb (a / 2 ^ (q % m) % 2) 1) z (s .1)
+        let z : r ≡ at (p .initial) (q / p .values) = i (q / p .values) (ap (λ (m : ℕ). q / m) (sym (s .1))) (div-small p (f .stated) q (within l)) in
+        ap₂ (λ (a m : ℕ). has a (q % m)) z (s .1)
         ∙ sym (ap (λ (b : Bool). both b (has (at (p .initial) (q / p .values)) (q % p .values))) (lt-ltb q (p .variables * p .values) (within l)))
 
     pub no-pair : n * d ≤ q → false ≡ isPair p q
     unfolding isPair
     no-pair l = sym (ap (λ (b : Bool). both b (has (at (p .initial) (q / p .values)) (q % p .values))) (le-ltb q (p .variables * p .values) (subst (λ (m : ℕ). m ≤ q) (size-is n d e h) l)))
 
+  -- ---- initial sets
+  pub initial-is : (x r : ℕ) → x < p .variables → r ≡ at numbers (16 + x) → (r ≡ at (p .initial) x) × (r < 2 ^ 16)
+  initial-is x r h e =
+      let q : r ≡ at (p .initial) x = e ∙ f .numbered .initial x h in
+      (q, subst (λ (s : ℕ). s < 2 ^ 16) (sym q) (init-small p (f .stated) x h))
+
 -- ---- the constraints on fewer than three variables
+-- those among the first k
 abbrev pub ShortTo : Problem → ℕ → ℕ → Type 0
-ShortTo p set k = (j : ℕ) → j < k → length (constraintAt p j .scope) < 3 → T (has set j)
+ShortTo p set k = Gathered (λ j. ltb (length (constraintAt p j .scope)) 3) k set
 
-pub short-none : (p : Problem) (set : ℕ) → ShortTo p set 0
-short-none p set j h = absurd (not-suc-le-zero h)
-
-pub shl-64 : (k : ℕ) → k < 64 → 1 * 2 ^ k % 2 ^ 64 ≡ 2 ^ k
-shl-64 k h = ap (λ (n : ℕ). n % 2 ^ 64) (let e : 1 * 2 ^ k ≡ 2 ^ k = omega arith in e) ∙ mod-eq-of-lt (pow-lt h)
+pub short-none : (p : Problem) → ShortTo p 0 0
+short-none p = gathered-begin _
 
 -- with constraint k, as the code adds it
-pub short-more : (p : Problem) (set k : ℕ) → k < 64 → ShortTo p set k → ShortTo p (bitOr set (1 * 2 ^ k % 2 ^ 64)) (k + 1)
-short-more p set k small s j h l = subst T (sym (ap (λ (n : ℕ). has (bitOr set n) j) (shl-64 k small) ∙ has-or set (2 ^ k) j ∙ ap (either (has set j)) (has-one k j))) (go (eqb j k) refl)
-  where
-    go : (b : Bool) → eqb j k ≡ b → T (either (has set j) (eqb j k))
-    go true e = either-r (has set j) (eqb j k) (T-of (eqb j k) e)
-    go false e = let n : j ≡ k → ⊥ = eqb-false j k e in either-l (has set j) (eqb j k) (s j (omega arith) l)
+pub short-more : (p : Problem) (set k : ℕ) → k < 64 → length (constraintAt p k .scope) < 3 → ShortTo p set k → ShortTo p (bitOr set (1 * 2 ^ k % 2 ^ 64)) (k + 1)
+short-more p set k small l s = gathered-more _ k set _ s (λ j. one-has 64 k j small ∙ sym (ap (λ (b : Bool). both b (eqb j k)) (lt-ltb (length (constraintAt p k .scope)) 3 l)))
 
 pub short-same : (p : Problem) (set k : ℕ) → 3 ≤ length (constraintAt p k .scope) → ShortTo p set k → ShortTo p set (k + 1)
-short-same p set k n s j h l = go (eqb j k) refl
-  where
-    go : (b : Bool) → eqb j k ≡ b → T (has set j)
-    go true e = absurd (let q = ap (λ (i : ℕ). length (constraintAt p i .scope)) (eqb-true j k e) in omega arith)
-    go false e = let m : j ≡ k → ⊥ = eqb-false j k e in s j (omega arith) l
+short-same p set k n s =
+    subst (λ (m : ℕ). ShortTo p m (k + 1)) (or-zero-r set)
+    (gathered-more _ k set 0 s (λ j. has-none j ∙ sym (ap (λ (b : Bool). both b (eqb j k)) (le-ltb (length (constraintAt p k .scope)) 3 n))))
+
+pub short-all : (p : Problem) (set k : ℕ) → k ≡ length (p .constraints) → ShortTo p set k → Short p set
+short-all p set k e s = subst (ShortTo p set) e s .has-is

@@ -47,9 +47,6 @@ packed-lt (x ∷ y ∷ []) h d = omega (arith, d 0 (omega arith), d 1 (omega ari
 packed-lt (x ∷ y ∷ z ∷ r) h d = absurd (omega arith)
 
 -- ---- digits
-pub digits-none : Digits []
-digits-none i h = absurd (not-suc-le-zero h)
-
 pub digits-snoc : (vs : List ℕ) (v : ℕ) → Digits vs → v < 16 → Digits (vs ++ (v ∷ []))
 unfolding at
 digits-snoc [] v d h zero l = h

@@ -14,11 +14,12 @@ use Rattle.model.specs.Problem.{Problem, Constraint, pair, pairsAt, within, ass
 use Rattle.model.specs.Sheet.{permutesPairs}
 use Rattle.model.proofs.Lists.{all-cons, keep-yes, keep-no, keep-e, Sorted, below-e}
 use Rattle.model.proofs.Sets.{members-e, members-sorted}
+use Rattle.model.proofs.Members.{both-yes}
 use Rattle.symmetry.specs.Table.{Stated}
 use Rattle.symmetry.specs.Forbidden.{blocked, numberOf, Decoded, Begun, codesAt, keeps, besides, doublings}
 use Rattle.symmetry.proofs.Codes.{decoded-number}
 use Rattle.symmetry.proofs.Blocks.{choices-e}
-use Rattle.symmetry.proofs.Laws.{all-ext, all-append, all-flat, all-keep, all-map, both-true}
+use Rattle.symmetry.proofs.Laws.{all-ext, all-append, all-flat, all-keep, all-map}
 
 -- ---- the two pairs of a variable
 keep-all : (f : ℕ → Bool) (l : List ℕ) → ((x : ℕ) → List·Memᴰ x l → f x ≡ true) → keep f l ≡ l
@@ -44,7 +45,7 @@ module _ (p : Problem) (codes : List ℕ) (c : Constraint) where
 
   keeps-all : (xs vs : List ℕ) → keeps p codes c xs vs ≡ all (λ us. leaf (vs ++ us)) (assignments (map (at (p .initial)) xs))
   unfolding keeps assignments all
-  keeps-all [] vs = ap leaf (sym (append-nil vs)) ∙ sym (all-cons (λ us. leaf (vs ++ us)) [] [] ∙ both-true (leaf (vs ++ [])))
+  keeps-all [] vs = ap leaf (sym (append-nil vs)) ∙ sym (all-cons (λ us. leaf (vs ++ us)) [] [] ∙ both-yes (leaf (vs ++ [])))
   keeps-all (x ∷ xs) vs =
       let rest = assignments (map (at (p .initial)) xs) in
       let L : List ℕ → Bool = λ us. leaf (vs ++ us) in

@@ -12,7 +12,7 @@ use lib.Seq.{take-suc, take-length, length-take-le, getD-take}
 use Rattle.model.specs.Lists.{all, any, at, same, both}
 use Rattle.model.specs.ValueSets.{has}
 use Rattle.model.specs.Problem.{Problem, Constraint}
-use Rattle.model.proofs.Lists.{of-T, not-of, both-l, all-i, all-e, at-mem, mem-at, map-append}
+use Rattle.model.proofs.Lists.{of-T, not-of, both-l, all-i, all-e, at-mem, mem-at, at-map, map-append}
 use Rattle.model.specs.WellFormed.{GoodConstraint}
 use Rattle.layout.specs.Layout.{constraintAt, Supports}
 use Rattle.symmetry.specs.Table.{Ready}
@@ -20,21 +20,10 @@ use Rattle.symmetry.specs.Forbidden.{packed, valueIn, refusedBy, LookedU
 use Rattle.symmetry.proofs.Codes.{good}
 use Rattle.symmetry.proofs.Keys.{Digits, packed-snoc, packed-none, packed-lt, row-test}
 
-at-map : (f : ℕ → ℕ) (l : List ℕ) (i : ℕ) → i < length l → at (map f l) i ≡ f (at l i)
-unfolding at
-at-map f [] i h = absurd (not-suc-le-zero h)
-at-map f (x ∷ l) zero h = refl
-at-map f (x ∷ l) (suc i) h = at-map f l i (native.Mathlib.Nat.le-of-suc-le-suc h)
-
 -- one variable more
 snoc : (f : ℕ → ℕ) (l : List ℕ) (i : ℕ) → i < length l → map f (take (suc i) l) ≡ map f (take i l) ++ (f (at l i) ∷ [])
 unfolding at
 snoc f l i h = ap (map f) (take-suc l i 0 h) ∙ map-append f (take i l) _
-
-zero-test : (n : ℕ) → n < 2 → eqb n 0 ≡ not (eqb n 1)
-zero-test zero h = refl
-zero-test (suc zero) h = refl
-zero-test (suc (suc n)) h = absurd (omega arith)
 
 module _ (c : Constraint) (a b e : ℕ) where
   pub looked-none : LookedUp c a b e 0 0
@@ -109,14 +98,13 @@ module _ (p : Problem) (numbers supports : List ℕ) (r : Ready p numbers suppor
       let n = last in
       omega (arith, key-parts (n .0) (n .1) .0, looked-lt (constraintAt p k) a b e (n .0) _ (before (n .0) (n .1)) (omega (arith, n .1)) (g .few), r .framed .stated .most)
 
-  pub looked-all : (s : ℕ) → s ≡ at supports (256 * k + key / 16) → eqb (s / 2 ^ (key % 16) % 2) 0 ≡ refusedBy (constraintAt p k) a b e
-  unfolding refusedBy has
+  pub looked-all : (s : ℕ) → s ≡ at supports (256 * k + key / 16) → not (has s (key % 16)) ≡ refusedBy (constraintAt p k) a b e
+  unfolding refusedBy
   looked-all s q =
       let n = last in
       let d = key-parts (n .0) (n .1) in
       let t : (x : ℕ) → List·Memᴰ x (constraintAt p k .scope) → T (ltb (valueIn a b e x) 16) = λ x m. (let z = at-mem (constraintAt p k .scope) x m in lt→ltb (valueIn a b e x) 16 (subst (λ (y : ℕ). valueIn a b e y < 16) (z .2) (l .small (z .0) (omega (arith, z .1))))) in
-      zero-test (s / 2 ^ (key % 16) % 2) (omega arith)
-      ∙ ap not
+      ap not
       (ap (λ (u : ℕ). has u (key % 16)) q
       ∙ ap₂ (λ (u v : ℕ). has (at supports (256 * k + u)) v) (d .0) (d .1)
       ∙ row-test p supports (r .supported) k h (map (valueIn a b e) (take (n .0) (constraintAt p k .scope))) (valueIn a b e (at (constraintAt p k .scope) (n .0)))

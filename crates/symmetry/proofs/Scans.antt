@@ -4,55 +4,36 @@ use mathlib.Core.Bool.{Bool, true, false, not}
 use mathlib.Core.List.{List, [], _∷_, map}
 use mathlib.Core.Logic.{_⊎_, inl, inr, ⊎-elim}
 use Prim.Native.Nat.{ℕ, zero, suc, _+_, _*_, _/_, _%_, _^_, _≤_, _<_}
-use native.Mathlib.Nat.{not-suc-le-zero, le-of-suc-le-suc, mul-le-mul, le-trans}
+use native.Mathlib.Nat.{not-suc-le-zero, mul-le-mul, mul-le-mul-right, lt-of-lt-of-le}
 use native.Mathlib.Omega.{arith}
 use lib.Dec.{T, eqb, ltb, eqb→eq}
-use lib.ListN.{length, set, replicate}
-use lib.Seq.{getD-set-same, getD-set-other}
+use lib.ListN.{length, set}
 use borrow.Author.Tests.{eqb-true, eqb-false, eq-eqb, ne-eqb}
-use Rattle.model.specs.Lists.{all, below, upFrom, at, both}
+use Rattle.model.specs.Lists.{all, below, at, both}
 use Rattle.model.specs.ValueSets.{has}
 use Rattle.model.specs.Problem.{Problem, isPair, pair}
-use Rattle.model.specs.Sheet.{word, words, permutesPairs, distinct}
-use Rattle.model.proofs.Lists.{T-of, of-T, not-of, of-not, T-dec, both-i, both-l, both-r, all-i, all-e, below-i, below-e}
+use Rattle.model.specs.Sheet.{word, permutesPairs, distinct}
+use Rattle.model.proofs.Lists.{T-of, of-T, not-of, of-not, T-dec, both-i, both-l, both-r, all-i, all-e, below-i, below-e, at-set, at-set-other}
+use Rattle.model.proofs.Counting.{distinct-at}
+use Rattle.model.proofs.Accepted.{length-words, at-words}
+use Rattle.layout.specs.Layout.{pairCode}
 use Rattle.symmetry.specs.Table.{Stated, Framed, tableOf}
 use Rattle.symmetry.specs.Forbidden.{Decoded}
 use Rattle.symmetry.specs.Scan.{fits, Seen, DecodedTo}
-use Rattle.symmetry.proofs.Codes.{isPair-lt, image-lt, pair-div, pair-mod, pair-lt, div-small, mod-small, pair-of}
-use Rattle.symmetry.proofs.Laws.{distinct-at, distinct-of}
+use Rattle.symmetry.proofs.Codes.{code-inj, image-lt, pair-div, pair-mod, pair-lt}
+use Rattle.symmetry.proofs.Laws.{distinct-of}
 
 -- ---- the words of a table
-map-up : (f : ℕ → ℕ) (a k i : ℕ) → i < k → at (map f (upFrom a k)) i ≡ f (a + i)
-unfolding at upFrom
-map-up f a zero i h = absurd (not-suc-le-zero h)
-map-up f a (suc k) zero h = ap f (let e : a ≡ a + 0 = omega arith in e)
-map-up f a (suc k) (suc i) h = map-up f (suc a) k i (le-of-suc-le-suc h) ∙ ap f (let e : suc a + i ≡ a + suc i = omega arith in e)
-
-length-up : (f : ℕ → ℕ) (a k : ℕ) → length (map f (upFrom a k)) ≡ k
-unfolding upFrom
-length-up f a zero = refl
-length-up f a (suc k) = ap suc (length-up f (suc a) k)
-
 pub table-at : (p : Problem) (sheet : List ℕ) (offset q : ℕ) → q < p .variables * p .values → at (tableOf p sheet offset) q ≡ word sheet (offset + 2 * q)
-unfolding words below
-table-at p sheet offset q h = map-up (λ i. word sheet (offset + 2 * i)) 0 (p .variables * p .values) q h ∙ ap (λ (i : ℕ). word sheet (offset + 2 * i)) (let e : 0 + q ≡ q = omega arith in e)
+table-at p sheet offset q h = at-words sheet offset (p .variables * p .values) q h
 
 pub table-length : (p : Problem) (sheet : List ℕ) (offset : ℕ) → length (tableOf p sheet offset) ≡ p .variables * p .values
-unfolding words below
-table-length p sheet offset = length-up (λ i. word sheet (offset + 2 * i)) 0 (p .variables * p .values)
+table-length p sheet offset = length-words sheet offset (p .variables * p .values)
 
 pub table-small : (p : Problem) → Stated p → p .variables * p .values ≤ 192
 table-small p w = mul-le-mul (w .few) (w .sixteen)
 
 -- ---- whether a table permutes the pairs
-at-set-same : (l : List ℕ) (i v : ℕ) → i < length l → at (set l i v) i ≡ v
-unfolding at
-at-set-same l i v h = getD-set-same l i v 0 h
-
-at-set-other : (l : List ℕ) (i j v : ℕ) → (j ≡ i → ⊥) → at (set l i v) j ≡ at l j
-unfolding at
-at-set-other l i j v n = getD-set-other l i j v 0 n
-
 case-true : (b c d : Bool) → b ≡ true → elim b [ true ↦ c | false ↦ d ] ≡ c
 case-true true c d e = refl
 case-true false c d e = absurd (subst T (sym e) tt)
@@ -69,12 +50,6 @@ seen-none p g seen z =
       reached = λ y e. absurd (let f : _≡_ {A = ℕ} 0 1 = sym (z y) ∙ e in omega arith);
       apart = λ i j l h. absurd (not-suc-le-zero h);
     }
-
-pub zeros-at : (n y : ℕ) → at (replicate n 0) y ≡ 0
-unfolding at
-zeros-at zero y = refl
-zeros-at (suc n) zero = refl
-zeros-at (suc n) (suc y) = zeros-at n y
 
 module _ (p : Problem) (g seen : List ℕ) (q : ℕ) (s : Seen p g seen q) where
   here : (P : ℕ → Type 0) → P q → ((j : ℕ) → j < q → P j) → (j : ℕ) → j < q + 1 → P j
@@ -100,18 +75,18 @@ module _ (p : Problem) (g seen : List ℕ) (q : ℕ) (s : Seen p g seen q) where
   seen-more e i l n =
       record {
         fitting = here (λ (j : ℕ). T (fits p g j)) (T-of (fits p g q) (case-true (isPair p q) (isPair p (at g q)) (eqb (at g q) q) e ∙ i)) (s .fitting);
-        marked = here (λ (j : ℕ). T (isPair p j) → at (set seen (at g q) 1) (at g j) ≡ 1) (λ t. at-set-same seen (at g q) 1 l) (λ j h t. kept (at g j) (s .marked j h t));
+        marked = here (λ (j : ℕ). T (isPair p j) → at (set seen (at g q) 1) (at g j) ≡ 1) (λ t. at-set seen (at g q) 1 l) (λ j h t. kept (at g j) (s .marked j h t));
         reached = λ y m. found y m (eqb y (at g q)) refl;
         apart = λ a b k h. here (λ (j : ℕ). a < j → T (isPair p a) → T (isPair p j) → at g a ≡ at g j → ⊥)
             (λ k t u f. n (ap (at seen) (sym f) ∙ s .marked a k t)) (λ j h k. s .apart a j k h) b h k;
       }
     where
       kept : (y : ℕ) → at seen y ≡ 1 → at (set seen (at g q) 1) y ≡ 1
-      kept y m = at-set-other seen (at g q) y 1 (λ f. n (ap (at seen) (sym f) ∙ m)) ∙ m
+      kept y m = at-set-other seen (at g q) 1 y (λ f. n (ap (at seen) (sym f) ∙ m)) ∙ m
 
       found : (y : ℕ) → at (set seen (at g q) 1) y ≡ 1 → (b : Bool) → eqb y (at g q) ≡ b → (j : ℕ) × (j < q + 1) × T (isPair p j) × (at g j ≡ y)
       found y m true f = (q, omega arith, T-of (isPair p q) e, sym (eqb-true y (at g q) f))
-      found y m false f = let r = s .reached y (sym (at-set-other seen (at g q) y 1 (eqb-false y (at g q) f)) ∙ m) in (r .0, omega (arith, r .1), r .2, r .3)
+      found y m false f = let r = s .reached y (sym (at-set-other seen (at g q) 1 y (eqb-false y (at g q) f)) ∙ m) in (r .0, omega (arith, r .1), r .2, r .3)
 
   -- what stops the loop
   module _ (h : q < p .variables * p .values) where
@@ -182,44 +157,35 @@ pub decoded-none : (p : Problem) (g codes : List ℕ) → DecodedTo p g codes 0
 decoded-none p g codes j h = absurd (not-suc-le-zero h)
 
 module _ (p : Problem) (w : Stated p) (g codes : List ℕ) where
-  spot-apart : (i j : ℕ) → 16 * (i / p .values) + i % p .values ≡ 16 * (j / p .values) + j % p .values → i ≡ j
-  spot-apart i j e =
-      let a : i / p .values ≡ j / p .values = omega (arith, mod-small p w i, mod-small p w j, w .sixteen) in
-      let b : i % p .values ≡ j % p .values = omega (arith, mod-small p w i, mod-small p w j, w .sixteen) in
-      sym (pair-of p w i) ∙ ap₂ (pair p) a b ∙ pair-of p w j
-
-  pub decoded-more : (q : ℕ) → 16 * (q / p .values) + q % p .values < length codes → DecodedTo p g codes q →
-      DecodedTo p g (set codes (16 * (q / p .values) + q % p .values) (16 * (at g q / p .values) + at g q % p .values)) (q + 1)
+  pub decoded-more : (q : ℕ) → pairCode (p .values) q < length codes → DecodedTo p g codes q → DecodedTo p g (set codes (pairCode (p .values) q) (pairCode (p .values) (at g q))) (q + 1)
   decoded-more q l d j h = go (eqb j q) refl
     where
       new : List ℕ
-      new = set codes (16 * (q / p .values) + q % p .values) (16 * (at g q / p .values) + at g q % p .values)
+      new = set codes (pairCode (p .values) q) (pairCode (p .values) (at g q))
 
-      go : (b : Bool) → eqb j q ≡ b → at new (16 * (j / p .values) + j % p .values) ≡ 16 * (at g j / p .values) + at g j % p .values
-      go true e =
-          let f = eqb-true j q e in
-          subst (λ (i : ℕ). at new (16 * (i / p .values) + i % p .values) ≡ 16 * (at g i / p .values) + at g i % p .values) (sym f) (at-set-same codes _ _ l)
-      go false e = let n : j ≡ q → ⊥ = eqb-false j q e in at-set-other codes _ _ _ (λ f. n (spot-apart j q f)) ∙ d j (omega arith)
+      go : (b : Bool) → eqb j q ≡ b → at new (pairCode (p .values) j) ≡ pairCode (p .values) (at g j)
+      go true e = subst (λ (i : ℕ). at new (pairCode (p .values) i) ≡ pairCode (p .values) (at g i)) (sym (eqb-true j q e)) (at-set codes _ _ l)
+      go false e = let n : j ≡ q → ⊥ = eqb-false j q e in at-set-other codes _ _ _ (λ f. n (code-inj j q (p .values) (w .one) (w .sixteen) f)) ∙ d j (omega arith)
 
   pub decoded-all : DecodedTo p g codes (p .variables * p .values) → Decoded p g codes
   decoded-all d x v h l =
       ap₂ (λ (y u : ℕ). at codes (16 * y + u)) (sym (pair-div p w x v l)) (sym (pair-mod p w x v l)) ∙ d (pair p x v) (pair-lt p w x v h l)
 
--- as the code reads a table and its numbers
-module _ (p : Problem) (w : Stated p) (sheet : List ℕ) (offset : ℕ) (codes : List ℕ) (q d y : ℕ) (h : q < p .variables * p .values) (i : d ≡ p .values) (e : y ≡ word sheet (offset + 2 * q)) where
+-- as the code reads a table and its numbers: a number of the table among d values, and y, the number at q
+pub number-lt : (p : Problem) → Stated p → (d : ℕ) → d ≡ p .values → (z : ℕ) → z < p .variables * p .values → z < 12 * d
+number-lt p w d i z l = subst (λ (n : ℕ). z < 12 * n) (sym i) (lt-of-lt-of-le l (mul-le-mul-right (p .values) (w .few)))
+
+module _ (p : Problem) (w : Stated p) (sheet : List ℕ) (offset q y : ℕ) (h : q < p .variables * p .values) (e : y ≡ word sheet (offset + 2 * q)) where
   here-is : at (tableOf p sheet offset) q ≡ y
   here-is = table-at p sheet offset q h ∙ sym e
 
-  pub spot-small : 16 * (q / d) + q % d < 192
-  spot-small = subst (λ (n : ℕ). 16 * (q / n) + q % n < 192) (sym i) (omega (arith, div-small p w q h, mod-small p w q, w .few, w .sixteen))
+  pub image-number : T (permutesPairs p (tableOf p sheet offset)) → y < p .variables * p .values
+  image-number t = subst (λ (z : ℕ). z < p .variables * p .values) here-is (image-lt p w (tableOf p sheet offset) t q h)
 
-  pub code-small : T (permutesPairs p (tableOf p sheet offset)) → 16 * (y / d) + y % d < 192
-  code-small t =
-      subst (λ (n : ℕ). 16 * (y / n) + y % n < 192) (sym i)
-      (omega (arith, div-small p w y (subst (λ (z : ℕ). z < p .variables * p .values) here-is (image-lt p w (tableOf p sheet offset) t q h)), mod-small p w y, w .few, w .sixteen))
-
-  pub read-code : length codes ≡ 256 → DecodedTo p (tableOf p sheet offset) codes q → DecodedTo p (tableOf p sheet offset) (set codes (16 * (q / d) + q % d) (16 * (y / d) + y % d)) (q + 1)
-  read-code z c =
-      subst (λ (n : ℕ). DecodedTo p (tableOf p sheet offset) (set codes (16 * (q / n) + q % n) (16 * (y / n) + y % n)) (q + 1)) (sym i)
-      (subst (λ (u : ℕ). DecodedTo p (tableOf p sheet offset) (set codes (16 * (q / p .values) + q % p .values) (16 * (u / p .values) + u % p .values)) (q + 1)) here-is
-      (decoded-more p w (tableOf p sheet offset) codes q (omega (arith, z, div-small p w q h, mod-small p w q, w .few, w .sixteen)) c))
+  -- `spot` and `code` are the codes of q and of y
+  pub read-code : (codes : List ℕ) (d : ℕ) → d ≡ p .values → (spot code : ℕ) → (spot ≡ pairCode d q) × (spot < 192) → code ≡ pairCode d y → length codes ≡ 256 → DecodedTo p (tableOf p sheet offset) codes q →
+      DecodedTo p (tableOf p sheet offset) (set codes spot code) (q + 1)
+  read-code codes d i spot code s c z t =
+      let es : spot ≡ pairCode (p .values) q = s .0 ∙ ap (λ (n : ℕ). pairCode n q) i in
+      let ec : code ≡ pairCode (p .values) (at (tableOf p sheet offset) q) = c ∙ ap₂ pairCode i (sym here-is) in
+      subst (λ (l : List ℕ). DecodedTo p (tableOf p sheet offset) l (q + 1)) (ap₂ (set codes) (sym es) (sym ec)) (decoded-more p w (tableOf p sheet offset) codes q (omega (arith, es, s .1, z)) t)

@@ -9,11 +9,11 @@ use native.Mathlib.Omega.{arith}
 use lib.Dec.{T, eqb, ltb, eqb-refl, eqb→eq, ltb→lt}
 use lib.ListN.{length}
 use lib.Bits.{bitAnd, bitOr, and-le-l, or-lt}
-use borrow.Author.Tests.{ltb-true, ltb-false}
+use borrow.Author.Tests.{lt-ltb, ltb-false}
 use Rattle.model.specs.Lists.{all, any, at, both, either, ascending}
 use Rattle.model.specs.ValueSets.{has}
 use Rattle.model.specs.Problem.{Problem, Constraint}
-use Rattle.model.proofs.Lists.{both-i, either-l, either-r, all-e, any-e, any-i}
+use Rattle.model.proofs.Lists.{T-of, both-i, either-l, either-r, all-e, any-e, any-i}
 use Rattle.model.proofs.Masks.{has-and, has-or}
 use Rattle.model.specs.WellFormed.{GoodConstraint}
 use Rattle.layout.specs.Layout.{constraintAt, Numbers}
@@ -130,7 +130,7 @@ module _ (p : Problem) (numbers : List ℕ) (f : Framed p numbers) (short : ℕ)
       go true e =
           either-l wide narrow
           (both-i (either (either (has (at numbers x) k) (has (at numbers y) k)) (has (at numbers z) k)) (has short k)
-          (subst T (ap₂ either (ap₂ either (touched x hx) (touched y hy)) (touched z hz)) (some-in x y z scope (g .some) within)) (sh k h (ltb-true (length scope) 3 e)))
+          (subst T (ap₂ either (ap₂ either (touched x hx) (touched y hy)) (touched z hz)) (some-in x y z scope (g .some) within)) (T-of (has short k) (sh k ∙ ap₂ both (lt-ltb k (length (p .constraints)) h) e)))
       go false e =
           either-r wide narrow (subst T (ap₂ both (ap₂ both (touched x hx) (touched y hy)) (touched z hz)) (all-in x y z scope (ltb-false (length scope) 3 e) (g .few) (g .ordered) within))
 

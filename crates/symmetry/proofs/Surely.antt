@@ -4,29 +4,30 @@ use mathlib.Core.Bool.{Bool, true, false, not}
 use mathlib.Core.List.{List, [], _∷_, List·Memᴰ, List·Memᴰ·head, List·Memᴰ·tail, List·Memᴰ·not-nil, Memᴰ·cast}
 use mathlib.Core.Logic.{_⊎_, inl, inr}
 use Prim.Native.Nat.{ℕ, zero, suc, _+_, _-_, _*_, _/_, _%_, _^_, _≤_, _<_}
-use native.Mathlib.Nat.{mul-comm, mul-le-mul-right, lt-of-le-of-lt, not-suc-le-zero, le-of-suc-le-suc}
+use native.Mathlib.Nat.{mul-comm, mul-le-mul-right, lt-of-le-of-lt, lt-of-lt-of-le, not-suc-le-zero, le-of-suc-le-suc}
 use native.Mathlib.Omega.{arith}
 use lib.Dec.{T, T-not, eqb, ltb, eqb→eq, ltb→lt}
 use lib.ListN.{length}
-use lib.Bits.{bitAnd, bitOr, and-le-l}
+use lib.Bits.{bitAnd, and-le-l, or-zero-r}
 use lib.Count.{trailingZeros}
-use borrow.Author.Tests.{eq-eqb, eqb-true}
-use Rattle.model.specs.Lists.{any, at, same, both, either, ascending}
-use Rattle.model.specs.ValueSets.{has, least}
+use lib.Pow.{pow-mono}
+use Rattle.model.specs.Lists.{any, at, same, both, ascending}
+use Rattle.model.specs.ValueSets.{has, maskOf, fullMask, onlyMask, unionMask}
 use Rattle.model.specs.Problem.{Problem, pairsAt}
 use Rattle.model.proofs.Lists.{T-of, of-T, both-l, both-r, any-e}
-use Rattle.model.proofs.Sets.{has-lt, has-none}
-use Rattle.model.proofs.Masks.{has-and, has-or, has-not, has-one}
+use Rattle.model.proofs.Sets.{has-lt, has-none, mask-e}
+use Rattle.model.proofs.Masks.{has-and, has-one}
+use Rattle.model.proofs.Members.{low-has}
+use Rattle.model.proofs.Lowest.{with-one}
+use Rattle.model.proofs.Filling.{gathered-begin, gathered-more}
 use Rattle.model.proofs.Pairs.{forbidden-excluded}
 use Rattle.model.specs.WellFormed.{GoodConstraint}
 use Rattle.layout.specs.Layout.{constraintAt}
 use Rattle.symmetry.specs.Table.{Stated, Ready}
 use Rattle.symmetry.specs.Forbidden.{blocked, numberOf, PairCode, MaybePair, Begun, Lacking, On, Sure, packed, packedOn}
 use Rattle.symmetry.proofs.Codes.{good, init-16, constraint-in, variable-lt}
-use Rattle.symmetry.proofs.Frames.{shl-64}
 use Rattle.symmetry.proofs.Keys.{Digits, row-test}
 use Rattle.symmetry.proofs.Blocks.{three, excluded-i, blocked-i, blocked-more}
-use Rattle.symmetry.proofs.Laws.{has-lowest, trailing-least}
 use Rattle.symmetry.proofs.Scopes.{Among, first-two, ascends}
 
 -- ---- a scope that has three variables
@@ -141,36 +142,28 @@ pub lacking-place : (base step v : ℕ) → base + 15 * step < 8192 → v < 16 �
 lacking-place base step v h l = let m : v ≤ 15 = omega arith in omega (arith, mul-le-mul-right step m, mul-comm step v)
 
 pub lacking-none : (supports : List ℕ) (base step w : ℕ) → Lacking supports base step w 0 0
-lacking-none supports base step w v t = absurd (subst T (has-none v) t)
+lacking-none supports base step w = gathered-begin _ .has-is
 
-module _ (supports : List ℕ) (base step w n set : ℕ) (l : Lacking supports base step w n set) where
-  pub lacking-same : (new : ℕ) → new ≡ set → Lacking supports base step w (n + 1) new
-  lacking-same new e v t = let r = l v (subst (λ (m : ℕ). T (has m v)) e t) in (omega (arith, r .0), r .1)
+-- as the code finds them: `contains` says whether the set at n has w
+module _ (supports : List ℕ) (base step w n set s : ℕ) (l : Lacking supports base step w n set) (e : s ≡ at supports (base + step * n)) where
+  lacks : (b : Bool) → has s w ≡ b → not (has (at supports (base + step * n)) w) ≡ not b
+  lacks b f = ap not (ap (λ (m : ℕ). has m w) (sym e) ∙ f)
 
-  -- with n, as the code adds it
-  pub lacking-more : (new s : ℕ) → n < 64 → new ≡ bitOr set (1 * 2 ^ n % 2 ^ 64) → s ≡ at supports (base + step * n) → s / 2 ^ w % 2 ≡ 0 → Lacking supports base step w (n + 1) new
-  unfolding has
-  lacking-more new s small f e z v t = go (eqb v n) refl
-    where
-      clear : (m : ℕ) → m ≡ 0 → T (eqb m 1) → ⊥
-      clear m q h = omega (arith, eqb→eq m 1 h)
+  pub lacking-same : has s w ≡ true → Lacking supports base step w (n + 1) set
+  lacking-same f =
+      subst (Lacking supports base step w (n + 1)) (or-zero-r set)
+      (gathered-more _ n set 0 (record { has-is = l }) (λ x. has-none x ∙ sym (ap (λ (b : Bool). both b (eqb x n)) (lacks true f))) .has-is)
 
-      lacks : T (has (at supports (base + step * n)) w) → ⊥
-      lacks h = clear (s / 2 ^ w % 2) z (subst (λ (m : ℕ). T (eqb (m / 2 ^ w % 2) 1)) (sym e) h)
-
-      split : has new v ≡ either (has set v) (eqb v n)
-      split = ap (λ (m : ℕ). has m v) (f ∙ ap (bitOr set) (shl-64 n small)) ∙ has-or set (2 ^ n) v ∙ ap (either (has set v)) (has-one n v)
-
-      left : (b : Bool) → T (either b false) → T b
-      left true h = h
-      left false h = h
-
-      go : (b : Bool) → eqb v n ≡ b → (v < n + 1) × (T (has (at supports (base + step * v)) w) → ⊥)
-      go true q = let r : v ≡ n = eqb-true v n q in (omega arith, λ h. lacks (subst (λ (m : ℕ). T (has (at supports (base + step * m)) w)) r h))
-      go false q = lacking-same set refl v (left (has set v) (subst T (split ∙ ap (either (has set v)) q) t))
+  pub lacking-more : (new : ℕ) → set < 2 ^ 16 → n < 16 → new ≡ unionMask set (onlyMask (fullMask 16) n) → has s w ≡ false → Lacking supports base step w (n + 1) new
+  lacking-more new h small q f =
+      subst (Lacking supports base step w (n + 1)) (sym (q ∙ with-one set n h small))
+      (gathered-more _ n set (2 ^ n) (record { has-is = l }) (λ x. has-one n x ∙ sym (ap (λ (b : Bool). both b (eqb x n)) (lacks false f))) .has-is)
 
 pub lacking-all : (supports : List ℕ) (base step w n set : ℕ) → 16 ≤ n → n ≤ 16 → Lacking supports base step w n set → Lacking supports base step w 16 set
-lacking-all supports base step w n set h k l v t = let r = l v t in (omega (arith, r .0), r .1)
+lacking-all supports base step w n set h k l = let e : n ≡ 16 = omega arith in subst (λ (m : ℕ). Lacking supports base step w m set) e l
+
+lacking-e : (supports : List ℕ) (base step w set v : ℕ) → Lacking supports base step w 16 set → T (has set v) → T (has (at supports (base + step * v)) w) → ⊥
+lacking-e supports base step w set v l t = T-not (has (at supports (base + step * v)) w) (both-r (ltb v 16) _ (subst T (l v) t))
 
 -- ---- as the code finds them
 pub sure-none : (p : Problem) (a b y : ℕ) → Sure p a b y 0
@@ -229,31 +222,28 @@ module _ (p : Problem) (numbers supports : List ℕ) (k a b y : ℕ) (o : On p n
         (in-order a e b (whole-scope (a / 16) (e / 16) (b / 16) (constraintAt p k .scope) (g .few) (g .ordered) (omega arith) (omega arith) (o .has-first) has-e (o .has-second))
         pair-a c pair-b n)
 
-  pub sure-after : b / 16 < y → (s : ℕ) → s ≡ at supports (256 * k + 16 * (a % 16) + b % 16) → s < 65536 → Sure p a b y (65535 - s)
-  sure-after i s q m e f c t =
+  pub sure-after : b / 16 < y → (s : ℕ) → s ≡ maskOf (λ v. not (has (at supports (256 * k + 16 * (a % 16) + b % 16)) v)) → Sure p a b y s
+  sure-after i s q e f c t =
       let place : 256 * k + 16 * (a % 16) + b % 16 ≡ 256 * k + (16 * (a % 16) + b % 16) = omega arith in
-      after e f c i (λ z. T-not (has s (e % 16)) (subst T (has-not 16 s (e % 16) m (omega arith)) t) (subst (λ (n : ℕ). T (has n (e % 16))) (sym (q ∙ ap (at supports) place)) z))
+      after e f c i (λ z. T-not (has (at supports (256 * k + 16 * (a % 16) + b % 16)) (e % 16)) (mask-e _ (e % 16) (subst (λ (n : ℕ). T (has n (e % 16))) q t) .1) (subst (λ (n : ℕ). T (has (at supports n) (e % 16))) (sym place) z))
 
   pub sure-before : y < a / 16 → (set : ℕ) → Lacking supports (256 * k + a % 16) 16 (b % 16) 16 set → Sure p a b y set
   sure-before i set l e f c t =
       let place : 256 * k + (16 * (e % 16) + a % 16) ≡ 256 * k + a % 16 + 16 * (e % 16) = omega arith in
-      before e f c i (λ z. l (e % 16) t .1 (subst (λ (n : ℕ). T (has (at supports n) (b % 16))) place z))
+      before e f c i (λ z. lacking-e supports _ _ _ set (e % 16) l t (subst (λ (n : ℕ). T (has (at supports n) (b % 16))) place z))
 
   pub sure-between : a / 16 < y → y < b / 16 → (set : ℕ) → Lacking supports (256 * k + 16 * (a % 16)) 1 (b % 16) 16 set → Sure p a b y set
   sure-between i j set l e f c t =
       let place : 256 * k + (16 * (a % 16) + e % 16) ≡ 256 * k + 16 * (a % 16) + 1 * (e % 16) = omega arith in
-      between e f c i j (λ z. l (e % 16) t .1 (subst (λ (n : ℕ). T (has (at supports n) (b % 16))) place z))
+      between e f c i j (λ z. lacking-e supports _ _ _ set (e % 16) l t (subst (λ (n : ℕ). T (has (at supports n) (b % 16))) place z))
 
 -- the lowest of the constraints on three variables
 module _ (p : Problem) (numbers supports : List ℕ) (r : Ready p numbers supports) (a b y : ℕ) (ma : MaybePair p a) (mb : MaybePair p b) (l : y < 16) (set : ℕ) (es : set ≡ bitAnd (bitAnd (at numbers (a / 16)) (at numbers (b / 16))) (at numbers y)) (n : set ≡ 0 → ⊥) where
   few : set < 2 ^ length (p .constraints)
   few = subst (λ (s : ℕ). s < 2 ^ length (p .constraints)) (sym es) (lt-of-le-of-lt (and-le-l _ (at numbers y)) (lt-of-le-of-lt (and-le-l _ (at numbers (b / 16))) (r .framed .numbered .touching-few (a / 16) (variable-lt p (r .framed .stated) a ma))))
 
-  low-is : trailingZeros 64 set ≡ least (length (p .constraints)) (has set)
-  low-is = trailing-least 64 (length (p .constraints)) set (omega (arith, r .framed .stated .most)) few n
-
   low-in : T (has set (trailingZeros 64 set))
-  low-in = subst (λ (k : ℕ). T (has set k)) (sym low-is) (has-lowest (length (p .constraints)) set few n)
+  low-in = low-has 64 set (omega arith) (lt-of-lt-of-le few (pow-mono (let h : length (p .constraints) ≤ 64 = omega (arith, r .framed .stated .most) in h))) .0
 
   low-lt : trailingZeros 64 set < length (p .constraints)
   low-lt = has-lt (length (p .constraints)) set _ few low-in
@@ -286,6 +276,5 @@ pub sure-same : (p : Problem) (a b y z known : ℕ) → y ≡ z → Sure p a b z
 sure-same p a b y z known q s e h = s e (h ∙ q)
 
 -- a value that is among those known
-pub sure-blocked : (p : Problem) (a b e sure : ℕ) → Sure p a b (e / 16) sure → PairCode p e → sure / 2 ^ (e % 16) % 2 ≡ 1 → true ≡ blocked p (numberOf p a ∷ numberOf p b ∷ numberOf p e ∷ [])
-unfolding has
-sure-blocked p a b e sure s c q = sym (of-T _ (s e refl c (T-of (has sure (e % 16)) (eq-eqb (sure / 2 ^ (e % 16) % 2) 1 q))))
+pub sure-blocked : (p : Problem) (a b e sure : ℕ) → Sure p a b (e / 16) sure → PairCode p e → has sure (e % 16) ≡ true → true ≡ blocked p (numberOf p a ∷ numberOf p b ∷ numberOf p e ∷ [])
+sure-blocked p a b e sure s c q = sym (of-T _ (s e refl c (T-of (has sure (e % 16)) q)))

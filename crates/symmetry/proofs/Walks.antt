@@ -1,34 +1,31 @@
 -- The walk of a constraint's forbidden sets: one variable further, at its end, and at its start. Assumes nothing.
 use mathlib.Core.Path.{_≡_, refl, sym, ap, ap₂, _∙_, subst}
 use mathlib.Core.Bool.{Bool, true, false, not}
-use mathlib.Core.List.{List, [], _∷_, _++_, map, List·Memᴰ, List·Memᴰ·head, List·Memᴰ·tail, List·Memᴰ·not-nil, Memᴰ·cast}
-use mathlib.Core.Logic.{_⊎_, inl, inr, ⊎-elim}
-use Prim.Native.Nat.{ℕ, zero, suc, _+_, _-_, _*_, _/_, _%_, _^_, _≤_, _<_}
-use native.Mathlib.Nat.{not-suc-le-zero, le-of-suc-le-suc, lt-of-le-of-lt}
-use native.Mathlib.Numerals.{add-one}
+use mathlib.Core.List.{List, [], _∷_, _++_, map, List·Memᴰ, List·Memᴰ·head, List·Memᴰ·tail, List·Memᴰ·not-nil}
+use mathlib.Core.Logic.{inl, inr, ⊎-elim}
+use Prim.Native.Nat.{ℕ, suc, _+_, _-_, _*_, _≤_, _<_}
+use native.Mathlib.Nat.{not-suc-le-zero, le-of-suc-le-suc}
 use native.Mathlib.Omega.{arith}
-use lib.Dec.{T, eqb, ltb, not-T, T-not}
-use lib.ListN.{length, drop, getD}
+use lib.Dec.{T, not-T, T-not}
+use lib.ListN.{length, drop}
 use lib.Seq.{drop-cons, drop-length}
-use lib.Bits.{bitAnd, and-le-l}
-use lib.Count.{trailingZeros}
 use Rattle.model.specs.Lists.{all, any, at, same, both, either}
-use Rattle.model.specs.ValueSets.{has, members, lowestOf}
-use Rattle.model.specs.Problem.{Problem, Constraint}
-use Rattle.model.proofs.Lists.{T-of, of-T, T-ext, not-of, of-not, both-i, both-l, both-r, all-e, all-i, mem-at, either-l, T-dec}
-use Rattle.model.proofs.Sets.{members-i, members-e}
-use Rattle.model.proofs.Masks.{has-and, has-not}
+use Rattle.model.specs.ValueSets.{has, maskOf, commonMask, withoutMask, members, lowestOf}
+use Rattle.model.specs.Problem.{Problem}
+use Rattle.model.proofs.Lists.{T-ext, not-of, both-i, both-l, both-r, all-e, all-i, mem-at, either-l, T-dec}
+use Rattle.model.proofs.Sets.{has-mask, mask-lt, mask-e, members-i, members-e}
+use Rattle.model.proofs.Lowest.{lowest-in, without-e, without-less}
 use Rattle.model.specs.WellFormed.{GoodConstraint}
-use Rattle.layout.specs.Layout.{constraintAt, Supports}
-use Rattle.symmetry.specs.Table.{Stated, Framed, Ready}
-use Rattle.symmetry.specs.Forbidden.{blocked, numberOf, PairCode, MaybePair, Coded, Begun, codesAt, keeps, packed, lastThree, Lent, Chosen, Walking, Choices, Triple, Beside, allBlocked}
-use Rattle.symmetry.proofs.Codes.{good, init-16, init-small, none-out, code-lt}
-use Rattle.symmetry.proofs.Keys.{Digits, begun-digits, packed-snoc, packed-none, packed-lt, row-test}
+use Rattle.layout.specs.Layout.{constraintAt}
+use Rattle.symmetry.specs.Table.{Stated, Ready}
+use Rattle.symmetry.specs.Forbidden.{blocked, numberOf, PairCode, MaybePair, Coded, Begun, codesAt, keeps, lastThree, Lent, Chosen, Walking, Choices, Triple, Beside, allBlocked}
+use Rattle.symmetry.proofs.Codes.{good, init-16, init-small, none-out}
+use Rattle.symmetry.proofs.Keys.{begun-digits, packed-snoc, packed-none, packed-lt, row-test}
 use Rattle.symmetry.proofs.Blocks.{blocked-ext}
-use Rattle.symmetry.proofs.Laws.{all-ext, all-stop, all-rest, all-over, rest-has, has-lowest, trailing-least}
+use Rattle.symmetry.proofs.Laws.{all-ext, all-stop, all-rest, all-over}
 
 -- ---- one value more
-pub begun-snoc : (p : Problem) (xs vs : List ℕ) (v : ℕ) → length vs < length xs → Begun p xs vs → T (has (at (p .initial) (at xs (length vs))) v) → Begun p xs (vs ++ (v ∷ []))
+begun-snoc : (p : Problem) (xs vs : List ℕ) (v : ℕ) → length vs < length xs → Begun p xs vs → T (has (at (p .initial) (at xs (length vs))) v) → Begun p xs (vs ++ (v ∷ []))
 unfolding at
 begun-snoc p [] vs v h b t = absurd (not-suc-le-zero h)
 begun-snoc p (x ∷ xs) [] v h b t = (t, tt)
@@ -96,7 +93,7 @@ module _ (p : Problem) (w : Stated p) where
   three-blocked (a ∷ b ∷ e ∷ f ∷ r) h = absurd (omega arith)
 
 -- ---- a walk
-module _ (p : Problem) (vs numbers supports codes : List ℕ) (short k left key a b e : ℕ) (s : Walking p vs numbers supports codes short k left key a b e) where
+module _ (p : Problem) (vs numbers supports codes : List ℕ) (short k ahead key a b e : ℕ) (s : Walking p vs numbers supports codes short k ahead key a b e) where
   w : Stated p
   w = s .lent .ready .framed .stated
 
@@ -104,7 +101,7 @@ module _ (p : Problem) (vs numbers supports codes : List ℕ) (short k left key 
   g = good p (s .lent .ready .framed .stated) k (s .chosen .inside)
 
   -- its last step: the three codes are those of the image
-  pub walked-triple : Triple p numbers supports short a b e
+  walked-triple : Triple p numbers supports short a b e
   walked-triple =
       let m : (y : ℕ) → List·Memᴰ y (a ∷ b ∷ e ∷ []) → MaybePair p y = λ y i. three-pairs p _ (codes-pairs p codes (constraintAt p k .scope) vs (s .lent .coded) (g .inside) (s .chosen .begun)) y (subst (List·Memᴰ y) (s .shown) i) in
       record {
@@ -115,7 +112,7 @@ module _ (p : Problem) (vs numbers supports codes : List ℕ) (short k left key 
         third = m e (List·Memᴰ·tail (List·Memᴰ·tail (List·Memᴰ·head refl)));
       }
 
-  pub walked : left ≡ 0 → blocked p (numberOf p a ∷ numberOf p b ∷ numberOf p e ∷ []) ≡ keeps p codes (constraintAt p k) (drop (length vs) (constraintAt p k .scope)) vs
+  walked : ahead ≡ 0 → blocked p (numberOf p a ∷ numberOf p b ∷ numberOf p e ∷ []) ≡ keeps p codes (constraintAt p k) (drop (length vs) (constraintAt p k .scope)) vs
   unfolding keeps
   walked z =
       let c = constraintAt p k in
@@ -127,45 +124,45 @@ module _ (p : Problem) (vs numbers supports codes : List ℕ) (short k left key 
       ∙ sym (ap (λ (l : List ℕ). keeps p codes c l vs) none)
 
   -- the variable that is next
-  pub next-in : (left ≡ 0 → ⊥) → length vs < length (constraintAt p k .scope)
-  next-in n = omega (arith, s .chosen .split)
+  has-next : (ahead ≡ 0 → ⊥) → length vs < length (constraintAt p k .scope)
+  has-next n = omega (arith, s .chosen .split)
 
-  pub next-var : (left ≡ 0 → ⊥) → at (constraintAt p k .scope) (length vs) < p .variables
-  next-var n = g .inside _ (mem-at (constraintAt p k .scope) (length vs) (next-in n))
+  next-var : (ahead ≡ 0 → ⊥) → at (constraintAt p k .scope) (length vs) < p .variables
+  next-var n = g .inside _ (mem-at (constraintAt p k .scope) (length vs) (has-next n))
 
   -- one step further
-  pub further : (n : left ≡ 0 → ⊥) (v : ℕ) → T (has (at (p .initial) (at (constraintAt p k .scope) (length vs))) v) → (left ≡ 1 → any (same (vs ++ (v ∷ []))) (constraintAt p k .rows) ≡ false) →
-      Walking p (vs ++ (v ∷ [])) numbers supports codes short k (left - 1) (16 * key + v) b e (at codes (16 * at (constraintAt p k .scope) (length vs) + v))
+  further : (n : ahead ≡ 0 → ⊥) (v : ℕ) → T (has (at (p .initial) (at (constraintAt p k .scope) (length vs))) v) → (ahead ≡ 1 → any (same (vs ++ (v ∷ []))) (constraintAt p k .rows) ≡ false) →
+      Walking p (vs ++ (v ∷ [])) numbers supports codes short k (ahead - 1) (16 * key + v) b e (at codes (16 * at (constraintAt p k .scope) (length vs) + v))
   further n v t r =
       let c = constraintAt p k in
-      let z = codes-length codes (c .scope) vs (omega (arith, next-in n)) in
+      let z = codes-length codes (c .scope) vs (omega (arith, has-next n)) in
       record {
         lent = s .lent;
         chosen = record {
           inside = s .chosen .inside;
           split = omega (arith, length-snoc vs v, s .chosen .split);
-          begun = begun-snoc p (c .scope) vs v (next-in n) (s .chosen .begun) t;
+          begun = begun-snoc p (c .scope) vs v (has-next n) (s .chosen .begun) t;
           keyed = ap (λ (i : ℕ). 16 * i + v) (s .chosen .keyed) ∙ sym (packed-snoc vs v);
         };
-        shown = three-snoc a b e _ (codesAt codes (c .scope) vs) (omega (arith, z, next-in n, g .few)) (s .shown) ∙ ap lastThree (sym (codes-snoc codes (c .scope) vs v (next-in n)));
+        shown = three-snoc a b e _ (codesAt codes (c .scope) vs) (omega (arith, z, has-next n, g .few)) (s .shown) ∙ ap lastThree (sym (codes-snoc codes (c .scope) vs v (has-next n)));
         absent = λ q. r (omega arith);
       }
 
 -- ---- the choices for the next variable
-module _ (p : Problem) (vs codes numbers supports : List ℕ) (k left key : ℕ) (r : Ready p numbers supports) (c : Chosen p vs k left key) (n : left ≡ 0 → ⊥) where
+module _ (p : Problem) (vs codes numbers supports : List ℕ) (k ahead key : ℕ) (r : Ready p numbers supports) (c : Chosen p vs k ahead key) (n : ahead ≡ 0 → ⊥) where
   st : Stated p
   st = r .framed .stated
 
   gc : GoodConstraint p (constraintAt p k)
   gc = good p (r .framed .stated) k (c .inside)
 
-  pub chosen-in : length vs < length (constraintAt p k .scope)
+  chosen-in : length vs < length (constraintAt p k .scope)
   chosen-in = omega (arith, c .split)
 
-  pub chosen-var : at (constraintAt p k .scope) (length vs) < p .variables
+  chosen-var : at (constraintAt p k .scope) (length vs) < p .variables
   chosen-var = gc .inside _ (mem-at (constraintAt p k .scope) (length vs) chosen-in)
 
-  pub chosen-key : key < 256
+  chosen-key : key < 256
   chosen-key = subst (λ (i : ℕ). i < 256) (sym (c .keyed)) (packed-lt vs (omega (arith, chosen-in, gc .few)) (begun-digits p st (constraintAt p k .scope) vs (gc .inside) (c .begun)))
 
   keeps-here : keeps p codes (constraintAt p k) (drop (length vs) (constraintAt p k .scope)) vs
@@ -173,33 +170,33 @@ module _ (p : Problem) (vs codes numbers supports : List ℕ) (k left key : ℕ)
   unfolding keeps at
   keeps-here = ap (λ (l : List ℕ). keeps p codes (constraintAt p k) l vs) (drop-cons (constraintAt p k .scope) (length vs) 0 chosen-in)
 
-  pub choices-all : (left ≡ 1 → ⊥) → Choices p vs codes k left (at (p .initial) (at (constraintAt p k .scope) (length vs)))
+  choices-all : (ahead ≡ 1 → ⊥) → Choices p vs codes k ahead (at (p .initial) (at (constraintAt p k .scope) (length vs)))
   choices-all m = record { small = init-small p st _ chosen-var; allowed = λ v t. t; absent = λ v t e. absurd (m e); whole = sym keeps-here }
 
   -- for the last variable, those that make no row
-  module _ (one : left ≡ 1) where
+  module _ (one : ahead ≡ 1) where
     x : ℕ
     x = at (constraintAt p k .scope) (length vs)
 
     few : ℕ
-    few = bitAnd (at (p .initial) (at (constraintAt p k .scope) (length vs))) (65535 - at supports (256 * k + key))
+    few = commonMask (at (p .initial) (at (constraintAt p k .scope) (length vs))) (maskOf (λ v. not (has (at supports (256 * k + key)) v)))
 
     row : ℕ → Bool
     row v = any (same (vs ++ (v ∷ []))) (constraintAt p k .rows)
 
-    few-has : at supports (256 * k + key) < 2 ^ 16 → (v : ℕ) → v < 16 → has few v ≡ both (has (at (p .initial) x) v) (not (row v))
+    few-has : (v : ℕ) → v < 16 → has few v ≡ both (has (at (p .initial) x) v) (not (row v))
     unfolding few x row
-    few-has s v h =
-        has-and (at (p .initial) x) (65535 - at supports (256 * k + key)) v
+    few-has v h =
+        has-mask 16 _ v h
         ∙ ap (both (has (at (p .initial) x) v))
-        (has-not 16 (at supports (256 * k + key)) v s h
+        (has-mask 16 (λ u. not (has (at supports (256 * k + key)) u)) v h
         ∙ ap not
         (ap (λ (i : ℕ). has (at supports (256 * k + i)) v) (c .keyed)
         ∙ row-test p supports (r .supported) k (c .inside) vs v (omega (arith, c .split)) (omega (arith, c .split, gc .few)) (begun-digits p st (constraintAt p k .scope) vs (gc .inside) (c .begun)) h))
 
     few-in : (v : ℕ) → T (has few v) → T (has (at (p .initial) x) v)
     unfolding few x
-    few-in v t = both-l (has (at (p .initial) x) v) _ (subst T (has-and (at (p .initial) x) (65535 - at supports (256 * k + key)) v) t)
+    few-in v t = both-l (has (at (p .initial) x) v) _ (mask-e _ v t .1)
 
     -- a row is kept whatever its image
     row-kept : (v : ℕ) → T (row v) → T (keeps p codes (constraintAt p k) (drop (suc (length vs)) (constraintAt p k .scope)) (vs ++ (v ∷ [])))
@@ -209,114 +206,102 @@ module _ (p : Problem) (vs codes numbers supports : List ℕ) (k left key : ℕ)
         let none : drop (suc (length vs)) (constraintAt p k .scope) ≡ [] = ap (λ (i : ℕ). drop i (constraintAt p k .scope)) e ∙ drop-length (constraintAt p k .scope) in
         subst (λ (l : List ℕ). T (keeps p codes (constraintAt p k) l (vs ++ (v ∷ [])))) (sym none) (either-l (any (same (vs ++ (v ∷ []))) (constraintAt p k .rows)) _ t)
 
-    pub choices-last : at supports (256 * k + key) < 2 ^ 16 → Choices p vs codes k left (bitAnd (at (p .initial) (at (constraintAt p k .scope) (length vs))) (65535 - at supports (256 * k + key)))
+    choices-last : Choices p vs codes k ahead few
     unfolding few x row
-    choices-last s =
+    choices-last =
         let F : ℕ → Bool = λ v. keeps p codes (constraintAt p k) (drop (suc (length vs)) (constraintAt p k .scope)) (vs ++ (v ∷ [])) in
         let i = chosen-var in
         record {
-          small = lt-of-le-of-lt (and-le-l (at (p .initial) x) (65535 - at supports (256 * k + key))) (init-small p st x i);
+          small = mask-lt 16 _;
           allowed = few-in;
-          absent = λ v t e. not-of (row v) (T-not (row v) (both-r (has (at (p .initial) x) v) (not (row v)) (subst T (few-has s v (init-16 p st x v i (few-in v t))) t)));
+          absent = λ v t e. not-of (row v) (T-not (row v) (both-r (has (at (p .initial) x) v) (not (row v)) (subst T (few-has v (init-16 p st x v i (few-in v t))) t)));
           whole = T-ext (all F (members few)) (all F (members (at (p .initial) x)))
               (λ t. all-i F (members (at (p .initial) x)) (λ v m.
               let q = members-e (at (p .initial) x) v m in
               ⊎-elim {C = T (F v)} (row-kept v)
-              (λ z. all-e F (members few) t v (members-i few v (q .0) (subst T (sym (few-has s v (q .0))) (both-i (has (at (p .initial) x) v) (not (row v)) (q .1) (not-T (row v) z)))))
+              (λ z. all-e F (members few) t v (members-i few v (q .0) (subst T (sym (few-has v (q .0))) (both-i (has (at (p .initial) x) v) (not (row v)) (q .1) (not-T (row v) z)))))
               (T-dec (row v))))
               (λ t. all-i F (members few) (λ v m. let q = members-e few v m in all-e F (members (at (p .initial) x)) t v (members-i (at (p .initial) x) v (q .0) (few-in v (q .1)))))
               ∙ sym keeps-here;
         }
 
 -- as the code makes them
-module _ (p : Problem) (vs codes numbers supports : List ℕ) (k left key x set : ℕ) (r : Ready p numbers supports) (c : Chosen p vs k left key) (n : left ≡ 0 → ⊥) (e : x ≡ at (constraintAt p k .scope) (length vs)) where
-  pub next-small : x < 12
-  next-small = omega (arith, chosen-var p vs codes numbers supports k left key r c n, r .framed .stated .few)
+module _ (p : Problem) (vs codes numbers supports : List ℕ) (k ahead key x : ℕ) (r : Ready p numbers supports) (c : Chosen p vs k ahead key) (n : ahead ≡ 0 → ⊥) (e : x ≡ at (constraintAt p k .scope) (length vs)) where
+  pub next-in : x < p .variables
+  next-in = subst (λ (y : ℕ). y < p .variables) (sym e) (chosen-var p vs codes numbers supports k ahead key r c n)
 
   pub row-small : 256 * k + key < 8192
-  row-small = omega (arith, chosen-key p vs codes numbers supports k left key r c n, c .inside, r .framed .stated .most)
+  row-small = omega (arith, chosen-key p vs codes numbers supports k ahead key r c n, c .inside, r .framed .stated .most)
 
-  initial-is : set ≡ at numbers (16 + x) → set ≡ at (p .initial) (at (constraintAt p k .scope) (length vs))
-  initial-is h = h ∙ ap (λ (i : ℕ). at numbers (16 + i)) e ∙ r .framed .numbered .initial _ (chosen-var p vs codes numbers supports k left key r c n)
+  module _ (set : ℕ) (h : set ≡ at (p .initial) x) where
+    initial-is : set ≡ at (p .initial) (at (constraintAt p k .scope) (length vs))
+    initial-is = h ∙ ap (at (p .initial)) e
 
-  pub made-all : set ≡ at numbers (16 + x) → (left ≡ 1 → ⊥) → Choices p vs codes k left set
-  made-all h m = subst (Choices p vs codes k left) (sym (initial-is h)) (choices-all p vs codes numbers supports k left key r c n m)
+    pub made-all : (ahead ≡ 1 → ⊥) → Choices p vs codes k ahead set
+    made-all m = subst (Choices p vs codes k ahead) (sym initial-is) (choices-all p vs codes numbers supports k ahead key r c n m)
 
-  pub made-last : (s : ℕ) → set ≡ at numbers (16 + x) → s ≡ at supports (256 * k + key) → s < 65536 → left ≡ 1 → Choices p vs codes k left (bitAnd set (65535 - s))
-  made-last s h i l m =
-      subst (Choices p vs codes k left) (sym (ap₂ (λ (a b : ℕ). bitAnd a (65535 - b)) (initial-is h) i))
-      (choices-last p vs codes numbers supports k left key r c n m (subst (λ (b : ℕ). b < 65536) i l))
+    pub made-last : (s new : ℕ) → s ≡ maskOf (λ v. not (has (at supports (256 * k + key)) v)) → new ≡ commonMask set s → ahead ≡ 1 → Choices p vs codes k ahead new
+    unfolding few
+    made-last s new i q m = subst (Choices p vs codes k ahead) (sym (q ∙ ap₂ commonMask initial-is i)) (choices-last p vs codes numbers supports k ahead key r c n m)
 
 -- ---- one turn of the walk's loop
-module _ (p : Problem) (vs codes : List ℕ) (k left set : ℕ) (c : Choices p vs codes k left set) where
-  pub choices-low : (set ≡ 0 → ⊥) → T (has set (lowestOf set))
-  choices-low n = has-lowest 16 set (c .small) n
+pub choices-over : (p : Problem) (vs codes : List ℕ) (k ahead set : ℕ) → Choices p vs codes k ahead set → set ≡ 0 → true ≡ keeps p codes (constraintAt p k) (drop (length vs) (constraintAt p k .scope)) vs
+choices-over p vs codes k ahead set c z = all-over _ set _ (c .whole) z
 
-  pub choices-stop : (set ≡ 0 → ⊥) → keeps p codes (constraintAt p k) (drop (suc (length vs)) (constraintAt p k .scope)) (vs ++ (lowestOf set ∷ [])) ≡ false →
-      false ≡ keeps p codes (constraintAt p k) (drop (length vs) (constraintAt p k .scope)) vs
-  choices-stop n e = all-stop _ set _ (c .whole) (c .small) n e
-
-  pub choices-rest : (set ≡ 0 → ⊥) → keeps p codes (constraintAt p k) (drop (suc (length vs)) (constraintAt p k .scope)) (vs ++ (lowestOf set ∷ [])) ≡ true → Choices p vs codes k left (bitAnd set (set - 1))
-  choices-rest n e =
-      record {
-        small = lt-of-le-of-lt (and-le-l set (set - 1)) (c .small);
-        allowed = λ v t. c .allowed v (rest-has set v t);
-        absent = λ v t. c .absent v (rest-has set v t);
-        whole = all-rest _ set _ (c .whole) (c .small) n e;
-      }
-
-  pub choices-over : set ≡ 0 → true ≡ keeps p codes (constraintAt p k) (drop (length vs) (constraintAt p k .scope)) vs
-  choices-over z = all-over _ set _ (c .whole) z
-
--- as the code takes it: the variable x is next, v is the lowest of the values left
-module _ (p : Problem) (vs numbers supports codes : List ℕ) (short k left key a b e : ℕ) (s : Walking p vs numbers supports codes short k left key a b e) (n : left ≡ 0 → ⊥) where
-  pub next-place : (i : ℕ) → i ≡ length (constraintAt p k .scope) → (left ≤ i) × (i - left ≡ length vs) × (i - left < length (constraintAt p k .scope))
+-- as the code takes it: the variable x is next, v is the lowest of the values left, `new` the set without it
+module _ (p : Problem) (vs numbers supports codes : List ℕ) (short k ahead key a b e : ℕ) (s : Walking p vs numbers supports codes short k ahead key a b e) (n : ahead ≡ 0 → ⊥) where
+  pub next-place : (i : ℕ) → i ≡ length (constraintAt p k .scope) → (ahead ≤ i) × (i - ahead ≡ length vs) × (i - ahead < length (constraintAt p k .scope))
   next-place i h = (omega (arith, s .chosen .split), omega (arith, s .chosen .split), omega (arith, s .chosen .split))
 
-  module _ (x set : ℕ) (ex : x ≡ at (constraintAt p k .scope) (length vs)) (c : Choices p vs codes k left set) (m : set ≡ 0 → ⊥) where
-    low-is : trailingZeros 64 set ≡ lowestOf set
-    low-is = trailing-least 64 16 set (omega arith) (c .small) m
+  module _ (x set : ℕ) (ex : x ≡ at (constraintAt p k .scope) (length vs)) (c : Choices p vs codes k ahead set) (m : set ≡ 0 → ⊥) (v new : ℕ) (ev : v ≡ lowestOf set) (en : new ≡ withoutMask set v) where
+    low-in : T (has set v)
+    low-in = subst (λ (u : ℕ). T (has set u)) (sym ev) (lowest-in set (c .small) m)
 
-    low-in : T (has set (trailingZeros 64 set))
-    low-in = subst (λ (v : ℕ). T (has set v)) (sym low-is) (choices-low p vs codes k left set c m)
+    low-small : v < 16
+    low-small = init-16 p (s .lent .ready .framed .stated) _ v (next-var p vs numbers supports codes short k ahead key a b e s n) (c .allowed _ low-in)
 
-    pub next-spot : 16 * x + trailingZeros 64 set < 256
-    next-spot =
-        let h = next-var p vs numbers supports codes short k left key a b e s n in
-        omega (arith, ex, h, init-16 p (s .lent .ready .framed .stated) _ (trailingZeros 64 set) h (c .allowed _ low-in), s .lent .ready .framed .stated .few)
+    pub next-less : new < set
+    next-less = subst (λ (w : ℕ). w < set) (sym en) (without-less set v (c .small) low-in)
 
-    pub next-key : 16 * key + trailingZeros 64 set < 4096
-    next-key =
-        let h = next-var p vs numbers supports codes short k left key a b e s n in
-        omega (arith, chosen-key p vs codes numbers supports k left key (s .lent .ready) (s .chosen) n, init-16 p (s .lent .ready .framed .stated) _ (trailingZeros 64 set) h (c .allowed _ low-in))
+    pub next-spot : 16 * x + v < 256
+    next-spot = omega (arith, ex, next-var p vs numbers supports codes short k ahead key a b e s n, low-small, s .lent .ready .framed .stated .few)
 
-    pub next-walk : (code : ℕ) → code ≡ at codes (16 * x + trailingZeros 64 set) → Walking p (vs ++ (trailingZeros 64 set ∷ [])) numbers supports codes short k (left - 1) (16 * key + trailingZeros 64 set) b e code
+    pub next-key : 16 * key + v < 4096
+    next-key = omega (arith, chosen-key p vs codes numbers supports k ahead key (s .lent .ready) (s .chosen) n, low-small)
+
+    pub next-walk : (code : ℕ) → code ≡ at codes (16 * x + v) → Walking p (vs ++ (v ∷ [])) numbers supports codes short k (ahead - 1) (16 * key + v) b e code
     next-walk code h =
-        subst (Walking p (vs ++ (trailingZeros 64 set ∷ [])) numbers supports codes short k (left - 1) (16 * key + trailingZeros 64 set) b e)
-        (sym (h ∙ ap (λ (y : ℕ). at codes (16 * y + trailingZeros 64 set)) ex))
-        (further p vs numbers supports codes short k left key a b e s n (trailingZeros 64 set) (c .allowed _ low-in) (c .absent _ low-in))
+        subst (Walking p (vs ++ (v ∷ [])) numbers supports codes short k (ahead - 1) (16 * key + v) b e) (sym (h ∙ ap (λ (y : ℕ). at codes (16 * y + v)) ex))
+        (further p vs numbers supports codes short k ahead key a b e s n v (c .allowed _ low-in) (c .absent _ low-in))
 
-    module _ (r : Bool) (h : r ≡ keeps p codes (constraintAt p k) (drop (length (vs ++ (trailingZeros 64 set ∷ []))) (constraintAt p k .scope)) (vs ++ (trailingZeros 64 set ∷ []))) where
+    module _ (r : Bool) (h : r ≡ keeps p codes (constraintAt p k) (drop (length (vs ++ (v ∷ []))) (constraintAt p k .scope)) (vs ++ (v ∷ []))) where
       answer : keeps p codes (constraintAt p k) (drop (suc (length vs)) (constraintAt p k .scope)) (vs ++ (lowestOf set ∷ [])) ≡ r
-      answer = sym (h ∙ ap₂ (λ (i v : ℕ). keeps p codes (constraintAt p k) (drop i (constraintAt p k .scope)) (vs ++ (v ∷ []))) (length-snoc vs (trailingZeros 64 set)) low-is)
+      answer = sym (h ∙ ap₂ (λ (i u : ℕ). keeps p codes (constraintAt p k) (drop i (constraintAt p k .scope)) (vs ++ (u ∷ []))) (length-snoc vs v) ev)
 
       pub walk-stop : r ≡ false → false ≡ keeps p codes (constraintAt p k) (drop (length vs) (constraintAt p k .scope)) vs
-      walk-stop f = choices-stop p vs codes k left set c m (answer ∙ f)
+      walk-stop f = all-stop _ set _ (c .whole) (c .small) m (answer ∙ f)
 
-      pub walk-rest : r ≡ true → Choices p vs codes k left (bitAnd set (set - 1))
-      walk-rest f = choices-rest p vs codes k left set c m (answer ∙ f)
+      pub walk-rest : r ≡ true → Choices p vs codes k ahead new
+      walk-rest f =
+          subst (Choices p vs codes k ahead) (sym (en ∙ ap (withoutMask set) ev))
+          (record {
+            small = mask-lt 16 _;
+            allowed = λ u t. c .allowed u (without-e set (lowestOf set) u t .0);
+            absent = λ u t. c .absent u (without-e set (lowestOf set) u t .0);
+            whole = all-rest _ set _ (c .whole) (c .small) m (answer ∙ f);
+          })
 
 -- at the last variable: the two codes last chosen beside the images of its pairs
-module _ (p : Problem) (vs numbers supports codes : List ℕ) (short k left key a b e x set : ℕ) (s : Walking p vs numbers supports codes short k left key a b e) (one : left ≡ 1) (ex : x ≡ at (constraintAt p k .scope) (length vs)) (c : Choices p vs codes k left set) where
-  some : left ≡ 0 → ⊥
+module _ (p : Problem) (vs numbers supports codes : List ℕ) (short k ahead key a b e x set : ℕ) (s : Walking p vs numbers supports codes short k ahead key a b e) (one : ahead ≡ 1) (ex : x ≡ at (constraintAt p k .scope) (length vs)) (c : Choices p vs codes k ahead set) where
+  some : ahead ≡ 0 → ⊥
   some z = omega arith
 
   pub last-beside : Beside p numbers supports codes short x set b e
   last-beside =
-      let t = walked-triple p vs numbers supports codes short k left key a b e s in
+      let t = walked-triple p vs numbers supports codes short k ahead key a b e s in
       record {
         lent = s .lent;
-        variable = subst (λ (y : ℕ). y < p .variables) (sym ex) (next-var p vs numbers supports codes short k left key a b e s some);
+        variable = subst (λ (y : ℕ). y < p .variables) (sym ex) (next-var p vs numbers supports codes short k ahead key a b e s some);
         values = λ v h. subst (λ (y : ℕ). T (has (at (p .initial) y) v)) (sym ex) (c .allowed v h);
         small = c .small;
         first = t .second;
@@ -326,19 +311,19 @@ module _ (p : Problem) (vs numbers supports codes : List ℕ) (short k left key 
   last-is : (v : ℕ) → T (has set v) →
       blocked p (numberOf p b ∷ numberOf p e ∷ numberOf p (at codes (16 * x + v)) ∷ []) ≡ keeps p codes (constraintAt p k) (drop (suc (length vs)) (constraintAt p k .scope)) (vs ++ (v ∷ []))
   last-is v h =
-      let f = further p vs numbers supports codes short k left key a b e s some v (c .allowed v h) (c .absent v h) in
+      let f = further p vs numbers supports codes short k ahead key a b e s some v (c .allowed v h) (c .absent v h) in
       ap (λ (y : ℕ). blocked p (numberOf p b ∷ numberOf p e ∷ numberOf p (at codes (16 * y + v)) ∷ [])) ex
-      ∙ walked p (vs ++ (v ∷ [])) numbers supports codes short k (left - 1) (16 * key + v) b e _ f (omega arith)
+      ∙ walked p (vs ++ (v ∷ [])) numbers supports codes short k (ahead - 1) (16 * key + v) b e _ f (omega arith)
       ∙ ap (λ (i : ℕ). keeps p codes (constraintAt p k) (drop i (constraintAt p k .scope)) (vs ++ (v ∷ []))) (length-snoc vs v)
 
   pub last-all : (r : Bool) → r ≡ allBlocked p codes x b e (members set) → r ≡ keeps p codes (constraintAt p k) (drop (length vs) (constraintAt p k .scope)) vs
   last-all r q = q ∙ all-ext _ _ (members set) (λ v m. last-is v (members-e set v m .1)) ∙ c .whole
 
 -- before the first variable
-pub walk-start : (p : Problem) (numbers supports codes : List ℕ) (short k left : ℕ) → Lent p numbers supports codes short → k < length (p .constraints) → left ≡ length (constraintAt p k .scope) →
-    Walking p [] numbers supports codes short k left 0 255 255 255
+pub walk-start : (p : Problem) (numbers supports codes : List ℕ) (short k ahead : ℕ) → Lent p numbers supports codes short → k < length (p .constraints) → ahead ≡ length (constraintAt p k .scope) →
+    Walking p [] numbers supports codes short k ahead 0 255 255 255
 unfolding codesAt
-walk-start p numbers supports codes short k left l h e =
+walk-start p numbers supports codes short k ahead l h e =
     record {
       lent = l;
       chosen = record { inside = h; split = omega arith; begun = tt; keyed = sym packed-none };

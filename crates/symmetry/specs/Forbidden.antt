@@ -9,7 +9,7 @@ use lib.Dec.{T, eqb, ltb}
 use Rattle.model.specs.Lists.{all, any, at, same, both, either, below, choose}
 use Rattle.model.specs.ValueSets.{has, members}
 use Rattle.model.specs.Problem.{Problem, Constraint, pair, forbidden, within}
-use Rattle.layout.specs.Layout.{constraintAt}
+use Rattle.layout.specs.Layout.{constraintAt, imageCode}
 use Rattle.symmetry.specs.Table.{Framed, Ready}
 
 -- some forbidden set lies among the pairs
@@ -30,7 +30,7 @@ MaybePair p code = (code ≡ 255) ⊎ PairCode p code
 
 -- `codes`: that of the image of (x, v) in a table at 16 x + v
 abbrev pub Decoded : Problem → List ℕ → List ℕ → Type 0
-Decoded p g codes = (x v : ℕ) → x < p .variables → v < p .values → at codes (16 * x + v) ≡ 16 * (at g (pair p x v) / p .values) + at g (pair p x v) % p .values
+Decoded p g codes = (x v : ℕ) → x < p .variables → v < p .values → at codes (16 * x + v) ≡ imageCode p g x v
 
 -- the images of pairs are pairs
 abbrev pub Coded : Problem → List ℕ → Type 0
@@ -64,7 +64,7 @@ pub record LookedUp (c : Constraint) (a b e i key : ℕ) : Type 0 where
 
 -- `short`: the set of the constraints on fewer than three variables
 abbrev pub Short : Problem → ℕ → Type 0
-Short p short = (k : ℕ) → k < length (p .constraints) → length (constraintAt p k .scope) < 3 → T (has short k)
+Short p short = (k : ℕ) → has short k ≡ both (ltb k (length (p .constraints))) (ltb (length (constraintAt p k .scope)) 3)
 
 -- every constraint whose scope lies among three variables is a candidate
 pub record Candidates (p : Problem) (x y z set : ℕ) : Type 0 where
@@ -79,7 +79,7 @@ pub record Triple (p : Problem) (numbers supports : List ℕ) (short a b e : ℕ
   pub third : MaybePair p e
 
 -- every constraint that refuses three pairs is still to be asked
-pub record Left (p : Problem) (a b e set : ℕ) : Type 0 where
+pub record Pending (p : Problem) (a b e set : ℕ) : Type 0 where
   pub few : set < 2 ^ length (p .constraints)
   pub whole : (k : ℕ) → k < length (p .constraints) → T (refusedBy (constraintAt p k) a b e) → T (has set k)
 
@@ -114,24 +114,24 @@ pub record Lent (p : Problem) (numbers supports codes : List ℕ) (short : ℕ) 
   pub shorts : Short p short
   pub coded : Coded p codes
 
--- values vs are chosen for the first variables of constraint k, for `left` variables they are to come
-pub record Chosen (p : Problem) (vs : List ℕ) (k left key : ℕ) : Type 0 where
+-- values vs are chosen for the first variables of constraint k, for those `ahead` they are to come
+pub record Chosen (p : Problem) (vs : List ℕ) (k ahead key : ℕ) : Type 0 where
   pub inside : k < length (p .constraints)
-  pub split : length vs + left ≡ length (constraintAt p k .scope)
+  pub split : length vs + ahead ≡ length (constraintAt p k .scope)
   pub begun : Begun p (constraintAt p k .scope) vs
   pub keyed : key ≡ packed vs
 
-pub record Walking (p : Problem) (vs numbers supports codes : List ℕ) (short k left key a b e : ℕ) : Type 0 where
+pub record Walking (p : Problem) (vs numbers supports codes : List ℕ) (short k ahead key a b e : ℕ) : Type 0 where
   pub lent : Lent p numbers supports codes short
-  pub chosen : Chosen p vs k left key
+  pub chosen : Chosen p vs k ahead key
   pub shown : a ∷ b ∷ e ∷ [] ≡ lastThree (codesAt codes (constraintAt p k .scope) vs)
-  pub absent : left ≡ 0 → any (same vs) (constraintAt p k .rows) ≡ false
+  pub absent : ahead ≡ 0 → any (same vs) (constraintAt p k .rows) ≡ false
 
 -- what is asked of the values of a set as the next of constraint k is what is asked of all
-pub record Choices (p : Problem) (vs codes : List ℕ) (k left set : ℕ) : Type 0 where
+pub record Choices (p : Problem) (vs codes : List ℕ) (k ahead set : ℕ) : Type 0 where
   pub small : set < 2 ^ 16
   pub allowed : (v : ℕ) → T (has set v) → T (has (at (p .initial) (at (constraintAt p k .scope) (length vs))) v)
-  pub absent : (v : ℕ) → T (has set v) → left ≡ 1 → any (same (vs ++ (v ∷ []))) (constraintAt p k .rows) ≡ false
+  pub absent : (v : ℕ) → T (has set v) → ahead ≡ 1 → any (same (vs ++ (v ∷ []))) (constraintAt p k .rows) ≡ false
   pub whole : all (λ v. keeps p codes (constraintAt p k) (drop (suc (length vs)) (constraintAt p k .scope)) (vs ++ (v ∷ []))) (members set)
       ≡ keeps p codes (constraintAt p k) (drop (length vs) (constraintAt p k .scope)) vs
 
@@ -142,7 +142,7 @@ Sure p a b y set = (e : ℕ) → e / 16 ≡ y → PairCode p e → T (has set (e
 
 -- values below n for which the set at base + step * v lacks w
 abbrev pub Lacking : List ℕ → ℕ → ℕ → ℕ → ℕ → ℕ → Type 0
-Lacking supports base step w n set = (v : ℕ) → T (has set v) → (v < n) × (T (has (at supports (base + step * v)) w) → ⊥)
+Lacking supports base step w n set = (v : ℕ) → has set v ≡ both (ltb v n) (not (has (at supports (base + step * v)) w))
 
 -- constraint k has the variables of two pairs and variable y
 pub record On (p : Problem) (numbers supports : List ℕ) (k a b y : ℕ) : Type 0 where

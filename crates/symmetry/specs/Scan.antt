@@ -2,10 +2,11 @@
 use mathlib.Core.Path.{_≡_}
 use mathlib.Core.Bool.{Bool, true, false}
 use mathlib.Core.List.{List}
-use Prim.Native.Nat.{ℕ, _+_, _*_, _/_, _%_, _<_}
+use Prim.Native.Nat.{ℕ, _<_}
 use lib.Dec.{T, eqb}
 use Rattle.model.specs.Lists.{at}
 use Rattle.model.specs.Problem.{Problem, isPair}
+use Rattle.layout.specs.Layout.{pairCode}
 
 -- a pair goes to a pair, any other number stands for itself
 abbrev pub fits : Problem → List ℕ → ℕ → Bool
@@ -20,4 +21,4 @@ pub record Seen (p : Problem) (g seen : List ℕ) (q : ℕ) : Type 0 where
 
 -- the codes of the images of the numbers below q
 abbrev pub DecodedTo : Problem → List ℕ → List ℕ → ℕ → Type 0
-DecodedTo p g codes q = (j : ℕ) → j < q → at codes (16 * (j / p .values) + j % p .values) ≡ 16 * (at g j / p .values) + at g j % p .values
+DecodedTo p g codes q = (j : ℕ) → j < q → at codes (pairCode (p .values) j) ≡ pairCode (p .values) (at g j)

@@ -2,12 +2,11 @@
 use mathlib.Core.Path.{_≡_}
 use mathlib.Core.Bool.{Bool, true, false}
 use mathlib.Core.List.{List, List·Memᴰ}
-use Prim.Native.Nat.{ℕ, zero, suc, _+_, _*_, _^_, _≤_, _<_}
+use Prim.Native.Nat.{ℕ, _+_, _*_, _^_, _≤_, _<_}
 use lib.ListN.{length}
 use Rattle.model.specs.Lists.{at}
 use Rattle.model.specs.Problem.{Problem, Constraint, respects}
 use Rattle.model.specs.Sheet.{words, permutesPairs}
-use Rattle.model.specs.Verdict.{Verdict, refused}
 use Rattle.model.specs.WellFormed.{GoodConstraint}
 use Rattle.layout.specs.Layout.{Numbers, Supports}
 
@@ -34,7 +33,7 @@ pub record Ready (p : Problem) (numbers supports : List ℕ) : Type 0 where
 abbrev pub Whole : Problem → List ℕ → ℕ → Type 0
 Whole p sheet offset = offset + 2 * (p .variables * p .values) ≤ length sheet
 
-pub record Laid (p : Problem) (sheet : List ℕ) (offset : ℕ) (numbers : List ℕ) : Type 0 where
+pub record TableAt (p : Problem) (sheet : List ℕ) (offset : ℕ) (numbers : List ℕ) : Type 0 where
   pub framed : Framed p numbers
   pub whole : Whole p sheet offset
 
@@ -53,8 +52,3 @@ answerOf true true = 0
 -- 0 where both answers are yes, else the number of the first that is no
 abbrev pub tableAnswer : Problem → List ℕ → ℕ → ℕ
 tableAnswer p sheet offset = answerOf (permutesPairs p (tableOf p sheet offset)) (respects p (tableOf p sheet offset))
-
--- the verdict by such an answer: 0 goes on to what is asked later
-abbrev pub verdictBy : ℕ → ℕ → Verdict → Verdict
-verdictBy zero item later = later
-verdictBy (suc n) item later = refused (suc n) item

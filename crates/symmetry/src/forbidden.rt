@@ -1,22 +1,36 @@
 // Whether a forbidden set lies among up to three pairs, given by their codes; 255 stands for none.
 ghost use mathlib.Core.Path.{_≡_};
 ghost use mathlib.Core.List.{[], _∷_};
+ghost use mathlib.Core.Bool.{not};
 ghost use Prim.Native.Nat.{ℕ, _+_, _*_, _≤_, _<_};
 ghost use lib.ListN.{length};
 ghost use Rattle.model.specs.Lists.{at};
+ghost use Rattle.model.specs.ValueSets.{has, maskOf};
 ghost use Rattle.model.specs.Problem.{Problem};
 ghost use Rattle.layout.specs.Layout.{constraintAt};
 ghost use Rattle.symmetry.specs.Table.{Framed, Ready};
 ghost use Rattle.symmetry.specs.Forbidden.{Short, Candidates, Triple, clashes, valueIn, refusedBy, blocked as blockedBy, numberOf};
 use super::table::number;
-use super::table::wide16;
 use crate::Numbers;
+use layout::CONSTRAINTS;
+use layout::SCOPES;
+use model::ValueSet;
 
-pub fn support(supports: &[u16; 8192], i: usize) -> usize
+// A support set.
+pub fn support(supports: &[u16; 8192], i: usize) -> ValueSet
     requires { ⌜ i < 8192 ⌝ }
-    ensures { λ r. ⌜ (r ≡ at (now (supports .entry)) i) × (r < 65536) ⌝ }
+    ensures { λ r. ⌜ r .bits ≡ at (now (supports .entry)) i ⌝ }
 {
-    wide16(supports[i])
+    ValueSet { bits: supports[i] }
+}
+
+// The values that a set lacks.
+pub fn complement(set: ValueSet) -> ValueSet
+    ensures { λ r. ⌜ r .bits ≡ maskOf (λ v. not (has (set .bits) v)) ⌝ }
+{
+    ValueSet {
+        bits: 65535 - set.bits,
+    }
 }
 
 // How many variables a constraint has, and the variable at a place of its scope.
@@ -24,14 +38,14 @@ pub fn arity(numbers: &Numbers, k: usize) -> usize
     requires { ⌜ ((p : Problem) × Framed p (now numbers) × (k < length (p .constraints))) ⌝ }
     ensures { λ r. ⌜ ((p : Problem) → Framed p (now (numbers .entry)) → k < length (p .constraints) → r ≡ length (constraintAt p k .scope)) ⌝ }
 {
-    number(numbers, 32 + k) % 256
+    number(numbers, SCOPES + k) % 256
 }
 
 pub fn scope_at(numbers: &Numbers, k: usize, i: usize) -> usize
     requires { ⌜ ((p : Problem) × Framed p (now numbers) × (k < length (p .constraints)) × (i < length (constraintAt p k .scope))) ⌝ }
     ensures { λ r. ⌜ ((p : Problem) → Framed p (now (numbers .entry)) → k < length (p .constraints) → i < length (constraintAt p k .scope) → r ≡ at (constraintAt p k .scope) i) ⌝ }
 {
-    (number(numbers, 32 + k) >> (8 * i + 8)) % 256
+    (number(numbers, SCOPES + k) >> (8 * i + 8)) % 256
 }
 
 // The set of the constraints on fewer than three variables.
@@ -39,7 +53,7 @@ pub fn short_scopes(numbers: &Numbers) -> usize
     requires { ⌜ ((p : Problem) × Framed p (now numbers)) ⌝ }
     ensures { λ r. ⌜ ((p : Problem) → Framed p (now (numbers .entry)) → Short p r) ⌝ }
 {
-    let c = number(numbers, 66);
+    let c = number(numbers, CONSTRAINTS);
     let mut set = 0usize;
     let mut k = 0;
     while k < c {
@@ -63,7 +77,7 @@ fn candidates(numbers: &Numbers, short: usize, x: usize, y: usize, z: usize) -> 
 }
 
 // Two pairs of one variable.
-fn clash(a: usize, b: usize) -> bool
+pub fn clash(a: usize, b: usize) -> bool
     ensures { λ r. ⌜ r ≡ clashes a b ⌝ }
 {
     if a / 16 == b / 16 { a != b } else { false }
@@ -108,7 +122,7 @@ fn refused(
         key = 16 * key + v;
         i += 1;
     }
-    (support(supports, 256 * k + key / 16) >> (key % 16)) % 2 == 0
+    !support(supports, 256 * k + key / 16).contains((key % 16) as u16)
 }
 
 // Whether some forbidden set lies among three pairs.
@@ -132,13 +146,13 @@ pub fn blocked(
     if clash(b, e) {
         return true;
     }
-    let mut left = candidates(numbers, short, a / 16, b / 16, e / 16);
-    while left != 0 {
-        let k = usize::trailing_zeros(left) as usize;
+    let mut pending = candidates(numbers, short, a / 16, b / 16, e / 16);
+    while pending != 0 {
+        let k = usize::trailing_zeros(pending) as usize;
         if refused(numbers, supports, k, a, b, e) {
             return true;
         }
-        left = left & (left - 1);
+        pending = pending & (pending - 1);
     }
     false
 }

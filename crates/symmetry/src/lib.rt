@@ -7,10 +7,19 @@ mod walk;
 ghost use mathlib.Core.Path.{_≡_};
 ghost use Prim.Native.Nat.{ℕ, _+_, _*_, _≤_, _<_};
 ghost use Rattle.model.specs.Problem.{Problem};
+ghost use Rattle.layout.specs.Layout.{pairCode};
 ghost use Rattle.symmetry.specs.Table.{Asked, tableAnswer};
 
 // The numbers of a compiled problem (crate layout).
 pub type Numbers = [u64; 384];
+
+// The code of a pair number among d values: 16 times its variable plus its value.
+pub fn pair_code(q: usize, d: usize) -> usize
+    requires { ⌜ (1 ≤ d) × (d ≤ 16) × (q < 12 * d) ⌝ }
+    ensures { λ r. ⌜ (r ≡ pairCode d q) × (r < 192) ⌝ }
+{
+    16 * (q / d) + q % d
+}
 
 // 0 where the table at an offset passes both questions, else the number of the first whose answer is no.
 pub fn table_question(sheet: &[u8], offset: usize, numbers: &Numbers, supports: &[u16; 8192]) -> u8

@@ -1,8 +1,10 @@
 // Pairs that are blocked with two others by one constraint on three variables, found for all values of a variable at once.
 use super::forbidden::blocked;
+use super::forbidden::complement;
 use super::forbidden::support;
 use super::table::number;
 use crate::Numbers;
+use model::ValueSet;
 ghost use mathlib.Core.Path.{_≡_};
 ghost use mathlib.Core.List.{List, [], _∷_};
 ghost use Prim.Native.Nat.{ℕ, _+_, _*_, _/_, _<_};
@@ -11,15 +13,15 @@ ghost use Rattle.symmetry.specs.Table.{Ready};
 ghost use Rattle.symmetry.specs.Forbidden.{PairCode, MaybePair, Triple, Lacking, On, Sure, blocked as blockedBy, numberOf};
 
 // The values v for which the set at base + step * v lacks a value w.
-fn lacking(supports: &[u16; 8192], base: usize, step: usize, w: usize) -> usize
+fn lacking(supports: &[u16; 8192], base: usize, step: usize, w: u16) -> ValueSet
     requires { ⌜ (base + 15 * step < 8192) × (w < 16) ⌝ }
-    ensures { λ r. ⌜ Lacking (now (supports .entry)) base step w 16 r ⌝ }
+    ensures { λ r. ⌜ Lacking (now (supports .entry)) base step w 16 (r .bits) ⌝ }
 {
-    let mut set = 0usize;
+    let mut set = ValueSet::EMPTY;
     let mut v = 0;
     while v < 16 {
-        if (support(supports, base + step * v) >> w) % 2 == 0 {
-            set = set | (1usize << v);
+        if !support(supports, base + step * v).contains(w) {
+            set = set.union(ValueSet::full(16).only(v as u16));
         }
         v += 1;
     }
@@ -27,33 +29,33 @@ fn lacking(supports: &[u16; 8192], base: usize, step: usize, w: usize) -> usize
 }
 
 // Values of variable y with which the pairs a and b are no row of constraint k, which is on the three variables.
-fn missing(supports: &[u16; 8192], k: usize, a: usize, b: usize, y: usize) -> usize
+fn missing(supports: &[u16; 8192], k: usize, a: usize, b: usize, y: usize) -> ValueSet
     requires { ⌜ k < 32 ⌝ }
-    ensures { λ r. ⌜ ((p : Problem) (numbers : List ℕ) → On p numbers (now (supports .entry)) k a b y → a / 16 < b / 16 → Sure p a b y r) ⌝ }
+    ensures { λ r. ⌜ ((p : Problem) (numbers : List ℕ) → On p numbers (now (supports .entry)) k a b y → a / 16 < b / 16 → Sure p a b y (r .bits)) ⌝ }
 {
     let first = 256 * k + 16 * (a % 16);
     if b / 16 < y {
-        return 65535 - support(supports, first + b % 16);
+        return complement(support(supports, first + b % 16));
     }
     if y < a / 16 {
-        return lacking(supports, 256 * k + a % 16, 16, b % 16);
+        return lacking(supports, 256 * k + a % 16, 16, (b % 16) as u16);
     }
     if a / 16 < y {
         if y < b / 16 {
-            return lacking(supports, first, 1, b % 16);
+            return lacking(supports, first, 1, (b % 16) as u16);
         }
     }
-    0
+    ValueSet::EMPTY
 }
 
 // Values of variable y whose pairs are surely blocked with the pairs a and b, by a constraint on the three variables.
-fn surely(numbers: &Numbers, supports: &[u16; 8192], a: usize, b: usize, y: usize) -> usize
+fn surely(numbers: &Numbers, supports: &[u16; 8192], a: usize, b: usize, y: usize) -> ValueSet
     requires { ⌜ ((p : Problem) × Ready p (now numbers) (now supports) × MaybePair p a × MaybePair p b × (y < 16)) ⌝ }
-    ensures { λ r. ⌜ ((p : Problem) → Ready p (now (numbers .entry)) (now (supports .entry)) → MaybePair p a → MaybePair p b → Sure p a b y r) ⌝ }
+    ensures { λ r. ⌜ ((p : Problem) → Ready p (now (numbers .entry)) (now (supports .entry)) → MaybePair p a → MaybePair p b → Sure p a b y (r .bits)) ⌝ }
 {
     let set = number(numbers, a / 16) & number(numbers, b / 16) & number(numbers, y);
     if set == 0 {
-        return 0;
+        return ValueSet::EMPTY;
     }
     let k = usize::trailing_zeros(set) as usize;
     if a / 16 < b / 16 {
@@ -62,7 +64,7 @@ fn surely(numbers: &Numbers, supports: &[u16; 8192], a: usize, b: usize, y: usiz
     if b / 16 < a / 16 {
         return missing(supports, k, b, a, y);
     }
-    0
+    ValueSet::EMPTY
 }
 
 // The same, where those of variable z are known.
@@ -73,10 +75,10 @@ pub fn surely_after(
     b: usize,
     y: usize,
     z: usize,
-    known: usize,
-) -> usize
+    known: ValueSet,
+) -> ValueSet
     requires { ⌜ ((p : Problem) × Ready p (now numbers) (now supports) × MaybePair p a × MaybePair p b × (y < 16)) ⌝ }
-    ensures { λ r. ⌜ ((p : Problem) → Ready p (now (numbers .entry)) (now (supports .entry)) → MaybePair p a → MaybePair p b → Sure p a b z known → Sure p a b y r) ⌝ }
+    ensures { λ r. ⌜ ((p : Problem) → Ready p (now (numbers .entry)) (now (supports .entry)) → MaybePair p a → MaybePair p b → Sure p a b z (known .bits) → Sure p a b y (r .bits)) ⌝ }
 {
     if y == z {
         known
@@ -93,12 +95,12 @@ pub fn third_blocked(
     a: usize,
     b: usize,
     e: usize,
-    sure: usize,
+    sure: ValueSet,
 ) -> bool
     requires { ⌜ ((p : Problem) × Triple p (now numbers) (now supports) short a b e) ⌝ }
-    ensures { λ r. ⌜ ((p : Problem) → Triple p (now (numbers .entry)) (now (supports .entry)) short a b e → PairCode p e → Sure p a b (e / 16) sure → r ≡ blockedBy p (numberOf p a ∷ numberOf p b ∷ numberOf p e ∷ [])) ⌝ }
+    ensures { λ r. ⌜ ((p : Problem) → Triple p (now (numbers .entry)) (now (supports .entry)) short a b e → PairCode p e → Sure p a b (e / 16) (sure .bits) → r ≡ blockedBy p (numberOf p a ∷ numberOf p b ∷ numberOf p e ∷ [])) ⌝ }
 {
-    if (sure >> (e % 16)) % 2 == 1 {
+    if sure.contains((e % 16) as u16) {
         return true;
     }
     blocked(numbers, supports, short, a, b, e)

@@ -6,20 +6,19 @@ ghost use lib.Dec.{T};
 ghost use Rattle.model.specs.Lists.{at};
 ghost use Rattle.model.specs.Problem.{Problem, isPair};
 ghost use Rattle.model.specs.Sheet.{permutesPairs};
-ghost use Rattle.symmetry.specs.Table.{Framed, Laid, tableOf};
+ghost use Rattle.symmetry.specs.Table.{Framed, TableAt, tableOf};
 ghost use Rattle.symmetry.specs.Forbidden.{Decoded};
 use crate::Numbers;
-use reader::word_at;
+use crate::pair_code;
+use layout::INITIAL;
+use layout::VALUES;
+use layout::VARIABLES;
+use model::ValueSet;
+use reader::read_word;
 
-// A byte and a 16-bit number as an index, and an element of `numbers`.
+// A byte as an index, and an element of `numbers`.
 pub fn wide(x: u8) -> usize
     ensures { λ r. ⌜ (r ≡ x) × (r < 256) ⌝ }
-{
-    x as usize
-}
-
-pub fn wide16(x: u16) -> usize
-    ensures { λ r. ⌜ (r ≡ x) × (r < 65536) ⌝ }
 {
     x as usize
 }
@@ -31,15 +30,25 @@ pub fn number(numbers: &Numbers, i: usize) -> usize
     numbers[i] as usize
 }
 
+// The initial set of a variable.
+pub fn initial(numbers: &Numbers, x: usize) -> ValueSet
+    requires { ⌜ ((p : Problem) × Framed p (now numbers) × (x < p .variables)) ⌝ }
+    ensures { λ r. ⌜ ((p : Problem) → Framed p (now (numbers .entry)) → x < p .variables → r .bits ≡ at (p .initial) x) ⌝ }
+{
+    ValueSet {
+        bits: number(numbers, INITIAL + x) as u16,
+    }
+}
+
 // Whether a number is that of a pair.
 fn is_pair(numbers: &Numbers, q: usize) -> bool
     requires { ⌜ ((p : Problem) × Framed p (now numbers)) ⌝ }
     ensures { λ r. ⌜ ((p : Problem) → Framed p (now (numbers .entry)) → r ≡ isPair p q) ⌝ }
 {
-    let n = number(numbers, 64);
-    let d = number(numbers, 65);
+    let n = number(numbers, VARIABLES);
+    let d = number(numbers, VALUES);
     if q < n * d {
-        (number(numbers, 16 + q / d) >> (q % d)) % 2 == 1
+        initial(numbers, q / d).contains((q % d) as u16)
     } else {
         false
     }
@@ -47,14 +56,14 @@ fn is_pair(numbers: &Numbers, q: usize) -> bool
 
 // Whether each number that is no pair stands for itself, and the pairs are permuted among themselves.
 pub fn permutes(sheet: &[u8], offset: usize, numbers: &Numbers) -> bool
-    requires { ⌜ ((p : Problem) × Laid p (now sheet) offset (now numbers)) ⌝ }
-    ensures { λ r. ⌜ ((p : Problem) → Laid p (now (sheet .entry)) offset (now (numbers .entry)) → r ≡ permutesPairs p (tableOf p (now (sheet .entry)) offset)) ⌝ }
+    requires { ⌜ ((p : Problem) × TableAt p (now sheet) offset (now numbers)) ⌝ }
+    ensures { λ r. ⌜ ((p : Problem) → TableAt p (now (sheet .entry)) offset (now (numbers .entry)) → r ≡ permutesPairs p (tableOf p (now (sheet .entry)) offset)) ⌝ }
 {
-    let count = number(numbers, 64) * number(numbers, 65);
+    let count = number(numbers, VARIABLES) * number(numbers, VALUES);
     let mut seen = [0u8; 192];
     let mut q = 0;
     while q < count {
-        let y = word_at(sheet, offset + 2 * q);
+        let y = read_word(sheet, offset + 2 * q);
         if is_pair(numbers, q) {
             if !is_pair(numbers, y) {
                 return false;
@@ -73,18 +82,18 @@ pub fn permutes(sheet: &[u8], offset: usize, numbers: &Numbers) -> bool
     true
 }
 
-// The codes of a table's images: 16 times the variable plus the value, that of the image of (x, v) at 16 x + v.
+// The codes of a table's images, that of the image of (x, v) at 16 x + v.
 pub fn decode(sheet: &[u8], offset: usize, numbers: &Numbers) -> [u8; 256]
-    requires { ⌜ ((p : Problem) × Laid p (now sheet) offset (now numbers) × T (permutesPairs p (tableOf p (now sheet) offset))) ⌝ }
-    ensures { λ r. ⌜ ((p : Problem) → Laid p (now (sheet .entry)) offset (now (numbers .entry)) → T (permutesPairs p (tableOf p (now (sheet .entry)) offset)) → Decoded p (tableOf p (now (sheet .entry)) offset) r) ⌝ }
+    requires { ⌜ ((p : Problem) × TableAt p (now sheet) offset (now numbers) × T (permutesPairs p (tableOf p (now sheet) offset))) ⌝ }
+    ensures { λ r. ⌜ ((p : Problem) → TableAt p (now (sheet .entry)) offset (now (numbers .entry)) → T (permutesPairs p (tableOf p (now (sheet .entry)) offset)) → Decoded p (tableOf p (now (sheet .entry)) offset) r) ⌝ }
 {
-    let d = number(numbers, 65);
-    let count = number(numbers, 64) * d;
+    let d = number(numbers, VALUES);
+    let count = number(numbers, VARIABLES) * d;
     let mut codes = [0u8; 256];
     let mut q = 0;
     while q < count {
-        let y = word_at(sheet, offset + 2 * q);
-        codes[16 * (q / d) + q % d] = (16 * (y / d) + y % d) as u8;
+        let y = read_word(sheet, offset + 2 * q);
+        codes[pair_code(q, d)] = pair_code(y, d) as u8;
         q += 1;
     }
     codes

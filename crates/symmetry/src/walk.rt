@@ -10,13 +10,19 @@ ghost use Rattle.layout.specs.Layout.{constraintAt};
 ghost use Rattle.symmetry.specs.Table.{Ready};
 ghost use Rattle.symmetry.specs.Forbidden.{Lent, Chosen, Walking, Choices, Beside, keeps, allBlocked, doublings};
 use super::forbidden::arity;
+use super::forbidden::clash;
+use super::forbidden::complement;
 use super::forbidden::scope_at;
 use super::forbidden::support;
 use super::sure::surely_after;
 use super::sure::third_blocked;
+use super::table::initial;
 use super::table::number;
 use super::table::wide;
 use crate::Numbers;
+use layout::CONSTRAINTS;
+use layout::VARIABLES;
+use model::ValueSet;
 
 fn code(codes: &[u8; 256], i: usize) -> usize
     requires { ⌜ i < 256 ⌝ }
@@ -30,16 +36,16 @@ fn choices(
     numbers: &Numbers,
     supports: &[u16; 8192],
     k: usize,
-    left: usize,
+    ahead: usize,
     key: usize,
     x: usize,
-) -> usize
-    requires { ⌜ ((p : Problem) × (vs : List ℕ) × Ready p (now numbers) (now supports) × Chosen p vs k left key × (left ≡ 0 → ⊥) × (x ≡ at (constraintAt p k .scope) (length vs))) ⌝ }
-    ensures { λ r. ⌜ ((p : Problem) (vs codes : List ℕ) → Ready p (now (numbers .entry)) (now (supports .entry)) → Chosen p vs k left key → (left ≡ 0 → ⊥) → x ≡ at (constraintAt p k .scope) (length vs) → Choices p vs codes k left r) ⌝ }
+) -> ValueSet
+    requires { ⌜ ((p : Problem) × (vs : List ℕ) × Ready p (now numbers) (now supports) × Chosen p vs k ahead key × (ahead ≡ 0 → ⊥) × (x ≡ at (constraintAt p k .scope) (length vs))) ⌝ }
+    ensures { λ r. ⌜ ((p : Problem) (vs codes : List ℕ) → Ready p (now (numbers .entry)) (now (supports .entry)) → Chosen p vs k ahead key → (ahead ≡ 0 → ⊥) → x ≡ at (constraintAt p k .scope) (length vs) → Choices p vs codes k ahead (r .bits)) ⌝ }
 {
-    let set = number(numbers, 16 + x);
-    if left == 1 {
-        set & (65535 - support(supports, 256 * k + key))
+    let set = initial(numbers, x);
+    if ahead == 1 {
+        set.common(complement(support(supports, 256 * k + key)))
     } else {
         set
     }
@@ -53,31 +59,34 @@ fn all_blocked(
     codes: &[u8; 256],
     short: usize,
     x: usize,
-    set: usize,
+    set: ValueSet,
     a: usize,
     b: usize,
 ) -> bool
-    requires { ⌜ ((p : Problem) × Beside p (now numbers) (now supports) (now codes) short x set a b) ⌝ }
-    ensures { λ r. ⌜ ((p : Problem) → Beside p (now (numbers .entry)) (now (supports .entry)) (now (codes .entry)) short x set a b → r ≡ allBlocked p (now (codes .entry)) x a b (members set)) ⌝ }
+    requires { ⌜ ((p : Problem) × Beside p (now numbers) (now supports) (now codes) short x (set .bits) a b) ⌝ }
+    ensures { λ r. ⌜ ((p : Problem) → Beside p (now (numbers .entry)) (now (supports .entry)) (now (codes .entry)) short x (set .bits) a b → r ≡ allBlocked p (now (codes .entry)) x a b (members (set .bits))) ⌝ }
 {
-    let mut left = set;
+    if clash(a, b) {
+        return true;
+    }
+    let mut rest = set;
     let mut y = 16;
-    let mut sure = 0;
-    while left != 0 {
-        let v = usize::trailing_zeros(left) as usize;
-        let e = code(codes, 16 * x + v);
+    let mut sure = ValueSet::EMPTY;
+    while !rest.is_empty() {
+        let v = rest.lowest();
+        rest = rest.without(v as u16);
+        let e = code(codes, 16 * x + v as usize);
         sure = surely_after(numbers, supports, a, b, e / 16, y, sure);
         y = e / 16;
         if !third_blocked(numbers, supports, short, a, b, e, sure) {
             return false;
         }
-        left = left & (left - 1);
     }
     true
 }
 
 // Whether the image of each forbidden set of constraint k with the values chosen so far is blocked: goes through the choices for the
-// next variable, and for each of these through the choices for the variables after it, of which `left` falls.
+// next variable, and for each of these through the choices for the variables after it; how many are `ahead` falls.
 // The images of the last two pairs chosen are a and b.
 fn walk(
     numbers: &Numbers,
@@ -85,35 +94,35 @@ fn walk(
     codes: &[u8; 256],
     short: usize,
     k: usize,
-    left: usize,
+    ahead: usize,
     key: usize,
     a: usize,
     b: usize,
 ) -> bool
-    requires { ⌜ ((p : Problem) × (vs : List ℕ) × (z : ℕ) × Walking p vs (now numbers) (now supports) (now codes) short k left key z a b × (left ≡ 0 → ⊥)) ⌝ }
-    ensures { λ r. ⌜ ((p : Problem) (vs : List ℕ) (z : ℕ) → Walking p vs (now (numbers .entry)) (now (supports .entry)) (now (codes .entry)) short k left key z a b → (left ≡ 0 → ⊥) → r ≡ keeps p (now (codes .entry)) (constraintAt p k) (drop (length vs) (constraintAt p k .scope)) vs) ⌝ }
+    requires { ⌜ ((p : Problem) × (vs : List ℕ) × (z : ℕ) × Walking p vs (now numbers) (now supports) (now codes) short k ahead key z a b × (ahead ≡ 0 → ⊥)) ⌝ }
+    ensures { λ r. ⌜ ((p : Problem) (vs : List ℕ) (z : ℕ) → Walking p vs (now (numbers .entry)) (now (supports .entry)) (now (codes .entry)) short k ahead key z a b → (ahead ≡ 0 → ⊥) → r ≡ keeps p (now (codes .entry)) (constraintAt p k) (drop (length vs) (constraintAt p k .scope)) vs) ⌝ }
 {
-    let x = scope_at(numbers, k, arity(numbers, k) - left);
-    let mut set = choices(numbers, supports, k, left, key, x);
-    if left == 1 {
+    let x = scope_at(numbers, k, arity(numbers, k) - ahead);
+    let mut set = choices(numbers, supports, k, ahead, key, x);
+    if ahead == 1 {
         return all_blocked(numbers, supports, codes, short, x, set, a, b);
     }
-    while set != 0 {
-        let v = usize::trailing_zeros(set) as usize;
+    while !set.is_empty() {
+        let v = set.lowest();
+        set = set.without(v as u16);
         if !walk(
             numbers,
             supports,
             codes,
             short,
             k,
-            left - 1,
-            16 * key + v,
+            ahead - 1,
+            16 * key + v as usize,
             b,
-            code(codes, 16 * x + v),
+            code(codes, 16 * x + v as usize),
         ) {
             return false;
         }
-        set = set & (set - 1);
     }
     true
 }
@@ -128,7 +137,7 @@ pub fn constraints(
     requires { ⌜ ((p : Problem) × Lent p (now numbers) (now supports) (now codes) short) ⌝ }
     ensures { λ r. ⌜ ((p : Problem) → Lent p (now (numbers .entry)) (now (supports .entry)) (now (codes .entry)) short → r ≡ all (λ c. keeps p (now (codes .entry)) c (c .scope) []) (p .constraints)) ⌝ }
 {
-    let c = number(numbers, 66);
+    let c = number(numbers, CONSTRAINTS);
     let mut k = 0;
     while k < c {
         if !walk(
@@ -160,19 +169,19 @@ fn doubles(
     requires { ⌜ ((p : Problem) × Lent p (now numbers) (now supports) (now codes) short × (x < p .variables)) ⌝ }
     ensures { λ r. ⌜ ((p : Problem) → Lent p (now (numbers .entry)) (now (supports .entry)) (now (codes .entry)) short → x < p .variables → r ≡ doublings p (now (codes .entry)) x (members (at (p .initial) x))) ⌝ }
 {
-    let mut left = number(numbers, 16 + x);
-    while left != 0 {
-        let v = usize::trailing_zeros(left) as usize;
-        left = left & (left - 1);
+    let mut rest = initial(numbers, x);
+    while !rest.is_empty() {
+        let v = rest.lowest();
+        rest = rest.without(v as u16);
         if !all_blocked(
             numbers,
             supports,
             codes,
             short,
             x,
-            left,
+            rest,
             255,
-            code(codes, 16 * x + v),
+            code(codes, 16 * x + v as usize),
         ) {
             return false;
         }
@@ -185,7 +194,7 @@ pub fn variables(numbers: &Numbers, supports: &[u16; 8192], codes: &[u8; 256], s
     requires { ⌜ ((p : Problem) × Lent p (now numbers) (now supports) (now codes) short) ⌝ }
     ensures { λ r. ⌜ ((p : Problem) → Lent p (now (numbers .entry)) (now (supports .entry)) (now (codes .entry)) short → r ≡ all (λ x. doublings p (now (codes .entry)) x (members (at (p .initial) x))) (below (p .variables))) ⌝ }
 {
-    let n = number(numbers, 64);
+    let n = number(numbers, VARIABLES);
     let mut x = 0;
     while x < n {
         if !doubles(numbers, supports, codes, short, x) {

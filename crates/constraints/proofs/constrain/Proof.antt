@@ -1,3 +1,5 @@
+-- The loop: only the constraints left of this round, and those of the next, may take something. The measure is the number of values in all sets, then the
+-- sets of those constraints. Assumes nothing.
 use mathlib.Core.Path.{_≡_, sym, _∙_}
 use mathlib.Core.Logic.{_⊎_, inl, inr, ⊎-elim}
 use Prim.Native.Nat.{_+_, _*_, _^_, _<_}
@@ -6,13 +8,13 @@ use borrow.Author.Needs.{needs}
 use lib.Count.{trailingZeros}
 use Rattle.model.specs.Problem.{Problem}
 use Rattle.model.proofs.Sets.{size}
-use Rattle.constraints.specs.Revised.{Waiting}
-use Rattle.constraints.proofs.Turns.{Turning, turning-begin, turning-on, turning-end, turning-dead, turning-same, same-less, turning-more, more-less, k-lt, k-few, k-full}
+use Rattle.constraints.specs.Revised.{ConstraintsPending}
+use Rattle.constraints.proofs.ConstrainLoop.{ConstrainedSoFar, constrained-begin, constrained-on, constrained-end, constrained-dead, constrained-same, same-less, constrained-more, more-less, k-lt, k-few, k-full}
 use Rattle.constraints.proofs.constrain.Statement.{statement}
 use Rattle.constraints.proofs.constrain.Tie as tie
 
 abbrev Inv-loop : tie.InvT-loop
-Inv-loop sets₀ numbers supports todo left₀ next₀ all₀ sets left next all = (p : Problem) → Waiting p numbers supports sets₀ todo → Turning p numbers supports sets₀ sets left next all
+Inv-loop sets₀ numbers supports todo left₀ next₀ all₀ sets left next all = (p : Problem) → ConstraintsPending p numbers supports sets₀ todo → ConstrainedSoFar p numbers supports sets₀ sets left next all
 
 abbrev μ-loop : tie.MeasureT-loop
 μ-loop sets₀ numbers supports todo left₀ next₀ all₀ sets left next all = size sets * 2 ^ 65 + (left + next)
@@ -28,26 +30,26 @@ same-sum : (c : tie.Joined1 Inv-loop μ-loop) → c .if1 .left + c .if1 .next �
 same-sum c = ⊎-elim (λ q. omega (arith, q .0, q .1, q .2)) (λ q. omega (arith, q .0, q .1)) (choice c)
 
 -- the invariant then, for the problem of the `requires`
-turning : (c : tie.Joined1 Inv-loop μ-loop) → Turning (c .before .before .pre .0) (c .before .before .args .numbers .now) (c .before .before .args .supports .now) (c .before .before .args .sets .now) (c .before .loop .sets) (c .if1 .left) (c .if1 .next) (c .before .loop .all)
-turning c = turning-on _ _ _ _ _ _ _ _ _ _ (choice c) (c .before .loop .inv (c .before .before .pre .0) (c .before .before .pre .1))
+so-far : (c : tie.Joined1 Inv-loop μ-loop) → ConstrainedSoFar (c .before .before .pre .0) (c .before .before .args .numbers .now) (c .before .before .args .supports .now) (c .before .before .args .sets .now) (c .before .loop .sets) (c .if1 .left) (c .if1 .next) (c .before .loop .all)
+so-far c = constrained-on _ _ _ _ _ _ _ _ _ _ (choice c) (c .before .loop .inv (c .before .before .pre .0) (c .before .before .pre .1))
 
 few : (c : tie.Joined1 Inv-loop μ-loop) → trailingZeros 64 (c .if1 .left) < 32
-few c = k-few (turning c) (some c)
+few c = k-few (so-far c) (some c)
 
 loop-holds : tie.Need-loop-holds Inv-loop μ-loop
-loop-holds c = λ p w. turning-begin p _ _ _ _ (search needs) w
+loop-holds c = λ p w. constrained-begin p _ _ _ _ (search needs) w
 
 returns : tie.Need-returns Inv-loop μ-loop
-returns c = λ p w. turning-end p _ _ _ _ _ _ _ (c .before .if1 .taken) (c .if2 .taken) (c .before .before .loop .inv p w)
+returns c = λ p w. constrained-end p _ _ _ _ _ _ _ (c .before .if1 .taken) (c .if2 .taken) (c .before .before .loop .inv p w)
 
 cast-revise : tie.Need-cast-revise Inv-loop μ-loop
 cast-revise c = omega (arith, few (c .before))
 
 revise-requires : tie.Need-revise-requires Inv-loop μ-loop
-revise-requires c κs = let t = turning (c .before) in (t .sixteen, (_, t .held, k-lt t (some (c .before)), k-full t (some (c .before))))
+revise-requires c κs = let t = so-far (c .before) in (t .sixteen, (_, t .held, k-lt t (some (c .before)), k-full t (some (c .before))))
 
 returns-2 : tie.Need-returns-2 Inv-loop μ-loop
-returns-2 c = let j = c .before .before .before in λ p w. let t = turning-on _ _ _ _ _ _ _ _ _ _ (choice j) (j .before .loop .inv p w) in turning-dead t (some j) (c .before .revise .ensures p (t .held) (k-lt t (some j))) _ (c .if3 .taken)
+returns-2 c = let j = c .before .before .before in λ p w. let t = constrained-on _ _ _ _ _ _ _ _ _ _ (choice j) (j .before .loop .inv p w) in constrained-dead t (some j) (c .before .revise .ensures p (t .held) (k-lt t (some j))) (c .if3 .taken)
 
 sub-left : tie.Need-sub-left Inv-loop μ-loop
 sub-left c = let n = some (c .before .before .before .before) in omega arith
@@ -62,16 +64,16 @@ shl-next : tie.Need-shl-next Inv-loop μ-loop
 shl-next c = omega (arith, few (c .before .before .before .before .before .before))
 
 loop-less : tie.Need-loop-less Inv-loop μ-loop
-loop-less c = let j = c .before .before .before .before .before .before .before in let t = turning j in more-less t (some j) (c .before .before .before .before .before .revise .ensures _ (t .held) (k-lt t (some j))) (c .before .before .before .before .if3 .left) (search needs) (c .before .touched .ensures) (search needs) (c .before .before .if4 .taken) _ (same-sum j)
+loop-less c = let j = c .before .before .before .before .before .before .before in let t = so-far j in more-less t (some j) (c .before .before .before .before .before .revise .ensures _ (t .held) (k-lt t (some j))) (c .before .before .before .before .if3 .left) (c .before .touched .result) (search needs) (search needs) (c .before .before .if4 .taken) _ (same-sum j)
 
 loop-again : tie.Need-loop-again Inv-loop μ-loop
-loop-again c = let j = c .before .before .before .before .before .before .before in λ p w. let t = turning-on _ _ _ _ _ _ _ _ _ _ (choice j) (j .before .loop .inv p w) in turning-more t (some j) (c .before .before .before .before .before .revise .ensures p (t .held) (k-lt t (some j))) (c .before .before .before .before .if3 .left) (search needs) (c .before .touched .ensures)
+loop-again c = let j = c .before .before .before .before .before .before .before in λ p w. let t = constrained-on _ _ _ _ _ _ _ _ _ _ (choice j) (j .before .loop .inv p w) in constrained-more t (some j) (c .before .before .before .before .before .revise .ensures p (t .held) (k-lt t (some j))) (c .before .before .before .before .if3 .left) _ (search needs) (c .before .touched .ensures)
 
 loop-less-2 : tie.Need-loop-less-2 Inv-loop μ-loop
-loop-less-2 c = let j = c .before .before .before .before .before in let t = turning j in same-less t (some j) (c .before .before .before .revise .ensures _ (t .held) (k-lt t (some j))) (c .before .before .if3 .left) _ (same-sum j)
+loop-less-2 c = let j = c .before .before .before .before .before in let t = so-far j in same-less t (some j) (c .before .before .before .revise .ensures _ (t .held) (k-lt t (some j))) (c .before .before .if3 .left) _ (same-sum j)
 
 loop-again-2 : tie.Need-loop-again-2 Inv-loop μ-loop
-loop-again-2 c = let j = c .before .before .before .before .before in λ p w. let t = turning-on _ _ _ _ _ _ _ _ _ _ (choice j) (j .before .loop .inv p w) in turning-same t (some j) (c .before .before .before .revise .ensures p (t .held) (k-lt t (some j))) (c .before .before .if3 .left) (c .if4 .left)
+loop-again-2 c = let j = c .before .before .before .before .before in λ p w. let t = constrained-on _ _ _ _ _ _ _ _ _ _ (choice j) (j .before .loop .inv p w) in constrained-same t (some j) (c .before .before .before .revise .ensures p (t .held) (k-lt t (some j))) (c .before .before .if3 .left) (c .if4 .left)
 
 pub constrain-spec : {M : Type 1} → statement M
 constrain-spec =

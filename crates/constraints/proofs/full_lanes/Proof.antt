@@ -1,13 +1,14 @@
+-- The lanes that are not empty. Assumes nothing.
 use borrow.Author.Needs.{needs}
 use Rattle.constraints.proofs.Lanes.{full-lanes, byte-fits}
 use Rattle.constraints.proofs.full_lanes.Statement.{statement}
 use Rattle.constraints.proofs.full_lanes.Tie as tie
 
-cast-result : tie.Need-cast-result
-cast-result c = search (needs, byte-fits)
+cast-t10 : tie.Need-cast-t10
+cast-t10 c = search (needs, byte-fits)
 
 returns : tie.Need-returns
 returns c = full-lanes _
 
 pub full-lanes-spec : {M : Type 1} → statement M
-full-lanes-spec = tie.close (tie.spec cast-result returns)
+full-lanes-spec = tie.close (tie.spec cast-t10 returns)

@@ -1,3 +1,4 @@
+-- One constraint, by its arity. Assumes nothing.
 use mathlib.Core.Path.{refl, subst}
 use mathlib.Core.List.{List, List·Memᴰ·head}
 use native.Mathlib.Omega.{arith}
@@ -24,7 +25,7 @@ mul-revise-one c = search needs
 
 revise-one-requires : tie.Need-revise-one-requires
 unfolding at
-revise-one-requires c κs = let q = c .before .before .before .pre in let s = scoped-1 (q .1 .1) _ (q .1 .2) (c .before .if1 .taken) in (s .inside _ (List·Memᴰ·head refl), omega (arith, s .room))
+revise-one-requires c κs = let q = c .before .before .before .pre in let s = scoped-1 (q .1 .1) _ (q .1 .2) (c .before .if1 .taken) in (q .0, (s .inside _ (List·Memᴰ·head refl), omega (arith, s .room)))
 
 returns : tie.Need-returns
 unfolding at

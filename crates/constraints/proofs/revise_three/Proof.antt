@@ -1,12 +1,15 @@
-use mathlib.Core.Path.{refl}
+-- Two sets of one value leave a cut of the third; else all three are cut to the values that go together, if there are any. Assumes nothing.
+use mathlib.Core.Path.{_≡_, refl, sym, ap₂, _∙_}
 use mathlib.Core.List.{List·Memᴰ·head, List·Memᴰ·tail}
-use Prim.Native.Nat.{_<_}
+use Prim.Native.Nat.{ℕ, _+_, _*_, _^_, _<_}
 use native.Mathlib.Omega.{arith}
-use Rattle.model.specs.Lists.{at}
-use lib.Count.{trailingZeros}
-use Rattle.model.proofs.Members.{or-zero-e, xor-zero-e}
-use Rattle.constraints.proofs.Stores.{three, three-same, three-dead, three-last, u-has, v-has}
 use borrow.Author.Needs.{needs}
+use borrow.Author.Tests.{eqb-true, eqb-false}
+use Rattle.model.specs.Lists.{at}
+use Rattle.model.specs.ValueSets.{withoutMask, lowestOf}
+use Rattle.model.proofs.Members.{or-zero-e, xor-zero-e}
+use Rattle.constraints.proofs.Unions.{small, union-none}
+use Rattle.constraints.proofs.Stores.{three, three-same, three-dead, three-last, u-has, v-has}
 use Rattle.constraints.proofs.revise_three.Statement.{statement}
 use Rattle.constraints.proofs.revise_three.Tie as tie
 
@@ -19,128 +22,172 @@ y-lt c = c .pre .1 .1 .1 .1 .inside _ (List·Memᴰ·tail (List·Memᴰ·head re
 z-lt : (c : tie.Start) → c .args .z < 16
 z-lt c = c .pre .1 .1 .1 .1 .inside _ (List·Memᴰ·tail (List·Memᴰ·tail (List·Memᴰ·head refl)))
 
--- the values of two sets of one value
-u-lt : (c : tie.Then1) → trailingZeros 16 (at (c .before .before .before .args .sets .now) (c .before .before .before .args .x)) < 16
+-- the sets of x and of y have one value each
+ones : (c : tie.Then1) → let d = c .before .before .before .before .before .before .before .args in (withoutMask (at (d .sets .now) (d .x)) (lowestOf (at (d .sets .now) (d .x))) ≡ 0) × (withoutMask (at (d .sets .now) (d .y)) (lowestOf (at (d .sets .now) (d .y))) ≡ 0)
 unfolding at
-u-lt c = let d = c .before .before .before in u-has (d .pre .1 .1 .1 .1) (d .args .sets .now) (d .pre .0) (d .pre .1 .0) (c .if1 .taken) .1
+ones c =
+    let r = c .before .before .before .before .rest .ensures in
+    let s = c .before .before .before .rest2 .ensures in
+    let n = union-none _ _ _ (small _ _ r) (small _ _ s) (c .before .before .union .ensures) (eqb-true _ 0 (sym (c .before .is-empty .ensures) ∙ c .if1 .taken)) in
+    (sym r ∙ n .0, sym s ∙ n .1)
 
-v-lt : (c : tie.Then1) → trailingZeros 16 (at (c .before .before .before .args .sets .now) (c .before .before .before .args .y)) < 16
+-- and these are the values
+u-lt : (c : tie.After-lowest) → c .lowest .result < 16
 unfolding at
-v-lt c = let d = c .before .before .before in v-has (d .pre .1 .1 .1 .1) (d .args .sets .now) (d .pre .0) (d .pre .1 .0) (c .if1 .taken) .1
+u-lt c =
+    let d = c .before .before .before .before .before .before .before .before in
+    let o = ones (c .before) in
+    omega (arith, c .lowest .ensures, u-has (d .pre .1 .1 .1 .1) (d .args .sets .now) (d .pre .0) (d .pre .1 .0) (o .0) (o .1) .1)
 
-mul-a : tie.Need-mul-a
-mul-a c = omega (arith, x-lt c)
-
-element-copy-out-a : tie.Need-element-copy-out-a
-element-copy-out-a c = x-lt c
-
-mul-b : tie.Need-mul-b
-mul-b c = omega (arith, y-lt (c .before))
-
-element-copy-out-b : tie.Need-element-copy-out-b
-element-copy-out-b c = y-lt (c .before)
-
-sub-if1 : tie.Need-sub-if1
+v-lt : (c : tie.After-lowest2) → c .lowest2 .result < 16
 unfolding at
-sub-if1 c = let n = c .before .before .pre .1 .0 _ (List·Memᴰ·head refl) in omega arith
+v-lt c =
+    let d = c .before .before .before .before .before .before .before .before .before in
+    let o = ones (c .before .before) in
+    omega (arith, c .lowest2 .ensures, v-has (d .pre .1 .1 .1 .1) (d .args .sets .now) (d .pre .0) (d .pre .1 .0) (o .0) (o .1) .1)
 
-sub-if1-2 : tie.Need-sub-if1-2
-unfolding at
-sub-if1-2 c = let n = c .before .before .pre .1 .0 _ (List·Memᴰ·tail (List·Memᴰ·head refl)) in omega arith
+-- what goes together are three sets
+narrow : (c : tie.After-together) → (c .together .result .first .bits < 2 ^ 16) × (c .together .result .second .bits < 2 ^ 16) × (c .together .result .last .bits < 2 ^ 16)
+narrow c = (search needs, search needs, search needs)
+
+mul-if3 : tie.Need-mul-if3
+mul-if3 c = omega (arith, x-lt c)
+
+element-copy-out-if3 : tie.Need-element-copy-out-if3
+element-copy-out-if3 c = x-lt c
+
+mul-if3-2 : tie.Need-mul-if3-2
+mul-if3-2 c = omega (arith, y-lt (c .before))
+
+element-copy-out-if3-2 : tie.Need-element-copy-out-if3-2
+element-copy-out-if3-2 c = y-lt (c .before)
+
+rest-requires : tie.Need-rest-requires
+rest-requires c κs = search needs
+
+rest-requires-2 : tie.Need-rest-requires-2
+rest-requires-2 c κs = search needs
+
+union-requires : tie.Need-union-requires
+union-requires c κs = search needs
+
+is-empty-requires : tie.Need-is-empty-requires
+is-empty-requires c κs = search needs
+
+lowest-requires : tie.Need-lowest-requires
+lowest-requires c κs = search needs
 
 cast-u : tie.Need-cast-u
-unfolding at
-cast-u c = omega (arith, u-lt c)
+cast-u c = search needs
+
+lowest-requires-2 : tie.Need-lowest-requires-2
+lowest-requires-2 c κs = search needs
 
 cast-v : tie.Need-cast-v
-unfolding at
-cast-v c = omega (arith, v-lt c)
+cast-v c = search needs
 
 mul-revise-one : tie.Need-mul-revise-one
 mul-revise-one c = search needs
 
 mul-revise-one-2 : tie.Need-mul-revise-one-2
-unfolding at
-mul-revise-one-2 c = omega (arith, u-lt (c .before), v-lt (c .before), c .before .before .before .before .pre .1 .1 .1 .1 .room)
+mul-revise-one-2 c = search needs
 
 add-revise-one : tie.Need-add-revise-one
-unfolding at
-add-revise-one c = omega (arith, u-lt (c .before), v-lt (c .before), c .before .before .before .before .pre .1 .1 .1 .1 .room)
+add-revise-one c = search needs
 
 add-revise-one-2 : tie.Need-add-revise-one-2
-unfolding at
-add-revise-one-2 c = omega (arith, u-lt (c .before), v-lt (c .before), c .before .before .before .before .pre .1 .1 .1 .1 .room)
+add-revise-one-2 c = search needs
 
 revise-one-requires : tie.Need-revise-one-requires
 unfolding at
-revise-one-requires c κs = (z-lt (c .before .before .before .before), omega (arith, u-lt (c .before), v-lt (c .before), c .before .before .before .before .pre .1 .1 .1 .1 .room))
+revise-one-requires c κs = let d = c .before .before .before .before .before .before .before .before .before .before in (d .pre .0, (z-lt d, omega (arith, u-lt (c .before .before), v-lt (c .before), d .pre .1 .1 .1 .1 .room)))
 
 returns : tie.Need-returns
 unfolding at
-returns c = let d = c .before .before .before .before .before in λ e q. three-last q _ (d .pre .0) (d .pre .1 .0) (c .before .before .if1 .taken) _ _ (c .revise-one .ensures)
+returns c =
+    let o = ones (c .before .before .before .before) in
+    let d = c .before .before .before .before .before .before .before .before .before .before .before in λ e q.
+    three-last q _ (d .pre .0) (d .pre .1 .0) (o .0) (o .1) _ (ap₂ (λ (u v : ℕ). 256 * d .args .k + 16 * u + v) (c .before .before .before .lowest .ensures) (c .before .before .lowest2 .ensures)) _ _ (c .revise-one .ensures)
 
-mul-e : tie.Need-mul-e
-mul-e c = omega (arith, z-lt (c .before .before .before))
+mul-if3-3 : tie.Need-mul-if3-3
+mul-if3-3 c = omega (arith, z-lt (c .before .before .before .before .before .before .before))
 
-element-copy-out-e : tie.Need-element-copy-out-e
-element-copy-out-e c = z-lt (c .before .before .before)
+element-copy-out-if3-3 : tie.Need-element-copy-out-if3-3
+element-copy-out-if3-3 c = z-lt (c .before .before .before .before .before .before .before)
 
 together-requires : tie.Need-together-requires
 together-requires c κs = search needs
 
+is-empty-requires-2 : tie.Need-is-empty-requires-2
+is-empty-requires-2 c κs = search needs
+
 returns-2 : tie.Need-returns-2
 unfolding at
-returns-2 c = λ d q. three-dead q _ (c .before .before .before .before .before .before .before .pre .0) _ _ _ (search needs) (search needs) (search needs) (c .before .before .together .ensures) (c .if2 .taken)
+returns-2 c =
+    let t = c .before .before .before .before .before in
+    let n = narrow t in λ d q.
+    three-dead q _ (t .before .before .before .before .before .before .before .before .before .pre .0) _ _ _ (n .0) (n .1) (n .2) (t .together .ensures) (eqb-true _ 0 (sym (c .before .is-empty2 .ensures) ∙ c .if2 .taken))
 
 returns-3 : tie.Need-returns-3
 unfolding at
 returns-3 c =
     let o = or-zero-e _ _ (c .if3 .taken) in
     let i = or-zero-e _ _ (o .0) in
-    λ d q. three-same q _ (c .before .before .before .before .before .before .before .before .before .before .before .pre .0) _ _ _ (search needs) (search needs) (search needs) (c .before .before .before .before .before .before .together .ensures) (xor-zero-e _ _ (i .0)) (xor-zero-e _ _ (i .1)) (xor-zero-e _ _ (o .1)) (c .before .before .before .before .if2 .left)
+    let e = c .before .before .before .before .before .before .before .before in
+    let t = e .before .before .before .before in
+    let n = narrow t in λ d q.
+    three-same q _ (t .before .before .before .before .before .before .before .before .before .pre .0) _ _ _ (n .0) (n .1) (n .2) (t .together .ensures) (xor-zero-e _ _ (i .0)) (xor-zero-e _ _ (i .1)) (xor-zero-e _ _ (o .1)) (eqb-false _ 0 (sym (e .is-empty2 .ensures) ∙ c .before .before .before .before .before .before .before .if2 .left))
 
 mul-sets : tie.Need-mul-sets
-mul-sets c = omega (arith, x-lt (c .before .before .before .before .before .before .before .before .before .before .before))
+mul-sets c = omega (arith, x-lt (c .before .before .before .before .before .before .before .before .before .before .before .before .before .before .before .before .before .before .before .before .before))
 
 element-write-sets : tie.Need-element-write-sets
-element-write-sets c = x-lt (c .before .before .before .before .before .before .before .before .before .before .before)
+element-write-sets c = x-lt (c .before .before .before .before .before .before .before .before .before .before .before .before .before .before .before .before .before .before .before .before .before)
 
 mul-sets-2 : tie.Need-mul-sets-2
-mul-sets-2 c = omega (arith, y-lt (c .before .before .before .before .before .before .before .before .before .before .before))
+mul-sets-2 c = omega (arith, y-lt (c .before .before .before .before .before .before .before .before .before .before .before .before .before .before .before .before .before .before .before .before .before))
 
 element-write-sets-2 : tie.Need-element-write-sets-2
-element-write-sets-2 c = y-lt (c .before .before .before .before .before .before .before .before .before .before .before)
+element-write-sets-2 c = y-lt (c .before .before .before .before .before .before .before .before .before .before .before .before .before .before .before .before .before .before .before .before .before)
 
 mul-sets-3 : tie.Need-mul-sets-3
-mul-sets-3 c = omega (arith, z-lt (c .before .before .before .before .before .before .before .before .before .before .before))
+mul-sets-3 c = omega (arith, z-lt (c .before .before .before .before .before .before .before .before .before .before .before .before .before .before .before .before .before .before .before .before .before))
 
 element-write-sets-3 : tie.Need-element-write-sets-3
-element-write-sets-3 c = z-lt (c .before .before .before .before .before .before .before .before .before .before .before)
+element-write-sets-3 c = z-lt (c .before .before .before .before .before .before .before .before .before .before .before .before .before .before .before .before .before .before .before .before .before)
 
 moved-requires : tie.Need-moved-requires
-moved-requires c κs = x-lt (c .before .before .before .before .before .before .before .before .before .before .before)
+moved-requires c κs = x-lt (c .before .before .before .before .before .before .before .before .before .before .before .before .before .before .before .before .before .before .before .before .before)
 
 moved-requires-2 : tie.Need-moved-requires-2
-moved-requires-2 c κs = y-lt (c .before .before .before .before .before .before .before .before .before .before .before .before)
+moved-requires-2 c κs = y-lt (c .before .before .before .before .before .before .before .before .before .before .before .before .before .before .before .before .before .before .before .before .before .before)
 
 moved-requires-3 : tie.Need-moved-requires-3
-moved-requires-3 c κs = z-lt (c .before .before .before .before .before .before .before .before .before .before .before .before .before)
+moved-requires-3 c κs = z-lt (c .before .before .before .before .before .before .before .before .before .before .before .before .before .before .before .before .before .before .before .before .before .before .before)
 
 returns-4 : tie.Need-returns-4
 unfolding at
-returns-4 c = λ d q. three q _ (c .before .before .before .before .before .before .before .before .before .before .before .before .before .before .pre .0) _ _ _ (search needs) (search needs) (search needs) (c .before .before .before .before .before .before .before .before .before .together .ensures) _ _ _ (c .before .before .moved .ensures) (c .before .moved2 .ensures) (c .moved3 .ensures) (c .before .before .before .before .before .before .before .if2 .left)
+returns-4 c =
+    let e = c .before .before .before .before .before .before .before .before .before .before .before in
+    let t = e .before .before .before .before in
+    let n = narrow t in λ d q.
+    three q _ (t .before .before .before .before .before .before .before .before .before .pre .0) _ _ _ (n .0) (n .1) (n .2) (t .together .ensures) _ _ _ (c .before .before .moved .ensures) (c .before .moved2 .ensures) (c .moved3 .ensures) (eqb-false _ 0 (sym (e .is-empty2 .ensures) ∙ c .before .before .before .before .before .before .before .before .before .before .if2 .left))
 
 pub revise-three-spec : {M : Type 1} → statement M
 revise-three-spec =
     tie.close
     (tie.spec
-    mul-a
-    element-copy-out-a
-    mul-b
-    element-copy-out-b
-    sub-if1
-    sub-if1-2
+    mul-if3
+    element-copy-out-if3
+    mul-if3-2
+    element-copy-out-if3-2
+    rest-requires
+    rest-requires-2
+    union-requires
+    is-empty-requires
+    lowest-requires
     cast-u
+    lowest-requires-2
     cast-v
     mul-revise-one
     mul-revise-one-2
@@ -148,9 +195,10 @@ revise-three-spec =
     add-revise-one-2
     revise-one-requires
     returns
-    mul-e
-    element-copy-out-e
+    mul-if3-3
+    element-copy-out-if3-3
     together-requires
+    is-empty-requires-2
     returns-2
     returns-3
     mul-sets

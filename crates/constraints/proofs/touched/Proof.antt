@@ -1,15 +1,16 @@
+-- The loop: the union of what the variables passed have. Assumes nothing.
 use Prim.Native.Nat.{_<_}
 use lib.Count.{trailingZeros}
 use Rattle.model.specs.Lists.{at}
 use native.Mathlib.Omega.{arith}
 use borrow.Author.Needs.{needs}
 use Rattle.model.proofs.Members.{Rest, rest-begin, rest-low, rest-turn, rest-less, Union, union-begin, union-turn}
-use Rattle.constraints.proofs.Unions.{Stands, gathered}
+use Rattle.constraints.proofs.Unions.{Touches, touched-all}
 use Rattle.constraints.proofs.touched.Statement.{statement}
 use Rattle.constraints.proofs.touched.Tie as tie
 
 abbrev Inv-loop : tie.InvT-loop
-Inv-loop numbers changed all₀ m₀ all m = Rest 64 changed m × Union (Stands numbers) changed m all
+Inv-loop numbers changed all₀ m₀ all m = Rest 64 changed m × Union (Touches numbers) changed m all
 
 abbrev μ-loop : tie.MeasureT-loop
 μ-loop numbers changed all₀ m₀ all m = m
@@ -43,7 +44,7 @@ unfolding at
 loop-again c = (rest-turn 64 _ _ (c .before .before .loop .inv .0) (c .before .loop-test .taken), union-turn _ 64 _ _ _ _ (c .before .before .loop .inv .0) (c .before .loop-test .taken) (c .before .before .loop .inv .1) (λ w q. q) (λ w q. q))
 
 returns : tie.Need-returns Inv-loop μ-loop
-returns c = gathered _ _ _ _ (c .loop-test .left) (c .before .loop .inv .1)
+returns c = touched-all _ _ _ _ (c .loop-test .left) (c .before .loop .inv .1)
 
 pub touched-spec : {M : Type 1} → statement M
 touched-spec =

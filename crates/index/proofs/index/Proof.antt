@@ -1,39 +1,39 @@
 -- All tables, one kind after another. Assumes nothing.
 use mathlib.Core.Path.{_∙_}
 use borrow.Author.Needs.{needs}
-use Rattle.index.proofs.Assembled.{bounds, links-bounds, words-long, words-bounds, made}
+use Rattle.index.proofs.Assembled.{bounds, link-bounds, words-long, words-bounds, made}
 use Rattle.index.proofs.index.Statement.{statement}
 use Rattle.index.proofs.index.Tie as tie
 
-links-requires : tie.Need-links-requires
-links-requires c κs = let q = c .before .pre in let b = bounds _ _ _ _ _ (q .1) in (b .0, b .1, q .1 .numbers-length)
+linked-requires : tie.Need-linked-requires
+linked-requires c κs = let q = c .before .pre in let b = bounds _ _ _ _ _ (q .1) in (b .0, b .1, q .1 .numbers-length)
 
 rows-requires : tie.Need-rows-requires
-rows-requires c κs = let q = c .before .before .before .before .pre in (links-bounds _ _ _ _ _ (q .1) _ (c .before .before .links .ensures) .1, q .1 .tables-length)
+rows-requires c κs = let q = c .before .before .before .before .pre in (link-bounds _ _ _ _ _ (q .1) _ (c .before .before .linked .ensures) .1, q .1 .tables-length)
 
 loose-requires : tie.Need-loose-requires
-loose-requires c κs = links-bounds _ _ _ _ _ (c .before .before .before .before .before .before .before .pre .1) _ (c .before .before .before .before .before .links .ensures) .0
+loose-requires c κs = link-bounds _ _ _ _ _ (c .before .before .before .before .before .before .before .pre .1) _ (c .before .before .before .before .before .linked .ensures) .0
 
 element-write-numbers : tie.Need-element-write-numbers
 element-write-numbers c = search needs
 
 words-requires : tie.Need-words-requires
-words-requires c κs = words-long _ _ _ _ _ (c .before .before .before .before .before .before .before .before .before .pre .1) _ (c .before .before .before .before .before .before .before .links .ensures) _
+words-requires c κs = words-long _ _ _ _ _ (c .before .before .before .before .before .before .before .before .before .pre .1) _ (c .before .before .before .before .before .before .before .linked .ensures) _
 
-pictures-requires : tie.Need-pictures-requires
-pictures-requires c κs = let q = c .before .before .before .before .before .before .before .before .before .before .before .before .pre in let b = words-bounds _ _ _ _ _ (q .1) _ (c .before .before .before .before .before .before .before .before .before .before .links .ensures) _ _ _ (c .before .before .words .ensures) in (b .0, b .1, c .before .before .before .before .before .before .before .rows .ensures .0 ∙ q .1 .tables-length)
+image-tables-requires : tie.Need-image-tables-requires
+image-tables-requires c κs = let q = c .before .before .before .before .before .before .before .before .before .before .before .before .pre in let b = words-bounds _ _ _ _ _ (q .1) _ (c .before .before .before .before .before .before .before .before .before .before .linked .ensures) _ _ _ (c .before .before .words .ensures) in (b .0, b .1, c .before .before .before .before .before .before .before .rows .ensures .0 ∙ q .1 .tables-length)
 
 returns : tie.Need-returns
-returns c = λ p q. made p _ _ _ _ q _ (c .before .before .before .before .before .before .before .before .before .before .before .links .ensures) _ (c .before .before .before .before .before .before .before .before .rows .ensures) _ (c .before .before .before .before .before .loose .ensures) _ (c .before .before .before .words .ensures) _ (c .pictures .ensures)
+returns c = λ p q. made p _ _ _ _ q _ (c .before .before .before .before .before .before .before .before .before .before .before .linked .ensures) _ (c .before .before .before .before .before .before .before .before .rows .ensures) _ (c .before .before .before .before .before .loose .ensures) _ (c .before .before .before .words .ensures) _ (c .image-tables .ensures)
 
 pub index-spec : {M : Type 1} → statement M
 index-spec =
     tie.close
     (tie.spec
-    links-requires
+    linked-requires
     rows-requires
     loose-requires
     element-write-numbers
     words-requires
-    pictures-requires
+    image-tables-requires
     returns)

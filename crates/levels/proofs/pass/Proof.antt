@@ -6,7 +6,7 @@ use borrow.Author.Needs.{needs}
 use Rattle.model.specs.Lists.{at}
 use Rattle.model.specs.Problem.{Problem}
 use Rattle.levels.specs.Levels.{Ready}
-use Rattle.levels.proofs.Turns.{Passing, passing-none, ends, turn-asks, turn-next, turn-dead, turn-free, turn-split}
+use Rattle.levels.proofs.Turns.{Passing, passing-none, ends, turn-asks, turn-next, turn-failed, turn-obeyed, turn-split}
 use Rattle.levels.proofs.pass.Statement.{statement}
 use Rattle.levels.proofs.pass.Tie as tie
 
@@ -37,14 +37,14 @@ enum-told-2 c = search needs
 
 returns : tie.Need-returns Inv-loop μ-loop
 unfolding at
-returns c = (c .before .before .level .ensures .0 ∙ c .before .before .before .before .before .before .loop .inv .0, λ p w. turn-dead w (c .before .before .before .before .before .before .loop .inv .1 p w) (c .before .before .before .before .before .loop-test .taken) (c .before .before .level .last .0) (c .before .before .level .result) (c .before .before .level .ensures .1 p (turn-asks w (c .before .before .before .before .before .before .loop .inv .1 p w) (c .before .before .before .before .before .loop-test .taken))) (c .enum-told2 .given .1))
+returns c = (c .before .before .level .ensures .0 ∙ c .before .before .before .before .before .before .loop .inv .0, λ p w. turn-failed w (c .before .before .before .before .before .before .loop .inv .1 p w) (c .before .before .before .before .before .loop-test .taken) (c .before .before .level .last .0) (c .before .before .level .result) (c .before .before .level .ensures .1 p (turn-asks w (c .before .before .before .before .before .before .loop .inv .1 p w) (c .before .before .before .before .before .loop-test .taken))) (c .enum-told2 .given .1))
 
 enum-told-3 : tie.Need-enum-told-3 Inv-loop μ-loop
 enum-told-3 c = search needs
 
 returns-2 : tie.Need-returns-2 Inv-loop μ-loop
 unfolding at
-returns-2 c = (c .before .before .level .ensures .0 ∙ c .before .before .before .before .before .before .loop .inv .0, λ p w. turn-free w (c .before .before .before .before .before .before .loop .inv .1 p w) (c .before .before .before .before .before .loop-test .taken) (c .before .before .level .last .0) (c .before .before .level .result) (c .before .before .level .ensures .1 p (turn-asks w (c .before .before .before .before .before .before .loop .inv .1 p w) (c .before .before .before .before .before .loop-test .taken))) (c .enum-told3 .given .1))
+returns-2 c = (c .before .before .level .ensures .0 ∙ c .before .before .before .before .before .before .loop .inv .0, λ p w. turn-obeyed w (c .before .before .before .before .before .before .loop .inv .1 p w) (c .before .before .before .before .before .loop-test .taken) (c .before .before .level .last .0) (c .before .before .level .result) (c .before .before .level .ensures .1 p (turn-asks w (c .before .before .before .before .before .before .loop .inv .1 p w) (c .before .before .before .before .before .loop-test .taken))) (c .enum-told3 .given .1))
 
 enum-told-4 : tie.Need-enum-told-4 Inv-loop μ-loop
 enum-told-4 c = search needs

@@ -5,40 +5,40 @@ use borrow.Author.Needs.{needs}
 use Rattle.model.specs.Lists.{at}
 use Rattle.model.specs.Problem.{Problem}
 use Rattle.model.proofs.Sets.{size}
-use Rattle.links.specs.Links.{Waiting}
-use Rattle.links.proofs.Turns.{Turning, turning-begin, turning-end, turning-lt, turning-ready, turning-dead, turning-turn, turning-less}
+use Rattle.links.specs.Links.{ArcsPending}
+use Rattle.links.proofs.ArcsLoop.{ArcsSoFar, arcs-begin, arcs-end, arcs-lt, arcs-ready, arcs-dead, arcs-turn, arcs-less}
 use Rattle.links.proofs.arcs.Statement.{statement}
 use Rattle.links.proofs.arcs.Tie as tie
 
 abbrev Inv-loop : tie.InvT-loop
-Inv-loop sets₀ tables numbers dirty left₀ all₀ sets left all = (p : Problem) → Waiting p numbers tables sets₀ dirty → Turning p sets₀ sets left all
+Inv-loop sets₀ tables numbers dirty left₀ all₀ sets left all = (p : Problem) → ArcsPending p numbers tables sets₀ dirty → ArcsSoFar p sets₀ sets left all
 
 abbrev μ-loop : tie.MeasureT-loop
 μ-loop sets₀ tables numbers dirty left₀ all₀ sets left all = size sets * 2 ^ 64 + left
 
 -- the invariant in a turn, for the problem of the `requires`
-turning : (c : tie.In-loop Inv-loop μ-loop) → Turning (c .before .before .pre .0) (c .before .before .args .sets .now) (c .before .loop .sets) (c .before .loop .left) (c .before .loop .all)
-turning c = c .before .loop .inv (c .before .before .pre .0) (c .before .before .pre .1)
+so-far : (c : tie.In-loop Inv-loop μ-loop) → ArcsSoFar (c .before .before .pre .0) (c .before .before .args .sets .now) (c .before .loop .sets) (c .before .loop .left) (c .before .loop .all)
+so-far c = c .before .loop .inv (c .before .before .pre .0) (c .before .before .pre .1)
 
 loop-holds : tie.Need-loop-holds Inv-loop μ-loop
-loop-holds c = λ p w. turning-begin w (search needs)
+loop-holds c = λ p w. arcs-begin w (search needs)
 
 cast-x : tie.Need-cast-x Inv-loop μ-loop
-cast-x c = omega (arith, turning-lt (c .before .before .pre .1) (turning c) (c .loop-test .taken))
+cast-x c = omega (arith, arcs-lt (c .before .before .pre .1) (so-far c) (c .loop-test .taken))
 
 element-copy-out-cut-by : tie.Need-element-copy-out-cut-by Inv-loop μ-loop
 element-copy-out-cut-by c = search needs
 
 cut-by-requires : tie.Need-cut-by-requires Inv-loop μ-loop
 unfolding at
-cut-by-requires c κs = let i = c .before .before in (_, turning-ready (i .before .before .pre .1) (turning i) (i .loop-test .taken))
+cut-by-requires c κs = let i = c .before .before in (_, arcs-ready (i .before .before .pre .1) (so-far i) (i .loop-test .taken))
 
 returns : tie.Need-returns Inv-loop μ-loop
 unfolding at
 returns c =
     let i = c .before .before .before .before in λ p w.
     let t = i .before .loop .inv p w in
-    turning-dead w t (i .loop-test .taken) (c .before .cut-by .ensures p (turning-ready w t (i .loop-test .taken))) (c .if1 .taken)
+    arcs-dead w t (i .loop-test .taken) (c .before .cut-by .ensures p (arcs-ready w t (i .loop-test .taken))) (c .if1 .taken)
 
 sub-left : tie.Need-sub-left Inv-loop μ-loop
 sub-left c = search needs
@@ -48,18 +48,18 @@ unfolding at
 loop-less c =
     let i = c .before .before .before .before in
     let w = i .before .before .pre .1 in
-    let t = turning i in
-    turning-less w t (i .loop-test .taken) (c .before .cut-by .ensures _ (turning-ready w t (i .loop-test .taken))) (c .if1 .left) (search needs)
+    let t = so-far i in
+    arcs-less w t (i .loop-test .taken) (c .before .cut-by .ensures _ (arcs-ready w t (i .loop-test .taken))) (c .if1 .left) (search needs)
 
 loop-again : tie.Need-loop-again Inv-loop μ-loop
 unfolding at
 loop-again c =
     let i = c .before .before .before .before in λ p w.
     let t = i .before .loop .inv p w in
-    turning-turn w t (i .loop-test .taken) (c .before .cut-by .ensures p (turning-ready w t (i .loop-test .taken))) (c .if1 .left) (search needs)
+    arcs-turn w t (i .loop-test .taken) (c .before .cut-by .ensures p (arcs-ready w t (i .loop-test .taken))) (c .if1 .left) (search needs)
 
 returns-2 : tie.Need-returns-2 Inv-loop μ-loop
-returns-2 c = λ p w. turning-end w (c .before .loop .inv p w) (c .loop-test .left)
+returns-2 c = λ p w. arcs-end w (c .before .loop .inv p w) (c .loop-test .left)
 
 pub arcs-spec : {M : Type 1} → statement M
 arcs-spec =

@@ -1,29 +1,35 @@
 -- A loose variable with two values and a cover of all sets leave nothing to do; else the sets are cut. Assumes nothing.
+use mathlib.Core.Path.{sym, _∙_}
 use borrow.Author.Needs.{needs}
+use borrow.Author.Tests.{eqb-false, not-true}
 use Rattle.model.specs.Lists.{at}
-use Rattle.links.proofs.By.{x-lt, set-pos, ready-narrow, bit-in, by-loose, by-covered, by-cut}
+use Rattle.links.proofs.OneCut.{x-lt, ready-narrow, bit-in, by-loose, by-covered, by-cut}
 use Rattle.links.proofs.cut_by.Statement.{statement}
 use Rattle.links.proofs.cut_by.Tie as tie
 
-mul-set : tie.Need-mul-set
-mul-set c = search needs
+mul-t7 : tie.Need-mul-t7
+mul-t7 c = search needs
 
-element-copy-out-set : tie.Need-element-copy-out-set
-element-copy-out-set c = search needs
+element-copy-out-t10 : tie.Need-element-copy-out-t10
+element-copy-out-t10 c = search needs
 
-sub-if1 : tie.Need-sub-if1
-unfolding at
-sub-if1 c = set-pos (c .before .pre .1)
+rest-requires : tie.Need-rest-requires
+rest-requires c κs = search needs
+
+is-empty-requires : tie.Need-is-empty-requires
+is-empty-requires c κs = search needs
 
 shr-if2 : tie.Need-shr-if2
 shr-if2 c = search needs
 
 returns : tie.Need-returns
 unfolding at
-returns c = λ p w. by-loose w (bit-in _ _ (c .if2 .taken)) (c .before .if1 .taken)
+returns c =
+    let n = eqb-false _ 0 (sym (c .before .before .is-empty .ensures) ∙ not-true _ (c .before .if1 .taken)) in
+    λ p w. by-loose w (bit-in _ _ (c .if2 .taken)) (λ e. n (c .before .before .before .rest .ensures ∙ e))
 
 cover-of-requires : tie.Need-cover-of-requires
-cover-of-requires c κs = let w = c .before .before .pre .1 in (x-lt w, ready-narrow w)
+cover-of-requires c κs = let w = c .before .before .before .before .pre .1 in (x-lt w, ready-narrow w)
 
 exceeds-requires : tie.Need-exceeds-requires
 exceeds-requires c κs = search needs
@@ -43,9 +49,10 @@ pub cut-by-spec : {M : Type 1} → statement M
 cut-by-spec =
     tie.close
     (tie.spec
-    mul-set
-    element-copy-out-set
-    sub-if1
+    mul-t7
+    element-copy-out-t10
+    rest-requires
+    is-empty-requires
     shr-if2
     returns
     cover-of-requires

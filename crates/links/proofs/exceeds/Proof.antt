@@ -2,18 +2,18 @@
 use Prim.Native.Nat.{_-_}
 use native.Mathlib.Omega.{arith}
 use Rattle.model.specs.Lists.{at}
-use Rattle.links.proofs.Covers.{Passing, passing-begin, passing-turn, passing-end, ne-false}
+use Rattle.links.proofs.Covers.{Compared, compared-begin, compared-turn, compared-end, ne-false}
 use Rattle.links.proofs.exceeds.Statement.{statement}
 use Rattle.links.proofs.exceeds.Tie as tie
 
 abbrev Inv-loop : tie.InvT-loop
-Inv-loop sets cover over₀ y₀ over y = Passing sets cover over y
+Inv-loop sets cover over₀ y₀ over y = Compared sets cover over y
 
 abbrev μ-loop : tie.MeasureT-loop
 μ-loop sets cover over₀ y₀ over y = 16 - y
 
 loop-holds : tie.Need-loop-holds Inv-loop μ-loop
-loop-holds c = passing-begin _ _
+loop-holds c = compared-begin _ _
 
 mul-over : tie.Need-mul-over Inv-loop μ-loop
 mul-over c = omega arith
@@ -35,10 +35,10 @@ loop-less c = omega arith
 
 loop-again : tie.Need-loop-again Inv-loop μ-loop
 unfolding at
-loop-again c = passing-turn (c .before .before .before .loop .inv) (omega arith) (c .before .before .before .before .pre .0 .1 _) (c .before .before .before .before .pre .1 .1 _)
+loop-again c = compared-turn (c .before .before .before .loop .inv) (omega arith) (c .before .before .before .before .pre .0 .1 _) (c .before .before .before .before .pre .1 .1 _)
 
 returns : tie.Need-returns Inv-loop μ-loop
-returns c = λ e. passing-end (c .before .loop .inv) (omega arith) (c .before .before .pre .0 .0) (ne-false _ e)
+returns c = λ e. compared-end (c .before .loop .inv) (omega arith) (c .before .before .pre .0 .0) (ne-false _ e)
 
 pub exceeds-spec : {M : Type 1} → statement M
 exceeds-spec =

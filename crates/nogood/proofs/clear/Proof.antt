@@ -1,20 +1,21 @@
 -- `nogood::clear` meets its contract. The sets before `i` are 0. Assumes nothing.
-use mathlib.Core.Path.{refl}
+use mathlib.Core.Path.{_≡_, refl}
 use Prim.Native.Nat.{_-_}
 use lib.ListN.{length}
 use borrow.Author.Needs.{needs}
-use Rattle.nogood.proofs.Copies.{Filling, fill-none, fill-more, filled-zeros}
+use Rattle.model.proofs.Filling.{filled-begin}
+use Rattle.nogood.proofs.Copies.{Front, front-more, front-zeros}
 use Rattle.nogood.proofs.clear.Statement.{statement}
 use Rattle.nogood.proofs.clear.Tie as tie
 
 abbrev Inv-loop : tie.InvT-loop
-Inv-loop sets₀ i₀ sets i = Filling (λ k. 0) sets₀ sets i
+Inv-loop sets₀ i₀ sets i = Front (λ k s. s ≡ 0) i sets₀ sets
 
 abbrev μ-loop : tie.MeasureT-loop
 μ-loop sets₀ i₀ sets i = length sets₀ - i
 
 loop-holds : tie.Need-loop-holds Inv-loop μ-loop
-loop-holds c = fill-none (λ k. 0) (c .args .sets .now)
+loop-holds c = filled-begin (λ k. k) (λ k s. s ≡ 0) (c .args .sets .now)
 
 mul-sets : tie.Need-mul-sets Inv-loop μ-loop
 mul-sets c = search needs
@@ -29,13 +30,13 @@ loop-less : tie.Need-loop-less Inv-loop μ-loop
 loop-less c = search needs
 
 loop-again : tie.Need-loop-again Inv-loop μ-loop
-loop-again c = fill-more (c .before .loop .inv) (c .loop-test .taken) 0 refl
+loop-again c = front-more (λ k s. s ≡ 0) (c .before .before .args .sets .now) (c .before .loop .sets) (c .before .loop .i) 0 (c .before .loop .inv) (c .loop-test .taken) refl
 
 same-length : tie.Need-same-length Inv-loop μ-loop
-same-length c = c .before .loop .inv .same-length
+same-length c = c .before .loop .inv .size
 
 returns : tie.Need-returns Inv-loop μ-loop
-returns c = filled-zeros (c .before .loop .inv) (c .loop-test .left)
+returns c = front-zeros (c .before .before .args .sets .now) (c .before .loop .sets) (c .before .loop .i) (c .before .loop .inv) (c .loop-test .left)
 
 pub clear-spec : {M : Type 1} → statement M
 clear-spec =

@@ -7,7 +7,7 @@ use Rattle.model.specs.Lists.{at}
 use Rattle.model.specs.Nogood.{entries}
 use Rattle.nogood.specs.Lists.{Ready}
 use Rattle.nogood.specs.Scan.{Passed}
-use Rattle.nogood.proofs.Turns.{starts, ends, turn-right, turn-next, turn-dead, turn-free, turn-split}
+use Rattle.nogood.proofs.Turns.{starts, ends, turn-right, turn-next, turn-failed, turn-obeyed, turn-split}
 use Rattle.nogood.proofs.pass.Statement.{statement}
 use Rattle.nogood.proofs.pass.Tie as tie
 
@@ -44,14 +44,14 @@ enum-told-2 c = search needs
 
 returns : tie.Need-returns Inv-loop μ-loop
 unfolding at
-returns c = λ n w. turn-dead w (c .before .before .before .before .before .before .before .before .loop .inv .1 n w) (c .before .before .before .before .before .before .before .loop-test .taken) (c .before .before .read .ensures) (c .enum-told2 .given .1)
+returns c = λ n w. turn-failed w (c .before .before .before .before .before .before .before .before .loop .inv .1 n w) (c .before .before .before .before .before .before .before .loop-test .taken) (c .before .before .read .ensures) (c .enum-told2 .given .1)
 
 enum-told-3 : tie.Need-enum-told-3 Inv-loop μ-loop
 enum-told-3 c = search needs
 
 returns-2 : tie.Need-returns-2 Inv-loop μ-loop
 unfolding at
-returns-2 c = λ n w. turn-free w (c .before .before .before .before .before .before .before .before .loop .inv .1 n w) (c .before .before .before .before .before .before .before .loop-test .taken) (c .before .before .read .ensures) (c .enum-told3 .given .1)
+returns-2 c = λ n w. turn-obeyed w (c .before .before .before .before .before .before .before .before .loop .inv .1 n w) (c .before .before .before .before .before .before .before .loop-test .taken) (c .before .before .read .ensures) (c .enum-told3 .given .1)
 
 enum-told-4 : tie.Need-enum-told-4 Inv-loop μ-loop
 enum-told-4 c = search needs

@@ -1,21 +1,22 @@
 -- `nogood::store` meets its contract. The sets before `i` are copied. Assumes nothing.
-use mathlib.Core.Path.{refl}
+use mathlib.Core.Path.{_≡_, refl}
 use Prim.Native.Nat.{_-_}
 use lib.ListN.{length}
 use borrow.Author.Needs.{needs}
 use Rattle.model.specs.Lists.{at}
-use Rattle.nogood.proofs.Copies.{Filling, fill-none, fill-more, filled-front}
+use Rattle.model.proofs.Filling.{filled-begin}
+use Rattle.nogood.proofs.Copies.{Front, front-more, front-copied}
 use Rattle.nogood.proofs.store.Statement.{statement}
 use Rattle.nogood.proofs.store.Tie as tie
 
 abbrev Inv-loop : tie.InvT-loop
-Inv-loop source target₀ i₀ target i = Filling (at source) target₀ target i
+Inv-loop source target₀ i₀ target i = Front (λ k s. s ≡ at source k) i target₀ target
 
 abbrev μ-loop : tie.MeasureT-loop
 μ-loop source target₀ i₀ target i = length target₀ - i
 
 loop-holds : tie.Need-loop-holds Inv-loop μ-loop
-loop-holds c = fill-none (at (c .args .source .now)) (c .args .target .now)
+loop-holds c = filled-begin (λ k. k) (λ k s. s ≡ at (c .args .source .now) k) (c .args .target .now)
 
 mul-target : tie.Need-mul-target Inv-loop μ-loop
 mul-target c = search needs
@@ -37,13 +38,19 @@ loop-less c = search needs
 
 loop-again : tie.Need-loop-again Inv-loop μ-loop
 unfolding at
-loop-again c = fill-more (c .before .before .loop .inv) (c .before .loop-test .taken) _ refl
+loop-again c =
+    let a = c .before .before .before .args in
+    let l = c .before .before .loop in
+    front-more (λ k s. s ≡ at (a .source .now) k) (a .target .now) (l .target) (l .i) _ (l .inv) (c .before .loop-test .taken) refl
 
 same-length : tie.Need-same-length Inv-loop μ-loop
-same-length c = c .before .loop .inv .same-length
+same-length c = c .before .loop .inv .size
 
 returns : tie.Need-returns Inv-loop μ-loop
-returns c = filled-front (c .before .before .args .source .now) (c .before .loop .inv) (c .loop-test .left) (c .before .before .pre .0) (c .before .before .pre .1)
+returns c =
+    let a = c .before .before .args in
+    let l = c .before .loop in
+    front-copied (a .source .now) (a .target .now) (l .target) (l .i) (l .inv) (c .loop-test .left) (c .before .before .pre .0) (c .before .before .pre .1)
 
 pub store-spec : {M : Type 1} → statement M
 store-spec =

@@ -1,98 +1,82 @@
-use mathlib.Core.Path.{_≡_, refl}
+-- The loop: only the constraints left and those by variable of the variables that moved may take something. Assumes nothing.
+use mathlib.Core.Path.{refl}
 use borrow.Author.Needs.{needs}
 use Rattle.model.specs.Problem.{Problem}
 use Rattle.model.proofs.Sets.{size}
-use Rattle.links.specs.Links.{Linking}
-use Rattle.constraints.specs.Revised.{Constrained}
-use Rattle.prune.specs.Steps.{Stage, Pending}
-use Rattle.prune.proofs.Pending.{Reaching, reaching-none, ended-more, steady-dead, steady-live, linking, waiting, ended-after, pending-turn, reaching-turn, pending-end, pending-less}
+use Rattle.prune.specs.Steps.{ArraysHold, Pending}
+use Rattle.prune.proofs.Pending.{PrunedSoFar, pruned-none, ended-more, all-constrained-dead, all-constrained-live, arcs-pending, constraints-pending, ended-after, pending-turn, pruned-turn, pending-end, pending-less}
 use Rattle.prune.proofs.constrain.Statement.{statement}
 use Rattle.prune.proofs.constrain.Tie as tie
-use Rattle.prune.proofs.constrain.Reads as reads
-use Rattle.prune.proofs.constrain.Lts as lts
-use Rattle.constraints.proofs.constrain.Reads as constrain-reads
-use Rattle.constraints.proofs.touched.Reads as touched-reads
-use Rattle.links.proofs.arcs.Reads as arcs-reads
 
 abbrev Inv-loop : tie.InvT-loop
 Inv-loop sets₀ supports tables numbers todo dirty left₀ moved₀ sets left moved =
-    (p : Problem) → Stage p supports tables numbers → Pending p numbers sets₀ todo dirty → Reaching p sets₀ sets × Pending p numbers sets left moved
+    (p : Problem) → ArraysHold p supports tables numbers → Pending p numbers sets₀ todo dirty → PrunedSoFar p sets₀ sets × Pending p numbers sets left moved
 
 abbrev μ-loop : tie.MeasureT-loop
 μ-loop sets₀ supports tables numbers todo dirty left₀ moved₀ sets left moved = size sets
 
--- src/lib.rt:36:5
 loop-holds : tie.Need-loop-holds Inv-loop μ-loop
-loop-holds c = λ p s w. (reaching-none p _, w)
+loop-holds c = λ p s w. (pruned-none p _, w)
 
--- src/lib.rt:37:13
 arcs-requires : tie.Need-arcs-requires Inv-loop μ-loop
-arcs-requires c κs = let q = c .before .before .pre in (q .0, linking (q .1) (c .before .loop .inv (q .0) (q .1) (q .2) .1))
+arcs-requires c κs = let q = c .before .before .pre in (q .0, arcs-pending (q .1) (c .before .loop .inv (q .0) (q .1) (q .2) .1))
 
--- src/lib.rt:39:13
 returns : tie.Need-returns Inv-loop μ-loop
 returns c = λ p s w.
     let i = c .before .before .before .loop .inv p s w in
-    steady-dead p _ _ (ended-more p _ _ (i .0) (c .before .arcs .ensures p (linking s (i .1)) .ended (c .if1 .taken)))
+    all-constrained-dead p _ _ (ended-more p _ _ (i .0) (c .before .arcs .ensures p (arcs-pending s (i .1)) .ended (c .if1 .taken)))
 
--- src/lib.rt:41:23
 touched-requires : tie.Need-touched-requires Inv-loop μ-loop
 touched-requires c κs = search needs
 
--- src/lib.rt:42:13
 constrain-requires : tie.Need-constrain-requires Inv-loop μ-loop
 unfolding Rattle.model.specs.Lists.at
 constrain-requires c κs =
     let h = c .before .before .before .before .before in
     let q = h .before .pre in
     let i = h .loop .inv (q .0) (q .1) (q .2) in
-    (q .0, waiting (q .1) (i .1) (c .before .before .before .arcs .ensures (q .0) (linking (q .1) (i .1))) (c .before .before .if1 .left) (c .before .touched .ensures) refl)
+    (q .0, constraints-pending (q .1) (i .1) (c .before .before .before .arcs .ensures (q .0) (arcs-pending (q .1) (i .1))) (c .before .before .if1 .left) (c .before .touched .ensures) refl)
 
--- src/lib.rt:44:13
 returns-2 : tie.Need-returns-2 Inv-loop μ-loop
 returns-2 c = λ p s w.
     let i = c .before .before .before .before .before .before .before .loop .inv p s w in
-    let l = c .before .before .before .before .before .arcs .ensures p (linking s (i .1)) in
+    let l = c .before .before .before .before .before .arcs .ensures p (arcs-pending s (i .1)) in
     let live = c .before .before .before .before .if1 .left in
     let u = c .before .before .before .touched .ensures in
-    steady-dead p _ _ (ended-after s (i .1) l live u refl _ (i .0) (c .before .constrain .ensures p (waiting s (i .1) l live u refl) .ended (c .if2 .taken)))
+    all-constrained-dead p _ _ (ended-after s (i .1) l live u refl _ (i .0) (c .before .constrain .ensures p (constraints-pending s (i .1) l live u refl) .ended (c .if2 .taken)))
 
--- src/lib.rt:46:26
 element-copy-out-moved : tie.Need-element-copy-out-moved Inv-loop μ-loop
 element-copy-out-moved c = search needs
 
--- src/lib.rt:48:13
 returns-3 : tie.Need-returns-3 Inv-loop μ-loop
 unfolding Rattle.model.specs.Lists.at
 returns-3 c = λ p s w.
     let i = c .before .before .before .before .before .before .before .before .before .loop .inv p s w in
-    let l = c .before .before .before .before .before .before .before .arcs .ensures p (linking s (i .1)) in
+    let l = c .before .before .before .before .before .before .before .arcs .ensures p (arcs-pending s (i .1)) in
     let live = c .before .before .before .before .before .before .if1 .left in
     let u = c .before .before .before .before .before .touched .ensures in
-    steady-live p _ _ (pending-end s (i .1) l live u refl (c .before .before .before .constrain .ensures p (waiting s (i .1) l live u refl)) (c .before .before .if2 .left) refl _ (i .0) (c .if3 .taken))
+    all-constrained-live p _ _ (pending-end s (i .1) l live u refl (c .before .before .before .constrain .ensures p (constraints-pending s (i .1) l live u refl)) (c .before .before .if2 .left) refl _ (i .0) (c .if3 .taken))
 
--- src/lib.rt:36:5
 loop-less : tie.Need-loop-less Inv-loop μ-loop
 unfolding Rattle.model.specs.Lists.at
 loop-less c =
     let h = c .before .before .before .before .before .before .before .before .before in
     let q = h .before .pre in
     let i = h .loop .inv (q .0) (q .1) (q .2) in
-    let l = c .before .before .before .before .before .before .before .arcs .ensures (q .0) (linking (q .1) (i .1)) in
+    let l = c .before .before .before .before .before .before .before .arcs .ensures (q .0) (arcs-pending (q .1) (i .1)) in
     let live = c .before .before .before .before .before .before .if1 .left in
     let u = c .before .before .before .before .before .touched .ensures in
-    pending-less (q .1) (i .1) l live u refl (c .before .before .before .constrain .ensures (q .0) (waiting (q .1) (i .1) l live u refl)) (c .before .before .if2 .left) refl (search needs) (c .if3 .left)
+    pending-less (q .1) (i .1) l live u refl (c .before .before .before .constrain .ensures (q .0) (constraints-pending (q .1) (i .1) l live u refl)) (c .before .before .if2 .left) refl (search needs) (c .if3 .left)
 
--- src/lib.rt:36:5
 loop-again : tie.Need-loop-again Inv-loop μ-loop
 unfolding Rattle.model.specs.Lists.at
 loop-again c = λ p s w.
     let i = c .before .before .before .before .before .before .before .before .before .loop .inv p s w in
-    let l = c .before .before .before .before .before .before .before .arcs .ensures p (linking s (i .1)) in
+    let l = c .before .before .before .before .before .before .before .arcs .ensures p (arcs-pending s (i .1)) in
     let live = c .before .before .before .before .before .before .if1 .left in
     let u = c .before .before .before .before .before .touched .ensures in
-    let k = c .before .before .before .constrain .ensures p (waiting s (i .1) l live u refl) in
-    (reaching-turn s (i .1) l live u refl k (c .before .before .if2 .left) refl _ (i .0), pending-turn s (i .1) l live u refl k (c .before .before .if2 .left) refl)
+    let k = c .before .before .before .constrain .ensures p (constraints-pending s (i .1) l live u refl) in
+    (pruned-turn s (i .1) l live u refl k (c .before .before .if2 .left) refl _ (i .0), pending-turn s (i .1) l live u refl k (c .before .before .if2 .left) refl)
 
 pub constrain-spec : {M : Type 1} → statement M
 constrain-spec =

@@ -1,72 +1,55 @@
+-- The initial sets are on the way to those of the empty prefix. Assumes nothing.
 use borrow.Author.Needs.{needs}
 use mathlib.Core.Path.{refl}
 use Rattle.model.specs.Lists.{at}
-use Rattle.prune.proofs.Starts.{some-few, some-one, stage, root-start, root-dead, root-live}
+use Rattle.prune.proofs.Starts.{some-few, some-one, arrays-hold, root-start, root-dead, root-live}
 use Rattle.prune.proofs.root.Statement.{statement}
 use Rattle.prune.proofs.root.Tie as tie
-use Rattle.prune.proofs.root.Reads as reads
-use Rattle.prune.proofs.root.Lts as lts
-use Rattle.constraints.proofs.touched.Reads as touched-reads
-use Rattle.prune.proofs.clear_marks.Reads as clear-marks-reads
-use Rattle.prune.proofs.fixpoint.Reads as fixpoint-reads
-use Rattle.prune.proofs.initial.Reads as initial-reads
-use Rattle.prune.proofs.store.Reads as store-reads
 
--- src/lib.rt:207:5
 initial-requires : tie.Need-initial-requires
 initial-requires c κs = search needs
 
--- src/lib.rt:208:5
 clear-marks-requires : tie.Need-clear-marks-requires
 clear-marks-requires c κs = search needs
 
--- src/lib.rt:209:55
 element-copy-out-touched : tie.Need-element-copy-out-touched
 element-copy-out-touched c = search needs
 
--- src/lib.rt:209:47
 shl-touched : tie.Need-shl-touched
 unfolding at
 shl-touched c = some-few (c .before .before .before .before .before .pre .1)
 
--- src/lib.rt:209:46
 sub-touched : tie.Need-sub-touched
 unfolding at
 sub-touched c = some-one _ (some-few (c .before .before .before .before .before .pre .1))
 
--- src/lib.rt:209:9
 touched-requires : tie.Need-touched-requires
 touched-requires c κs = search needs
 
--- src/lib.rt:210:78
 element-copy-out-fixpoint : tie.Need-element-copy-out-fixpoint
 element-copy-out-fixpoint c = search needs
 
--- src/lib.rt:210:9
 fixpoint-requires : tie.Need-fixpoint-requires
 unfolding at
 fixpoint-requires c κs =
     let r = c .before .before .before .before .before .before .before .before .before .pre .1 in
     let i = c .before .before .before .before .before .before .before .initial .ensures in
-    (_, stage r, root-start r _ (i .0) (i .1) _ refl _ (c .before .before .before .touched .ensures) _ (c .before .before .before .before .before .clear-marks .ensures))
+    (_, arrays-hold r, root-start r _ (i .0) (i .1) _ refl _ (c .before .before .before .touched .ensures) _ (c .before .before .before .before .before .clear-marks .ensures))
 
--- src/lib.rt:212:9
 returns : tie.Need-returns
 unfolding at
 returns c = λ p r.
     let i = c .before .before .before .before .before .before .before .before .before .initial .ensures in
-    root-dead r (c .before .before .before .before .before .before .before .before .before .initial .last .1 .0) (i .0) (i .1) _ refl _ (c .before .before .before .before .before .touched .ensures) _ (c .before .before .before .before .before .before .before .clear-marks .ensures) _ _ _ (c .before .fixpoint .ensures p (stage r) (root-start r _ (i .0) (i .1) _ refl _ (c .before .before .before .before .before .touched .ensures) _ (c .before .before .before .before .before .before .before .clear-marks .ensures))) (c .if1 .taken)
+    root-dead r (c .before .before .before .before .before .before .before .before .before .initial .last .1 .0) (i .0) (i .1) _ refl _ (c .before .before .before .before .before .touched .ensures) _ (c .before .before .before .before .before .before .before .clear-marks .ensures) _ _ _ (c .before .fixpoint .ensures p (arrays-hold r) (root-start r _ (i .0) (i .1) _ refl _ (c .before .before .before .before .before .touched .ensures) _ (c .before .before .before .before .before .before .before .clear-marks .ensures))) (c .if1 .taken)
 
--- src/lib.rt:214:5
 store-requires : tie.Need-store-requires
 store-requires c κs = search needs
 
--- src/lib.rt:196:1
 returns-2 : tie.Need-returns-2
 unfolding at
 returns-2 c = λ p r.
     let i = c .before .before .before .before .before .before .before .before .before .before .before .before .initial .ensures in
-    root-live r (c .before .before .before .before .before .before .before .before .before .before .before .before .initial .last .1 .0) (i .0) (i .1) _ refl _ (c .before .before .before .before .before .before .before .before .touched .ensures) _ (c .before .before .before .before .before .before .before .before .before .before .clear-marks .ensures) _ _ _ _ (c .before .before .before .before .fixpoint .ensures p (stage r) (root-start r _ (i .0) (i .1) _ refl _ (c .before .before .before .before .before .before .before .before .touched .ensures) _ (c .before .before .before .before .before .before .before .before .before .before .clear-marks .ensures))) (c .before .before .before .if1 .left) (c .store .ensures)
+    root-live r (c .before .before .before .before .before .before .before .before .before .before .before .before .initial .last .1 .0) (i .0) (i .1) _ refl _ (c .before .before .before .before .before .before .before .before .touched .ensures) _ (c .before .before .before .before .before .before .before .before .before .before .clear-marks .ensures) _ _ _ _ (c .before .before .before .before .fixpoint .ensures p (arrays-hold r) (root-start r _ (i .0) (i .1) _ refl _ (c .before .before .before .before .before .before .before .before .touched .ensures) _ (c .before .before .before .before .before .before .before .before .before .before .clear-marks .ensures))) (c .before .before .before .if1 .left) (c .store .ensures)
 
 pub root-spec : {M : Type 1} → statement M
 root-spec =

@@ -1,14 +1,12 @@
+-- Sixteen sets are stored at a depth of the stack, one after another. Assumes nothing.
 use mathlib.Core.Path.{refl}
-use Prim.Native.Nat.{ℕ, _+_, _*_, _-_, _%_, _≤_, _<_}
+use Prim.Native.Nat.{_*_, _-_, _≤_}
 use native.Mathlib.Omega.{arith}
 use borrow.Author.Needs.{needs}
-use lib.ListN.{length, length-set}
 use Rattle.model.specs.Lists.{at}
 use Rattle.prune.proofs.Copies.{Filled, filled-begin, filled-turn, stored}
 use Rattle.prune.proofs.store.Statement.{statement}
 use Rattle.prune.proofs.store.Tie as tie
-use Rattle.prune.proofs.store.Reads as reads
-use Rattle.prune.proofs.store.Lts as lts
 
 abbrev Inv-loop : tie.InvT-loop
 Inv-loop stack₀ k sets i₀ stack i = (i ≤ 16) × Filled (at sets) (16 * k) stack₀ stack i
@@ -16,48 +14,37 @@ Inv-loop stack₀ k sets i₀ stack i = (i ≤ 16) × Filled (at sets) (16 * k) 
 abbrev μ-loop : tie.MeasureT-loop
 μ-loop stack₀ k sets i₀ stack i = 16 - i
 
--- src/lib.rt:106:5
 loop-holds : tie.Need-loop-holds Inv-loop μ-loop
 loop-holds c = (search needs, filled-begin _ _ _)
 
--- src/lib.rt:107:29
 mul-stack : tie.Need-mul-stack Inv-loop μ-loop
 mul-stack c = search needs
 
--- src/lib.rt:107:29
 element-copy-out-stack : tie.Need-element-copy-out-stack Inv-loop μ-loop
 element-copy-out-stack c = search needs
 
--- src/lib.rt:107:15
 mul-stack-2 : tie.Need-mul-stack-2 Inv-loop μ-loop
 mul-stack-2 c = search needs
 
--- src/lib.rt:107:15
 add-stack : tie.Need-add-stack Inv-loop μ-loop
 add-stack c = search needs
 
--- src/lib.rt:107:9
 mul-stack-3 : tie.Need-mul-stack-3 Inv-loop μ-loop
 mul-stack-3 c = search needs
 
--- src/lib.rt:107:9
 element-write-stack : tie.Need-element-write-stack Inv-loop μ-loop
 element-write-stack c = search needs
 
--- src/lib.rt:108:9
 add-i : tie.Need-add-i Inv-loop μ-loop
 add-i c = search needs
 
--- src/lib.rt:106:5
 loop-less : tie.Need-loop-less Inv-loop μ-loop
 loop-less c = search needs
 
--- src/lib.rt:106:5
 loop-again : tie.Need-loop-again Inv-loop μ-loop
 unfolding at
 loop-again c = (search needs, filled-turn _ _ _ _ _ _ (c .before .before .loop .inv .1) refl (omega arith))
 
--- src/lib.rt:101:1
 returns : tie.Need-returns Inv-loop μ-loop
 returns c = stored _ _ _ _ _ (search needs) (c .before .loop .inv .1)
 

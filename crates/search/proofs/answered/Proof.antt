@@ -1,10 +1,10 @@
 -- `search::answered` meets its contract. Assumes nothing.
-use mathlib.Core.Path.{_≡_, refl, sym, ap}
-use Prim.Native.Nat.{ℕ}
+use mathlib.Core.Path.{_≡_, refl, sym}
 use native.Mathlib.Omega.{arith}
 use denote.Ref.{now}
 use Rattle.model.specs.Lists.{at}
 use Rattle.model.specs.Run.{finished, spent, full}
+use Rattle.layout.specs.Places.{PLANS}
 use borrow.Author.Needs.{needs}
 use Rattle.search.proofs.answered.Statement.{statement}
 use Rattle.search.proofs.answered.Tie as tie
@@ -32,7 +32,7 @@ returns-2 c =
     let a = c .before .before .before in
     record {
       refused = λ z. absurd (omega (arith, c .if2 .taken));
-      ended = λ n. (finished (at (now (a .args .work)) 12) (a .args .trials), refl, λ list. ap (λ (k : ℕ). record { made = a .args .trials; plans = at (now (a .args .work)) 12; stop = k; list = list }) (sym (c .if2 .taken)));
+      ended = λ n. (finished (at (now (a .args .work)) PLANS) (a .args .made), refl, refl, refl, sym (c .if2 .taken));
     }
 
 returns-3 : tie.Need-returns-3
@@ -41,7 +41,7 @@ returns-3 c =
     let a = c .before .before .before .before in
     record {
       refused = λ z. absurd (omega (arith, c .if3 .taken));
-      ended = λ n. (spent (at (now (a .args .work)) 12) (a .args .trials), refl, λ list. ap (λ (k : ℕ). record { made = a .args .trials; plans = at (now (a .args .work)) 12; stop = k; list = list }) (sym (c .if3 .taken)));
+      ended = λ n. (spent (at (now (a .args .work)) PLANS) (a .args .made), refl, refl, refl, sym (c .if3 .taken));
     }
 
 returns-4 : tie.Need-returns-4
@@ -52,7 +52,7 @@ returns-4 c =
       refused = λ z. absurd (c .before .before .before .if1 .left z);
       ended = λ n.
           let e : 2 ≡ a .args .stop = omega (arith, a .pre .known n, c .before .if2 .left, c .if3 .left) in
-          (full (at (now (a .args .work)) 12) (a .args .trials), refl, λ list. ap (λ (k : ℕ). record { made = a .args .trials; plans = at (now (a .args .work)) 12; stop = k; list = list }) e);
+          (full (at (now (a .args .work)) PLANS) (a .args .made), refl, refl, refl, e);
     }
 
 pub answered-spec : {M : Type 1} → statement M

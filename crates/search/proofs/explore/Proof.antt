@@ -41,7 +41,8 @@ use denote.Triple.Walked.{says, needs, Stays, stay-ref, stay-slice, stay-dropped
 use Rattle.model.specs.Lists.{at}
 use Rattle.model.specs.Problem.{Problem}
 use Rattle.model.specs.Sheet.{problemOf}
-use Rattle.search.specs.Pair.{AtValues, Walked, tried}
+use Rattle.search.specs.Pair.{Cleared, AtValues, Walked, tried}
+use Rattle.search.specs.Meaning.{tallyIn}
 use Rattle.search.specs.Whole.{Blank, Prepared, Explored}
 use Rattle.search.specs.declared.Tally.{Tally}
 use Rattle.search.proofs.Tally as T
@@ -237,7 +238,7 @@ module _ {M : Type 1} (𝓤 : URA M) (H : Heap 𝓤) (A : Atoms 𝓤) (W : Given
       abbrev Post : Val → SProp 𝓤
       Post = walkOf 𝓤 H A explore.ended stayed (explore.clauses 𝓤 H A mem run) .post at-explore
 
-      exits : (r : ℕ) (st′ wk′ su′ tb′ nu′ ls′ : List ℕ) (ta′ : Tally) → r < 2 ^ 8 → length ls′ ≡ length ls → Explored (s₅ .now) a ls (ta .trials) wk′ ls′ (ta′ .trials) r → ent 𝓤 (sem 𝓤 H A (Held st′ wk′ su′ tb′ nu′ ls′ ta′)) (Post (vint w8 r))
+      exits : (r : ℕ) (st′ wk′ su′ tb′ nu′ ls′ : List ℕ) (ta′ : Tally) → r < 2 ^ 8 → length ls′ ≡ length ls → Explored (s₅ .now) a ls (tallyIn ta) wk′ ls′ (tallyIn ta′) r → ent 𝓤 (sem 𝓤 H A (Held st′ wk′ su′ tb′ nu′ ls′ ta′)) (Post (vint w8 r))
       exits r st′ wk′ su′ tb′ nu′ ls′ ta′ gr l e =
           qed W (‵ (Held st′ wk′ su′ tb′ nu′ ls′ ta′) ∷ []) ∵ suffices ! _ (ends-at 𝓤 H A explore.ended stayed (explore.clauses 𝓤 H A mem run) W at-explore (vint w8 r) r (st′, (wk′, (su′, (tb′, (nu′, (tt, (tt, (ls′, (ta′, tt))))))))) (tt, (tt, (tt, (tt, (tt, (tt, (tt, (l, (tt, tt)))))))))) $ says ! e $
           fsplit ! $ move ! (1 ∷ []) $ fsplit ! $ move ! (1 ∷ []) $ fsplit ! $ move ! (1 ∷ []) $ fsplit ! $ move ! (1 ∷ []) $ fsplit ! $ move ! (1 ∷ []) $ fsplit ! $ move ! (1 ∷ []) $ fsplit ! $ move ! (1 ∷ []) $ fsplit ! $ move ! (8 ∷ []) $ fsplit ! $ move ! (9 ∷ []) $ fsplit ! $ move ! (10 ∷ []) $ fsplit ! $ move ! (11 ∷ []) $ fsplit ! $ move ! (12 ∷ []) $ fsplit ! $ move ! (13 ∷ []) $ fsplit ! $ move ! (14 ∷ []) $ fsplit ! $ move ! (14 ∷ []) $ fsplit ! $ move ! (1 ∷ 16 ∷ []) $ join ! $ move ! (3 ∷ 0 ∷ []) $ join ! $ move ! (4 ∷ 0 ∷ []) $ join ! $ move ! (5 ∷ 0 ∷ []) $ join ! $ move ! (6 ∷ 0 ∷ []) $ join ! $ move ! (7 ∷ 0 ∷ []) $ join ! $ move ! (8 ∷ 0 ∷ []) $ join ! $ move ! (9 ∷ 0 ∷ []) $ join ! $ frame ! $ nothing ! $ move ! (1 ∷ 0 ∷ []) $ fjoin ! $ move ! (1 ∷ 0 ∷ []) $ fjoin ! $ nothing ! $ fjoin ! $ nothing ! $ fjoin ! $ move ! (2 ∷ 0 ∷ []) $ fjoin ! $ move ! (2 ∷ 0 ∷ []) $ fjoin ! $ move ! (2 ∷ 0 ∷ []) $ fjoin ! $ move ! (2 ∷ 0 ∷ []) $ fjoin ! $ move ! (2 ∷ 0 ∷ []) $ fjoin ! $
@@ -266,12 +267,12 @@ module _ {M : Type 1} (𝓤 : URA M) (H : Heap 𝓤) (A : Atoms 𝓤) (W : Given
           (λ z. assigns ! (of-opd ! (load ! (from ! (stop !)) (look ! 39 refl))) (from ! (stop !)) (init ! 59 refl (tt, record { fits = is₁ .1 })) $ returns-within ! Post refl (look ! 59 refl) $
           forget ! 59 refl $ forget ! 57 refl $ forget ! 55 refl $ forget ! 53 refl $ forget ! 51 refl $ forget ! 49 refl $ forget ! 47 refl $ forget ! 45 refl $ forget ! 43 refl $ forget ! 41 refl $ forget ! 39 refl $ forget ! 35 refl $ forget ! 33 refl $ forget ! 31 refl $ forget ! 29 refl $ forget ! 27 refl $ forget ! 25 refl $ forget ! 23 refl $
           move ! (59 ∷ 60 ∷ []) $ free1 ! $ move ! (57 ∷ 58 ∷ []) $ free1 ! $ move ! (55 ∷ 56 ∷ []) $ free1 ! $ move ! (53 ∷ 54 ∷ []) $ free1 ! $ move ! (51 ∷ 52 ∷ []) $ free1 ! $ move ! (49 ∷ 50 ∷ []) $ free1 ! $ move ! (47 ∷ 48 ∷ []) $ free1 ! $ move ! (45 ∷ 46 ∷ []) $ free1 ! $ move ! (43 ∷ 44 ∷ []) $ free1 ! $ move ! (41 ∷ 42 ∷ []) $ free1 ! $ move ! (39 ∷ 40 ∷ []) $ free1 ! $ move ! (37 ∷ 38 ∷ []) $ free1 ! $ move ! (35 ∷ 36 ∷ []) $ free1 ! $ move ! (33 ∷ 34 ∷ []) $ free1 ! $ move ! (31 ∷ 32 ∷ []) $ free1 ! $ move ! (29 ∷ 30 ∷ []) $ free1 ! $ move ! (27 ∷ 28 ∷ []) $ free1 ! $ move ! (25 ∷ 26 ∷ []) $ free1 ! $ move ! (23 ∷ 24 ∷ []) $ free1 ! $ move ! (21 ∷ 22 ∷ []) $ free1 ! $ move ! (19 ∷ 20 ∷ []) $ free1 ! $ move ! (17 ∷ 18 ∷ []) $ free1 ! $ move ! (15 ∷ 16 ∷ []) $ free1 ! $ move ! (13 ∷ 14 ∷ []) $ free1 ! $ move ! (11 ∷ 12 ∷ []) $ free1 ! $ move ! (9 ∷ 10 ∷ []) $ free1 ! $ move ! (7 ∷ 8 ∷ []) $ free1 ! $ move ! (5 ∷ 6 ∷ []) $ free1 ! $ move ! (3 ∷ 4 ∷ []) $ free1 ! $ move ! (1 ∷ 2 ∷ []) $ free1 ! $ free0 ! $
-          keep ! (0 ∷ []) $ by ! (exits r₁ _ _ _ _ _ ls ta (is₁ .1) refl (explored-refused (s₅ .now) a ls _ _ _ _ _ r₁ h (ta .trials) r₁ (eqb→eq r₁ 4 z) (eqb→eq r₁ 4 z))))
+          keep ! (0 ∷ []) $ by ! (exits r₁ _ _ _ _ _ ls ta (is₁ .1) refl (explored-refused (s₅ .now) a ls _ _ _ _ _ r₁ h (tallyIn ta) r₁ (eqb→eq r₁ 4 z) (eqb→eq r₁ 4 z))))
           (λ z. let on : r₁ ≡ 4 → ⊥ = ne-of r₁ 4 z in
           skips ! $ exec ! C Λ (En l₀ l₁ l₂ l₃ l₄ l₅ l₆ l₇ l₈ l₉ m₀ m₁ m₂ m₃ m₄ m₅ m₆ m₇ m₈ m₉ n₀ n₁ n₂ n₃ n₄ n₅ n₆ n₇ n₈ n₉) mir′.t-10 (atRet (En l₀ l₁ l₂ l₃ l₄ l₅ l₆ l₇ l₈ l₉ m₀ m₁ m₂ m₃ m₄ m₅ m₆ m₇ m₈ m₉ n₀ n₁ n₂ n₃ n₄ n₅ n₆ n₇ n₈ n₉) Post) $
           -- reset(tally)
           assigns ! (addr ! (from ! (hop ! (look ! 41 refl) (stop !)))) (from ! (stop !)) (init ! 19 refl (tt, tt)) $
-          calls-lent ! fm (to-reset st₁ wk₁ su₁ tb₁ nu₁ ls ta) (vptr b₇ o₇ ∷ []) unit (λ _. vunit) (λ r v is. ap only is) (emp 𝓤) (id⊢ 𝓤 _) (λ r w. w .0 .trials ≡ 0)
+          calls-lent ! fm (to-reset st₁ wk₁ su₁ tb₁ nu₁ ls ta) (vptr b₇ o₇ ∷ []) unit (λ _. vunit) (λ r v is. ap only is) (emp 𝓤) (id⊢ 𝓤 _) (λ r w. Cleared (tallyIn (w .0)))
           (λ x. known-reset ((((x .0 .0 ∷ [], tt), (fullShare, tt), tt, (to b₇ o₇ (x .0 .1) ta, tt), (vptr b₇ o₇ ∷ [], tt))), tt)) (λ x. (and-then ! (load ! (from ! (stop !)) (look ! 19 refl)) (no-more !))) (λ r₂ w₂ is₂ f₂ said₂.
           let ta₁ : Tally = w₂ .0 in
           land ! (from ! (stop !)) (init ! 21 refl (tt, tt)) $
@@ -280,7 +281,7 @@ module _ {M : Type 1} (𝓤 : URA M) (H : Heap 𝓤) (A : Atoms 𝓤) (W : Given
           (λ z′. assigns ! (of-opd ! (load ! (from ! (stop !)) (look ! 39 refl))) (from ! (stop !)) (init ! 59 refl (tt, record { fits = is₁ .1 })) $ returns-within ! Post refl (look ! 59 refl) $
           forget ! 59 refl $ forget ! 57 refl $ forget ! 55 refl $ forget ! 53 refl $ forget ! 51 refl $ forget ! 49 refl $ forget ! 47 refl $ forget ! 45 refl $ forget ! 43 refl $ forget ! 41 refl $ forget ! 39 refl $ forget ! 35 refl $ forget ! 33 refl $ forget ! 31 refl $ forget ! 29 refl $ forget ! 27 refl $ forget ! 25 refl $ forget ! 23 refl $ forget ! 21 refl $ forget ! 19 refl $
           move ! (59 ∷ 60 ∷ []) $ free1 ! $ move ! (57 ∷ 58 ∷ []) $ free1 ! $ move ! (55 ∷ 56 ∷ []) $ free1 ! $ move ! (53 ∷ 54 ∷ []) $ free1 ! $ move ! (51 ∷ 52 ∷ []) $ free1 ! $ move ! (49 ∷ 50 ∷ []) $ free1 ! $ move ! (47 ∷ 48 ∷ []) $ free1 ! $ move ! (45 ∷ 46 ∷ []) $ free1 ! $ move ! (43 ∷ 44 ∷ []) $ free1 ! $ move ! (41 ∷ 42 ∷ []) $ free1 ! $ move ! (39 ∷ 40 ∷ []) $ free1 ! $ move ! (37 ∷ 38 ∷ []) $ free1 ! $ move ! (35 ∷ 36 ∷ []) $ free1 ! $ move ! (33 ∷ 34 ∷ []) $ free1 ! $ move ! (31 ∷ 32 ∷ []) $ free1 ! $ move ! (29 ∷ 30 ∷ []) $ free1 ! $ move ! (27 ∷ 28 ∷ []) $ free1 ! $ move ! (25 ∷ 26 ∷ []) $ free1 ! $ move ! (23 ∷ 24 ∷ []) $ free1 ! $ move ! (21 ∷ 22 ∷ []) $ free1 ! $ move ! (19 ∷ 20 ∷ []) $ free1 ! $ move ! (17 ∷ 18 ∷ []) $ free1 ! $ move ! (15 ∷ 16 ∷ []) $ free1 ! $ move ! (13 ∷ 14 ∷ []) $ free1 ! $ move ! (11 ∷ 12 ∷ []) $ free1 ! $ move ! (9 ∷ 10 ∷ []) $ free1 ! $ move ! (7 ∷ 8 ∷ []) $ free1 ! $ move ! (5 ∷ 6 ∷ []) $ free1 ! $ move ! (3 ∷ 4 ∷ []) $ free1 ! $ move ! (1 ∷ 2 ∷ []) $ free1 ! $ free0 ! $
-          keep ! (0 ∷ []) $ by ! (exits r₁ _ _ _ _ _ ls ta₁ (is₁ .1) refl (explored-dead (s₅ .now) a ls _ _ _ _ _ r₁ h (ta .trials) (ta₁ .trials) r₁ (eqb→eq r₁ 0 z′) (eqb→eq r₁ 0 z′) said₂)))
+          keep ! (0 ∷ []) $ by ! (exits r₁ _ _ _ _ _ ls ta₁ (is₁ .1) refl (explored-dead (s₅ .now) a ls _ _ _ _ _ r₁ h (tallyIn ta) (tallyIn ta₁) r₁ (eqb→eq r₁ 0 z′) (eqb→eq r₁ 0 z′) said₂)))
           (λ z′. let live : r₁ ≡ 3 = h .known on (ne-of r₁ 0 z′) in
           skips ! $ exec ! C Λ (En l₀ l₁ l₂ l₃ l₄ l₅ l₆ l₇ l₈ l₉ m₀ m₁ m₂ m₃ m₄ m₅ m₆ m₇ m₈ m₉ n₀ n₁ n₂ n₃ n₄ n₅ n₆ n₇ n₈ n₉) mir′.t-14 (atRet (En l₀ l₁ l₂ l₃ l₄ l₅ l₆ l₇ l₈ l₉ m₀ m₁ m₂ m₃ m₄ m₅ m₆ m₇ m₈ m₉ n₀ n₁ n₂ n₃ n₄ n₅ n₆ n₇ n₈ n₉) Post) $
           -- candidates(stack, 0)
@@ -288,20 +289,20 @@ module _ {M : Type 1} (𝓤 : URA M) (H : Heap 𝓤) (A : Atoms 𝓤) (W : Given
           calls-lent ! fm (to-candidates st₁ wk₁ su₁ tb₁ nu₁ ls ta₁ g₀) (vptr b₀ o₀ ∷ vint w64 0 ∷ []) u16 (vint w16) (λ r v is. ap only (is .0)) (fact 𝓤 (0 < 12)) (asks _ (omega arith)) (λ r w. r ≡ at st₁ (17 * 0))
           (λ x. known-candidates ((((x .0 .0 ∷ [], tt), (fullShare, tt), tt, (to b₀ o₀ (x .0 .1) st₁, (0, tt)), (vptr b₀ o₀ ∷ [], (vint w64 0 ∷ [], tt)))), tt)) (λ x. (and-then ! (load ! (from ! (stop !)) (look ! 17 refl)) (and-then ! (lit ! tt) (no-more !)))) (λ r₃ w₃ is₃ f₃ said₃.
           land ! (from ! (stop !)) (init ! 37 refl (tt, record { fits = is₃ .1 })) $
-          let begin : AtValues (problemOf (s₅ .now)) st₁ wk₁ su₁ tb₁ nu₁ ls (ta₁ .trials) 0 r₃ = start-asks (s₅ .now) a ls _ _ _ _ _ r₁ h live (ta₁ .trials) said₂ r₃ said₃ in
+          let begin : AtValues (problemOf (s₅ .now)) st₁ wk₁ su₁ tb₁ nu₁ ls (tallyIn ta₁) 0 r₃ = start-asks (s₅ .now) a ls _ _ _ _ _ r₁ h live (tallyIn ta₁) said₂ r₃ said₃ in
           -- settle(stack, work, supports, tables, numbers, list, tally, 0, values)
           assigns ! (addr ! (from ! (hop ! (look ! 57 refl) (stop !)))) (from ! (stop !)) (init ! 15 refl (tt, tt)) $ assigns ! (addr ! (from ! (hop ! (look ! 55 refl) (stop !)))) (from ! (stop !)) (init ! 13 refl (tt, tt)) $ assigns ! (addr ! (from ! (hop ! (look ! 53 refl) (stop !)))) (from ! (stop !)) (init ! 11 refl (tt, tt)) $ assigns ! (addr ! (from ! (hop ! (look ! 51 refl) (stop !)))) (from ! (stop !)) (init ! 9 refl (tt, tt)) $ assigns ! (addr ! (from ! (hop ! (look ! 49 refl) (stop !)))) (from ! (stop !)) (init ! 7 refl (tt, tt)) $
           assigns ! (addr ! (from ! (fld ! refl (hop ! (look-in ! 43 (sub ! 0 refl (whole !))) (stop !))))) (from ! (stop !)) (init ! 5 refl (tt, tt)) $
           assigns ! (agg ! (and-then ! (load ! (from ! (stop !)) (look ! 5 refl)) (and-then ! (load ! (from ! (fld ! refl (stop !))) (look-in ! 43 (sub ! 1 refl (whole !)))) (no-more !)))) (from ! (stop !)) (init ! 3 refl (tt, (tt, (record { fits = room .0 }, tt)))) $
           assigns ! (addr ! (from ! (hop ! (look ! 41 refl) (stop !)))) (from ! (stop !)) (init ! 1 refl (tt, tt)) $
           calls-lent ! fm (to-settle st₁ wk₁ su₁ tb₁ nu₁ ls e₀ ta₁ g₀ r₃ (is₃ .1)) (vptr b₀ o₀ ∷ vptr b₁ o₁ ∷ vptr b₂ o₂ ∷ vptr b₃ o₃ ∷ vptr b₄ o₄ ∷ vl ∷ vptr b₇ o₇ ∷ vint w64 0 ∷ vint w16 r₃ ∷ []) u8 (vint w8) (λ r v is. ap only (is .0))
-          (fact 𝓤 ((p : Problem) × AtValues p st₁ wk₁ su₁ tb₁ nu₁ ls (ta₁ .trials) 0 r₃)) (asks _ (problemOf (s₅ .now), begin))
-          (λ r w. (p : Problem) → AtValues p st₁ wk₁ su₁ tb₁ nu₁ ls (ta₁ .trials) 0 r₃ → Walked p (tried p wk₁ 0 r₃) st₁ wk₁ nu₁ ls (ta₁ .trials) 0 (w .0) (w .1 .0) (w .1 .1 .1 .1 .1 .0) (w .1 .1 .1 .1 .1 .1 .0 .trials) r)
+          (fact 𝓤 ((p : Problem) × AtValues p st₁ wk₁ su₁ tb₁ nu₁ ls (tallyIn ta₁) 0 r₃)) (asks _ (problemOf (s₅ .now), begin))
+          (λ r w. (p : Problem) → AtValues p st₁ wk₁ su₁ tb₁ nu₁ ls (tallyIn ta₁) 0 r₃ → Walked p (tried p wk₁ 0 r₃) st₁ wk₁ nu₁ ls (tallyIn ta₁) 0 (w .0) (w .1 .0) (w .1 .1 .1 .1 .1 .0) (tallyIn (w .1 .1 .1 .1 .1 .1 .0)) r)
           (λ x. known-settle (((x .0 .0 ∷ [], (x .1 .0 .0 ∷ [], (x .1 .1 .0 .0 ∷ [], (x .1 .1 .1 .0 .0 ∷ [], (x .1 .1 .1 .1 .0 .0 ∷ [], (x .1 .1 .1 .1 .1 .0 .0 ∷ [], (x .1 .1 .1 .1 .1 .1 .0 .0 ∷ [], tt))))))), (fullShare, (fullShare, (fullShare, (fullShare, (fullShare, (fullShare, (fullShare, tt))))))), tt, (to b₀ o₀ (x .0 .1) st₁, (to b₁ o₁ (x .1 .0 .1) wk₁, (to b₂ o₂ (x .1 .1 .0 .1) su₁, (to b₃ o₃ (x .1 .1 .1 .0 .1) tb₁, (to b₄ o₄ (x .1 .1 .1 .1 .0 .1) nu₁, (to lb lo (x .1 .1 .1 .1 .1 .0 .1) ls, (to b₇ o₇ (x .1 .1 .1 .1 .1 .1 .0 .1) ta₁, (0, (r₃, tt))))))))), (vptr b₀ o₀ ∷ [], (vptr b₁ o₁ ∷ [], (vptr b₂ o₂ ∷ [], (vptr b₃ o₃ ∷ [], (vptr b₄ o₄ ∷ [], (vl ∷ [], (vptr b₇ o₇ ∷ [], (vint w64 0 ∷ [], (vint w16 r₃ ∷ [], tt)))))))))), tt)) (λ x. (and-then ! (load ! (from ! (stop !)) (look ! 15 refl)) (and-then ! (load ! (from ! (stop !)) (look ! 13 refl)) (and-then ! (load ! (from ! (stop !)) (look ! 11 refl)) (and-then ! (load ! (from ! (stop !)) (look ! 9 refl)) (and-then ! (load ! (from ! (stop !)) (look ! 7 refl)) (and-then ! (load ! (from ! (stop !)) (look ! 3 refl)) (and-then ! (load ! (from ! (stop !)) (look ! 1 refl)) (and-then ! (lit ! tt) (and-then ! (load ! (from ! (stop !)) (look ! 37 refl)) (no-more !))))))))))) (λ r₄ w₄ is₄ f₄ said₄.
           land ! (from ! (stop !)) (init ! 59 refl (tt, record { fits = is₄ .1 })) $ returns ! (look ! 59 refl) $
           forget ! 59 refl $ forget ! 57 refl $ forget ! 55 refl $ forget ! 53 refl $ forget ! 51 refl $ forget ! 49 refl $ forget ! 47 refl $ forget ! 45 refl $ forget ! 43 refl $ forget ! 41 refl $ forget ! 39 refl $ forget ! 37 refl $ forget ! 35 refl $ forget ! 33 refl $ forget ! 31 refl $ forget ! 29 refl $ forget ! 27 refl $ forget ! 25 refl $ forget ! 23 refl $ forget ! 21 refl $ forget ! 19 refl $ forget ! 17 refl $ forget ! 15 refl $ forget ! 13 refl $ forget ! 11 refl $ forget ! 9 refl $ forget ! 7 refl $ forget ! 5 refl $ forget ! 3 refl $ forget ! 1 refl $
           move ! (59 ∷ 60 ∷ []) $ free1 ! $ move ! (57 ∷ 58 ∷ []) $ free1 ! $ move ! (55 ∷ 56 ∷ []) $ free1 ! $ move ! (53 ∷ 54 ∷ []) $ free1 ! $ move ! (51 ∷ 52 ∷ []) $ free1 ! $ move ! (49 ∷ 50 ∷ []) $ free1 ! $ move ! (47 ∷ 48 ∷ []) $ free1 ! $ move ! (45 ∷ 46 ∷ []) $ free1 ! $ move ! (43 ∷ 44 ∷ []) $ free1 ! $ move ! (41 ∷ 42 ∷ []) $ free1 ! $ move ! (39 ∷ 40 ∷ []) $ free1 ! $ move ! (37 ∷ 38 ∷ []) $ free1 ! $ move ! (35 ∷ 36 ∷ []) $ free1 ! $ move ! (33 ∷ 34 ∷ []) $ free1 ! $ move ! (31 ∷ 32 ∷ []) $ free1 ! $ move ! (29 ∷ 30 ∷ []) $ free1 ! $ move ! (27 ∷ 28 ∷ []) $ free1 ! $ move ! (25 ∷ 26 ∷ []) $ free1 ! $ move ! (23 ∷ 24 ∷ []) $ free1 ! $ move ! (21 ∷ 22 ∷ []) $ free1 ! $ move ! (19 ∷ 20 ∷ []) $ free1 ! $ move ! (17 ∷ 18 ∷ []) $ free1 ! $ move ! (15 ∷ 16 ∷ []) $ free1 ! $ move ! (13 ∷ 14 ∷ []) $ free1 ! $ move ! (11 ∷ 12 ∷ []) $ free1 ! $ move ! (9 ∷ 10 ∷ []) $ free1 ! $ move ! (7 ∷ 8 ∷ []) $ free1 ! $ move ! (5 ∷ 6 ∷ []) $ free1 ! $ move ! (3 ∷ 4 ∷ []) $ free1 ! $ move ! (1 ∷ 2 ∷ []) $ free1 ! $ free0 ! $
-          keep ! (0 ∷ []) $ by ! (exits r₄ _ _ _ _ _ _ (w₄ .1 .1 .1 .1 .1 .1 .0) (is₄ .1) (f₄ .1 .1 .1 .1 .1 .0) (explored (s₅ .now) a ls _ _ _ _ _ r₁ h live (ta₁ .trials) said₂ r₃ said₃ (ta .trials) _ _ _ _ r₄ (said₄ (problemOf (s₅ .now)) begin)))))))))))))))))))))))))))))))))))))))
+          keep ! (0 ∷ []) $ by ! (exits r₄ _ _ _ _ _ _ (w₄ .1 .1 .1 .1 .1 .1 .0) (is₄ .1) (f₄ .1 .1 .1 .1 .1 .0) (explored (s₅ .now) a ls _ _ _ _ _ r₁ h live (tallyIn ta₁) said₂ r₃ said₃ (tallyIn ta) _ _ _ _ r₄ (said₄ (problemOf (s₅ .now)) begin)))))))))))))))))))))))))))))))))))))))
 
 module _ {M : Type 1} (𝓤 : URA M) (H : Heap 𝓤) (A : Atoms 𝓤) (W : Given 𝓤 H A) (mem : Memory → SProp 𝓤) (run : Routine → Fun 𝓤) where
   explore-walks : (C : Calls 𝓤 H) (Λ : Loops 𝓤 H) → FmC 𝓤 H (W .laws) C → Triple 𝓤 (C #search·prepare) (Prepare 𝓤 H A W mem run) → Triple 𝓤 (C #search·reset) (Reset 𝓤 H A W mem run) → Triple 𝓤 (C #search·candidates) (Candidates 𝓤 H A W mem run) → Triple 𝓤 (C #search·settle) (Settle 𝓤 H A W mem run) → Walks 𝓤 H A explore.ended stayed (WpFn 𝓤 H C Λ code.function) (explore.clauses 𝓤 H A mem run)

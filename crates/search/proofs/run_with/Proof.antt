@@ -1,6 +1,6 @@
 -- `search::run_with` meets its contract: a walk of its MIR, by hand. Its five arrays are locals, which are lent (`Locals.antt`, `Loans.antt`) and come
 -- back; proofs/Whole has what is known at each call. Assumes nothing.
-use mathlib.Core.Path.{_≡_, refl, ap, subst}
+use mathlib.Core.Path.{_≡_, refl, ap}
 use Prim.Native.Nat.{ℕ, _<_, _^_}
 use native.Mathlib.Omega.{arith}
 use mathlib.Core.List.{List, [], _∷_}
@@ -39,7 +39,7 @@ use denote.Triple.Walked.{says, Stays, stay-ref, stay-slice, stay-dropped, walkO
 use denote.Memory.{mem as in-memory}
 use denote.Enum.Laws as EL
 use Rattle.model.specs.Run.{answerOf, listOf, tallyOf}
-use Rattle.search.specs.Meaning.{means}
+use Rattle.search.specs.Meaning.{means, tallyIn}
 use Rattle.search.specs.Whole.{Blank, Explored, Stopped, Answered}
 use Rattle.search.specs.declared.Tally.{Tally}
 use Rattle.search.specs.declared.Answer.{Answer}
@@ -55,10 +55,10 @@ use Rattle.search.proofs.explore as explore
 use Rattle.search.proofs.explore.Symbol as explore-def
 use Rattle.search.proofs.explore.Symbol.{name as #search·explore}
 use Rattle.search.proofs.explore.Met as explore-thm
-use Rattle.search.proofs.trials as trials
-use Rattle.search.proofs.trials.Symbol as trials-def
-use Rattle.search.proofs.trials.Symbol.{name as #search·trials}
-use Rattle.search.proofs.trials.Met as trials-thm
+use Rattle.search.proofs.nodes_made as nodes-made
+use Rattle.search.proofs.nodes_made.Symbol as nodes-made-def
+use Rattle.search.proofs.nodes_made.Symbol.{name as #search·nodes-made}
+use Rattle.search.proofs.nodes_made.Met as nodes-made-thm
 use Rattle.search.proofs.answered as answered
 use Rattle.search.proofs.answered.Symbol as answered-def
 use Rattle.search.proofs.answered.Symbol.{name as #search·answered}
@@ -96,8 +96,8 @@ module _ {M : Type 1} (𝓤 : URA M) (H : Heap 𝓤) (A : Atoms 𝓤) (W : Given
   abbrev Explore : Contract 𝓤
   Explore = tripleOf 𝓤 H A explore.signature (explore.spec 𝓤 H A mem run)
 
-  abbrev Trials : Contract 𝓤
-  Trials = tripleOf 𝓤 H A trials.signature (trials.spec 𝓤 H A mem run)
+  abbrev NodesMade : Contract 𝓤
+  NodesMade = tripleOf 𝓤 H A nodes-made.signature (nodes-made.spec 𝓤 H A mem run)
 
   abbrev Answers : Contract 𝓤
   Answers = tripleOf 𝓤 H A answered.signature (answered.spec 𝓤 H A mem run)
@@ -123,7 +123,7 @@ module _ {M : Type 1} (𝓤 : URA M) (H : Heap 𝓤) (A : Atoms 𝓤) (W : Given
 
   module _ (κ₀ κ₁ κ₂ : Lft) (q₀ q₁ q₂ : Share) (s : RefT (List ℕ)) (lb lo n b o : ℕ) (γ₁ γ₂ : GName) (room₀ : Room u8 (length (s .now))) (room : Room u8 n)
       (C : Calls 𝓤 H) (Λ : Loops 𝓤 H) (fm : FmC 𝓤 H (W .laws) C)
-      (known-explore : Triple 𝓤 (C #search·explore) Explore) (known-trials : Triple 𝓤 (C #search·trials) Trials) (known-answered : Triple 𝓤 (C #search·answered) Answers) where
+      (known-explore : Triple 𝓤 (C #search·explore) Explore) (known-nodes-made : Triple 𝓤 (C #search·nodes-made) NodesMade) (known-answered : Triple 𝓤 (C #search·answered) Answers) where
     abbrev vl : Val
     vl = sliceVal (lb, lo) n
 
@@ -189,8 +189,8 @@ module _ {M : Type 1} (𝓤 : URA M) (H : Heap 𝓤) (A : Atoms 𝓤) (W : Given
       abbrev to-explore : List ℕ → List ℕ → List ℕ → List ℕ → List ℕ → (a : ℕ) → a < 2 ^ 32 → (ls : List ℕ) → length ls ≡ n → Tally → Loans 𝓤 H A
       to-explore st wk su tb nu a ga ls e ta = cons (a₀′ st) (cons (a₁′ wk) (cons (a₂′ su) (cons (a₃′ tb) (cons (a₄′ nu) (cons sheet′ (num-u32 a ga (cons (list′ ls e) (cons (tally′ ta) nil))))))))
 
-      abbrev to-trials : List ℕ → List ℕ → List ℕ → List ℕ → List ℕ → List ℕ → Tally → Loans 𝓤 H A
-      to-trials st wk su tb nu ls ta = idle (A₀ st) (idle (A₁ wk) (idle (A₂ su) (idle (A₃ tb) (idle (A₄ nu) (idle F₀ (idle (F₁ ls) (cons (loan.look 𝓤 H A W T.the-row κ₂ q₂ γ₂ b o ta) nil)))))))
+      abbrev to-nodes-made : List ℕ → List ℕ → List ℕ → List ℕ → List ℕ → List ℕ → Tally → Loans 𝓤 H A
+      to-nodes-made st wk su tb nu ls ta = idle (A₀ st) (idle (A₁ wk) (idle (A₂ su) (idle (A₃ tb) (idle (A₄ nu) (idle F₀ (idle (F₁ ls) (cons (loan.look 𝓤 H A W T.the-row κ₂ q₂ γ₂ b o ta) nil)))))))
 
       abbrev to-answered : List ℕ → List ℕ → List ℕ → List ℕ → List ℕ → List ℕ → Tally → (t : ℕ) → t < 2 ^ 32 → (r : ℕ) → r < 2 ^ 8 → Loans 𝓤 H A
       to-answered st wk su tb nu ls ta t gt r gr =
@@ -211,7 +211,7 @@ module _ {M : Type 1} (𝓤 : URA M) (H : Heap 𝓤) (A : Atoms 𝓤) (W : Given
       abbrev Post : Val → SProp 𝓤
       Post = walkOf 𝓤 H A run-with.ended stayed (run-with.clauses 𝓤 H A mem run) .post at-run
 
-      exits : (r : Answer) → Is O.the-row r (mach r ∷ []) → (ls′ : List ℕ) (ta′ : Tally) → length ls′ ≡ length ls → (means r ≡ answerOf (s .now) a ls) × (ls′ ≡ listOf (s .now) a ls) × (ta′ .trials ≡ tallyOf (s .now) a ls (ta .trials)) → ent 𝓤 (sem 𝓤 H A (Held ls′ ta′)) (Post (mach r))
+      exits : (r : Answer) → Is O.the-row r (mach r ∷ []) → (ls′ : List ℕ) (ta′ : Tally) → length ls′ ≡ length ls → (means r ≡ answerOf (s .now) a ls) × (ls′ ≡ listOf (s .now) a ls) × (tallyIn ta′ ≡ tallyOf (s .now) a ls (tallyIn ta)) → ent 𝓤 (sem 𝓤 H A (Held ls′ ta′)) (Post (mach r))
       exits r is ls′ ta′ l e =
           qed W (‵ (Held ls′ ta′) ∷ []) ∵ suffices ! _ (ends-at 𝓤 H A run-with.ended stayed (run-with.clauses 𝓤 H A mem run) W at-run (mach r) r (tt, (tt, (ls′, (ta′, tt)))) (tt, (tt, (l, (tt, tt))))) $ says ! e $
           fsplit ! $ move ! (1 ∷ []) $ fsplit ! $ move ! (1 ∷ []) $ fsplit ! $ move ! (3 ∷ []) $ fsplit ! $ move ! (4 ∷ []) $ fsplit ! $ move ! (4 ∷ []) $ fsplit ! $ move ! (1 ∷ 6 ∷ []) $ join ! $ move ! (3 ∷ 0 ∷ []) $ join ! $ move ! (4 ∷ 0 ∷ []) $ join ! $ frame ! $ nothing ! $ move ! (1 ∷ 0 ∷ []) $ fjoin ! $ move ! (1 ∷ 0 ∷ []) $ fjoin ! $ nothing ! $ fjoin ! $ nothing ! $ fjoin ! $
@@ -249,19 +249,19 @@ module _ {M : Type 1} (𝓤 : URA M) (H : Heap 𝓤) (A : Atoms 𝓤) (W : Given
           assigns ! (agg ! (and-then ! (load ! (from ! (stop !)) (look ! 11 refl)) (and-then ! (load ! (from ! (fld ! refl (stop !))) (look-in ! 32 (sub ! 1 refl (whole !)))) (no-more !)))) (from ! (stop !)) (init ! 9 refl (tt, (tt, (record { fits = room .0 }, tt)))) $
           assigns ! (addr ! (from ! (hop ! (look ! 30 refl) (stop !)))) (from ! (stop !)) (init ! 7 refl (tt, tt)) $
           calls-lent ! fm (to-explore l₅ l₆ l₇ l₈ l₉ (replicate 208 0) (replicate 256 0) (replicate 8192 0) (replicate 55296 0) (replicate 384 0) a ga ls e₀ ta) (vptr l₅ 0 ∷ vptr l₆ 0 ∷ vptr l₇ 0 ∷ vptr l₈ 0 ∷ vptr l₉ 0 ∷ vs ∷ vint w32 a ∷ vl ∷ vptr b o ∷ []) u8 (vint w8) (λ r v is. ap only (is .0))
-          (fact 𝓤 (Blank (replicate 208 0) (replicate 256 0) (replicate 8192 0) (replicate 55296 0) (replicate 384 0))) (asks _ blank) (λ r w. Explored (s .now) a ls (ta .trials) (w .1 .0) (w .1 .1 .1 .1 .1 .1 .1 .0) (w .1 .1 .1 .1 .1 .1 .1 .1 .0 .trials) r)
+          (fact 𝓤 (Blank (replicate 208 0) (replicate 256 0) (replicate 8192 0) (replicate 55296 0) (replicate 384 0))) (asks _ blank) (λ r w. Explored (s .now) a ls (tallyIn ta) (w .1 .0) (w .1 .1 .1 .1 .1 .1 .1 .0) (tallyIn (w .1 .1 .1 .1 .1 .1 .1 .1 .0)) r)
           (λ x. known-explore (((x .0 .0 ∷ [], (x .1 .0 .0 ∷ [], (x .1 .1 .0 .0 ∷ [], (x .1 .1 .1 .0 .0 ∷ [], (x .1 .1 .1 .1 .0 .0 ∷ [], (κ₀, (x .1 .1 .1 .1 .1 .1 .0 .0 ∷ [], (x .1 .1 .1 .1 .1 .1 .1 .0 .0 ∷ [], tt)))))))), (fullShare, (fullShare, (fullShare, (fullShare, (fullShare, (q₀, (fullShare, (fullShare, tt)))))))), tt, (to l₅ 0 (x .0 .1) (replicate 208 0), (to l₆ 0 (x .1 .0 .1) (replicate 256 0), (to l₇ 0 (x .1 .1 .0 .1) (replicate 8192 0), (to l₈ 0 (x .1 .1 .1 .0 .1) (replicate 55296 0), (to l₉ 0 (x .1 .1 .1 .1 .0 .1) (replicate 384 0), (s, (a, (to lb lo (x .1 .1 .1 .1 .1 .1 .0 .1) ls, (to b o (x .1 .1 .1 .1 .1 .1 .1 .0 .1) ta, tt))))))))), (vptr l₅ 0 ∷ [], (vptr l₆ 0 ∷ [], (vptr l₇ 0 ∷ [], (vptr l₈ 0 ∷ [], (vptr l₉ 0 ∷ [], (vs ∷ [], (vint w32 a ∷ [], (vl ∷ [], (vptr b o ∷ [], tt)))))))))), tt)) (λ x. (and-then ! (load ! (from ! (stop !)) (look ! 21 refl)) (and-then ! (load ! (from ! (stop !)) (look ! 19 refl)) (and-then ! (load ! (from ! (stop !)) (look ! 17 refl)) (and-then ! (load ! (from ! (stop !)) (look ! 15 refl)) (and-then ! (load ! (from ! (stop !)) (look ! 13 refl)) (and-then ! (load ! (from ! (stop !)) (look ! 36 refl)) (and-then ! (load ! (from ! (stop !)) (look ! 34 refl)) (and-then ! (load ! (from ! (stop !)) (look ! 9 refl)) (and-then ! (load ! (from ! (stop !)) (look ! 7 refl)) (no-more !))))))))))) (λ r₁ w₁ is₁ f₁ said₁.
           let st₁ : List ℕ = w₁ .0 in let wk₁ : List ℕ = w₁ .1 .0 in let su₁ : List ℕ = w₁ .1 .1 .0 in let tb₁ : List ℕ = w₁ .1 .1 .1 .0 in let nu₁ : List ℕ = w₁ .1 .1 .1 .1 .0 in
           let ls₁ : List ℕ = w₁ .1 .1 .1 .1 .1 .1 .1 .0 in let ta₁ : Tally = w₁ .1 .1 .1 .1 .1 .1 .1 .1 .0 in let l₁′ : length ls₁ ≡ length ls = f₁ .1 .1 .1 .1 .1 .1 .0 in
           land ! (from ! (stop !)) (init ! 23 refl (tt, record { fits = is₁ .1 })) $
-          -- answered(&work, trials(tally), stop)
+          -- answered(&work, nodes_made(tally), stop)
           assigns ! (addr ! (from ! (stop !))) (from ! (stop !)) (init ! 5 refl (tt, tt)) $
           assigns ! (addr ! (from ! (hop ! (look ! 30 refl) (stop !)))) (from ! (stop !)) (init ! 1 refl (tt, tt)) $
-          calls-lent ! fm (to-trials l₅ l₆ l₇ l₈ l₉ st₁ wk₁ su₁ tb₁ nu₁ ls₁ ta₁) (vptr b o ∷ []) u32 (vint w32) (λ r v is. ap only (is .0)) (emp 𝓤) (id⊢ 𝓤 _) (λ r w. r ≡ ta₁ .trials)
-          (λ x. known-trials ((((x .0 .0 ∷ [], tt), (fullShare, tt), tt, (to b o (x .0 .1) ta₁, tt), (vptr b o ∷ [], tt))), tt)) (λ x. (and-then ! (load ! (from ! (stop !)) (look ! 1 refl)) (no-more !))) (λ r₂ w₂ is₂ f₂ said₂.
+          calls-lent ! fm (to-nodes-made l₅ l₆ l₇ l₈ l₉ st₁ wk₁ su₁ tb₁ nu₁ ls₁ ta₁) (vptr b o ∷ []) u32 (vint w32) (λ r v is. ap only (is .0)) (emp 𝓤) (id⊢ 𝓤 _) (λ r w. r ≡ ta₁ .nodes)
+          (λ x. known-nodes-made ((((x .0 .0 ∷ [], tt), (fullShare, tt), tt, (to b o (x .0 .1) ta₁, tt), (vptr b o ∷ [], tt))), tt)) (λ x. (and-then ! (load ! (from ! (stop !)) (look ! 1 refl)) (no-more !))) (λ r₂ w₂ is₂ f₂ said₂.
           land ! (from ! (stop !)) (init ! 3 refl (tt, record { fits = is₂ .1 })) $
           calls-lent ! fm (to-answered l₅ l₆ l₇ l₈ l₉ st₁ wk₁ su₁ tb₁ nu₁ ls₁ ta₁ r₂ (is₂ .1) r₁ (is₁ .1)) (vptr l₆ 0 ∷ vint w32 r₂ ∷ vint w8 r₁ ∷ []) O.the-row mach (λ r v is. ap only (EL.tells O.the-type O′.the-laws r _ is))
-          (fact 𝓤 (Stopped wk₁ r₁)) (asks _ (stopped (s .now) a ls (ta .trials) wk₁ ls₁ (ta₁ .trials) r₁ said₁)) (λ r w. Answered wk₁ r₂ r₁ r)
+          (fact 𝓤 (Stopped wk₁ r₁)) (asks _ (stopped (s .now) a ls (tallyIn ta) wk₁ ls₁ (tallyIn ta₁) r₁ said₁)) (λ r w. Answered wk₁ r₂ r₁ r)
           (λ x. known-answered ((((x .0 .0 ∷ [], tt), (fullShare, tt), tt, (to l₆ 0 (x .0 .1) wk₁, (r₂, (r₁, tt))), (vptr l₆ 0 ∷ [], (vint w32 r₂ ∷ [], (vint w8 r₁ ∷ [], tt))))), tt)) (λ x. (and-then ! (load ! (from ! (stop !)) (look ! 5 refl)) (and-then ! (load ! (from ! (stop !)) (look ! 3 refl)) (and-then ! (load ! (from ! (stop !)) (look ! 23 refl)) (no-more !))))) (λ r₃ w₃ is₃ f₃ said₃.
           land ! (from ! (stop !)) (init ! 38 refl (EL.lawful O.the-type O′.the-laws 𝓤 H A W tt .typed r₃ _ is₃ .0)) $
           -- the arrays are freed
@@ -273,10 +273,10 @@ module _ {M : Type 1} (𝓤 : URA M) (H : Heap 𝓤) (A : Atoms 𝓤) (W : Given
           returns ! (look ! 43 refl) $
           forget ! 43 refl $ forget ! 41 refl $ forget ! 39 refl $ forget ! 37 refl $ forget ! 35 refl $ forget ! 5 refl $ forget ! 4 refl $ forget ! 3 refl $ forget ! 2 refl $ forget ! 0 refl $ forget ! 28 refl $ forget ! 26 refl $ forget ! 24 refl $ forget ! 22 refl $ forget ! 20 refl $ forget ! 18 refl $ forget ! 16 refl $ forget ! 14 refl $ forget ! 12 refl $ forget ! 10 refl $ forget ! 8 refl $ forget ! 6 refl $
           move ! (43 ∷ 44 ∷ []) $ free1 ! $ move ! (41 ∷ 42 ∷ []) $ free1 ! $ move ! (39 ∷ 40 ∷ []) $ free1 ! $ move ! (37 ∷ 38 ∷ []) $ free1 ! $ move ! (35 ∷ 36 ∷ []) $ free1 ! $ move ! (5 ∷ 34 ∷ []) $ free1 ! $ move ! (4 ∷ 32 ∷ []) $ free1 ! $ move ! (3 ∷ 30 ∷ []) $ free1 ! $ move ! (2 ∷ 28 ∷ []) $ free1 ! $ move ! (0 ∷ 26 ∷ []) $ free1 ! $ move ! (23 ∷ 24 ∷ []) $ free1 ! $ move ! (21 ∷ 22 ∷ []) $ free1 ! $ move ! (19 ∷ 20 ∷ []) $ free1 ! $ move ! (17 ∷ 18 ∷ []) $ free1 ! $ move ! (15 ∷ 16 ∷ []) $ free1 ! $ move ! (13 ∷ 14 ∷ []) $ free1 ! $ move ! (11 ∷ 12 ∷ []) $ free1 ! $ move ! (9 ∷ 10 ∷ []) $ free1 ! $ move ! (7 ∷ 8 ∷ []) $ free1 ! $ move ! (5 ∷ 6 ∷ []) $ free1 ! $ move ! (3 ∷ 4 ∷ []) $ free1 ! $ move ! (1 ∷ 2 ∷ []) $ free1 ! $ free0 ! $
-          keep ! (0 ∷ []) $ by ! (exits r₃ is₃ ls₁ ta₁ l₁′ (let e = said (s .now) a ls (ta .trials) wk₁ ls₁ (ta₁ .trials) r₁ said₁ r₃ (subst (λ (t : ℕ). Answered wk₁ t r₁ r₃) said₂ said₃) in (e .answer, e .lists, e .counts)))))))))))))))))))))))))))))))))
+          keep ! (0 ∷ []) $ by ! (exits r₃ is₃ ls₁ ta₁ l₁′ (let e = said (s .now) a ls (tallyIn ta) wk₁ ls₁ (tallyIn ta₁) r₁ said₁ r₂ said₂ r₃ said₃ in (e .answer, e .lists, e .counts)))))))))))))))))))))))))))))))))
 
 module _ {M : Type 1} (𝓤 : URA M) (H : Heap 𝓤) (A : Atoms 𝓤) (W : Given 𝓤 H A) (mem : Memory → SProp 𝓤) (run : Routine → Fun 𝓤) where
-  run-with-walks : (C : Calls 𝓤 H) (Λ : Loops 𝓤 H) → FmC 𝓤 H (W .laws) C → Triple 𝓤 (C #search·explore) (Explore 𝓤 H A W mem run) → Triple 𝓤 (C #search·trials) (Trials 𝓤 H A W mem run) → Triple 𝓤 (C #search·answered) (Answers 𝓤 H A W mem run) → Walks 𝓤 H A run-with.ended stayed (WpFn 𝓤 H C Λ code.function) (run-with.clauses 𝓤 H A mem run)
+  run-with-walks : (C : Calls 𝓤 H) (Λ : Loops 𝓤 H) → FmC 𝓤 H (W .laws) C → Triple 𝓤 (C #search·explore) (Explore 𝓤 H A W mem run) → Triple 𝓤 (C #search·nodes-made) (NodesMade 𝓤 H A W mem run) → Triple 𝓤 (C #search·answered) (Answers 𝓤 H A W mem run) → Walks 𝓤 H A run-with.ended stayed (WpFn 𝓤 H C Λ code.function) (run-with.clauses 𝓤 H A mem run)
   run-with-walks C Λ fm x t r =
       walked 𝓤 H A run-with.ended stayed (run-with.clauses 𝓤 H A mem run) (WpFn 𝓤 H C Λ code.function) (λ κs. (slice-vals, (uint-vals w32, (slice-vals, (ptr-vals, tt)))))
       (λ κs. (shr-slice-tells (named 0) (κs .0) u8, (uint-tells w32, (mut-slice-tells (named 1) (κs .1 .0) u8, (mut-tells (named 2) (κs .1 .1 .0) T.the-row, tt)))))
@@ -284,7 +284,7 @@ module _ {M : Type 1} (𝓤 : URA M) (H : Heap 𝓤) (A : Atoms 𝓤) (W : Given
       (walk 𝓤 H A W mem run (κs .0) (κs .1 .0) (κs .1 .1 .0) (qs .0) (qs .1 .0) (qs .1 .1 .0) (a .0) (a .1 .1 .0 .ptr .0) (a .1 .1 .0 .ptr .1) (length (a .1 .1 .0 .now)) (a .1 .1 .1 .0 .ptr .0) (a .1 .1 .1 .0 .ptr .1) (a .1 .1 .0 .name) (a .1 .1 .1 .0 .name) (are .0 .0 .1) (are .1 .1 .0 .0 .1) C Λ fm x t r
       (a .1 .1 .0 .now) refl (a .1 .1 .1 .0 .now) (a .1 .0) (are .1 .0 .1)))
 
-  run-with-meets : (𝓣 : Tables 𝓤 H) → Triple 𝓤 (𝓣 .C #search·explore) (Explore 𝓤 H A W mem run) → Triple 𝓤 (𝓣 .C #search·trials) (Trials 𝓤 H A W mem run) → Triple 𝓤 (𝓣 .C #search·answered) (Answers 𝓤 H A W mem run) → Meets 𝓤 H A run-with.signature (WpFn 𝓤 H (𝓣 .C) (𝓣 .Λ) code.function) (run-with.spec 𝓤 H A mem run)
+  run-with-meets : (𝓣 : Tables 𝓤 H) → Triple 𝓤 (𝓣 .C #search·explore) (Explore 𝓤 H A W mem run) → Triple 𝓤 (𝓣 .C #search·nodes-made) (NodesMade 𝓤 H A W mem run) → Triple 𝓤 (𝓣 .C #search·answered) (Answers 𝓤 H A W mem run) → Meets 𝓤 H A run-with.signature (WpFn 𝓤 H (𝓣 .C) (𝓣 .Λ) code.function) (run-with.spec 𝓤 H A mem run)
   run-with-meets 𝓣 x t r =
       walk-meets 𝓤 H A run-with.ended stayed W (goes-dropped 𝓤 H A W 3 (shrSliceOf (0 ∷ []) tt bytes) yes (λ κs x f. refl), (goes-dropped 𝓤 H A W 3 (plain (λ _. u32)) yes (λ κs x f. refl), (goes-slice 𝓤 H A W 3 1 tt bytes, (goes-ref 𝓤 H A W 3 2 tt counts, tt)))) (run-with.clauses 𝓤 H A mem run)
       (WpFn 𝓤 H (𝓣 .C) (𝓣 .Λ) code.function) (WpFn-mono 𝓤 H (W .laws) 𝓣 code.function) (run-with-walks (𝓣 .C) (𝓣 .Λ) (fmOf 𝓤 H (W .laws) 𝓣) x t r)
@@ -297,5 +297,5 @@ run-with-spec 𝓤 H 𝓜 𝓖 𝓡 =
     (tables 𝓤 H 𝓜 𝓡 code.env .C) (tables 𝓤 H 𝓜 𝓡 code.env .Λ) #search·run-with code.function (code.unfolded 𝓤 H 𝓜 𝓡)
     (run-with-meets 𝓤 H (𝓖 .A) W (𝓜 .mem) (𝓡 .run) (tablesOf 𝓤 H 𝓜 (tables 𝓤 H 𝓜 𝓡 code.env))
     (cited 𝓤 H (Explore 𝓤 H (𝓖 .A) W (𝓜 .mem) (𝓡 .run)) 𝓜 𝓡 code.env #search·explore explore-def.routine code.calls-search·explore (explore-thm.met 𝓤 H 𝓜 𝓖 𝓡))
-    (cited 𝓤 H (Trials 𝓤 H (𝓖 .A) W (𝓜 .mem) (𝓡 .run)) 𝓜 𝓡 code.env #search·trials trials-def.routine code.calls-search·trials (trials-thm.met 𝓤 H 𝓜 𝓖 𝓡))
+    (cited 𝓤 H (NodesMade 𝓤 H (𝓖 .A) W (𝓜 .mem) (𝓡 .run)) 𝓜 𝓡 code.env #search·nodes-made nodes-made-def.routine code.calls-search·nodes-made (nodes-made-thm.met 𝓤 H 𝓜 𝓖 𝓡))
     (cited 𝓤 H (Answers 𝓤 H (𝓖 .A) W (𝓜 .mem) (𝓡 .run)) 𝓜 𝓡 code.env #search·answered answered-def.routine code.calls-search·answered (answered-thm.met 𝓤 H 𝓜 𝓖 𝓡)))

@@ -7,7 +7,7 @@ use Rattle.sheet.proofs.compile.Tie as tie
 use Rattle.sheet.proofs.compile.Reads as reads
 use Rattle.sheet.proofs.compile.Lts as lts
 use Rattle.sheet.proofs.form.ask.Reads as form-ask-reads
-use Rattle.sheet.proofs.read.Header.read.Reads as read-reads
+use Rattle.reader.proofs.read_header.Reads as read-header-reads
 use Rattle.sheet.proofs.tables.ask.Reads as tables-ask-reads
 use Rattle.sheet.proofs.tables.decode_all.Reads as decode-all-reads
 
@@ -27,12 +27,12 @@ returns : tie.Need-returns
 returns c = compile-no _ _ _ _ _ _ _ (c .enum-told2 .given .1) (whole-no _ _ _ _ _ _ (c .enum-told2 .given .1) (c .before .before .ask .ensures))
 
 -- src/lib.rt:51:9
-read-requires : tie.Need-read-requires
-read-requires c κs = long _ _ _ _ (c .enum-told .given .1) (c .before .before .ask .ensures)
+read-header-requires : tie.Need-read-header-requires
+read-header-requires c κs = long _ _ _ _ (c .enum-told .given .1) (c .before .before .ask .ensures)
 
 -- src/lib.rt:52:9
 ask-requires-2 : tie.Need-ask-requires-2
-ask-requires-2 c κs = (c .before .before .before .before .before .ask .ensures .formed (c .before .before .before .enum-told .given .1), c .before .before .read .ensures)
+ask-requires-2 c κs = (c .before .before .before .before .before .ask .ensures .formed (c .before .before .before .enum-told .given .1), c .before .before .read-header .ensures)
 
 enum-told-3 : tie.Need-enum-told-3
 enum-told-3 c = search needs
@@ -47,7 +47,7 @@ returns-2 c = compile-no _ _ _ _ _ _ _ (c .enum-told4 .given .1) (whole-yes _ _ 
 
 -- src/lib.rt:56:5
 decode-all-requires : tie.Need-decode-all-requires
-decode-all-requires c κs = (sym (whole-yes _ _ _ _ (c .before .before .before .ask2 .result) (c .before .before .before .before .before .before .before .enum-told .given .1) (c .before .before .before .before .before .before .before .before .before .ask .ensures) (c .before .before .before .ask2 .ensures)) ∙ ap means (c .before .enum-told3 .given .1), c .before .before .before .before .before .before .read .ensures, c .before .before .before .before .before .before .before .before .before .before .before .before .before .pre .2)
+decode-all-requires c κs = (sym (whole-yes _ _ _ _ (c .before .before .before .ask2 .result) (c .before .before .before .before .before .before .before .enum-told .given .1) (c .before .before .before .before .before .before .before .before .before .ask .ensures) (c .before .before .before .ask2 .ensures)) ∙ ap means (c .before .enum-told3 .given .1), c .before .before .before .before .before .before .read-header .ensures, c .before .before .before .before .before .before .before .before .before .before .before .before .before .pre .2)
 
 -- src/lib.rt:38:1
 returns-3 : tie.Need-returns-3
@@ -61,7 +61,7 @@ compile-spec =
     enum-told
     enum-told-2
     returns
-    read-requires
+    read-header-requires
     ask-requires-2
     enum-told-3
     enum-told-4

@@ -5,7 +5,7 @@ use Rattle.sheet.proofs.question.Tie as tie
 use Rattle.sheet.proofs.question.Reads as reads
 use Rattle.sheet.proofs.question.Lts as lts
 use Rattle.sheet.proofs.form.ask.Reads as form-ask-reads
-use Rattle.sheet.proofs.read.Header.read.Reads as read-reads
+use Rattle.reader.proofs.read_header.Reads as read-header-reads
 use Rattle.sheet.proofs.tables.ask.Reads as tables-ask-reads
 
 -- src/lib.rt:28:9
@@ -24,12 +24,12 @@ returns : tie.Need-returns
 returns c = whole-no _ _ _ _ _ _ (c .enum-told2 .given .1) (c .before .before .ask .ensures)
 
 -- src/lib.rt:32:9
-read-requires : tie.Need-read-requires
-read-requires c κs = long _ _ _ _ (c .enum-told .given .1) (c .before .before .ask .ensures)
+read-header-requires : tie.Need-read-header-requires
+read-header-requires c κs = long _ _ _ _ (c .enum-told .given .1) (c .before .before .ask .ensures)
 
 -- src/lib.rt:33:5
 ask-requires-2 : tie.Need-ask-requires-2
-ask-requires-2 c κs = (c .before .before .before .before .before .ask .ensures .formed (c .before .before .before .enum-told .given .1), c .before .before .read .ensures)
+ask-requires-2 c κs = (c .before .before .before .before .before .ask .ensures .formed (c .before .before .before .enum-told .given .1), c .before .before .read-header .ensures)
 
 -- src/lib.rt:23:1
 returns-2 : tie.Need-returns-2
@@ -38,4 +38,4 @@ returns-2 c = whole-yes _ _ _ _ (c .ask2 .result) (c .before .before .before .be
 pub question-spec : {M : Type 1} → statement M
 question-spec =
     tie.close
-    (tie.spec ask-requires enum-told enum-told-2 returns read-requires ask-requires-2 returns-2)
+    (tie.spec ask-requires enum-told enum-told-2 returns read-header-requires ask-requires-2 returns-2)

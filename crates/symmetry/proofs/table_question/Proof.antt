@@ -7,7 +7,7 @@ use Rattle.model.specs.Sheet.{permutesPairs}
 use Rattle.model.proofs.Lists.{T-of}
 use Rattle.symmetry.specs.Table.{Asked, tableOf}
 use Rattle.symmetry.specs.Forbidden.{Decoded, Short, Lent}
-use Rattle.symmetry.proofs.Answers.{asked-laid, asked-lent, answer-15, answer-16, answer-last}
+use Rattle.symmetry.proofs.Answers.{asked-table, asked-lent, answer-15, answer-16, answer-last}
 use borrow.Author.Needs.{needs}
 use Rattle.symmetry.proofs.table_question.Statement.{statement}
 use Rattle.symmetry.proofs.table_question.Tie as tie
@@ -21,17 +21,17 @@ use Rattle.symmetry.proofs.walk.variables.Reads as variables-reads
 
 -- src/lib.rt:20:9
 permutes-requires : tie.Need-permutes-requires
-permutes-requires c κs = let h = c .before .pre in (h .0, asked-laid (h .0) _ _ _ _ (h .1))
+permutes-requires c κs = let h = c .before .pre in (h .0, asked-table (h .0) _ _ _ _ (h .1))
 
 -- src/lib.rt:21:9
 returns : tie.Need-returns
-returns c = λ p a. answer-15 p _ _ _ _ a (sym (c .before .permutes .ensures p (asked-laid p _ _ _ _ a)) ∙ not-true _ (c .if1 .taken))
+returns c = λ p a. answer-15 p _ _ _ _ a (sym (c .before .permutes .ensures p (asked-table p _ _ _ _ a)) ∙ not-true _ (c .if1 .taken))
 
 permuted : (c : tie.Else1) (p : Problem) → Asked p (now (c .before .before .before .args .sheet)) (c .before .before .before .args .offset) (now (c .before .before .before .args .numbers)) (now (c .before .before .before .args .supports)) → permutesPairs p (tableOf p (now (c .before .before .before .args .sheet)) (c .before .before .before .args .offset)) ≡ true
-permuted c p a = sym (c .before .permutes .ensures p (asked-laid p _ _ _ _ a)) ∙ not-false _ (c .if1 .left)
+permuted c p a = sym (c .before .permutes .ensures p (asked-table p _ _ _ _ a)) ∙ not-false _ (c .if1 .left)
 
 decoded : (c : tie.After-short-scopes) (p : Problem) → Asked p (now (c .before .before .before .before .before .args .sheet)) (c .before .before .before .before .before .args .offset) (now (c .before .before .before .before .before .args .numbers)) (now (c .before .before .before .before .before .args .supports)) → Decoded p (tableOf p (now (c .before .before .before .before .before .args .sheet)) (c .before .before .before .before .before .args .offset)) (c .before .decode .result)
-decoded c p a = c .before .decode .ensures p (asked-laid p _ _ _ _ a) (T-of _ (permuted (c .before .before) p a))
+decoded c p a = c .before .decode .ensures p (asked-table p _ _ _ _ a) (T-of _ (permuted (c .before .before) p a))
 
 shorts : (c : tie.After-short-scopes) (p : Problem) → Asked p (now (c .before .before .before .before .before .args .sheet)) (c .before .before .before .before .before .args .offset) (now (c .before .before .before .before .before .args .numbers)) (now (c .before .before .before .before .before .args .supports)) → Short p (c .short-scopes .result)
 shorts c p a = c .short-scopes .ensures p (a .ready .framed)
@@ -41,7 +41,7 @@ lent c p a = asked-lent p _ _ _ _ a (permuted (c .before .before) p a) _ _ (deco
 
 -- src/lib.rt:23:17
 decode-requires : tie.Need-decode-requires
-decode-requires c κs = let h = c .before .before .before .pre in (h .0, asked-laid (h .0) _ _ _ _ (h .1), T-of _ (permuted c (h .0) (h .1)))
+decode-requires c κs = let h = c .before .before .before .pre in (h .0, asked-table (h .0) _ _ _ _ (h .1), T-of _ (permuted c (h .0) (h .1)))
 
 -- src/lib.rt:24:9
 short-scopes-requires : tie.Need-short-scopes-requires

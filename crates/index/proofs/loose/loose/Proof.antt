@@ -4,13 +4,14 @@ use Prim.Native.Nat.{_-_, _≤_}
 use native.Mathlib.Omega.{arith}
 use borrow.Author.Needs.{needs}
 use Rattle.model.specs.Lists.{at}
+use Rattle.layout.specs.Places.{VARIABLES}
 use Rattle.index.specs.Steps.{LooseSet}
-use Rattle.index.proofs.Refusing.{loose-none, loose-more, loose-all}
+use Rattle.index.proofs.LooseVariables.{loose-none, loose-more, loose-all}
 use Rattle.index.proofs.loose.loose.Statement.{statement}
 use Rattle.index.proofs.loose.loose.Tie as tie
 
 abbrev Inv-loop : tie.InvT-loop
-Inv-loop numbers tables n all₀ x₀ all x = (x ≤ n) × (n ≡ at numbers 64) × LooseSet numbers tables x all
+Inv-loop numbers tables n all₀ x₀ all x = (x ≤ n) × (n ≡ at numbers VARIABLES) × LooseSet numbers tables x all
 
 abbrev μ-loop : tie.MeasureT-loop
 μ-loop numbers tables n all₀ x₀ all x = n - x

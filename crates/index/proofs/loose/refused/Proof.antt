@@ -3,7 +3,7 @@ use mathlib.Core.Path.{sym, _∙_}
 use borrow.Author.Needs.{needs}
 use borrow.Author.Tests.{not-true}
 use Rattle.model.specs.Lists.{at}
-use Rattle.index.proofs.Refusing.{refused-none, refused-not}
+use Rattle.index.proofs.LooseVariables.{refused-none, refused-not}
 use Rattle.index.proofs.loose.refused.Statement.{statement}
 use Rattle.index.proofs.loose.refused.Tie as tie
 
@@ -13,17 +13,17 @@ contains-requires c κs = search needs
 returns : tie.Need-returns
 returns c = refused-none _ _ _ _ (sym (c .before .contains .ensures) ∙ not-true _ (c .if1 .taken))
 
-mul-outside : tie.Need-mul-outside
-mul-outside c = search needs
+mul-t8 : tie.Need-mul-t8
+mul-t8 c = search needs
 
-add-outside : tie.Need-add-outside
-add-outside c = search needs
+add-t9 : tie.Need-add-t9
+add-t9 c = search needs
 
-mul-outside-2 : tie.Need-mul-outside-2
-mul-outside-2 c = search needs
+mul-t10 : tie.Need-mul-t10
+mul-t10 c = search needs
 
-element-copy-out-outside : tie.Need-element-copy-out-outside
-element-copy-out-outside c = search needs
+element-copy-out-t13 : tie.Need-element-copy-out-t13
+element-copy-out-t13 c = search needs
 
 outside-requires : tie.Need-outside-requires
 outside-requires c κs = search needs
@@ -38,9 +38,9 @@ refused-spec =
     (tie.spec
     contains-requires
     returns
-    mul-outside
-    add-outside
-    mul-outside-2
-    element-copy-out-outside
+    mul-t8
+    add-t9
+    mul-t10
+    element-copy-out-t13
     outside-requires
     returns-2)

@@ -4,8 +4,8 @@ use Prim.Native.Nat.{_+_, _*_, _-_, _≤_}
 use native.Mathlib.Omega.{arith}
 use borrow.Author.Needs.{needs}
 use Rattle.model.specs.Lists.{at}
-use Rattle.index.specs.Steps.{Filled}
-use Rattle.index.proofs.Stores.{filled-begin, filled-turn, filled-end}
+use Rattle.model.specs.Filling.{Filled}
+use Rattle.model.proofs.Filling.{filled-begin, filled-turn, filled-end}
 use Rattle.index.proofs.rows.across.Statement.{statement}
 use Rattle.index.proofs.rows.across.Tie as tie
 

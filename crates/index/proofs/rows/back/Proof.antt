@@ -3,10 +3,10 @@ use mathlib.Core.Path.{_≡_, refl}
 use Prim.Native.Nat.{_+_, _*_, _-_, _≤_}
 use native.Mathlib.Omega.{arith}
 use borrow.Author.Needs.{needs}
-use Rattle.model.specs.ValueSets.{has, maskOf}
 use Rattle.model.specs.Lists.{at}
-use Rattle.index.specs.Steps.{Filled}
-use Rattle.index.proofs.Stores.{filled-begin, filled-turn, filled-end}
+use Rattle.model.specs.ValueSets.{has, maskOf}
+use Rattle.model.specs.Filling.{Filled}
+use Rattle.model.proofs.Filling.{filled-begin, filled-turn, filled-end}
 use Rattle.index.proofs.rows.back.Statement.{statement}
 use Rattle.index.proofs.rows.back.Tie as tie
 
@@ -18,6 +18,9 @@ abbrev μ-loop : tie.MeasureT-loop
 
 loop-holds : tie.Need-loop-holds Inv-loop μ-loop
 loop-holds c = (search needs, filled-begin _ _ _)
+
+cast-column : tie.Need-cast-column Inv-loop μ-loop
+cast-column c = search needs
 
 column-requires : tie.Need-column-requires Inv-loop μ-loop
 column-requires c κs = search needs
@@ -53,6 +56,7 @@ back-spec =
     Inv-loop
     μ-loop
     loop-holds
+    cast-column
     column-requires
     mul-tables
     add-tables

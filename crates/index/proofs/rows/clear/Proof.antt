@@ -3,16 +3,17 @@ use mathlib.Core.Path.{_≡_, refl}
 use Prim.Native.Nat.{_-_, _≤_}
 use native.Mathlib.Omega.{arith}
 use borrow.Author.Needs.{needs}
-use Rattle.index.specs.Steps.{Filled}
-use Rattle.index.proofs.Stores.{filled-begin, filled-turn, filled-end}
+use Rattle.model.specs.Filling.{Filled}
+use Rattle.model.proofs.Filling.{filled-begin, filled-turn, filled-end}
+use Rattle.layout.specs.Places.{SMALLER}
 use Rattle.index.proofs.rows.clear.Statement.{statement}
 use Rattle.index.proofs.rows.clear.Tie as tie
 
 abbrev Inv-loop : tie.InvT-loop
-Inv-loop tables₀ i₀ tables i = (i ≤ 3072) × Filled (λ j. j) (λ j r. r ≡ 65535) i tables₀ tables
+Inv-loop tables₀ i₀ tables i = (i ≤ SMALLER) × Filled (λ j. j) (λ j r. r ≡ 65535) i tables₀ tables
 
 abbrev μ-loop : tie.MeasureT-loop
-μ-loop tables₀ i₀ tables i = 3072 - i
+μ-loop tables₀ i₀ tables i = SMALLER - i
 
 loop-holds : tie.Need-loop-holds Inv-loop μ-loop
 loop-holds c = (search needs, filled-begin _ _ _)

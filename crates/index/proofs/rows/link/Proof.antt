@@ -5,7 +5,7 @@ use borrow.Author.Needs.{needs}
 use borrow.Author.Tests.{not-true, not-false}
 use Rattle.model.specs.Lists.{at}
 use Rattle.model.proofs.Lists.{T-of}
-use Rattle.index.proofs.Rowed.{rows-skip, rows-turn, two-of, by-rows-is}
+use Rattle.index.proofs.RowTables.{rows-skip, rows-turn, two-of, by-rows-is}
 use Rattle.index.proofs.rows.link.Statement.{statement}
 use Rattle.index.proofs.rows.link.Tie as tie
 

@@ -1,4 +1,4 @@
--- The complement of a set. Assumes nothing.
+-- What a set lacks. Assumes nothing.
 use borrow.Author.Needs.{needs}
 use Rattle.model.proofs.Masks.{has-not}
 use Rattle.index.proofs.sets.outside.Statement.{statement}

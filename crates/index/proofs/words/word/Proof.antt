@@ -6,21 +6,21 @@ use lib.ListN.{getD}
 use borrow.Author.Needs.{needs}
 use Rattle.model.specs.Lists.{at}
 use Rattle.model.proofs.Masks.{byte-lt}
-use Rattle.index.proofs.Lanes.{Laned, laned-begin, laned-fits, laned-turn, laned-end}
+use Rattle.index.proofs.Lanes.{LanesSoFar, lanes-begin, lanes-fit, lanes-turn, lanes-end}
 use Rattle.index.proofs.words.word.Statement.{statement}
 use Rattle.index.proofs.words.word.Tie as tie
 
 abbrev Inv-loop : tie.InvT-loop
-Inv-loop supports base all₀ t₀ all t = Laned supports base t all
+Inv-loop supports base all₀ t₀ all t = LanesSoFar supports base t all
 
 abbrev μ-loop : tie.MeasureT-loop
 μ-loop supports base all₀ t₀ all t = 8 - t
 
 loop-holds : tie.Need-loop-holds Inv-loop μ-loop
-loop-holds c = laned-begin _ _
+loop-holds c = lanes-begin _ _
 
 mul-all : tie.Need-mul-all Inv-loop μ-loop
-mul-all c = record { fits = omega (arith, laned-fits _ _ _ _ 0 (c .before .loop .inv) (c .loop-test .taken)) }
+mul-all c = record { fits = omega (arith, lanes-fit _ _ _ _ 0 (c .before .loop .inv) (c .loop-test .taken)) }
 
 add-all : tie.Need-add-all Inv-loop μ-loop
 add-all c = search needs
@@ -38,7 +38,7 @@ cast-all : tie.Need-cast-all Inv-loop μ-loop
 cast-all c = record { fits = omega (arith, byte-lt (getD (c .before .before .before .args .supports .now) (c .before .before .before .args .base + 7 - c .before .before .loop .t) 0)) }
 
 add-all-2 : tie.Need-add-all-2 Inv-loop μ-loop
-add-all-2 c = record { fits = laned-fits _ _ _ _ (getD (c .before .before .before .args .supports .now) (c .before .before .before .args .base + 7 - c .before .before .loop .t) 0) (c .before .before .loop .inv) (c .before .loop-test .taken) }
+add-all-2 c = record { fits = lanes-fit _ _ _ _ (getD (c .before .before .before .args .supports .now) (c .before .before .before .args .base + 7 - c .before .before .loop .t) 0) (c .before .before .loop .inv) (c .before .loop-test .taken) }
 
 add-t : tie.Need-add-t Inv-loop μ-loop
 add-t c = search needs
@@ -48,10 +48,10 @@ loop-less c = search needs
 
 loop-again : tie.Need-loop-again Inv-loop μ-loop
 unfolding at
-loop-again c = laned-turn _ _ _ _ _ (c .before .before .loop .inv) (c .before .loop-test .taken) refl
+loop-again c = lanes-turn _ _ _ _ _ (c .before .before .loop .inv) (c .before .loop-test .taken) refl
 
 returns : tie.Need-returns Inv-loop μ-loop
-returns c = laned-end _ _ _ _ (search needs) (c .before .loop .inv)
+returns c = lanes-end _ _ _ _ (search needs) (c .before .loop .inv)
 
 pub word-spec : {M : Type 1} → statement M
 word-spec =

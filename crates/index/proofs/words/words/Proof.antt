@@ -3,13 +3,15 @@ use mathlib.Core.Path.{refl}
 use Prim.Native.Nat.{_+_, _-_, _*_, _/_, _%_, _≤_}
 use native.Mathlib.Omega.{arith}
 use borrow.Author.Needs.{needs}
-use Rattle.index.specs.Steps.{Filled, Lanes}
-use Rattle.index.proofs.Stores.{filled-begin, filled-turn, filled-end}
+use Rattle.model.specs.Filling.{Filled}
+use Rattle.layout.specs.Places.{LANES}
+use Rattle.index.specs.Steps.{Lanes}
+use Rattle.model.proofs.Filling.{filled-begin, filled-turn, filled-end}
 use Rattle.index.proofs.words.words.Statement.{statement}
 use Rattle.index.proofs.words.words.Tie as tie
 
 abbrev Inv-loop : tie.InvT-loop
-Inv-loop numbers₀ supports c₀ numbers c = (c ≤ 256) × Filled (λ j. 128 + j) (λ j r. Lanes supports (256 * (j / 8) + 16 * (j % 8)) r) c numbers₀ numbers
+Inv-loop numbers₀ supports c₀ numbers c = (c ≤ 256) × Filled (λ j. LANES + j) (λ j r. Lanes supports (256 * (j / 8) + 16 * (j % 8)) r) c numbers₀ numbers
 
 abbrev μ-loop : tie.MeasureT-loop
 μ-loop numbers₀ supports c₀ numbers c = 256 - c

@@ -18,24 +18,24 @@ loop-holds : tie.Need-loop-holds Inv-loop μ-loop
 loop-holds c = (omega arith, scope-none _ _ _ _ _ _ (c .before .pre .1))
 
 -- src/constraints.rt:55:39
-mul-word-at : tie.Need-mul-word-at Inv-loop μ-loop
-mul-word-at c = omega (arith, c .loop-test .taken, c .before .before .before .pre .1)
+mul-read-word : tie.Need-mul-read-word Inv-loop μ-loop
+mul-read-word c = omega (arith, c .loop-test .taken, c .before .before .before .pre .1)
 
 -- src/constraints.rt:55:32
-add-word-at : tie.Need-add-word-at Inv-loop μ-loop
-add-word-at c = omega (arith, c .loop-test .taken, c .before .before .before .pre .4, c .before .before .before .good)
+add-read-word : tie.Need-add-read-word Inv-loop μ-loop
+add-read-word c = omega (arith, c .loop-test .taken, c .before .before .before .pre .4, c .before .before .before .good)
 
 -- src/constraints.rt:55:13
-word-at-requires : tie.Need-word-at-requires Inv-loop μ-loop
-word-at-requires c κs = omega (arith, c .loop-test .taken, c .before .before .before .pre .4)
+read-word-requires : tie.Need-read-word-requires Inv-loop μ-loop
+read-word-requires c κs = omega (arith, c .loop-test .taken, c .before .before .before .pre .4)
 
 -- src/constraints.rt:57:13
 returns : tie.Need-returns Inv-loop μ-loop
-returns c = scope-low _ _ _ _ _ _ _ _ _ _ _ (c .before .before .before .loop .inv .1) _ (c .before .word-at .ensures) (c .before .before .loop-test .taken) (c .if1 .taken)
+returns c = scope-low _ _ _ _ _ _ _ _ _ _ _ (c .before .before .before .loop .inv .1) _ (c .before .read-word .ensures) (c .before .before .loop-test .taken) (c .if1 .taken)
 
 -- src/constraints.rt:60:13
 returns-2 : tie.Need-returns-2 Inv-loop μ-loop
-returns-2 c = scope-high _ _ _ _ _ _ _ _ _ _ _ (c .before .before .before .before .loop .inv .1) _ (c .before .before .word-at .ensures) (c .before .before .before .loop-test .taken) (c .if2 .taken)
+returns-2 c = scope-high _ _ _ _ _ _ _ _ _ _ _ (c .before .before .before .before .loop .inv .1) _ (c .before .before .read-word .ensures) (c .before .before .before .loop-test .taken) (c .if2 .taken)
 
 -- src/constraints.rt:62:9
 touch-requires : tie.Need-touch-requires Inv-loop μ-loop
@@ -43,11 +43,11 @@ touch-requires c κs = (c .before .before .before .before .before .before .befor
 
 -- src/constraints.rt:63:27
 mul-packed : tie.Need-mul-packed Inv-loop μ-loop
-mul-packed c = omega (arith, part (c .before .before .before .before .word-at .result) (c .before .before .before .before .before .before .loop .unit) (omega (arith, c .before .before .if2 .left, c .before .before .before .before .before .before .before .before .pre .2)), unit-small (c .before .before .before .before .before .before .loop .i) (c .before .before .before .before .before .before .loop .unit) (omega (arith, c .before .before .before .before .before .loop-test .taken, c .before .before .before .before .before .before .before .before .pre .1)) (c .before .before .before .before .before .before .loop .inv .1 .power))
+mul-packed c = omega (arith, part (c .before .before .before .before .read-word .result) (c .before .before .before .before .before .before .loop .unit) (omega (arith, c .before .before .if2 .left, c .before .before .before .before .before .before .before .before .pre .2)), unit-small (c .before .before .before .before .before .before .loop .i) (c .before .before .before .before .before .before .loop .unit) (omega (arith, c .before .before .before .before .before .loop-test .taken, c .before .before .before .before .before .before .before .before .pre .1)) (c .before .before .before .before .before .before .loop .inv .1 .power))
 
 -- src/constraints.rt:63:18
 add-packed : tie.Need-add-packed Inv-loop μ-loop
-add-packed c = omega (arith, c .before .before .before .before .before .before .loop .inv .1 .small, part (c .before .before .before .before .word-at .result) (c .before .before .before .before .before .before .loop .unit) (omega (arith, c .before .before .if2 .left, c .before .before .before .before .before .before .before .before .pre .2)), unit-small (c .before .before .before .before .before .before .loop .i) (c .before .before .before .before .before .before .loop .unit) (omega (arith, c .before .before .before .before .before .loop-test .taken, c .before .before .before .before .before .before .before .before .pre .1)) (c .before .before .before .before .before .before .loop .inv .1 .power))
+add-packed c = omega (arith, c .before .before .before .before .before .before .loop .inv .1 .small, part (c .before .before .before .before .read-word .result) (c .before .before .before .before .before .before .loop .unit) (omega (arith, c .before .before .if2 .left, c .before .before .before .before .before .before .before .before .pre .2)), unit-small (c .before .before .before .before .before .before .loop .i) (c .before .before .before .before .before .before .loop .unit) (omega (arith, c .before .before .before .before .before .loop-test .taken, c .before .before .before .before .before .before .before .before .pre .1)) (c .before .before .before .before .before .before .loop .inv .1 .power))
 
 -- src/constraints.rt:64:16
 mul-unit : tie.Need-mul-unit Inv-loop μ-loop
@@ -67,7 +67,7 @@ loop-less c = omega (arith, c .before .before .before .before .before .loop-test
 
 -- src/constraints.rt:54:5
 loop-again : tie.Need-loop-again Inv-loop μ-loop
-loop-again c = (omega (arith, c .before .before .before .before .before .loop-test .taken), scope-more _ _ _ _ _ _ _ _ _ _ _ (c .before .before .before .before .before .before .loop .inv .1) _ (c .before .before .before .before .word-at .ensures) _ (c .touch .ensures) (c .before .before .before .if1 .left) (c .before .before .if2 .left) (c .before .before .before .before .before .before .before .before .pre .2))
+loop-again c = (omega (arith, c .before .before .before .before .before .loop-test .taken), scope-more _ _ _ _ _ _ _ _ _ _ _ (c .before .before .before .before .before .before .loop .inv .1) _ (c .before .before .before .before .read-word .ensures) _ (c .touch .ensures) (c .before .before .before .if1 .left) (c .before .before .if2 .left) (c .before .before .before .before .before .before .before .before .pre .2))
 
 -- src/constraints.rt:68:13
 add-numbers : tie.Need-add-numbers Inv-loop μ-loop
@@ -92,9 +92,9 @@ scope-spec =
     Inv-loop
     μ-loop
     loop-holds
-    mul-word-at
-    add-word-at
-    word-at-requires
+    mul-read-word
+    add-read-word
+    read-word-requires
     returns
     returns-2
     touch-requires

@@ -12,7 +12,7 @@ use Rattle.sheet.proofs.constraints.ask.Reads as constraints-ask-reads
 use Rattle.sheet.proofs.form.store_counts.Reads as store-counts-reads
 use Rattle.sheet.proofs.form.tables_fit.Reads as tables-fit-reads
 use Rattle.sheet.proofs.heading.ask.Reads as heading-ask-reads
-use Rattle.sheet.proofs.read.Header.read.Reads as read-reads
+use Rattle.reader.proofs.read_header.Reads as read-header-reads
 use Rattle.sheet.proofs.sets.ask.Reads as sets-ask-reads
 
 -- src/form.rt:36:9
@@ -31,12 +31,12 @@ returns : tie.Need-returns
 returns c = form-heading _ _ _ _ _ _ (c .enum-told2 .given .1) (c .before .before .ask .ensures)
 
 -- src/form.rt:40:9
-read-requires : tie.Need-read-requires
-read-requires c κs = (fit-of _ _ (c .enum-told .given .1) (c .before .before .ask .ensures)) .long
+read-header-requires : tie.Need-read-header-requires
+read-header-requires c κs = (fit-of _ _ (c .enum-told .given .1) (c .before .before .ask .ensures)) .long
 
 -- src/form.rt:41:9
 ask-requires-2 : tie.Need-ask-requires-2
-ask-requires-2 c κs = (fit-of _ _ (c .before .before .enum-told .given .1) (c .before .before .before .before .ask .ensures), ap (λ (x : Numbers). x .variables) (c .before .read .ensures), ap (λ (x : Numbers). x .values) (c .before .read .ensures), c .before .before .before .before .before .before .pre .0 .sized)
+ask-requires-2 c κs = (fit-of _ _ (c .before .before .enum-told .given .1) (c .before .before .before .before .ask .ensures), ap (λ (x : Numbers). x .variables) (c .before .read-header .ensures), ap (λ (x : Numbers). x .values) (c .before .read-header .ensures), c .before .before .before .before .before .before .pre .0 .sized)
 
 enum-told-3 : tie.Need-enum-told-3
 enum-told-3 c = search needs
@@ -51,7 +51,7 @@ returns-2 c = form-sets _ _ (c .before .before .before .before .before .enum-tol
 
 -- src/form.rt:45:9
 ask-requires-3 : tie.Need-ask-requires-3
-ask-requires-3 c κs = (fit-of _ _ (c .before .before .before .before .before .before .before .enum-told .given .1) (c .before .before .before .before .before .before .before .before .before .ask .ensures), c .before .before .before .before .before .before .read .ensures)
+ask-requires-3 c κs = (fit-of _ _ (c .before .before .before .before .before .before .before .enum-told .given .1) (c .before .before .before .before .before .before .before .before .before .ask .ensures), c .before .before .before .before .before .before .read-header .ensures)
 
 enum-told-5 : tie.Need-enum-told-5
 enum-told-5 c = search needs
@@ -68,11 +68,11 @@ returns-3 c = form-constraints _ _ (c .before .before .before .before .before .b
 tables-fit-requires : tie.Need-tables-fit-requires
 tables-fit-requires c κs =
     let f = fit-of _ _ (c .before .before .before .before .before .before .before .before .before .before .enum-told .given .1) (c .before .before .before .before .before .before .before .before .before .before .before .before .ask .ensures) in
-    (omega (arith, f .few, ap (λ (x : Numbers). x .variables) (c .before .before .before .before .before .before .before .before .before .read .ensures)), omega (arith, f .sixteen, ap (λ (x : Numbers). x .values) (c .before .before .before .before .before .before .before .before .before .read .ensures)), omega (arith, f .symmetries, ap (λ (x : Numbers). x .symmetries) (c .before .before .before .before .before .before .before .before .before .read .ensures)), omega (arith, f .third, ap (λ (x : Numbers). x .third) (c .before .before .before .before .before .before .before .before .before .read .ensures), c .before .before .before .before .before .before .before .before .before .before .before .before .before .before .good))
+    (omega (arith, f .few, ap (λ (x : Numbers). x .variables) (c .before .before .before .before .before .before .before .before .before .read-header .ensures)), omega (arith, f .sixteen, ap (λ (x : Numbers). x .values) (c .before .before .before .before .before .before .before .before .before .read-header .ensures)), omega (arith, f .symmetries, ap (λ (x : Numbers). x .symmetries) (c .before .before .before .before .before .before .before .before .before .read-header .ensures)), omega (arith, f .third, ap (λ (x : Numbers). x .third) (c .before .before .before .before .before .before .before .before .before .read-header .ensures), c .before .before .before .before .before .before .before .before .before .before .before .before .before .before .good))
 
 -- src/form.rt:50:9
 returns-4 : tie.Need-returns-4
-returns-4 c = form-length _ _ (c .before .before .before .before .before .before .before .before .before .before .before .before .enum-told .given .1) (c .before .before .before .before .before .before .before .before .before .before .before .before .before .before .ask .ensures) _ _ _ _ (c .before .before .before .before .before .before .before .enum-told3 .given .1) (c .before .before .before .before .before .before .before .before .before .ask2 .ensures) _ _ _ _ (c .before .before .enum-told5 .given .1) (c .before .before .before .before .ask3 .ensures) _ (c .before .before .before .before .before .before .before .before .before .before .before .read .ensures) _ (c .before .tables-fit .ensures) (not-true _ (c .if1 .taken))
+returns-4 c = form-length _ _ (c .before .before .before .before .before .before .before .before .before .before .before .before .enum-told .given .1) (c .before .before .before .before .before .before .before .before .before .before .before .before .before .before .ask .ensures) _ _ _ _ (c .before .before .before .before .before .before .before .enum-told3 .given .1) (c .before .before .before .before .before .before .before .before .before .ask2 .ensures) _ _ _ _ (c .before .before .enum-told5 .given .1) (c .before .before .before .before .ask3 .ensures) _ (c .before .before .before .before .before .before .before .before .before .before .before .read-header .ensures) _ (c .before .tables-fit .ensures) (not-true _ (c .if1 .taken))
 
 -- src/form.rt:55:5
 store-counts-requires : tie.Need-store-counts-requires
@@ -80,7 +80,7 @@ store-counts-requires c κs = search needs
 
 -- src/form.rt:32:1
 returns-5 : tie.Need-returns-5
-returns-5 c = form-whole _ _ (c .before .before .before .before .before .before .before .before .before .before .before .before .before .before .enum-told .given .1) (c .before .before .before .before .before .before .before .before .before .before .before .before .before .before .before .before .ask .ensures) _ _ _ _ (c .before .before .before .before .before .before .before .before .before .enum-told3 .given .1) (c .before .before .before .before .before .before .before .before .before .before .before .ask2 .ensures) _ _ _ _ (c .before .before .before .before .enum-told5 .given .1) (c .before .before .before .before .before .before .ask3 .ensures) _ (c .before .before .before .before .before .before .before .before .before .before .before .before .before .read .ensures) _ (c .before .before .before .tables-fit .ensures) _ (not-false _ (c .before .before .if1 .left)) (ap (λ (x : Numbers). x .variables) (c .before .before .before .before .before .before .before .before .before .before .before .before .before .read .ensures)) (c .before .before .before .before .before .before .before .before .before .before .before .before .before .before .before .before .before .before .pre .0) (c .before .before .before .before .before .before .before .before .before .before .before .before .before .before .before .before .before .before .pre .1) (c .store-counts .ensures)
+returns-5 c = form-whole _ _ (c .before .before .before .before .before .before .before .before .before .before .before .before .before .before .enum-told .given .1) (c .before .before .before .before .before .before .before .before .before .before .before .before .before .before .before .before .ask .ensures) _ _ _ _ (c .before .before .before .before .before .before .before .before .before .enum-told3 .given .1) (c .before .before .before .before .before .before .before .before .before .before .before .ask2 .ensures) _ _ _ _ (c .before .before .before .before .enum-told5 .given .1) (c .before .before .before .before .before .before .ask3 .ensures) _ (c .before .before .before .before .before .before .before .before .before .before .before .before .before .read-header .ensures) _ (c .before .before .before .tables-fit .ensures) _ (not-false _ (c .before .before .if1 .left)) (ap (λ (x : Numbers). x .variables) (c .before .before .before .before .before .before .before .before .before .before .before .before .before .read-header .ensures)) (c .before .before .before .before .before .before .before .before .before .before .before .before .before .before .before .before .before .before .pre .0) (c .before .before .before .before .before .before .before .before .before .before .before .before .before .before .before .before .before .before .pre .1) (c .store-counts .ensures)
 
 pub ask-spec : {M : Type 1} → statement M
 ask-spec =
@@ -90,7 +90,7 @@ ask-spec =
     enum-told
     enum-told-2
     returns
-    read-requires
+    read-header-requires
     ask-requires-2
     enum-told-3
     enum-told-4

@@ -7,7 +7,7 @@ use Rattle.sheet.proofs.rows.ask.Reads as reads
 use Rattle.sheet.proofs.rows.ask.Lts as lts
 use Rattle.sheet.proofs.rows.key.Reads as key-reads
 use Rattle.sheet.proofs.rows.ordered.Reads as ordered-reads
-use Rattle.sheet.proofs.rows.support.Reads as support-reads
+use Rattle.sheet.proofs.rows.add_row.Reads as add-row-reads
 
 abbrev Inv-loop : tie.InvT-loop
 Inv-loop sheet from a n d base supports₀ refused₀ least₀ at₀ i₀ supports refused least at i = (i ≤ n) × RowsTo sheet from a d base supports₀ i supports refused least at
@@ -36,8 +36,8 @@ add-least : tie.Need-add-least Inv-loop μ-loop
 add-least c = omega (arith, c .before .if1 .left)
 
 -- src/rows.rt:69:9
-support-requires : tie.Need-support-requires Inv-loop μ-loop
-support-requires c κs = (c .before .before .if1 .left, c .before .before .before .before .before .before .before .pre .5)
+add-row-requires : tie.Need-add-row-requires Inv-loop μ-loop
+add-row-requires c κs = (c .before .before .if1 .left, c .before .before .before .before .before .before .before .pre .5)
 
 -- src/rows.rt:70:19
 mul-at : tie.Need-mul-at Inv-loop μ-loop
@@ -57,7 +57,7 @@ loop-less c = omega (arith, c .before .before .before .before .before .loop-test
 
 -- src/rows.rt:62:5
 loop-again : tie.Need-loop-again Inv-loop μ-loop
-loop-again c = (omega (arith, c .before .before .before .before .before .loop-test .taken), rows-more _ _ _ _ _ _ _ _ _ _ _ (c .before .before .before .before .before .before .loop .inv .1) _ _ _ (c .before .before .before .if1 .left) (c .before .before .before .before .key .ensures) (c .before .before .ordered .ensures) (c .support .ensures))
+loop-again c = (omega (arith, c .before .before .before .before .before .loop-test .taken), rows-more _ _ _ _ _ _ _ _ _ _ _ (c .before .before .before .before .before .before .loop .inv .1) _ _ _ (c .before .before .before .if1 .left) (c .before .before .before .before .key .ensures) (c .before .before .ordered .ensures) (c .add-row .ensures))
 
 -- src/rows.rt:46:1
 returns-2 : tie.Need-returns-2 Inv-loop μ-loop
@@ -74,7 +74,7 @@ ask-spec =
     returns
     ordered-requires
     add-least
-    support-requires
+    add-row-requires
     mul-at
     add-at
     add-i

@@ -18,20 +18,20 @@ loop-holds : tie.Need-loop-holds Inv-loop μ-loop
 loop-holds c = (omega arith, key-none _ _ _)
 
 -- src/rows.rt:18:36
-mul-word-at : tie.Need-mul-word-at Inv-loop μ-loop
-mul-word-at c = omega arith
+mul-read-word : tie.Need-mul-read-word Inv-loop μ-loop
+mul-read-word c = omega arith
 
 -- src/rows.rt:18:32
-add-word-at : tie.Need-add-word-at Inv-loop μ-loop
-add-word-at c = omega arith
+add-read-word : tie.Need-add-read-word Inv-loop μ-loop
+add-read-word c = omega arith
 
 -- src/rows.rt:18:13
-word-at-requires : tie.Need-word-at-requires Inv-loop μ-loop
-word-at-requires c κs = omega arith
+read-word-requires : tie.Need-read-word-requires Inv-loop μ-loop
+read-word-requires c κs = omega arith
 
 -- src/rows.rt:20:13
 returns : tie.Need-returns Inv-loop μ-loop
-returns c = key-bad _ _ _ _ _ _ (c .before .before .loop-test .taken) (c .if1 .taken) (c .before .word-at .ensures)
+returns c = key-bad _ _ _ _ _ _ (c .before .before .loop-test .taken) (c .if1 .taken) (c .before .read-word .ensures)
 
 -- src/rows.rt:22:15
 mul-key : tie.Need-mul-key Inv-loop μ-loop
@@ -51,7 +51,7 @@ loop-less c = omega arith
 
 -- src/rows.rt:17:5
 loop-again : tie.Need-loop-again Inv-loop μ-loop
-loop-again c = (omega (arith, c .before .before .loop-test .taken), key-more _ _ _ _ _ _ (c .before .before .before .before .before .pre .1) (c .if1 .left) (c .before .word-at .ensures) (c .before .before .before .loop .inv .1))
+loop-again c = (omega (arith, c .before .before .loop-test .taken), key-more _ _ _ _ _ _ (c .before .before .before .before .before .pre .1) (c .if1 .left) (c .before .read-word .ensures) (c .before .before .before .loop .inv .1))
 
 -- src/rows.rt:11:1
 returns-2 : tie.Need-returns-2 Inv-loop μ-loop
@@ -64,9 +64,9 @@ key-spec =
     Inv-loop
     μ-loop
     loop-holds
-    mul-word-at
-    add-word-at
-    word-at-requires
+    mul-read-word
+    add-read-word
+    read-word-requires
     returns
     mul-key
     add-key

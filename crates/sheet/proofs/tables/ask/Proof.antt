@@ -2,7 +2,7 @@ use Prim.Native.Nat.{ℕ, _-_, _≤_, _<_}
 use mathlib.Core.Path.{ap, sym, subst}
 use native.Mathlib.Omega.{arith}
 use Rattle.model.specs.Sheet.{Header as Numbers, problemOf}
-use Rattle.sheet.proofs.Stating.{left}
+use Rattle.sheet.proofs.Stating.{form-passed}
 use Rattle.sheet.proofs.FormTurn.{pair-room, same-size}
 use Rattle.sheet.proofs.TablesTurn.{TablesTo, tables-none, tables-more, tables-no, tables-end, table-asked, table-room}
 use Rattle.sheet.proofs.tables.ask.Statement.{statement}
@@ -19,13 +19,13 @@ abbrev μ-loop : tie.MeasureT-loop
 -- src/tables.rt:22:21
 mul-size : tie.Need-mul-size Inv-loop μ-loop
 mul-size c =
-    let f = left (c .before .before .args .sheet .now) (c .before .before .pre .0 .passed) .fits in
+    let f = form-passed (c .before .before .args .sheet .now) (c .before .before .pre .0 .passed) .fits in
     omega (arith, pair-room (c .before .before .args .h .variables) (c .before .before .args .h .values) (omega (arith, f .few, ap (λ (x : Numbers). x .variables) (c .before .before .pre .1))) (omega (arith, f .sixteen, ap (λ (x : Numbers). x .values) (c .before .before .pre .1))))
 
 -- src/tables.rt:22:16
 mul-size-2 : tie.Need-mul-size-2 Inv-loop μ-loop
 mul-size-2 c =
-    let f = left (c .before .before .args .sheet .now) (c .before .before .pre .0 .passed) .fits in
+    let f = form-passed (c .before .before .args .sheet .now) (c .before .before .pre .0 .passed) .fits in
     omega (arith, pair-room (c .before .before .args .h .variables) (c .before .before .args .h .values) (omega (arith, f .few, ap (λ (x : Numbers). x .variables) (c .before .before .pre .1))) (omega (arith, f .sixteen, ap (λ (x : Numbers). x .values) (c .before .before .pre .1))))
 
 -- src/tables.rt:25:5
@@ -44,14 +44,14 @@ returns c =
 -- src/tables.rt:30:14
 add-at : tie.Need-add-at Inv-loop μ-loop
 add-at c =
-    let f = left (c .before .before .before .before .before .before .args .sheet .now) (c .before .before .before .before .before .before .pre .0 .passed) in
+    let f = form-passed (c .before .before .before .before .before .before .args .sheet .now) (c .before .before .before .before .before .before .pre .0 .passed) in
     let l : c .before .before .before .loop .e < _ = subst (λ (x : ℕ). c .before .before .before .loop .e < x) (ap (λ (x : Numbers). x .symmetries) (c .before .before .before .before .before .before .pre .1)) (c .before .before .loop-test .taken) in
     omega (arith, c .before .before .before .loop .inv .1 .here, table-room (c .before .before .before .before .before .before .args .sheet .now) (c .before .before .before .loop .e) (f .filled) l, same-size (c .before .before .before .before .before .before .args .h .variables) (c .before .before .before .before .before .before .args .h .values) _ _ (ap (λ (x : Numbers). x .variables) (c .before .before .before .before .before .before .pre .1)) (ap (λ (x : Numbers). x .values) (c .before .before .before .before .before .before .pre .1)), c .before .before .before .before .before .before .good)
 
 -- src/tables.rt:31:9
 add-e : tie.Need-add-e Inv-loop μ-loop
 add-e c =
-    let f = left (c .before .before .before .before .before .before .args .sheet .now) (c .before .before .before .before .before .before .pre .0 .passed) .fits in
+    let f = form-passed (c .before .before .before .before .before .before .args .sheet .now) (c .before .before .before .before .before .before .pre .0 .passed) .fits in
     omega (arith, subst (λ (x : ℕ). c .before .before .before .loop .e < x) (ap (λ (x : Numbers). x .symmetries) (c .before .before .before .before .before .before .pre .1)) (c .before .before .loop-test .taken), f .symmetries)
 
 -- src/tables.rt:25:5

@@ -21,7 +21,7 @@ abbrev μ-loop : tie.MeasureT-loop
 mul-count : tie.Need-mul-count Inv-loop μ-loop
 mul-count c =
     let f = accept (c .before .before .args .sheet .now) (c .before .before .pre .0) in
-    omega (arith, pair-room (c .before .before .args .h .variables) (c .before .before .args .h .values) (omega (arith, f .few, ap (λ (x : Numbers). x .variables) (c .before .before .pre .1))) (omega (arith, f .sixteen, ap (λ (x : Numbers). x .values) (c .before .before .pre .1))))
+    omega (arith, pair-room (c .before .before .args .h .variables) (c .before .before .args .h .values) (omega (arith, f .header .few, ap (λ (x : Numbers). x .variables) (c .before .before .pre .1))) (omega (arith, f .header .sixteen, ap (λ (x : Numbers). x .values) (c .before .before .pre .1))))
 
 -- src/tables.rt:67:5
 loop-holds : tie.Need-loop-holds Inv-loop μ-loop
@@ -31,7 +31,7 @@ loop-holds c = (omega arith, images-none _ _ _ (ap (λ (x : Numbers). x .third) 
 mul-decode : tie.Need-mul-decode Inv-loop μ-loop
 mul-decode c =
     let f = accept (c .before .before .before .before .args .sheet .now) (c .before .before .before .before .pre .0) in
-    omega (arith, subst (λ (x : ℕ). c .before .loop .e < x) (ap (λ (x : Numbers). x .symmetries) (c .before .before .before .before .pre .1)) (c .loop-test .taken), f .symmetries)
+    omega (arith, subst (λ (x : ℕ). c .before .loop .e < x) (ap (λ (x : Numbers). x .symmetries) (c .before .before .before .before .pre .1)) (c .loop-test .taken), f .header .symmetries)
 
 -- src/tables.rt:68:9
 decode-requires : tie.Need-decode-requires Inv-loop μ-loop
@@ -41,7 +41,7 @@ decode-requires c κs = decodable (c .before .before .before .before .before .ar
 mul-from : tie.Need-mul-from Inv-loop μ-loop
 mul-from c =
     let f = accept (c .before .before .before .before .before .before .args .sheet .now) (c .before .before .before .before .before .before .pre .0) in
-    omega (arith, pair-room (c .before .before .before .before .before .before .args .h .variables) (c .before .before .before .before .before .before .args .h .values) (omega (arith, f .few, ap (λ (x : Numbers). x .variables) (c .before .before .before .before .before .before .pre .1))) (omega (arith, f .sixteen, ap (λ (x : Numbers). x .values) (c .before .before .before .before .before .before .pre .1))))
+    omega (arith, pair-room (c .before .before .before .before .before .before .args .h .variables) (c .before .before .before .before .before .before .args .h .values) (omega (arith, f .header .few, ap (λ (x : Numbers). x .variables) (c .before .before .before .before .before .before .pre .1))) (omega (arith, f .header .sixteen, ap (λ (x : Numbers). x .values) (c .before .before .before .before .before .before .pre .1))))
 
 -- src/tables.rt:69:16
 add-from : tie.Need-add-from Inv-loop μ-loop
@@ -51,7 +51,7 @@ add-from c = omega (arith, (decodable (c .before .before .before .before .before
 add-e : tie.Need-add-e Inv-loop μ-loop
 add-e c =
     let f = accept (c .before .before .before .before .before .before .args .sheet .now) (c .before .before .before .before .before .before .pre .0) in
-    omega (arith, subst (λ (x : ℕ). c .before .before .before .loop .e < x) (ap (λ (x : Numbers). x .symmetries) (c .before .before .before .before .before .before .pre .1)) (c .before .before .loop-test .taken), f .symmetries)
+    omega (arith, subst (λ (x : ℕ). c .before .before .before .loop .e < x) (ap (λ (x : Numbers). x .symmetries) (c .before .before .before .before .before .before .pre .1)) (c .before .before .loop-test .taken), f .header .symmetries)
 
 -- src/tables.rt:67:5
 loop-less : tie.Need-loop-less Inv-loop μ-loop

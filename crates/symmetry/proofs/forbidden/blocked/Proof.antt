@@ -7,9 +7,9 @@ use lib.Dec.{lit<}
 use lib.Count.{trailingZeros, trailing-le}
 use Rattle.model.specs.Problem.{Problem}
 use Rattle.layout.specs.Layout.{constraintAt}
-use Rattle.symmetry.specs.Forbidden.{Triple, Left, refusedBy}
-use Rattle.symmetry.proofs.Laws.{rest-less}
-use Rattle.symmetry.proofs.Asking.{first-clash, second-clash, third-clash, variables-small, left-start, left-next, left-stop, left-rest, left-none}
+use Rattle.symmetry.specs.Forbidden.{Triple, Pending, refusedBy}
+use Rattle.model.proofs.Members.{rest-less}
+use Rattle.symmetry.proofs.Asking.{first-clash, second-clash, third-clash, variables-small, pending-start, pending-next, pending-stop, pending-rest, pending-none}
 use Rattle.symmetry.proofs.forbidden.blocked.Statement.{statement}
 use Rattle.symmetry.proofs.forbidden.blocked.Tie as tie
 use Rattle.symmetry.proofs.forbidden.blocked.Reads as reads
@@ -19,10 +19,10 @@ use Rattle.symmetry.proofs.forbidden.clash.Reads as clash-reads
 use Rattle.symmetry.proofs.forbidden.refused.Reads as refused-reads
 
 abbrev Inv-loop : tie.InvT-loop
-Inv-loop numbers supports short a b e left₀ left = (p : Problem) → Triple p numbers supports short a b e → Left p a b e left
+Inv-loop numbers supports short a b e pending₀ pending = (p : Problem) → Triple p numbers supports short a b e → Pending p a b e pending
 
 abbrev μ-loop : tie.MeasureT-loop
-μ-loop numbers supports short a b e left₀ left = left
+μ-loop numbers supports short a b e pending₀ pending = pending
 
 -- src/forbidden.rt:126:8
 clash-requires : tie.Need-clash-requires Inv-loop μ-loop
@@ -54,7 +54,7 @@ candidates-requires c κs = let h = c .before .before .before .before .before .b
 
 -- src/forbidden.rt:136:5
 loop-holds : tie.Need-loop-holds Inv-loop μ-loop
-loop-holds c = λ p t. left-start p _ _ _ _ _ _ t _ (c .candidates .ensures p (t .ready .framed) (t .shorts))
+loop-holds c = λ p t. pending-start p _ _ _ _ _ _ t _ (c .candidates .ensures p (t .ready .framed) (t .shorts))
 
 -- src/forbidden.rt:137:17
 cast-k : tie.Need-cast-k Inv-loop μ-loop
@@ -62,18 +62,18 @@ cast-k c = record { fits = lt-of-le-of-lt (trailing-le 64 _) (lit< tt) }
 
 -- src/forbidden.rt:138:12
 refused-requires : tie.Need-refused-requires Inv-loop μ-loop
-refused-requires c κs = let h = c .before .before .before .before .before .before .before .before .before .pre in (h .0, h .1 .ready, left-next (h .0) _ _ _ _ _ _ (h .1) _ (c .before .loop .inv (h .0) (h .1)) (c .loop-test .taken))
+refused-requires c κs = let h = c .before .before .before .before .before .before .before .before .before .pre in (h .0, h .1 .ready, pending-next (h .0) _ _ _ _ _ _ (h .1) _ (c .before .loop .inv (h .0) (h .1)) (c .loop-test .taken))
 
-asked : (c : tie.After-refused Inv-loop μ-loop) (p : Problem) (t : Triple p (now (c .before .before .before .before .before .before .before .before .before .before .args .numbers)) (now (c .before .before .before .before .before .before .before .before .before .before .args .supports)) (c .before .before .before .before .before .before .before .before .before .before .args .short) (c .before .before .before .before .before .before .before .before .before .before .args .a) (c .before .before .before .before .before .before .before .before .before .before .args .b) (c .before .before .before .before .before .before .before .before .before .before .args .e)) → c .refused .result ≡ refusedBy (constraintAt p (trailingZeros 64 (c .before .before .loop .left))) (c .before .before .before .before .before .before .before .before .before .before .args .a) (c .before .before .before .before .before .before .before .before .before .before .args .b) (c .before .before .before .before .before .before .before .before .before .before .args .e)
-asked c p t = c .refused .ensures p (t .ready) (left-next p _ _ _ _ _ _ t _ (c .before .before .loop .inv p t) (c .before .loop-test .taken))
+asked : (c : tie.After-refused Inv-loop μ-loop) (p : Problem) (t : Triple p (now (c .before .before .before .before .before .before .before .before .before .before .args .numbers)) (now (c .before .before .before .before .before .before .before .before .before .before .args .supports)) (c .before .before .before .before .before .before .before .before .before .before .args .short) (c .before .before .before .before .before .before .before .before .before .before .args .a) (c .before .before .before .before .before .before .before .before .before .before .args .b) (c .before .before .before .before .before .before .before .before .before .before .args .e)) → c .refused .result ≡ refusedBy (constraintAt p (trailingZeros 64 (c .before .before .loop .pending))) (c .before .before .before .before .before .before .before .before .before .before .args .a) (c .before .before .before .before .before .before .before .before .before .before .args .b) (c .before .before .before .before .before .before .before .before .before .before .args .e)
+asked c p t = c .refused .ensures p (t .ready) (pending-next p _ _ _ _ _ _ t _ (c .before .before .loop .inv p t) (c .before .loop-test .taken))
 
 -- src/forbidden.rt:139:13
 returns-4 : tie.Need-returns-4 Inv-loop μ-loop
-returns-4 c = λ p t. left-stop p _ _ _ _ _ _ t _ (c .before .before .before .loop .inv p t) (c .before .before .loop-test .taken) (sym (asked (c .before) p t) ∙ c .if4 .taken)
+returns-4 c = λ p t. pending-stop p _ _ _ _ _ _ t _ (c .before .before .before .loop .inv p t) (c .before .before .loop-test .taken) (sym (asked (c .before) p t) ∙ c .if4 .taken)
 
 -- src/forbidden.rt:141:24
-sub-left : tie.Need-sub-left Inv-loop μ-loop
-sub-left c = let n = c .before .before .loop-test .taken in omega arith
+sub-pending : tie.Need-sub-pending Inv-loop μ-loop
+sub-pending c = let n = c .before .before .loop-test .taken in omega arith
 
 -- src/forbidden.rt:136:5
 loop-less : tie.Need-loop-less Inv-loop μ-loop
@@ -81,11 +81,11 @@ loop-less c = rest-less _ (c .before .before .loop-test .taken)
 
 -- src/forbidden.rt:136:5
 loop-again : tie.Need-loop-again Inv-loop μ-loop
-loop-again c = λ p t. left-rest p _ _ _ _ _ _ t _ (c .before .before .before .loop .inv p t) (c .before .before .loop-test .taken) (sym (asked (c .before) p t) ∙ c .if4 .left)
+loop-again c = λ p t. pending-rest p _ _ _ _ _ _ t _ (c .before .before .before .loop .inv p t) (c .before .before .loop-test .taken) (sym (asked (c .before) p t) ∙ c .if4 .left)
 
 -- src/forbidden.rt:115:1
 returns-5 : tie.Need-returns-5 Inv-loop μ-loop
-returns-5 c = λ p t. left-none p _ _ _ _ _ _ t _ (c .before .loop .inv p t) (c .loop-test .left) (sym (c .before .before .before .before .before .before .before .before .clash .ensures) ∙ c .before .before .before .before .before .before .before .if1 .left) (sym (c .before .before .before .before .before .before .clash2 .ensures) ∙ c .before .before .before .before .before .if2 .left) (sym (c .before .before .before .before .clash3 .ensures) ∙ c .before .before .before .if3 .left)
+returns-5 c = λ p t. pending-none p _ _ _ _ _ _ t _ (c .before .loop .inv p t) (c .loop-test .left) (sym (c .before .before .before .before .before .before .before .before .clash .ensures) ∙ c .before .before .before .before .before .before .before .if1 .left) (sym (c .before .before .before .before .before .before .clash2 .ensures) ∙ c .before .before .before .before .before .if2 .left) (sym (c .before .before .before .before .clash3 .ensures) ∙ c .before .before .before .if3 .left)
 
 pub blocked-spec : {M : Type 1} → statement M
 blocked-spec =
@@ -104,7 +104,7 @@ blocked-spec =
     cast-k
     refused-requires
     returns-4
-    sub-left
+    sub-pending
     loop-less
     loop-again
     returns-5)

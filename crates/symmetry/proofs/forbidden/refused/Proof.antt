@@ -1,3 +1,5 @@
+use mathlib.Core.Path.{_∙_, ap}
+use mathlib.Core.Bool.{not}
 use Prim.Native.Nat.{ℕ, _+_, _-_, _*_, _/_, _≤_, _<_}
 use native.Mathlib.Omega.{arith}
 use denote.Ref.{now}
@@ -90,13 +92,14 @@ add-support c = omega (arith, place c)
 support-requires : tie.Need-support-requires Inv-loop μ-loop
 support-requires c κs = place c
 
--- src/forbidden.rt:111:6
-shr-result : tie.Need-shr-result Inv-loop μ-loop
-shr-result c = omega arith
+cast-contains : tie.Need-cast-contains Inv-loop μ-loop
+cast-contains c = omega arith
 
--- src/forbidden.rt:89:1
+contains-requires : tie.Need-contains-requires Inv-loop μ-loop
+contains-requires c κs = tt
+
 returns-2 : tie.Need-returns-2 Inv-loop μ-loop
-returns-2 c = λ p r h. looked-all p _ _ r _ h _ _ _ _ _ (c .before .before .loop .inv p r h) (over (c .before) p r h) _ (c .support .ensures .0)
+returns-2 c = λ p r h. ap not (c .contains .ensures) ∙ looked-all p _ _ r _ h _ _ _ _ _ (c .before .before .before .loop .inv p r h) (over (c .before .before) p r h) _ (c .before .support .ensures)
 
 pub refused-spec : {M : Type 1} → statement M
 refused-spec =
@@ -117,5 +120,6 @@ refused-spec =
     mul-support
     add-support
     support-requires
-    shr-result
+    cast-contains
+    contains-requires
     returns-2)

@@ -6,14 +6,15 @@ use Rattle.symmetry.proofs.Codes.{isPair-lt}
 use mathlib.Core.Path.{_≡_, refl, sym, ap, _∙_, subst}
 use Prim.Native.Nat.{ℕ, _+_, _-_, _*_, _≤_, _<_}
 use native.Mathlib.Omega.{arith}
+use Rattle.model.proofs.Lists.{at-replicate}
 use borrow.Author.Needs.{needs}
 use denote.Ref.{now}
 use lib.ListN.{length, length-set}
 use Rattle.model.specs.Problem.{Problem}
-use Rattle.symmetry.specs.Table.{Laid, tableOf}
+use Rattle.symmetry.specs.Table.{TableAt, tableOf}
 use Rattle.symmetry.specs.Scan.{Seen}
 use Rattle.symmetry.proofs.Frames.{size-lt, size-is}
-use Rattle.symmetry.proofs.Scans.{zeros-at, seen-none, seen-all, read-out, read-twice, read-moved, read-same, read-more, table-length, table-small}
+use Rattle.symmetry.proofs.Scans.{seen-none, seen-all, read-out, read-twice, read-moved, read-same, read-more, table-length, table-small}
 use Rattle.symmetry.proofs.table.permutes.Statement.{statement}
 use Rattle.symmetry.proofs.table.permutes.Tie as tie
 use Rattle.symmetry.proofs.table.permutes.Reads as reads
@@ -22,7 +23,7 @@ use Rattle.symmetry.proofs.table.is_pair.Reads as is-pair-reads
 use Rattle.symmetry.proofs.table.number.Reads as number-reads
 
 abbrev Inv-loop : tie.InvT-loop
-Inv-loop sheet offset numbers count seen₀ q₀ seen q = (length seen ≡ 192) × ((p : Problem) → Laid p sheet offset numbers → (q ≤ p .variables * p .values) × Seen p (tableOf p sheet offset) seen q)
+Inv-loop sheet offset numbers count seen₀ q₀ seen q = (length seen ≡ 192) × ((p : Problem) → TableAt p sheet offset numbers → (q ≤ p .variables * p .values) × Seen p (tableOf p sheet offset) seen q)
 
 abbrev μ-loop : tie.MeasureT-loop
 μ-loop sheet offset numbers count seen₀ q₀ seen q = count - q
@@ -41,9 +42,9 @@ mul-count c = let l = c .before .before .before .pre in omega (arith, size-lt (l
 
 -- src/table.rt:56:5
 loop-holds : tie.Need-loop-holds Inv-loop μ-loop
-loop-holds c = (refl, λ p l. (omega arith, seen-none p _ _ (zeros-at 192)))
+loop-holds c = (refl, λ p l. (omega arith, seen-none p _ _ (at-replicate 192)))
 
-inside : (c : tie.In-loop Inv-loop μ-loop) (p : Problem) → Laid p (now (c .before .before .before .before .before .args .sheet)) (c .before .before .before .before .before .args .offset) (now (c .before .before .before .before .before .args .numbers)) → c .before .loop .q < p .variables * p .values
+inside : (c : tie.In-loop Inv-loop μ-loop) (p : Problem) → TableAt p (now (c .before .before .before .before .before .args .sheet)) (c .before .before .before .before .before .args .offset) (now (c .before .before .before .before .before .args .numbers)) → c .before .loop .q < p .variables * p .values
 inside c p l = subst (λ (n : ℕ). c .before .loop .q < n) (size-is p _ (l .framed) _ _ (c .before .before .before .number .ensures) (c .before .before .number2 .ensures)) (c .loop-test .taken)
 
 small : (c : tie.In-loop Inv-loop μ-loop) → c .before .loop .q < 192
@@ -52,26 +53,26 @@ small c = let l = c .before .before .before .before .before .pre in omega (arith
 room : (c : tie.In-loop Inv-loop μ-loop) → c .before .before .before .before .before .args .offset + 2 * c .before .loop .q + 2 ≤ length (now (c .before .before .before .before .before .args .sheet))
 room c = let l = c .before .before .before .before .before .pre in omega (arith, inside c (l .0) (l .1), l .1 .whole)
 
-image-small : (c : tie.Else2 Inv-loop μ-loop) → c .before .before .before .before .word-at .result < 192
+image-small : (c : tie.Else2 Inv-loop μ-loop) → c .before .before .before .before .read-word .result < 192
 image-small c =
     let l = c .before .before .before .before .before .before .before .before .before .before .pre in
     let t = sym (c .before .is-pair2 .ensures (l .0) (l .1 .framed)) ∙ not-false _ (c .if2 .left) in
-    omega (arith, isPair-lt (l .0) (l .1 .framed .stated) (c .before .before .before .before .word-at .result) (T-of _ t), table-small (l .0) (l .1 .framed .stated))
+    omega (arith, isPair-lt (l .0) (l .1 .framed .stated) (c .before .before .before .before .read-word .result) (T-of _ t), table-small (l .0) (l .1 .framed .stated))
 
-over : (c : tie.After-loop Inv-loop μ-loop) (p : Problem) (l : Laid p (now (c .before .before .before .before .before .args .sheet)) (c .before .before .before .before .before .args .offset) (now (c .before .before .before .before .before .args .numbers))) → c .before .loop .q ≡ p .variables * p .values
+over : (c : tie.After-loop Inv-loop μ-loop) (p : Problem) (l : TableAt p (now (c .before .before .before .before .before .args .sheet)) (c .before .before .before .before .before .args .offset) (now (c .before .before .before .before .before .args .numbers))) → c .before .loop .q ≡ p .variables * p .values
 over c p l = omega (arith, size-is p _ (l .framed) _ _ (c .before .before .before .number .ensures) (c .before .before .number2 .ensures), c .loop-test .left, c .before .loop .inv .1 p l .0)
 
 -- src/table.rt:57:41
-mul-word-at : tie.Need-mul-word-at Inv-loop μ-loop
-mul-word-at c = omega (arith, small c)
+mul-read-word : tie.Need-mul-read-word Inv-loop μ-loop
+mul-read-word c = omega (arith, small c)
 
 -- src/table.rt:57:32
-add-word-at : tie.Need-add-word-at Inv-loop μ-loop
-add-word-at c = omega (arith, room c)
+add-read-word : tie.Need-add-read-word Inv-loop μ-loop
+add-read-word c = omega (arith, room c)
 
 -- src/table.rt:57:13
-word-at-requires : tie.Need-word-at-requires Inv-loop μ-loop
-word-at-requires c κs = omega (arith, room c)
+read-word-requires : tie.Need-read-word-requires Inv-loop μ-loop
+read-word-requires c κs = omega (arith, room c)
 
 -- src/table.rt:58:12
 is-pair-requires : tie.Need-is-pair-requires Inv-loop μ-loop
@@ -86,7 +87,7 @@ returns : tie.Need-returns Inv-loop μ-loop
 returns c =
     λ p l.
     let b = c .before .before .before .before .before in
-    read-out p _ _ _ _ _ (b .before .loop .inv .1 p l .1) (inside b p l) (c .before .before .before .before .word-at .ensures) (sym (c .before .before .before .is-pair .ensures p (l .framed)) ∙ c .before .before .if1 .taken) (sym (c .before .is-pair2 .ensures p (l .framed)) ∙ not-true _ (c .if2 .taken))
+    read-out p _ _ _ _ _ (b .before .loop .inv .1 p l .1) (inside b p l) (c .before .before .before .before .read-word .ensures) (sym (c .before .before .before .is-pair .ensures p (l .framed)) ∙ c .before .before .if1 .taken) (sym (c .before .is-pair2 .ensures p (l .framed)) ∙ not-true _ (c .if2 .taken))
 
 -- src/table.rt:62:16
 array-read-if3 : tie.Need-array-read-if3 Inv-loop μ-loop
@@ -98,7 +99,7 @@ unfolding at
 returns-2 c =
     λ p l.
     let b = c .before .before .before .before .before .before in
-    read-twice p _ _ _ _ _ (b .before .loop .inv .1 p l .1) (inside b p l) (c .before .before .before .before .before .word-at .ensures) (c .if3 .taken)
+    read-twice p _ _ _ _ _ (b .before .loop .inv .1 p l .1) (inside b p l) (c .before .before .before .before .before .read-word .ensures) (c .if3 .taken)
 
 -- src/table.rt:65:13
 array-write-seen : tie.Need-array-write-seen Inv-loop μ-loop
@@ -109,7 +110,7 @@ returns-3 : tie.Need-returns-3 Inv-loop μ-loop
 returns-3 c =
     λ p l.
     let b = c .before .before .before .before in
-    read-moved p _ _ _ _ _ (b .before .loop .inv .1 p l .1) (inside b p l) (c .before .before .before .word-at .ensures) (sym (c .before .before .is-pair .ensures p (l .framed)) ∙ c .before .if1 .left) (c .if4 .taken)
+    read-moved p _ _ _ _ _ (b .before .loop .inv .1 p l .1) (inside b p l) (c .before .before .before .read-word .ensures) (sym (c .before .before .is-pair .ensures p (l .framed)) ∙ c .before .if1 .left) (c .if4 .taken)
 
 -- src/table.rt:71:9
 add-q : tie.Need-add-q Inv-loop μ-loop
@@ -125,7 +126,7 @@ unfolding at
 loop-again c =
     let b = c .before .before .before in
     let i = b .before .loop .inv in
-    let y = c .before .before .word-at .ensures in
+    let y = c .before .before .read-word .ensures in
     ⊎-elim
     (λ w.
     let t : tie.Else2 Inv-loop μ-loop = record { before = record { before = record { before = c .before; if1 = w .0 }; is-pair2 = w .1 }; if2 = w .2 } in (
@@ -155,9 +156,9 @@ permutes-spec =
     number-requires-2
     mul-count
     loop-holds
-    mul-word-at
-    add-word-at
-    word-at-requires
+    mul-read-word
+    add-read-word
+    read-word-requires
     is-pair-requires
     is-pair-requires-2
     returns

@@ -1,23 +1,23 @@
--- `walk` meets its contract. The measure is how many variables are left; the loop goes through the choices for the next one.
+-- `walk` meets its contract. The measure is how many variables are ahead; the loop goes through the choices for the next one.
 -- Assumes nothing.
-use mathlib.Core.Path.{_≡_, _∙_, ap}
+use mathlib.Core.Path.{_≡_, sym, _∙_, ap}
 use mathlib.Core.List.{List, [], _∷_, _++_}
 use Prim.Native.Nat.{ℕ, _+_, _-_, _*_, _≤_, _<_}
-use native.Mathlib.Nat.{lt-of-le-of-lt}
 use native.Mathlib.Omega.{arith}
-use lib.Dec.{lit<}
 use lib.ListN.{length}
-use lib.Count.{trailingZeros, trailing-le}
 use denote.Ref.{now}
 use borrow.Author.Tests.{not-true, not-false}
 use borrow.Fn.Kinds.{In}
 use borrow.Fn.PlainCycle.{Measures, is, falls, and}
 use Rattle.model.specs.Lists.{at}
 use Rattle.model.specs.Problem.{Problem}
+use Rattle.model.proofs.Lowest.{lowest-le, some-left, none-left}
+use Rattle.model.proofs.ValueSet.is_empty.Reads as is-empty
+use Rattle.model.proofs.ValueSet.lowest.Reads as lowest
+use Rattle.model.proofs.ValueSet.without.Reads as without
 use Rattle.layout.specs.Layout.{constraintAt}
 use Rattle.symmetry.specs.Forbidden.{Walking, Choices}
-use Rattle.symmetry.proofs.Laws.{rest-less}
-use Rattle.symmetry.proofs.Walks.{last-beside, last-all, choices-over, next-place, next-spot, next-key, next-walk, walk-stop, walk-rest}
+use Rattle.symmetry.proofs.Walks.{last-beside, last-all, choices-over, next-place, next-less, next-spot, next-key, next-walk, walk-stop, walk-rest}
 use Rattle.symmetry.proofs.walk.walk.Reads as walk
 use Rattle.symmetry.proofs.walk.walk.Kinds as walk-kinds
 use Rattle.symmetry.proofs.walk.+walk.Lts-walk as lts
@@ -40,42 +40,45 @@ walk-below t = and 3 walk-kinds.ps (falls 3 walk-kinds.ps _<_ μ-walk t) walk.Pr
 
 -- what the functions called ask and give, `walk` itself below the measure t
 abbrev claims : ℕ → lts.Claims
-claims t = (arity.Asked, arity.Learnt, scope-at.Asked, scope-at.Learnt, choices.Asked, choices.Learnt, all-blocked.Asked, all-blocked.Learnt, code.Asked, code.Learnt, walk-below t, walk.Post)
+claims t = (arity.Asked, arity.Learnt, scope-at.Asked, scope-at.Learnt, choices.Asked, choices.Learnt, all-blocked.Asked, all-blocked.Learnt, is-empty.Asked, is-empty.Learnt, lowest.Asked, lowest.Learnt, without.Asked, without.Learnt, code.Asked, code.Learnt, walk-below t, walk.Post)
 
 abbrev Inv-loop : lts.InvT-loop
-Inv-loop numbers supports codes short k left key a b x set₀ set =
-    (p : Problem) (vs : List ℕ) (z : ℕ) → Walking p vs numbers supports codes short k left key z a b → (left ≡ 0 → ⊥) → Choices p vs codes k left set
+Inv-loop numbers supports codes short k ahead key a b x set₀ set =
+    (p : Problem) (vs : List ℕ) (z : ℕ) → Walking p vs numbers supports codes short k ahead key z a b → (ahead ≡ 0 → ⊥) → Choices p vs codes k ahead (set .bits)
 
 abbrev μ-loop : lts.MeasureT-loop
-μ-loop numbers supports codes short k left key a b x set₀ set = set
+μ-loop numbers supports codes short k ahead key a b x set₀ set = set .bits
 
 module _ (t : ℕ) where
   -- ---- what is known on the way
-  place : (c : lts.After-arity (claims t) (walk-at t) walk.Post Inv-loop μ-loop) (p : Problem) (vs : List ℕ) (z : ℕ) → Walking p vs (now (c .before .args .numbers)) (now (c .before .args .supports)) (now (c .before .args .codes)) (c .before .args .short) (c .before .args .k) (c .before .args .left) (c .before .args .key) z (c .before .args .a) (c .before .args .b) → (c .before .args .left ≡ 0 → ⊥) →
-      (c .before .args .left ≤ c .arity .result) × (c .arity .result - c .before .args .left ≡ length vs) × (c .arity .result - c .before .args .left < length (constraintAt p (c .before .args .k) .scope))
+  place : (c : lts.After-arity (claims t) (walk-at t) walk.Post Inv-loop μ-loop) (p : Problem) (vs : List ℕ) (z : ℕ) → Walking p vs (now (c .before .args .numbers)) (now (c .before .args .supports)) (now (c .before .args .codes)) (c .before .args .short) (c .before .args .k) (c .before .args .ahead) (c .before .args .key) z (c .before .args .a) (c .before .args .b) → (c .before .args .ahead ≡ 0 → ⊥) →
+      (c .before .args .ahead ≤ c .arity .result) × (c .arity .result - c .before .args .ahead ≡ length vs) × (c .arity .result - c .before .args .ahead < length (constraintAt p (c .before .args .k) .scope))
   place c p vs z s n = next-place p vs _ _ _ _ _ _ _ _ _ _ s n _ (c .arity .ensures p (s .lent .ready .framed) (s .chosen .inside))
 
-  variable : (c : lts.After-scope-at (claims t) (walk-at t) walk.Post Inv-loop μ-loop) (p : Problem) (vs : List ℕ) (z : ℕ) → Walking p vs (now (c .before .before .args .numbers)) (now (c .before .before .args .supports)) (now (c .before .before .args .codes)) (c .before .before .args .short) (c .before .before .args .k) (c .before .before .args .left) (c .before .before .args .key) z (c .before .before .args .a) (c .before .before .args .b) → (c .before .before .args .left ≡ 0 → ⊥) → c .scope-at .result ≡ at (constraintAt p (c .before .before .args .k) .scope) (length vs)
+  variable : (c : lts.After-scope-at (claims t) (walk-at t) walk.Post Inv-loop μ-loop) (p : Problem) (vs : List ℕ) (z : ℕ) → Walking p vs (now (c .before .before .args .numbers)) (now (c .before .before .args .supports)) (now (c .before .before .args .codes)) (c .before .before .args .short) (c .before .before .args .k) (c .before .before .args .ahead) (c .before .before .args .key) z (c .before .before .args .a) (c .before .before .args .b) → (c .before .before .args .ahead ≡ 0 → ⊥) → c .scope-at .result ≡ at (constraintAt p (c .before .before .args .k) .scope) (length vs)
   variable c p vs z s n =
       let h = place (c .before) p vs z s n in
       c .scope-at .ensures p (s .lent .ready .framed) (s .chosen .inside) (h .2) ∙ ap (at (constraintAt p (c .before .before .args .k) .scope)) (h .1)
 
-  chosen : (c : lts.After-choices (claims t) (walk-at t) walk.Post Inv-loop μ-loop) (p : Problem) (vs : List ℕ) (z : ℕ) → Walking p vs (now (c .before .before .before .args .numbers)) (now (c .before .before .before .args .supports)) (now (c .before .before .before .args .codes)) (c .before .before .before .args .short) (c .before .before .before .args .k) (c .before .before .before .args .left) (c .before .before .before .args .key) z (c .before .before .before .args .a) (c .before .before .before .args .b) → (c .before .before .before .args .left ≡ 0 → ⊥) → Choices p vs (now (c .before .before .before .args .codes)) (c .before .before .before .args .k) (c .before .before .before .args .left) (c .choices .result)
+  chosen : (c : lts.After-choices (claims t) (walk-at t) walk.Post Inv-loop μ-loop) (p : Problem) (vs : List ℕ) (z : ℕ) → Walking p vs (now (c .before .before .before .args .numbers)) (now (c .before .before .before .args .supports)) (now (c .before .before .before .args .codes)) (c .before .before .before .args .short) (c .before .before .before .args .k) (c .before .before .before .args .ahead) (c .before .before .before .args .key) z (c .before .before .before .args .a) (c .before .before .before .args .b) → (c .before .before .before .args .ahead ≡ 0 → ⊥) → Choices p vs (now (c .before .before .before .args .codes)) (c .before .before .before .args .k) (c .before .before .before .args .ahead) (c .choices .result .bits)
   chosen c p vs z s n = c .choices .ensures p vs _ (s .lent .ready) (s .chosen) n (variable (c .before) p vs z s n)
 
-  spot : (c : lts.In-loop (claims t) (walk-at t) walk.Post Inv-loop μ-loop) → 16 * c .before .before .before .before .scope-at .result + trailingZeros 64 (c .before .loop .set) < 256
-  spot c = let h = c .before .before .before .before .before .before .pre .1 in next-spot (h .0) (h .1) _ _ _ _ _ _ _ _ _ _ (h .3) (h .4) _ _ (variable (c .before .before .before .before) (h .0) (h .1) (h .2) (h .3) (h .4)) (c .before .loop .inv (h .0) (h .1) (h .2) (h .3) (h .4)) (c .loop-test .taken)
+  some : (c : lts.Then2 (claims t) (walk-at t) walk.Post Inv-loop μ-loop) → c .before .before .loop .set .bits ≡ 0 → ⊥
+  some c = some-left _ _ (c .before .is-empty .ensures) (c .if2 .taken)
 
-  key : (c : lts.In-loop (claims t) (walk-at t) walk.Post Inv-loop μ-loop) → 16 * c .before .before .before .before .before .before .args .key + trailingZeros 64 (c .before .loop .set) < 4096
-  key c = let h = c .before .before .before .before .before .before .pre .1 in next-key (h .0) (h .1) _ _ _ _ _ _ _ _ _ _ (h .3) (h .4) _ _ (variable (c .before .before .before .before) (h .0) (h .1) (h .2) (h .3) (h .4)) (c .before .loop .inv (h .0) (h .1) (h .2) (h .3) (h .4)) (c .loop-test .taken)
+  spot : (c : lts.After-without (claims t) (walk-at t) walk.Post Inv-loop μ-loop) → 16 * c .before .before .before .before .before .before .before .scope-at .result + c .before .lowest .result < 256
+  spot c = let h = c .before .before .before .before .before .before .before .before .before .pre .1 in next-spot (h .0) (h .1) _ _ _ _ _ _ _ _ _ _ (h .3) (h .4) _ _ (variable (c .before .before .before .before .before .before .before) (h .0) (h .1) (h .2) (h .3) (h .4)) (c .before .before .before .before .loop .inv (h .0) (h .1) (h .2) (h .3) (h .4)) (some (c .before .before)) _ _ (c .before .lowest .ensures) (c .without .ensures)
 
-  further : (c : lts.After-code (claims t) (walk-at t) walk.Post Inv-loop μ-loop) (p : Problem) (vs : List ℕ) (z : ℕ) → Walking p vs (now (c .before .before .before .before .before .before .before .args .numbers)) (now (c .before .before .before .before .before .before .before .args .supports)) (now (c .before .before .before .before .before .before .before .args .codes)) (c .before .before .before .before .before .before .before .args .short) (c .before .before .before .before .before .before .before .args .k) (c .before .before .before .before .before .before .before .args .left) (c .before .before .before .before .before .before .before .args .key) z (c .before .before .before .before .before .before .before .args .a) (c .before .before .before .before .before .before .before .args .b) → (c .before .before .before .before .before .before .before .args .left ≡ 0 → ⊥) →
-      Walking p (vs ++ (trailingZeros 64 (c .before .before .loop .set) ∷ [])) (now (c .before .before .before .before .before .before .before .args .numbers)) (now (c .before .before .before .before .before .before .before .args .supports)) (now (c .before .before .before .before .before .before .before .args .codes)) (c .before .before .before .before .before .before .before .args .short) (c .before .before .before .before .before .before .before .args .k) (c .before .before .before .before .before .before .before .args .left - 1) (16 * c .before .before .before .before .before .before .before .args .key + trailingZeros 64 (c .before .before .loop .set)) (c .before .before .before .before .before .before .before .args .a) (c .before .before .before .before .before .before .before .args .b) (c .code .result)
-  further c p vs z s n = next-walk p vs _ _ _ _ _ _ _ _ _ _ s n _ _ (variable (c .before .before .before .before .before) p vs z s n) (c .before .before .loop .inv p vs z s n) (c .before .loop-test .taken) _ (c .code .ensures)
+  key : (c : lts.After-without (claims t) (walk-at t) walk.Post Inv-loop μ-loop) → 16 * c .before .before .before .before .before .before .before .before .before .args .key + c .before .lowest .result < 4096
+  key c = let h = c .before .before .before .before .before .before .before .before .before .pre .1 in next-key (h .0) (h .1) _ _ _ _ _ _ _ _ _ _ (h .3) (h .4) _ _ (variable (c .before .before .before .before .before .before .before) (h .0) (h .1) (h .2) (h .3) (h .4)) (c .before .before .before .before .loop .inv (h .0) (h .1) (h .2) (h .3) (h .4)) (some (c .before .before)) _ _ (c .before .lowest .ensures) (c .without .ensures)
 
-  -- more than one variable is left
-  more : (left : ℕ) → (left ≡ 0 → ⊥) → (left ≡ 1 → ⊥) → left - 1 ≡ 0 → ⊥
-  more left n m z = omega arith
+  further : (c : lts.After-code (claims t) (walk-at t) walk.Post Inv-loop μ-loop) (p : Problem) (vs : List ℕ) (z : ℕ) → Walking p vs (now (c .before .before .before .before .before .before .before .before .before .before .args .numbers)) (now (c .before .before .before .before .before .before .before .before .before .before .args .supports)) (now (c .before .before .before .before .before .before .before .before .before .before .args .codes)) (c .before .before .before .before .before .before .before .before .before .before .args .short) (c .before .before .before .before .before .before .before .before .before .before .args .k) (c .before .before .before .before .before .before .before .before .before .before .args .ahead) (c .before .before .before .before .before .before .before .before .before .before .args .key) z (c .before .before .before .before .before .before .before .before .before .before .args .a) (c .before .before .before .before .before .before .before .before .before .before .args .b) → (c .before .before .before .before .before .before .before .before .before .before .args .ahead ≡ 0 → ⊥) →
+      Walking p (vs ++ (c .before .before .lowest .result ∷ [])) (now (c .before .before .before .before .before .before .before .before .before .before .args .numbers)) (now (c .before .before .before .before .before .before .before .before .before .before .args .supports)) (now (c .before .before .before .before .before .before .before .before .before .before .args .codes)) (c .before .before .before .before .before .before .before .before .before .before .args .short) (c .before .before .before .before .before .before .before .before .before .before .args .k) (c .before .before .before .before .before .before .before .before .before .before .args .ahead - 1) (16 * c .before .before .before .before .before .before .before .before .before .before .args .key + c .before .before .lowest .result) (c .before .before .before .before .before .before .before .before .before .before .args .a) (c .before .before .before .before .before .before .before .before .before .before .args .b) (c .code .result)
+  further c p vs z s n = next-walk p vs _ _ _ _ _ _ _ _ _ _ s n _ _ (variable (c .before .before .before .before .before .before .before .before) p vs z s n) (c .before .before .before .before .before .loop .inv p vs z s n) (some (c .before .before .before)) _ _ (c .before .before .lowest .ensures) (c .before .without .ensures) _ (c .code .ensures)
+
+  -- more than one variable is ahead
+  more : (ahead : ℕ) → (ahead ≡ 0 → ⊥) → (ahead ≡ 1 → ⊥) → ahead - 1 ≡ 0 → ⊥
+  more ahead n m z = omega arith
 
   -- ---- the needs
   arity-requires : lts.Need-arity-requires (claims t) (walk-at t) walk.Post Inv-loop μ-loop
@@ -102,20 +105,35 @@ module _ (t : ℕ) where
   loop-holds : lts.Need-loop-holds (claims t) (walk-at t) walk.Post Inv-loop μ-loop
   loop-holds c = λ p vs z s n. chosen (c .before) p vs z s n
 
-  cast-v : lts.Need-cast-v (claims t) (walk-at t) walk.Post Inv-loop μ-loop
-  cast-v c = record { fits = lt-of-le-of-lt (trailing-le 64 _) (lit< tt) }
+  is-empty-requires : lts.Need-is-empty-requires (claims t) (walk-at t) walk.Post Inv-loop μ-loop
+  is-empty-requires c κs = tt
+
+  lowest-requires : lts.Need-lowest-requires (claims t) (walk-at t) walk.Post Inv-loop μ-loop
+  lowest-requires c κs = tt
+
+  cast-without : lts.Need-cast-without (claims t) (walk-at t) walk.Post Inv-loop μ-loop
+  cast-without c = omega (arith, c .lowest .ensures, lowest-le (c .before .before .before .loop .set .bits))
+
+  without-requires : lts.Need-without-requires (claims t) (walk-at t) walk.Post Inv-loop μ-loop
+  without-requires c κs = tt
 
   sub-walk : lts.Need-sub-walk (claims t) (walk-at t) walk.Post Inv-loop μ-loop
-  sub-walk c = let n = c .before .before .before .before .before .before .pre .1 .4 in omega arith
+  sub-walk c = let n = c .before .before .before .before .before .before .before .before .before .pre .1 .4 in omega arith
 
   mul-walk : lts.Need-mul-walk (claims t) (walk-at t) walk.Post Inv-loop μ-loop
   mul-walk c = omega (arith, key c)
+
+  cast-walk : lts.Need-cast-walk (claims t) (walk-at t) walk.Post Inv-loop μ-loop
+  cast-walk c = omega (arith, key c)
 
   add-walk : lts.Need-add-walk (claims t) (walk-at t) walk.Post Inv-loop μ-loop
   add-walk c = omega (arith, key c)
 
   mul-code : lts.Need-mul-code (claims t) (walk-at t) walk.Post Inv-loop μ-loop
   mul-code c = omega (arith, spot c)
+
+  cast-code : lts.Need-cast-code (claims t) (walk-at t) walk.Post Inv-loop μ-loop
+  cast-code c = omega (arith, spot c)
 
   add-code : lts.Need-add-code (claims t) (walk-at t) walk.Post Inv-loop μ-loop
   add-code c = omega (arith, spot c)
@@ -125,31 +143,28 @@ module _ (t : ℕ) where
 
   walk-requires : lts.Need-walk-requires (claims t) (walk-at t) walk.Post Inv-loop μ-loop
   walk-requires c κs =
-      let h = c .before .before .before .before .before .before .before .pre in (
+      let h = c .before .before .before .before .before .before .before .before .before .before .pre in (
         omega (arith, h .0, h .1 .4),
-        (h .1 .0, (h .1 .1) ++ (trailingZeros 64 (c .before .before .loop .set) ∷ []), _, further c (h .1 .0) (h .1 .1) (h .1 .2) (h .1 .3) (h .1 .4), more _ (h .1 .4) (c .before .before .before .if1 .left)),
+        (h .1 .0, (h .1 .1) ++ (c .before .before .lowest .result ∷ []), _, further c (h .1 .0) (h .1 .1) (h .1 .2) (h .1 .3) (h .1 .4), more _ (h .1 .4) (c .before .before .before .before .before .before .if1 .left)),
       )
 
   returns-2 : lts.Need-returns-2 (claims t) (walk-at t) walk.Post Inv-loop μ-loop
   returns-2 c = λ p vs z s n.
-      walk-stop p vs _ _ _ _ _ _ _ _ _ _ s n _ _ (variable (c .before .before .before .before .before .before .before) p vs z s n) (c .before .before .before .before .loop .inv p vs z s n) (c .before .before .before .loop-test .taken) _
-      (c .before .walk .ensures p _ _ (further (c .before .before) p vs z s n) (more _ n (c .before .before .before .before .before .if1 .left))) (not-true _ (c .if2 .taken))
-
-  sub-set : lts.Need-sub-set (claims t) (walk-at t) walk.Post Inv-loop μ-loop
-  sub-set c = let n = c .before .before .before .loop-test .taken in omega arith
+      walk-stop p vs _ _ _ _ _ _ _ _ _ _ s n _ _ (variable (c .before .before .before .before .before .before .before .before .before .before) p vs z s n) (c .before .before .before .before .before .before .before .loop .inv p vs z s n) (some (c .before .before .before .before .before)) _ _ (c .before .before .before .before .lowest .ensures) (c .before .before .before .without .ensures) _
+      (c .before .walk .ensures p _ _ (further (c .before .before) p vs z s n) (more _ n (c .before .before .before .before .before .before .before .before .if1 .left))) (not-true _ (c .if3 .taken))
 
   loop-less : lts.Need-loop-less (claims t) (walk-at t) walk.Post Inv-loop μ-loop
-  loop-less c = rest-less _ (c .before .before .before .loop-test .taken)
+  loop-less c = let h = c .before .before .before .before .before .before .before .before .before .before .before .before .pre .1 in next-less (h .0) (h .1) _ _ _ _ _ _ _ _ _ _ (h .3) (h .4) _ _ (variable (c .before .before .before .before .before .before .before .before .before .before) (h .0) (h .1) (h .2) (h .3) (h .4)) (c .before .before .before .before .before .before .before .loop .inv (h .0) (h .1) (h .2) (h .3) (h .4)) (some (c .before .before .before .before .before)) _ _ (c .before .before .before .before .lowest .ensures) (c .before .before .before .without .ensures)
 
   loop-again : lts.Need-loop-again (claims t) (walk-at t) walk.Post Inv-loop μ-loop
   loop-again c = λ p vs z s n.
-      walk-rest p vs _ _ _ _ _ _ _ _ _ _ s n _ _ (variable (c .before .before .before .before .before .before .before) p vs z s n) (c .before .before .before .before .loop .inv p vs z s n) (c .before .before .before .loop-test .taken) _
-      (c .before .walk .ensures p _ _ (further (c .before .before) p vs z s n) (more _ n (c .before .before .before .before .before .if1 .left))) (not-false _ (c .if2 .left))
+      walk-rest p vs _ _ _ _ _ _ _ _ _ _ s n _ _ (variable (c .before .before .before .before .before .before .before .before .before .before) p vs z s n) (c .before .before .before .before .before .before .before .loop .inv p vs z s n) (some (c .before .before .before .before .before)) _ _ (c .before .before .before .before .lowest .ensures) (c .before .before .before .without .ensures) _
+      (c .before .walk .ensures p _ _ (further (c .before .before) p vs z s n) (more _ n (c .before .before .before .before .before .before .before .before .if1 .left))) (not-false _ (c .if3 .left))
 
   returns-3 : lts.Need-returns-3 (claims t) (walk-at t) walk.Post Inv-loop μ-loop
-  returns-3 c = λ p vs z s n. choices-over p vs _ _ _ _ (c .before .loop .inv p vs z s n) (c .loop-test .left)
+  returns-3 c = λ p vs z s n. choices-over p vs _ _ _ _ (c .before .before .loop .inv p vs z s n) (none-left _ _ (c .before .is-empty .ensures) (c .if2 .left))
 
 pub +walk-spec : {M : Type 1} → statement M
 +walk-spec =
     close μ-walk
-    (λ t. lts.spec (claims t) (walk-at t) walk.Post Inv-loop μ-loop (arity-requires t) (sub-scope-at t) (scope-at-requires t) (choices-requires t) (all-blocked-requires t) (returns t) (loop-holds t) (cast-v t) (sub-walk t) (mul-walk t) (add-walk t) (mul-code t) (add-code t) (code-requires t) (walk-requires t) (returns-2 t) (sub-set t) (loop-less t) (loop-again t) (returns-3 t))
+    (λ t. lts.spec (claims t) (walk-at t) walk.Post Inv-loop μ-loop (arity-requires t) (sub-scope-at t) (scope-at-requires t) (choices-requires t) (all-blocked-requires t) (returns t) (loop-holds t) (is-empty-requires t) (lowest-requires t) (cast-without t) (without-requires t) (sub-walk t) (mul-walk t) (cast-walk t) (add-walk t) (mul-code t) (cast-code t) (add-code t) (code-requires t) (walk-requires t) (returns-2 t) (loop-less t) (loop-again t) (returns-3 t))

@@ -1,95 +1,130 @@
-use mathlib.Core.Path.{_≡_, refl}
+use mathlib.Core.Path.{_≡_, refl, sym, ap, _∙_, subst}
 use Prim.Native.Nat.{ℕ, _+_, _*_, _<_}
-use native.Mathlib.Nat.{lt-of-le-of-lt}
 use native.Mathlib.Omega.{arith}
-use lib.Dec.{lit<}
-use lib.Count.{trailingZeros, trailing-le}
 use borrow.Author.Tests.{not-true, not-false}
-use Rattle.model.specs.ValueSets.{members}
+use Rattle.model.specs.ValueSets.{members, withoutMask}
 use Rattle.model.specs.Problem.{Problem}
+use Rattle.model.proofs.Lowest.{lowest-le, some-left, none-left}
 use Rattle.symmetry.specs.Forbidden.{Sure, Beside, allBlocked}
-use Rattle.symmetry.proofs.Laws.{rest-less}
 use Rattle.symmetry.proofs.Surely.{sure-none}
-use Rattle.symmetry.proofs.Beside.{beside-next, beside-pair, beside-small, beside-triple, beside-stop, beside-rest, beside-over}
+use Rattle.symmetry.proofs.Beside.{beside-clash, beside-next, beside-less, beside-pair, beside-small, beside-triple, beside-stop, beside-rest, beside-over}
 use Rattle.symmetry.proofs.walk.all_blocked.Statement.{statement}
 use Rattle.symmetry.proofs.walk.all_blocked.Tie as tie
 use Rattle.symmetry.proofs.walk.all_blocked.Reads as reads
 use Rattle.symmetry.proofs.walk.all_blocked.Lts as lts
+use Rattle.model.proofs.ValueSet.is_empty.Reads as is-empty-reads
+use Rattle.model.proofs.ValueSet.lowest.Reads as lowest-reads
+use Rattle.model.proofs.ValueSet.without.Reads as without-reads
+use Rattle.symmetry.proofs.forbidden.clash.Reads as clash-reads
 use Rattle.symmetry.proofs.sure.surely_after.Reads as surely-after-reads
 use Rattle.symmetry.proofs.sure.third_blocked.Reads as third-blocked-reads
 use Rattle.symmetry.proofs.walk.code.Reads as code-reads
 
 abbrev Inv-loop : tie.InvT-loop
-Inv-loop numbers supports codes short x set a b left₀ y₀ sure₀ left y sure =
-    (p : Problem) → Beside p numbers supports codes short x set a b →
-    Beside p numbers supports codes short x left a b × (allBlocked p codes x a b (members left) ≡ allBlocked p codes x a b (members set)) × Sure p a b y sure
+Inv-loop numbers supports codes short x a b rest₀ y₀ sure₀ rest y sure =
+    (p : Problem) → Beside p numbers supports codes short x (rest₀ .bits) a b →
+    Beside p numbers supports codes short x (rest .bits) a b × (allBlocked p codes x a b (members (rest .bits)) ≡ allBlocked p codes x a b (members (rest₀ .bits))) × Sure p a b y (sure .bits)
 
 abbrev μ-loop : tie.MeasureT-loop
-μ-loop numbers supports codes short x set a b left₀ y₀ sure₀ left y sure = left
+μ-loop numbers supports codes short x a b rest₀ y₀ sure₀ rest y sure = rest .bits
 
--- src/walk.rt:66:5
+-- src/walk.rt:69:8
+clash-requires : tie.Need-clash-requires Inv-loop μ-loop
+clash-requires c κs = tt
+
+-- src/walk.rt:70:9
+returns : tie.Need-returns Inv-loop μ-loop
+returns c = λ p s. beside-clash p _ _ _ _ _ _ _ _ s (sym (c .before .clash .ensures) ∙ c .if1 .taken)
+
+-- src/walk.rt:75:5
 loop-holds : tie.Need-loop-holds Inv-loop μ-loop
 loop-holds c = λ p s. (s, refl, sure-none p _ _ _)
 
--- src/walk.rt:67:17
-cast-v : tie.Need-cast-v Inv-loop μ-loop
-cast-v c = record { fits = lt-of-le-of-lt (trailing-le 64 _) (lit< tt) }
+some : (c : tie.Then2 Inv-loop μ-loop) → c .before .before .loop .rest .bits ≡ 0 → ⊥
+some c = some-left _ _ (c .before .is-empty .ensures) (c .if2 .taken)
 
-spot : (c : tie.In-loop Inv-loop μ-loop) → 16 * c .before .before .args .x + trailingZeros 64 (c .before .loop .left) < 256
-spot c = let h = c .before .before .pre in beside-next (h .0) _ _ _ _ _ _ _ _ (c .before .loop .inv (h .0) (h .1) .0) (c .loop-test .taken)
+spot : (c : tie.After-without Inv-loop μ-loop) → 16 * c .before .before .before .before .before .before .before .args .x + c .before .lowest .result < 256
+spot c =
+    let h = c .before .before .before .before .before .before .before .pre in
+    subst (λ (v : ℕ). 16 * c .before .before .before .before .before .before .before .args .x + v < 256) (sym (c .before .lowest .ensures))
+    (beside-next (h .0) _ _ _ _ _ _ _ _ (c .before .before .before .before .loop .inv (h .0) (h .1) .0) (some (c .before .before)))
 
--- src/walk.rt:68:29
+-- src/walk.rt:75:12
+is-empty-requires : tie.Need-is-empty-requires Inv-loop μ-loop
+is-empty-requires c κs = tt
+
+-- src/walk.rt:76:13
+lowest-requires : tie.Need-lowest-requires Inv-loop μ-loop
+lowest-requires c κs = tt
+
+-- src/walk.rt:77:29
+cast-without : tie.Need-cast-without Inv-loop μ-loop
+cast-without c = omega (arith, c .lowest .ensures, lowest-le (c .before .before .before .loop .rest .bits))
+
+-- src/walk.rt:77:9
+without-requires : tie.Need-without-requires Inv-loop μ-loop
+without-requires c κs = tt
+
+-- src/walk.rt:78:29
 mul-code : tie.Need-mul-code Inv-loop μ-loop
 mul-code c = omega (arith, spot c)
 
--- src/walk.rt:68:29
+-- src/walk.rt:78:38
+cast-code : tie.Need-cast-code Inv-loop μ-loop
+cast-code c = omega (arith, spot c)
+
+-- src/walk.rt:78:29
 add-code : tie.Need-add-code Inv-loop μ-loop
 add-code c = omega (arith, spot c)
 
--- src/walk.rt:68:13
+-- src/walk.rt:78:13
 code-requires : tie.Need-code-requires Inv-loop μ-loop
 code-requires c κs = spot c
 
--- src/walk.rt:69:9
+-- src/walk.rt:79:9
 surely-after-requires : tie.Need-surely-after-requires Inv-loop μ-loop
-surely-after-requires c κs = let h = c .before .before .before .pre in (h .0, h .1 .lent .ready, h .1 .first, h .1 .second, beside-small (h .0) _ _ _ _ _ _ _ _ (c .before .before .loop .inv (h .0) (h .1) .0) _ (c .before .loop-test .taken) (c .code .ensures))
+surely-after-requires c κs = let h = c .before .before .before .before .before .before .before .before .pre in (h .0, h .1 .lent .ready, h .1 .first, h .1 .second, beside-small (h .0) _ _ _ _ _ _ _ _ (c .before .before .before .before .before .loop .inv (h .0) (h .1) .0) _ _ (some (c .before .before .before)) (c .before .before .lowest .ensures) (c .code .ensures))
 
--- src/walk.rt:71:13
+-- src/walk.rt:81:13
 third-blocked-requires : tie.Need-third-blocked-requires Inv-loop μ-loop
-third-blocked-requires c κs = let h = c .before .before .before .before .pre in (h .0, beside-triple (h .0) _ _ _ _ _ _ _ _ (c .before .before .before .loop .inv (h .0) (h .1) .0) _ (c .before .before .loop-test .taken) (c .before .code .ensures))
+third-blocked-requires c κs = let h = c .before .before .before .before .before .before .before .before .before .pre in (h .0, beside-triple (h .0) _ _ _ _ _ _ _ _ (c .before .before .before .before .before .before .loop .inv (h .0) (h .1) .0) _ _ (some (c .before .before .before .before)) (c .before .before .before .lowest .ensures) (c .before .code .ensures))
 
--- src/walk.rt:72:13
-returns : tie.Need-returns Inv-loop μ-loop
-returns c = λ p s.
-    let i = c .before .before .before .before .before .loop .inv p s in
-    let n = c .before .before .before .before .loop-test .taken in
+-- src/walk.rt:82:13
+returns-2 : tie.Need-returns-2 Inv-loop μ-loop
+returns-2 c = λ p s.
+    let d = c .before .before .before .before in
+    let i = d .before .before .before .before .loop .inv p s in
+    let n = some (d .before .before) in
+    let l = d .before .lowest .ensures in
     let e = c .before .before .before .code .ensures in
     let k = c .before .before .surely-after .ensures p (s .lent .ready) (s .first) (s .second) (i .2) in
-    let r = c .before .third-blocked .ensures p (beside-triple p _ _ _ _ _ _ _ _ (i .0) _ n e) (beside-pair p _ _ _ _ _ _ _ _ (i .0) _ n e) k in
-    beside-stop p _ _ _ _ _ _ _ _ (i .0) _ n e _ _ r (not-true _ (c .if1 .taken)) (i .1)
+    let r = c .before .third-blocked .ensures p (beside-triple p _ _ _ _ _ _ _ _ (i .0) _ _ n l e) (beside-pair p _ _ _ _ _ _ _ _ (i .0) _ _ n l e) k in
+    beside-stop p _ _ _ _ _ _ _ _ (i .0) _ _ n l e _ _ r (not-true _ (c .if3 .taken)) (i .1)
 
--- src/walk.rt:74:24
-sub-left : tie.Need-sub-left Inv-loop μ-loop
-sub-left c = let n = c .before .before .before .before .loop-test .taken in omega arith
-
--- src/walk.rt:66:5
+-- src/walk.rt:75:5
 loop-less : tie.Need-loop-less Inv-loop μ-loop
-loop-less c = rest-less _ (c .before .before .before .before .loop-test .taken)
+loop-less c =
+    let d = c .before .before .before .before in
+    let h = d .before .before .before .before .before .before .before .pre in
+    subst (λ (m : ℕ). m < d .before .before .before .before .loop .rest .bits) (sym (d .without .ensures ∙ ap (withoutMask (d .before .before .before .before .loop .rest .bits)) (d .before .lowest .ensures)))
+    (beside-less (h .0) _ _ _ _ _ _ _ _ (d .before .before .before .before .loop .inv (h .0) (h .1) .0) (some (d .before .before)))
 
--- src/walk.rt:66:5
+-- src/walk.rt:75:5
 loop-again : tie.Need-loop-again Inv-loop μ-loop
 loop-again c = λ p s.
-    let i = c .before .before .before .before .before .loop .inv p s in
-    let n = c .before .before .before .before .loop-test .taken in
+    let d = c .before .before .before .before in
+    let i = d .before .before .before .before .loop .inv p s in
+    let n = some (d .before .before) in
+    let l = d .before .lowest .ensures in
     let e = c .before .before .before .code .ensures in
     let k = c .before .before .surely-after .ensures p (s .lent .ready) (s .first) (s .second) (i .2) in
-    let r = c .before .third-blocked .ensures p (beside-triple p _ _ _ _ _ _ _ _ (i .0) _ n e) (beside-pair p _ _ _ _ _ _ _ _ (i .0) _ n e) k in
-    let t = beside-rest p _ _ _ _ _ _ _ _ (i .0) _ n e _ _ r (not-false _ (c .if1 .left)) (i .1) in
+    let r = c .before .third-blocked .ensures p (beside-triple p _ _ _ _ _ _ _ _ (i .0) _ _ n l e) (beside-pair p _ _ _ _ _ _ _ _ (i .0) _ _ n l e) k in
+    let t = beside-rest p _ _ _ _ _ _ _ _ (i .0) _ _ n l e _ _ _ (d .without .ensures) r (not-false _ (c .if3 .left)) (i .1) in
     (t .0, t .1, k)
 
--- src/walk.rt:50:1
-returns-2 : tie.Need-returns-2 Inv-loop μ-loop
-returns-2 c = λ p s. let i = c .before .loop .inv p s in beside-over p _ _ _ _ _ _ _ _ (i .0) _ (c .loop-test .left) (i .1)
+-- src/walk.rt:56:1
+returns-3 : tie.Need-returns-3 Inv-loop μ-loop
+returns-3 c = λ p s. let i = c .before .before .loop .inv p s in beside-over p _ _ _ _ _ _ _ _ (i .0) _ (none-left _ _ (c .before .is-empty .ensures) (c .if2 .left)) (i .1)
 
 pub all-blocked-spec : {M : Type 1} → statement M
 all-blocked-spec =
@@ -97,15 +132,20 @@ all-blocked-spec =
     (tie.spec
     Inv-loop
     μ-loop
+    clash-requires
+    returns
     loop-holds
-    cast-v
+    is-empty-requires
+    lowest-requires
+    cast-without
+    without-requires
     mul-code
+    cast-code
     add-code
     code-requires
     surely-after-requires
     third-blocked-requires
-    returns
-    sub-left
+    returns-2
     loop-less
     loop-again
-    returns-2)
+    returns-3)

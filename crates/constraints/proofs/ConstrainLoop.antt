@@ -1,0 +1,303 @@
+-- The loop of `constrain`: what holds before each turn, one turn, and both ends. Assumes nothing.
+use mathlib.Core.Path.{_≡_, refl, sym, ap, _∙_, subst}
+use mathlib.Core.Bool.{Bool, true, false, not}
+use mathlib.Core.Logic.{_⊎_, inl, inr, ⊎-elim}
+use mathlib.Core.List.{List, List·Memᴰ}
+use Prim.Native.Nat.{ℕ, _+_, _-_, _*_, _%_, _^_, _≤_, _<_}
+use native.Mathlib.Nat.{lt-of-le-of-lt}
+use native.Mathlib.Omega.{arith}
+use native.Mathlib.Decide.{ℕ-discrete}
+use lib.Dec.{T, eqb, ltb, eqb→eq, eqb-refl}
+use lib.ListN.{length}
+use lib.Bits.{bitAnd, bitOr, and-le-l, or-lt, or-zero-r}
+use lib.Count.{trailingZeros}
+use lib.Pow.{pow-lt}
+use borrow.Author.Tests.{ltb-true, ltb-false, eqb-true, eq-eqb}
+use Rattle.model.specs.Lists.{both, any, at}
+use Rattle.model.specs.ValueSets.{has}
+use Rattle.model.specs.Problem.{Problem, Constraint}
+use Rattle.model.proofs.Lists.{T-of, of-T, not-of, of-not, both-i, among-i, among-e, ascending-sorted}
+use Rattle.model.proofs.Sets.{has-none, has-lt, inside-antisym, size, size-inside, size-strict}
+use Rattle.model.specs.Pruning.{Sets, Inside, Prunes}
+use Rattle.model.proofs.Masks.{has-one}
+use Rattle.model.proofs.Members.{low-has, rest-e, rest-i, rest-less, one-bit, one-has, has-0, or-i, or-e, and-e}
+use Rattle.model.proofs.Firsts.{take-full, take-empty, full-take}
+use Rattle.model.proofs.Prunes.{prunes-none, prunes-then}
+use Rattle.model.specs.WellFormed.{GoodConstraint}
+use Rattle.layout.specs.Places.{OTHERS, DEAD}
+use Rattle.layout.specs.Layout.{constraintAt}
+use Rattle.layout.specs.Tables.{Linked, byRows}
+use Rattle.layout.specs.Pruning.{Fixed, setsOf}
+use Rattle.layout.proofs.Links.{is-one, good}
+use Rattle.constraints.specs.Revised.{revised, Revision, ConstraintsPending, Constrained}
+use Rattle.constraints.specs.Steps.{ConstraintsHeld, Nonempty, Touched}
+use Rattle.constraints.proofs.Bits.{without-has}
+use Rattle.constraints.proofs.Rows.{revised-sets, revised-inside, revised-fixed, revised-out, fixed-kept}
+use Rattle.constraints.proofs.Removal.{fixed-take, fixed-all, revised-prunes}
+
+-- ---- what a revision changed
+module _ (c : Constraint) (ds es : List ℕ) (changed : ℕ) (s : Sets 16 ds) (r : Revision c ds es changed) (l : changed ≡ DEAD → ⊥) where
+  still : (x : ℕ) → has changed x ≡ false → at es x ≡ at ds x
+  still x e = go (eqb (at es x) (at ds x)) refl
+    where
+      go : (b : Bool) → eqb (at es x) (at ds x) ≡ b → at es x ≡ at ds x
+      go true q = eqb-true (at es x) (at ds x) q
+      go false q = absurd (of-not (has changed x) e (T-of (has changed x) (r .moved l x ∙ ap not q)))
+
+  differs : (x : ℕ) → T (has changed x) → at es x ≡ at ds x → ⊥
+  differs x t e = subst T (r .moved l x ∙ ap not (eq-eqb (at es x) (at ds x) e)) t
+
+  in-scope-if : (x : ℕ) → T (has changed x) → List·Memᴰ x (c .scope)
+  in-scope-if x t = go (any (eqb x) (c .scope)) refl
+    where
+      go : (b : Bool) → any (eqb x) (c .scope) ≡ b → List·Memᴰ x (c .scope)
+      go true e = among-e x (c .scope) (T-of (any (eqb x) (c .scope)) e)
+      go false e = absurd (differs x t (ap (λ (l : List ℕ). at l x) (r .sets l) ∙ revised-out ds c (s .1) x (λ m. of-not (any (eqb x) (c .scope)) e (among-i x (c .scope) m))))
+
+  after : Sets 16 es
+  after = subst (Sets 16) (sym (r .sets l)) (revised-sets ds c 16 (s .0))
+
+  inside : Inside es ds
+  inside = subst (λ (l : List ℕ). Inside l ds) (sym (r .sets l)) (revised-inside ds c)
+
+  -- the sets have no more values, and fewer where one changed
+  fewer : size es ≤ size ds
+  fewer = size-inside es ds (after .0 ∙ sym (s .0)) inside
+
+  less-if : (x : ℕ) → T (has changed x) → size es < size ds
+  less-if x t = go (ltb (size es) (size ds)) refl
+    where
+      go : (b : Bool) → ltb (size es) (size ds) ≡ b → size es < size ds
+      go true q = ltb-true (size es) (size ds) q
+      go false q = absurd (differs x t (ap (λ (l : List ℕ). at l x) (inside-antisym 16 es ds after s inside (size-strict es ds (after .0 ∙ sym (s .0)) (s .1) inside (ltb-false (size es) (size ds) q)))))
+
+-- a constraint that is not pruned by variable and not touched has no changed variable in its scope
+pub untouched : {p : Problem} {numbers : List ℕ} {changed g : ℕ} → Linked p numbers → Touched numbers changed g → (k : ℕ) → k < length (p .constraints) → byRows p k ≡ false → (T (has g k) → ⊥) → (y : ℕ) → y < 16 → List·Memᴰ y (constraintAt p k .scope) → has changed y ≡ false
+untouched {p} {numbers} {changed} {g} n u k h b f y l m =
+    not-of (has changed y)
+    (λ t. f (u .touched-i y k t (T-of (has (at numbers (OTHERS + y)) k)
+    (n .touching y k l h ∙ of-T (both (any (eqb y) (constraintAt p k .scope)) (not (byRows p k))) (both-i (any (eqb y) (constraintAt p k .scope)) (not (byRows p k)) (among-i y (constraintAt p k .scope) m) (T-of (not (byRows p k)) (ap not b)))))))
+
+-- ---- what holds before each turn
+pub record ConstrainedSoFar (p : Problem) (numbers supports ds es : List ℕ) (left next all : ℕ) : Type 0 where
+  pub held : ConstraintsHeld p numbers supports
+  pub linked : Linked p numbers
+  pub sixteen : Sets 16 es
+  pub wide : left < 2 ^ 64
+  pub wide-next : next < 2 ^ 64
+  pub full : (x : ℕ) → x < p .variables → at es x ≡ 0 → ⊥
+  pub known : (k : ℕ) → T (has left k) ⊎ T (has next k) → k < length (p .constraints)
+  pub others : (k : ℕ) → k < length (p .constraints) → has left k ≡ false → has next k ≡ false → byRows p k ≡ false → Fixed es (constraintAt p k)
+  pub ways : (prefix : List ℕ) → Prunes p prefix (setsOf p ds) (setsOf p es)
+  pub less : Inside es ds
+  pub kept : (x : ℕ) → has all x ≡ false → at es x ≡ at ds x
+  pub few : (x : ℕ) → T (has all x) → x < p .variables
+  pub shrunk : (x : ℕ) → T (has all x) → size es < size ds
+  pub long : length ds ≡ 16
+
+module _ (p : Problem) (numbers supports ds : List ℕ) where
+  pub constrained-begin : (todo : ℕ) → todo < 2 ^ 64 → ConstraintsPending p numbers supports ds todo → ConstrainedSoFar p numbers supports ds ds todo 0 0
+  constrained-begin todo h w = record {
+    held = record { wellFormed = w .wellFormed; numbered = w .numbered; tabled = w .tabled; worded = w .worded; constraints = w .constraints };
+    linked = w .linked;
+    sixteen = w .given .sixteen;
+    wide = h;
+    wide-next = omega arith;
+    full = full-take (p .variables) ds (w .given .sixteen) (omega (arith, w .wellFormed .few)) (w .given .full);
+    known = λ k. ⊎-elim (w .known k) (λ q. absurd (has-0 k q));
+    others = λ k l e f b. fixed-all (p .variables) ds (w .given .sixteen) (omega (arith, w .wellFormed .few)) (constraintAt p k) (good (w .wellFormed) k l .inside) (w .others k l e b);
+    ways = λ prefix. prunes-none p prefix (setsOf p ds);
+    less = λ x v q. q;
+    kept = λ x e. refl;
+    few = λ x t. absurd (has-0 x t);
+    shrunk = λ x t. absurd (has-0 x t);
+    long = w .given .sixteen .0;
+  }
+
+  -- the next round
+  constrained-swap : (es : List ℕ) (left next all : ℕ) → left ≡ 0 → ConstrainedSoFar p numbers supports ds es left next all → ConstrainedSoFar p numbers supports ds es next 0 all
+  constrained-swap es left next all e t = record {
+    held = t .held;
+    linked = t .linked;
+    sixteen = t .sixteen;
+    wide = t .wide-next;
+    wide-next = omega arith;
+    full = t .full;
+    known = λ k. ⊎-elim (λ q. t .known k (inr q)) (λ q. absurd (has-0 k q));
+    others = λ k l f g b. t .others k l (ap (λ (n : ℕ). has n k) e ∙ has-none k) f b;
+    ways = t .ways;
+    less = t .less;
+    kept = t .kept;
+    few = t .few;
+    shrunk = t .shrunk;
+    long = t .long;
+  }
+
+  -- after the choice of the round
+  pub constrained-on : (es : List ℕ) (left next all l m : ℕ) → ((left ≡ 0) × (l ≡ next) × (m ≡ 0)) ⊎ ((l ≡ left) × (m ≡ next)) → ConstrainedSoFar p numbers supports ds es left next all → ConstrainedSoFar p numbers supports ds es l m all
+  constrained-on es left next all l m (inl q) t =
+      subst (λ (i : ℕ). ConstrainedSoFar p numbers supports ds es i m all) (sym (q .1)) (subst (λ (i : ℕ). ConstrainedSoFar p numbers supports ds es next i all) (sym (q .2)) (constrained-swap es left next all (q .0) t))
+  constrained-on es left next all l m (inr q) t =
+      subst (λ (i : ℕ). ConstrainedSoFar p numbers supports ds es i m all) (sym (q .0)) (subst (λ (i : ℕ). ConstrainedSoFar p numbers supports ds es left i all) (sym (q .1)) t)
+
+  pub constrained-end : (es : List ℕ) (left next all : ℕ) → left ≡ 0 → next ≡ 0 → ConstrainedSoFar p numbers supports ds es left next all → Constrained p ds es all
+  constrained-end es left next all e f t = record {
+    ended = λ q. let h : 16 < p .variables = t .few 16 (subst (λ (n : ℕ). T (has n 16)) (sym q) (subst T (sym (has-one 16 16)) (eqb-refl 16))) in absurd (omega (arith, t .held .wellFormed .few));
+    lessened = λ n. record { ways = t .ways; sixteen = t .sixteen; full = take-full (p .variables) es (t .sixteen) (omega (arith, t .held .wellFormed .few)) (t .full); less = t .less; kept = t .kept; few = t .few };
+    smaller = λ n. t .shrunk;
+    fixed = λ n k l b.
+        fixed-take (p .variables) es (t .sixteen) (omega (arith, t .held .wellFormed .few)) (constraintAt p k) (good (t .held .wellFormed) k l .inside)
+        (t .others k l (ap (λ (n : ℕ). has n k) e ∙ has-none k) (ap (λ (n : ℕ). has n k) f ∙ has-none k) b);
+    sixteen = t .sixteen;
+    less = t .less;
+  }
+
+-- ---- one turn: constraint k has pruned
+module _ {p : Problem} {numbers supports ds es : List ℕ} {left next all : ℕ} (t : ConstrainedSoFar p numbers supports ds es left next all) (n : left ≡ 0 → ⊥) where
+  abbrev k : ℕ
+  k = trailingZeros 64 left
+
+  low : T (has left (trailingZeros 64 left)) × (trailingZeros 64 left < 64)
+  low = low-has 64 left (omega arith) (t .wide)
+
+  pub k-lt : trailingZeros 64 left < length (p .constraints)
+  k-lt = t .known k (inl (low .0))
+
+  pub k-few : trailingZeros 64 left < 32
+  k-few = omega (arith, k-lt, t .held .constraints)
+
+  abbrev c : Constraint
+  c = constraintAt p (trailingZeros 64 left)
+
+  c-good : GoodConstraint p (constraintAt p (trailingZeros 64 left))
+  c-good = good (t .held .wellFormed) k k-lt
+
+  pub k-full : Nonempty (constraintAt p (trailingZeros 64 left) .scope) es
+  k-full x m = t .full x (c-good .inside x m)
+
+  abbrev others : ℕ
+  others = bitAnd left (left - 1)
+
+  others-i : (j : ℕ) → T (has left j) → T (has others j) ⊎ (j ≡ k)
+  others-i = rest-i 64 left (omega arith) (t .wide)
+
+  module _ {fs : List ℕ} {changed : ℕ} (r : Revision (constraintAt p (trailingZeros 64 left)) es fs changed) where
+    way : (prefix : List ℕ) → Prunes p prefix (setsOf p ds) (setsOf p (revised es (constraintAt p (trailingZeros 64 left))))
+    way prefix = prunes-then p prefix (setsOf p ds) (setsOf p es) (setsOf p (revised es c)) (t .ways prefix) (revised-prunes p (t .held .wellFormed) c (is-one p k k-lt) es (t .sixteen) prefix)
+
+    -- a set would be empty
+    pub constrained-dead : changed ≡ DEAD → Constrained p ds fs DEAD
+    constrained-dead e = record {
+      ended = λ q. let z = r .ended e in
+          (setsOf p (revised es c), (way, take-empty (p .variables) (revised es c) (revised-sets es c 16 (t .sixteen .0)) (omega (arith, t .held .wellFormed .few)) (z .0) (c-good .inside (z .0) (z .1)) (z .2)));
+      lessened = λ m. absurd (m refl);
+      smaller = λ m. absurd (m refl);
+      fixed = λ m. absurd (m refl);
+      sixteen = subst (Sets 16) (sym (r .kept e)) (t .sixteen);
+      less = subst (λ (l : List ℕ). Inside l ds) (sym (r .kept e)) (t .less);
+    }
+
+    module _ (l : changed ≡ DEAD → ⊥) where
+      changed-lt : (x : ℕ) → T (has changed x) → x < 16
+      changed-lt x q = let i = c-good .inside x (in-scope-if c es fs changed (t .sixteen) r l x q) in omega (arith, t .held .wellFormed .few)
+
+      turn-full : (x : ℕ) → x < p .variables → at fs x ≡ 0 → ⊥
+      turn-full x i z = go (has changed x) refl
+        where
+          go : (b : Bool) → has changed x ≡ b → ⊥
+          go false q = t .full x i (sym (still c es fs changed (t .sixteen) r l x q) ∙ z)
+          go true q = r .full l x (in-scope-if c es fs changed (t .sixteen) r l x (T-of (has changed x) q)) z
+
+      turn-kept : (x : ℕ) → has (bitOr all changed) x ≡ false → at fs x ≡ at ds x
+      turn-kept x e =
+          still c es fs changed (t .sixteen) r l x (not-of (has changed x) (λ q. of-not (has (bitOr all changed) x) e (or-i all changed x (inr q))))
+          ∙ t .kept x (not-of (has all x) (λ q. of-not (has (bitOr all changed) x) e (or-i all changed x (inl q))))
+
+      turn-few : (x : ℕ) → T (has (bitOr all changed) x) → x < p .variables
+      turn-few x q = ⊎-elim (t .few x) (λ i. c-good .inside x (in-scope-if c es fs changed (t .sixteen) r l x i)) (or-e all changed x q)
+
+      turn-shrunk : (x : ℕ) → T (has (bitOr all changed) x) → size fs < size ds
+      turn-shrunk x q =
+          ⊎-elim (λ i. let a = t .shrunk x i in let b = fewer c es fs changed (t .sixteen) r l in omega (arith, a, b))
+          (λ i. let a = less-if c es fs changed (t .sixteen) r l x i in let b = size-inside es ds (t .sixteen .0 ∙ sym (t .long)) (t .less) in omega (arith, a, b)) (or-e all changed x q)
+
+      -- the constraints of g may have something to take: those that are not left wait for the next round
+      module _ {g : ℕ} (u : Touched numbers changed g) (m : ℕ) (w : m < 2 ^ 64) (old : (j : ℕ) → T (has next j) → T (has m j)) (new : (j : ℕ) → T (has g j) → (T (has m j) ⊎ T (has others j)) ⊎ (j ≡ k)) (back : (j : ℕ) → T (has m j) → T (has next j) ⊎ T (has g j)) where
+        turn-known : (j : ℕ) → T (has others j) ⊎ T (has m j) → j < length (p .constraints)
+        turn-known j =
+            ⊎-elim (λ q. t .known j (inl (rest-e 64 left (omega arith) (t .wide) j q)))
+            (λ q. ⊎-elim (λ i. t .known j (inr i)) (λ i. let x = u .touched-e j i in has-lt (length (p .constraints)) (at numbers (OTHERS + x .0)) j (t .linked .touching-few (x .0) (changed-lt (x .0) (x .1))) (x .2)) (back j q))
+
+        turn-others : (j : ℕ) → j < length (p .constraints) → has others j ≡ false → has m j ≡ false → byRows p j ≡ false → Fixed fs (constraintAt p j)
+        turn-others j i e f b = go (ℕ-discrete j k)
+          where
+            go : Dec (j ≡ k) → Fixed fs (constraintAt p j)
+            go (yes q) = subst (λ (i : ℕ). Fixed fs (constraintAt p i)) (sym q) (subst (λ (m : List ℕ). Fixed m c) (sym (r .sets l)) (revised-fixed es c (t .sixteen .1) (ascending-sorted (c .scope) (c-good .ordered))))
+            go (no q) =
+                fixed-kept (constraintAt p j) es fs
+                (t .others j i (not-of (has left j) (λ z. ⊎-elim (of-not (has others j) e) q (others-i j z))) (not-of (has next j) (λ z. of-not (has m j) f (old j z))) b)
+                (λ y z. still c es fs changed (t .sixteen) r l y (untouched (t .linked) u j i b (λ o. ⊎-elim (⊎-elim (of-not (has m j) f) (of-not (has others j) e)) q (new j o)) y (let h = good (t .held .wellFormed) j i .inside y z in omega (arith, t .held .wellFormed .few)) z))
+
+        turned : ConstrainedSoFar p numbers supports ds fs (bitAnd left (left - 1)) m (bitOr all changed)
+        turned = record {
+          held = t .held;
+          linked = t .linked;
+          sixteen = after c es fs changed (t .sixteen) r l;
+          wide = lt-of-le-of-lt (and-le-l left (left - 1)) (t .wide);
+          wide-next = w;
+          full = turn-full;
+          known = turn-known;
+          others = turn-others;
+          ways = λ prefix. subst (λ (l : List ℕ). Prunes p prefix (setsOf p ds) (setsOf p l)) (sym (r .sets l)) (way prefix);
+          less = λ x v q. t .less x v (inside c es fs changed (t .sixteen) r l x v q);
+          kept = turn-kept;
+          few = turn-few;
+          shrunk = turn-shrunk;
+          long = t .long;
+        }
+
+      -- nothing changed: a constraint less is left
+      pub constrained-same : changed ≡ 0 → ConstrainedSoFar p numbers supports ds fs (bitAnd left (left - 1)) next all
+      constrained-same e =
+          subst (ConstrainedSoFar p numbers supports ds fs (bitAnd left (left - 1)) next) (ap (bitOr all) e ∙ or-zero-r all)
+          (turned {g = 0} record { touched-i = λ x j q i. absurd (has-0 x (subst (λ (z : ℕ). T (has z x)) e q)); touched-e = λ j q. absurd (has-0 j q) } next (t .wide-next) (λ j q. q) (λ j q. absurd (has-0 j q)) (λ j q. inl q))
+
+      pub same-less : (z : ℕ) → left + next ≡ z → size fs * 2 ^ 65 + (bitAnd left (left - 1) + next) < size es * 2 ^ 65 + z
+      same-less z e = let a = rest-less left n in let b = fewer c es fs changed (t .sixteen) r l in omega arith
+
+      -- something changed: a value less is left
+      module _ (g : ℕ) (h : g < 2 ^ 64) where
+        abbrev done : ℕ
+        done = bitOr (1 * 2 ^ trailingZeros 64 left % 2 ^ 64) (bitAnd left (left - 1))
+
+        abbrev more : ℕ
+        more = bitOr next (bitAnd g ((2 ^ 64 - 1) - bitOr (1 * 2 ^ trailingZeros 64 left % 2 ^ 64) (bitAnd left (left - 1))))
+
+        done-lt : done < 2 ^ 64
+        done-lt = or-lt 64 (1 * 2 ^ k % 2 ^ 64) others (subst (λ (z : ℕ). z < 2 ^ 64) (sym (one-bit 64 k (low .1))) (pow-lt (low .1))) (lt-of-le-of-lt (and-le-l left (left - 1)) (t .wide))
+
+        more-lt : more < 2 ^ 64
+        more-lt = or-lt 64 next (bitAnd g ((2 ^ 64 - 1) - done)) (t .wide-next) (lt-of-le-of-lt (and-le-l g ((2 ^ 64 - 1) - done)) h)
+
+        new : (j : ℕ) → T (has g j) → (T (has more j) ⊎ T (has others j)) ⊎ (j ≡ k)
+        new j q = go (has done j) refl
+          where
+            i : j < 64
+            i = has-lt 64 g j h q
+
+            go : (b : Bool) → has done j ≡ b → (T (has more j) ⊎ T (has others j)) ⊎ (j ≡ k)
+            go true e = ⊎-elim (λ o. inr (eqb→eq j k (subst T (one-has 64 k j (low .1)) o))) (λ o. inl (inr o)) (or-e (1 * 2 ^ k % 2 ^ 64) others j (T-of (has done j) e))
+            go false e = inl (inl (or-i next (bitAnd g ((2 ^ 64 - 1) - done)) j (inr (subst T (sym (without-has 64 g done j done-lt i)) (both-i (has g j) (not (has done j)) q (T-of (not (has done j)) (ap not e)))))))
+
+        back : (j : ℕ) → T (has more j) → T (has next j) ⊎ T (has g j)
+        back j q = ⊎-elim inl (λ o. inr (and-e g ((2 ^ 64 - 1) - done) j o .0)) (or-e next (bitAnd g ((2 ^ 64 - 1) - done)) j q)
+
+        pub constrained-more : Touched numbers changed g → ConstrainedSoFar p numbers supports ds fs (bitAnd left (left - 1)) more (bitOr all changed)
+        constrained-more u = turned u more more-lt (λ j q. or-i next (bitAnd g ((2 ^ 64 - 1) - done)) j (inl q)) new back
+
+        pub more-less : changed < 2 ^ 64 → (changed ≡ 0 → ⊥) → (z : ℕ) → left + next ≡ z → size fs * 2 ^ 65 + (bitAnd left (left - 1) + more) < size es * 2 ^ 65 + z
+        more-less i o z e =
+            let a = less-if c es fs changed (t .sixteen) r l (trailingZeros 64 changed) (low-has 64 changed (omega arith) i .0) in
+            let b : others < 2 ^ 64 = lt-of-le-of-lt (and-le-l left (left - 1)) (t .wide) in
+            let d = more-lt in
+            omega arith

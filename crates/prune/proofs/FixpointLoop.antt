@@ -1,0 +1,175 @@
+-- The loop of `fixpoint`: constraints and filters by turns, and its three ends. Assumes nothing.
+use mathlib.Core.Path.{_≡_, refl, sym, ap, _∙_, subst}
+use mathlib.Core.Bool.{Bool, true, false, not}
+use mathlib.Core.List.{List, []}
+use Prim.Native.Nat.{ℕ, _+_, _*_, _^_, _≤_, _<_}
+use native.Mathlib.Omega.{arith}
+use lib.Dec.{T, eqb, ltb}
+use lib.ListN.{length, take}
+use lib.Bits.{bitAnd}
+use borrow.Author.Tests.{ltb-true, ltb-false, eqb-true, eq-eqb}
+use Rattle.model.specs.Lists.{at}
+use Rattle.model.specs.ValueSets.{has, anyEmpty}
+use Rattle.model.specs.Problem.{Problem, Constraint}
+use Rattle.model.specs.Search.{pruned, setsAt, isLive, supported}
+use Rattle.model.proofs.Lists.{T-of, of-T, not-of, of-not, at-ext, both-l, place-of}
+use Rattle.model.proofs.Sets.{has-none, mask-ext, empty-inside, inside-antisym, size, size-inside, size-strict}
+use Rattle.model.specs.Pruning.{Sets, Inside, closed, Way}
+use Rattle.model.proofs.Masks.{has-and}
+use Rattle.model.proofs.Firsts.{take-sets}
+use Rattle.model.proofs.Prunes.{way-prunes}
+use Rattle.model.proofs.Prune.{Sized, Kept, fixed-i, largest, live-is, way-live, way-end}
+use Rattle.model.proofs.Tree.{well-sized}
+use Rattle.layout.specs.Places.{LINKED, MARKS}
+use Rattle.layout.specs.Pruning.{Given, Ended, setsOf}
+use Rattle.constraints.specs.Steps.{Touched}
+use Rattle.levels.proofs.Marks.{mark-mono}
+use Rattle.prune.specs.Node.{MarksRight}
+use Rattle.prune.specs.Steps.{ArraysHold, AllConstrained, LiveSets, AllFiltered, EndedAt, OnlyMarks, BeforeFixpoint, AfterFixpoint, Differ}
+use Rattle.prune.proofs.Pending.{take-less, still-fixed, touched-known, still-arc}
+use Rattle.prune.proofs.FilterLoop.{same-take, kept-none, kept-trans}
+
+-- ---- a set is empty, so the prefix is dead
+pub not-live : (p : Problem) (prefix es : List ℕ) → Way p prefix es → Sized p → T (anyEmpty es) → isLive p prefix ≡ false
+not-live p prefix es w s t =
+    live-is p prefix ∙ ap not (of-T (anyEmpty (closed p prefix)) (empty-inside (p .variables) (closed p prefix) es (largest p prefix s .sets) (w .sets) (w .over) t))
+
+dead : (p : Problem) (k : ℕ) (work work′ sets : List ℕ) → OnlyMarks work work′ k → isLive p (take k work) ≡ false → AfterFixpoint p k work work′ sets true
+dead p k work work′ sets r e = record { answers = sym (ap not e); sets-are = λ q. absurd (subst T q tt); live = λ q. absurd (subst T q tt); marking = λ q. absurd (subst T q tt); kept = r }
+
+-- ---- which sets differ
+module _ (ds es : List ℕ) (s : Sets 16 ds) (t : Sets 16 es) (changed : ℕ) (d : Differ ds es changed) where
+  same-at : (x : ℕ) → x < 16 → has changed x ≡ false → at es x ≡ at ds x
+  same-at x l e = go (eqb (at es x) (at ds x)) refl
+    where
+      go : (b : Bool) → eqb (at es x) (at ds x) ≡ b → at es x ≡ at ds x
+      go true q = eqb-true (at es x) (at ds x) q
+      go false q = absurd (of-not (has changed x) e (T-of (has changed x) (d .differ x l ∙ ap not q)))
+
+  pub none-differs : changed ≡ 0 → es ≡ ds
+  none-differs e = at-ext es ds (t .0 ∙ sym (s .0)) (λ x l. same-at x (omega (arith, t .0)) (ap (λ (n : ℕ). has n x) e ∙ has-none x))
+
+  some-differs : changed < 2 ^ 64 → (changed ≡ 0 → ⊥) → es ≡ ds → ⊥
+  some-differs h n e =
+      n (mask-ext 64 changed 0 h (omega arith) (λ x l. not-of (has changed x) (λ q. subst T (d .differ x (d .few x q) ∙ ap not (eq-eqb (at es x) (at ds x) (ap (λ (z : List ℕ). at z x) e))) q) ∙ sym (has-none x)))
+
+  pub fewer : changed < 2 ^ 64 → (changed ≡ 0 → ⊥) → Inside es ds → size es < size ds
+  fewer h n i = go (ltb (size es) (size ds)) refl
+    where
+      go : (b : Bool) → ltb (size es) (size ds) ≡ b → size es < size ds
+      go true q = ltb-true (size es) (size ds) q
+      go false q = absurd (some-differs h n (inside-antisym 16 es ds t s i (size-strict es ds (t .0 ∙ sym (s .0)) (s .1) i (ltb-false (size es) (size ds) q))))
+
+-- ---- what is said of work's prefix is said of another with the same prefix
+module _ {p : Problem} {supports tables numbers : List ℕ} (st : ArraysHold p supports tables numbers) {work₀ work : List ℕ} {k : ℕ} (l : length work₀ ≡ 256) (h : k ≤ p .variables) (r : OnlyMarks work₀ work k) where
+  same-prefix : take k work ≡ take k work₀
+  same-prefix = same-take work₀ work k k l r (omega (arith, h, st .wellFormed .few))
+
+  pub after-from : {work′ sets : List ℕ} {b : Bool} → AfterFixpoint p k work work′ sets b → AfterFixpoint p k work₀ work′ sets b
+  after-from {work′ = work′} {sets = sets} a = record {
+    answers = a .answers ∙ ap (λ (z : List ℕ). not (isLive p z)) same-prefix;
+    sets-are = λ q. a .sets-are q ∙ ap (setsAt p) same-prefix;
+    live = a .live;
+    marking = λ q. subst (λ (z : List ℕ). MarksRight p (setsOf p sets) z work′ k) same-prefix (a .marking q);
+    kept = kept-trans work₀ work work′ k r (a .kept);
+  }
+
+-- ---- one turn: the constraints leave es, the filters fs
+module _ {p : Problem} {supports tables numbers : List ℕ} (st : ArraysHold p supports tables numbers) {work ds : List ℕ} {k todo dirty : ℕ} (n : BeforeFixpoint p work numbers ds k todo dirty) where
+  n-few : p .variables ≤ 16
+  n-few = omega (arith, st .wellFormed .few)
+
+  pub constrained-dead : (es : List ℕ) → Ended p ds → AfterFixpoint p k work work es true
+  constrained-dead es e = dead p k work work es (kept-none work k) (not-live p (take k work) (e .0) (way-prunes p (take k work) (well-sized p (st .wellFormed)) (setsOf p ds) (e .0) (e .1 .0 (take k work)) (n .way)) (well-sized p (st .wellFormed)) (e .1 .1))
+
+  module _ {es : List ℕ} (c : AllConstrained p ds es) where
+    pub constrained-live : LiveSets p es
+    constrained-live = record { sixteen = c .given .sixteen; full = c .given .full; unused = λ x l i. c .unused x l ∙ n .live .unused x l i }
+
+    pub constrained-marking : MarksRight p (setsOf p es) (take k work) work k
+    constrained-marking e l =
+        mark-mono p (setsOf p ds) (setsOf p es) (take k work) e (at work (16 * k + MARKS + e)) (take-sets (p .variables) es (c .given .sixteen) n-few .0 ∙ sym (take-sets (p .variables) ds (n .live .sixteen) n-few .0))
+        (take-less st ds es (n .live .sixteen) (c .given .sixteen) (c .less)) (n .marking e l)
+
+    way-1 : Way p (take k work) (setsOf p es)
+    way-1 = way-prunes p (take k work) (well-sized p (st .wellFormed)) (setsOf p ds) (setsOf p es) (c .ways (take k work)) (n .way)
+
+    pub filters-dead : (work′ fs : List ℕ) → OnlyMarks work work′ k → EndedAt p (take k work) es → AfterFixpoint p k work work′ fs true
+    filters-dead work′ fs r e = dead p k work work′ fs r (not-live p (take k work) (e .0) (way-prunes p (take k work) (well-sized p (st .wellFormed)) (setsOf p es) (e .0) (e .1 .0) way-1) (well-sized p (st .wellFormed)) (e .1 .1))
+
+    module _ {work′ fs : List ℕ} (s : AllFiltered p (take k work) es fs) (m : MarksRight p (setsOf p fs) (take k work) work′ k) (r : OnlyMarks work work′ k) {changed : ℕ} (d : Differ es fs changed) where
+      way-2 : Way p (take k work) (setsOf p fs)
+      way-2 = way-prunes p (take k work) (well-sized p (st .wellFormed)) (setsOf p es) (setsOf p fs) (s .way) way-1
+
+      -- nothing moved: no constraint and no filter takes anything
+      pub fixpoint-end : changed ≡ 0 → AfterFixpoint p k work work′ fs false
+      fixpoint-end e = record {
+        answers = sym (ap not (of-T (isLive p (take k work)) live));
+        sets-are = λ q. sym sets;
+        live = λ q. s .live;
+        marking = λ q. m;
+        kept = r;
+      }
+        where
+          same : fs ≡ es
+          same = none-differs es fs (c .given .sixteen) (s .live .sixteen) changed d e
+
+          kept : (x v : ℕ) → T (has (at (setsOf p es) x) v) → Kept p (take k work) (setsOf p es) x v
+          kept x v t = record {
+            member = t;
+            rows = λ a i. let q = place-of (p .constraints) a (record { scope = []; rows = [] }) i in subst (λ (z : Constraint). T (supported (setsOf p es) x v z)) (q .2) (c .fixed (q .0) (q .1) x v t);
+            filters = λ g i. subst (λ (z : List ℕ). T (has (at z x) v)) (sym (s .fixed same g i)) t;
+          }
+
+          fixed : pruned p (take k work) (setsOf p fs) ≡ setsOf p fs
+          fixed = subst (λ (z : List ℕ). pruned p (take k work) (setsOf p z) ≡ setsOf p z) (sym same) (fixed-i p (take k work) (setsOf p es) (take-sets (p .variables) es (c .given .sixteen) n-few) kept)
+
+          sets : setsAt p (take k work) ≡ setsOf p fs
+          sets = way-live p (take k work) (well-sized p (st .wellFormed)) (setsOf p fs) way-2 fixed (s .live .full)
+
+          live : T (isLive p (take k work))
+          live = T-of (isLive p (take k work)) (live-is p (take k work) ∙ ap not (ap anyEmpty (sym (way-end p (take k work) (well-sized p (st .wellFormed)) (setsOf p fs) way-2 fixed)) ∙ s .live .full))
+
+      -- something moved: the constraints of the changed variables are due
+      module _ {left moved : ℕ} (u : Touched numbers changed left) (q : moved ≡ bitAnd changed (at numbers LINKED)) where
+        same-at-x : (x : ℕ) → x < p .variables → has changed x ≡ false → at fs x ≡ at es x
+        same-at-x x l e = same-at es fs (c .given .sixteen) (s .live .sixteen) changed d x (omega (arith, n-few)) e
+
+        given : Given p fs
+        given = record { sixteen = s .live .sixteen; full = s .live .full; inside = λ x v t. c .given .inside x v (take-less st es fs (c .given .sixteen) (s .live .sixteen) (s .less) x v t) }
+
+        prefix-is : take k work′ ≡ take k work
+        prefix-is = same-take work work′ k k (n .prefix-held .work-length) r (omega (arith, n .prefix-held .depth, n-few))
+
+        pub fixpoint-turn : BeforeFixpoint p work′ numbers fs k left moved
+        fixpoint-turn = record {
+          prefix-held = record {
+            depth = n .prefix-held .depth;
+            values = λ j l. subst (λ (z : ℕ). T (has (at (p .initial) j) z)) (sym (r .before j (omega arith))) (n .prefix-held .values j l);
+            work-length = r .size ∙ n .prefix-held .work-length;
+          };
+          live = s .live;
+          pending = record {
+            given = given;
+            known = touched-known st changed left u (d .few);
+            others = λ j l e b. still-fixed st es fs changed left (c .given .sixteen) (s .live .sixteen) same-at-x u j l e b (c .fixed j l);
+            inner = λ x t. inner-x x (both-l (has changed x) (has (at numbers LINKED) x) (subst T (ap (λ (z : ℕ). has z x) q ∙ has-and changed (at numbers LINKED) x) t));
+            arcs = λ x l e. still-arc st es fs changed moved (c .given) given (s .less) same-at-x q x l e (c .arcs x l);
+          };
+          marking = subst (λ (z : List ℕ). MarksRight p (setsOf p fs) z work′ k) (sym prefix-is) m;
+          way = subst (λ (z : List ℕ). Way p z (setsOf p fs)) (sym prefix-is) way-2;
+        }
+          where
+            -- an unused set never changes
+            inner-x : (x : ℕ) → T (has changed x) → x < p .variables
+            inner-x x t = go (ltb x (p .variables)) refl
+              where
+                go : (b : Bool) → ltb x (p .variables) ≡ b → x < p .variables
+                go true e = ltb-true x (p .variables) e
+                go false e =
+                    let o = ltb-false x (p .variables) e in
+                    let i = d .few x t in
+                    absurd (of-not (has changed x) (d .differ x i ∙ ap not (eq-eqb (at fs x) (at es x) (s .live .unused x o i ∙ sym (constrained-live .unused x o i)))) t)
+
+      pub fixpoint-less : changed < 2 ^ 64 → (changed ≡ 0 → ⊥) → size fs < size ds
+      fixpoint-less h z = omega (arith, fewer es fs (c .given .sixteen) (s .live .sixteen) changed d h z (s .less), size-inside es ds (c .given .sixteen .0 ∙ sym (n .live .sixteen .0)) (c .less))

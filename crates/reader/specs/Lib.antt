@@ -1,0 +1,2 @@
+-- What reading gives.
+pub mod Read
