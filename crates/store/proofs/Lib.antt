@@ -1,0 +1,8 @@
+-- The laws, in the order of the argument.
+pub mod First
+pub mod Store
+pub mod Slots
+pub mod Free
+pub mod Calls
+pub mod Answers
+pub mod Sheets

@@ -1,0 +1,69 @@
+-- `free_all`: after i turns the first i slots are freed. Assumes nothing.
+use mathlib.Core.Path.{_≡_, refl, sym, ap, _∙_}
+use mathlib.Core.Logic.{⊎-elim}
+use Prim.Native.Nat.{_≤_, _-_}
+use native.Mathlib.Nat.{le-antisymm}
+use lib.ListN.{length, length-set}
+use Rattle.store.specs.Layout.{freed}
+use Rattle.store.proofs.Slots.{freed-taken, freed-left}
+use borrow.Author.Needs.{needs}
+use Rattle.store.proofs.free_all.Statement.{statement}
+use Rattle.store.proofs.free_all.Tie as tie
+
+abbrev Inv-loop : tie.InvT-loop
+Inv-loop store₀ owner key i₀ store i = (i ≤ 4) × (store ≡ freed store₀ owner key i) × (length store ≡ length store₀)
+
+abbrev μ-loop : tie.MeasureT-loop
+μ-loop store₀ owner key i₀ store i = 4 - i
+
+loop-holds : tie.Need-loop-holds Inv-loop μ-loop
+unfolding freed
+loop-holds c = (search needs, refl, refl)
+
+slot-at-requires : tie.Need-slot-at-requires Inv-loop μ-loop
+slot-at-requires c κs = search needs
+
+holds-requires : tie.Need-holds-requires Inv-loop μ-loop
+holds-requires c κs = search needs
+
+slice-write-store : tie.Need-slice-write-store Inv-loop μ-loop
+slice-write-store c = search needs
+
+add-i : tie.Need-add-i Inv-loop μ-loop
+add-i c = search needs
+
+loop-less : tie.Need-loop-less Inv-loop μ-loop
+loop-less c = search needs
+
+loop-again : tie.Need-loop-again Inv-loop μ-loop
+loop-again c =
+    let a = c .before .before .before .before .before .before .before .args in
+    let l = c .before .before .before .before .before .loop in
+    let p = c .before .before .before .slot-at in
+    let h = c .before .holds in
+    ⊎-elim
+    (λ w. (search needs, w .1 ∙ freed-taken (a .store .now) (a .owner) (a .key) (l .store) (l .i) (p .result) (l .inv .1) (p .ensures) (sym (h .ensures) ∙ w .0 .taken), ap length (w .1) ∙ length-set (l .store) (p .result) 0 ∙ l .inv .2))
+    (λ w. (search needs, w .1 ∙ freed-left (a .store .now) (a .owner) (a .key) (l .store) (l .i) (p .result) (l .inv .1) (p .ensures) (sym (h .ensures) ∙ w .0 .left), ap length (w .1) ∙ l .inv .2))
+    (c .if1 .came)
+
+same-length : tie.Need-same-length Inv-loop μ-loop
+same-length c = c .before .loop .inv .2
+
+returns : tie.Need-returns Inv-loop μ-loop
+returns c = let l = c .before .loop in l .inv .1 ∙ ap (freed _ _ _) (le-antisymm (l .inv .0) (c .loop-test .left))
+
+pub free-all-spec : {M : Type 1} → statement M
+free-all-spec =
+    tie.close
+    (tie.spec
+    Inv-loop
+    μ-loop
+    loop-holds
+    slot-at-requires
+    holds-requires
+    slice-write-store
+    add-i
+    loop-less
+    loop-again
+    same-length
+    returns)

@@ -1,0 +1,5 @@
+-- The symmetry store, its bytes, what the answers mean, and the claims.
+pub mod Store
+pub mod Layout
+pub mod Meaning
+pub mod Claims
