@@ -1,0 +1,157 @@
+-- The reading order of rows, in any order of their places. Assumes nothing.
+use mathlib.Core.Path.{_≡_, refl, sym, ap, ap₂, _∙_, subst}
+use mathlib.Core.Bool.{Bool, true, false}
+use mathlib.Core.Logic.{_⊎_, inl, inr, ⊎-elim}
+use mathlib.Core.List.{List, [], _∷_, map, List·Memᴰ, List·Memᴰ·head, List·Memᴰ·tail, List·Memᴰ·not-nil}
+use Prim.Native.Nat.{ℕ, suc, _+_, _≤_, _<_}
+use native.Mathlib.Numerals.{add-one}
+use native.Mathlib.Omega.{arith}
+use lib.Dec.{T, eqb, ltb}
+use lib.ListN.{length, drop, getD, drop-of-length-le}
+use lib.Seq.{drop-cons}
+use borrow.Author.Tests.{ltb-true, ltb-false, eq-eqb}
+use Rattle.model.specs.Lists.{at, earlier, rowsAscend}
+use Rattle.model.proofs.Lists.{T-of, of-T, not-of, earlier-lt, earlier-eq, earlier-e, at-map, at-mem, at-ext, Sorted}
+use Rattle.merge.specs.Merge.{ascends}
+use Rattle.merge.specs.Inner.{Places}
+use Rattle.order.specs.Reordered.{read, earlierBy}
+
+-- ---- rows as they are
+pub earlier-asym : (l m : List ℕ) → T (earlier l m) → T (earlier m l) → ⊥
+unfolding earlier
+earlier-asym [] m t u = t
+earlier-asym (x ∷ l) [] t u = t
+earlier-asym (x ∷ l) (y ∷ m) t u = go (earlier-asym l m) (earlier-e x y l m t) (earlier-e y x m l u)
+  where
+    go : (T (earlier l m) → T (earlier m l) → ⊥) → (x < y) ⊎ ((x ≡ y) × T (earlier l m)) → (y < x) ⊎ ((y ≡ x) × T (earlier m l)) → ⊥
+    go ih (inl h) (inl k) = omega arith
+    go ih (inl h) (inr k) = omega (arith, k .0)
+    go ih (inr h) (inl k) = omega (arith, h .0)
+    go ih (inr h) (inr k) = ih (h .1) (k .1)
+
+pub earlier-trans : (l m r : List ℕ) → T (earlier l m) → T (earlier m r) → T (earlier l r)
+unfolding earlier
+earlier-trans [] m r t u = absurd t
+earlier-trans (x ∷ l) [] r t u = absurd t
+earlier-trans (x ∷ l) (y ∷ m) [] t u = absurd u
+earlier-trans (x ∷ l) (y ∷ m) (z ∷ r) t u = go (earlier-trans l m r) (earlier-e x y l m t) (earlier-e y z m r u)
+  where
+    go : (T (earlier l m) → T (earlier m r) → T (earlier l r)) → (x < y) ⊎ ((x ≡ y) × T (earlier l m)) → (y < z) ⊎ ((y ≡ z) × T (earlier m r)) → T (earlier (x ∷ l) (z ∷ r))
+    go ih (inl h) (inl k) = earlier-lt x z l r (omega arith)
+    go ih (inl h) (inr k) = earlier-lt x z l r (omega (arith, k .0))
+    go ih (inr h) (inl k) = earlier-lt x z l r (omega (arith, h .0))
+    go ih (inr h) (inr k) = subst (λ (w : ℕ). T (earlier (x ∷ l) (w ∷ r))) (h .0 ∙ k .0) (earlier-eq x l r (ih (h .1) (k .1)))
+
+pub earlier-gt : (x y : ℕ) (l m : List ℕ) → y < x → earlier (x ∷ l) (y ∷ m) ≡ false
+earlier-gt x y l m h = not-of (earlier (x ∷ l) (y ∷ m)) (λ t. ⊎-elim {C = ⊥} (λ k. omega arith) (λ k. omega (arith, k .0)) (earlier-e x y l m t))
+
+pub earlier-same : (x y : ℕ) (l m : List ℕ) → x ≡ y → earlier (x ∷ l) (y ∷ m) ≡ earlier l m
+unfolding earlier
+earlier-same x y l m e = go (eqb x y) (eq-eqb x y e)
+  where
+    go : (b : Bool) → b ≡ true → elim b [ true ↦ earlier l m | false ↦ ltb x y ] ≡ earlier l m
+    go true q = refl
+    go false q = absurd (subst T (sym q) tt)
+
+pub earlier-total : (l m : List ℕ) → length l ≡ length m → earlier l m ≡ false → earlier m l ≡ false → l ≡ m
+unfolding earlier
+earlier-total [] [] e p q = refl
+earlier-total [] (y ∷ m) e p q = absurd (omega arith)
+earlier-total (x ∷ l) [] e p q = absurd (omega arith)
+earlier-total (x ∷ l) (y ∷ m) e p q = go (earlier-total l m (omega arith)) (ltb x y) refl (ltb y x) refl
+  where
+    go : (earlier l m ≡ false → earlier m l ≡ false → l ≡ m) → (b : Bool) → ltb x y ≡ b → (c : Bool) → ltb y x ≡ c → x ∷ l ≡ y ∷ m
+    go ih true b c d = absurd (subst T p (earlier-lt x y l m (ltb-true x y b)))
+    go ih false b true d = absurd (subst T q (earlier-lt y x m l (ltb-true y x d)))
+    go ih false b false d =
+        let h : x ≡ y = omega (arith, ltb-false x y b, ltb-false y x d) in
+        ap₂ (λ (z : ℕ) (r : List ℕ). z ∷ r) h (ih (sym (earlier-same x y l m h) ∙ p) (sym (earlier-same y x m l (sym h)) ∙ q))
+
+-- ---- rows in an order
+length-read : (order a : List ℕ) → length (read order a) ≡ length order
+unfolding read
+length-read [] a = refl
+length-read (x ∷ order) a = ap suc (length-read order a)
+
+pub read-inj : (n : ℕ) (order : List ℕ) → Places n order → (a b : List ℕ) → length a ≡ n → length b ≡ n → read order a ≡ read order b → a ≡ b
+unfolding read
+read-inj n order p a b ea eb e = at-ext a b (ea ∙ sym eb) (λ x h. each x (omega arith))
+  where
+    each : (x : ℕ) → x < n → at a x ≡ at b x
+    each x h =
+        let q = at-mem order x (p .each x h) in
+        ap (at a) (sym (q .2))
+        ∙ sym (at-map (at a) order (q .0) (q .1))
+        ∙ ap (λ (l : List ℕ). at l (q .0)) e
+        ∙ at-map (at b) order (q .0) (q .1)
+        ∙ ap (at b) (q .2)
+
+-- rows of n values that do not read earlier than each other are equal
+pub rows-equal : (n : ℕ) (order : List ℕ) → Places n order → (a b : List ℕ) → length a ≡ n → length b ≡ n → earlierBy order a b ≡ false → earlierBy order b a ≡ false → a ≡ b
+rows-equal n order p a b ea eb s t =
+    read-inj n order p a b ea eb (earlier-total (read order a) (read order b) (length-read order a ∙ sym (length-read order b)) s t)
+
+-- ---- two rows compared from a place of the order on
+abbrev pub onwards : List ℕ → List ℕ → List ℕ → ℕ → Bool
+onwards order a b k = earlier (read (drop k order) a) (read (drop k order) b)
+
+module _ (order a b : List ℕ) (i : ℕ) where
+  read-from : (r : List ℕ) → i < length order → read (drop i order) r ≡ getD r (getD order i 0) 0 ∷ read (drop (i + 1) order) r
+  unfolding read at
+  read-from r h = ap (map (λ x. getD r x 0)) (drop-cons order i 0 h) ∙ ap (λ (k : ℕ). getD r (getD order i 0) 0 ∷ map (λ x. getD r x 0) (drop k order)) (sym (add-one i))
+
+  here : i < length order → onwards order a b i ≡ earlier (getD a (getD order i 0) 0 ∷ read (drop (i + 1) order) a) (getD b (getD order i 0) 0 ∷ read (drop (i + 1) order) b)
+  here h = ap₂ earlier (read-from a h) (read-from b h)
+
+  pub come-lt : i < length order → getD a (getD order i 0) 0 < getD b (getD order i 0) 0 → onwards order a b i ≡ true
+  come-lt h l = here h ∙ of-T _ (earlier-lt (getD a (getD order i 0) 0) (getD b (getD order i 0) 0) (read (drop (i + 1) order) a) (read (drop (i + 1) order) b) l)
+
+  pub come-gt : i < length order → getD b (getD order i 0) 0 < getD a (getD order i 0) 0 → onwards order a b i ≡ false
+  come-gt h l = here h ∙ earlier-gt (getD a (getD order i 0) 0) (getD b (getD order i 0) 0) (read (drop (i + 1) order) a) (read (drop (i + 1) order) b) l
+
+  pub come-eq : i < length order → getD a (getD order i 0) 0 ≡ getD b (getD order i 0) 0 → onwards order a b i ≡ onwards order a b (i + 1)
+  come-eq h e = here h ∙ earlier-same (getD a (getD order i 0) 0) (getD b (getD order i 0) 0) (read (drop (i + 1) order) a) (read (drop (i + 1) order) b) e
+
+  pub come-end : length order ≤ i → onwards order a b i ≡ false
+  unfolding read earlier
+  come-end h = ap (λ (l : List ℕ). earlier (read l a) (read l b)) (drop-of-length-le order {i = i} h)
+
+-- ---- lists of rows
+abbrev pub Earlier : List ℕ → List ℕ → List ℕ → Type 0
+Earlier order x y = T (earlierBy order x y)
+
+pub ascends-cons : (order x y : List ℕ) (rows : List (List ℕ)) → ascends order (x ∷ y ∷ rows) ≡ elim (earlierBy order x y) [ true ↦ ascends order (y ∷ rows) | false ↦ false ]
+unfolding ascends rowsAscend
+ascends-cons order x y rows = refl
+
+pub ascends-yes : (order x y : List ℕ) (rows : List (List ℕ)) → earlierBy order x y ≡ true → ascends order (x ∷ y ∷ rows) ≡ ascends order (y ∷ rows)
+ascends-yes order x y rows e = ascends-cons order x y rows ∙ ap (λ (t : Bool). elim t [ true ↦ ascends order (y ∷ rows) | false ↦ false ]) e
+
+pub ascends-no : (order x y : List ℕ) (rows : List (List ℕ)) → earlierBy order x y ≡ false → ascends order (x ∷ y ∷ rows) ≡ false
+ascends-no order x y rows e = ascends-cons order x y rows ∙ ap (λ (t : Bool). elim t [ true ↦ ascends order (y ∷ rows) | false ↦ false ]) e
+
+pub ascends-none : (order : List ℕ) → ascends order [] ≡ true
+unfolding ascends rowsAscend
+ascends-none order = refl
+
+pub ascends-one : (order x : List ℕ) → ascends order (x ∷ []) ≡ true
+unfolding ascends rowsAscend
+ascends-one order x = refl
+
+pub sorted-of : (order : List ℕ) (rows : List (List ℕ)) → T (ascends order rows) → Sorted (Earlier order) rows
+sorted-of order [] t = tt
+sorted-of order (x ∷ []) t = (λ y m. absurd (List·Memᴰ·not-nil m), tt)
+sorted-of order (x ∷ y ∷ rows) t = go (sorted-of order (y ∷ rows)) (earlierBy order x y) refl (subst T (ascends-cons order x y rows) t)
+  where
+    first : T (earlierBy order x y) → ((z : List ℕ) → List·Memᴰ z rows → Earlier order y z) → (z : List ℕ) → List·Memᴰ z (y ∷ rows) → Earlier order x z
+    first h k z (List·Memᴰ·head q) = subst (λ (w : List ℕ). Earlier order x w) (sym q) h
+    first h k z (List·Memᴰ·tail m) = earlier-trans (read order x) (read order y) (read order z) h (k z m)
+
+    go : (T (ascends order (y ∷ rows)) → Sorted (Earlier order) (y ∷ rows)) → (b : Bool) → earlierBy order x y ≡ b → T (elim b [ true ↦ ascends order (y ∷ rows) | false ↦ false ]) → Sorted (Earlier order) (x ∷ y ∷ rows)
+    go ih true e t = let s = ih t in (first (T-of (earlierBy order x y) e) (s .0), s)
+    go ih false e t = absurd t
+
+pub ascends-of : (order : List ℕ) (rows : List (List ℕ)) → Sorted (Earlier order) rows → T (ascends order rows)
+ascends-of order [] s = T-of _ (ascends-none order)
+ascends-of order (x ∷ []) s = T-of _ (ascends-one order x)
+ascends-of order (x ∷ y ∷ rows) s = subst T (sym (ascends-yes order x y rows (of-T (earlierBy order x y) (s .0 y (List·Memᴰ·head refl))))) (ascends-of order (y ∷ rows) (s .1))

@@ -1,0 +1,61 @@
+-- The claims of paper 02, #106, as statements about the definitions; proofs/Claimed has the proofs.
+use mathlib.Core.Path.{_≡_}
+use mathlib.Core.Logic.{_⊎_, _↔_}
+use mathlib.Core.List.{List, [], List·Memᴰ}
+use Prim.Native.Nat.{ℕ, _%_}
+use lib.Dec.{T}
+use lib.ListN.{length}
+use Rattle.model.specs.Lists.{flat, below, rowsAscend}
+use Rattle.model.specs.Problem.{Problem}
+use Rattle.model.specs.Verdict.{accepted}
+use Rattle.model.specs.Sheet.{verdictOf, problemOf}
+use Rattle.model.specs.Room.{rowsIn}
+use Rattle.model.specs.Run.{finished}
+use Rattle.order.specs.Order.{settlingOrder}
+use Rattle.order.specs.Reordered.{LeaderBy}
+use Rattle.order.specs.RunBy.{resultBy}
+use Rattle.merge.specs.Merge.{ascends, mergedBy, merged, orderedVerdict, mergeVerdict}
+
+-- the merged list holds exactly the rows of either
+abbrev pub Holds : Type 0
+Holds =
+    (n : ℕ) (pairs a b : List ℕ) (room : ℕ) → mergeVerdict n pairs a b room ≡ accepted → (r : List ℕ) →
+    List·Memᴰ r (rowsIn n (merged n pairs a b)) ↔ (List·Memᴰ r (rowsIn n a) ⊎ List·Memᴰ r (rowsIn n b))
+
+-- it ascends strictly in the order, so each row stands in it once
+abbrev pub Ascends : Type 0
+Ascends =
+    (n : ℕ) (pairs a b : List ℕ) (room : ℕ) → mergeVerdict n pairs a b room ≡ accepted → T (ascends (settlingOrder n pairs) (rowsIn n (merged n pairs a b)))
+
+-- merging a list with itself gives the list, and with an empty list the other; the order of the two lists does not matter
+abbrev pub Itself : Type 0
+Itself = (n : ℕ) (pairs a : List ℕ) (room : ℕ) → mergeVerdict n pairs a a room ≡ accepted → merged n pairs a a ≡ a
+
+abbrev pub Empty : Type 0
+Empty = (n : ℕ) (pairs a : List ℕ) (room : ℕ) → mergeVerdict n pairs a [] room ≡ accepted → (merged n pairs a [] ≡ a) × (merged n pairs [] a ≡ a)
+
+abbrev pub Swapped : Type 0
+Swapped = (n : ℕ) (pairs a b : List ℕ) (room : ℕ) → mergeVerdict n pairs a b room ≡ accepted → merged n pairs b a ≡ merged n pairs a b
+
+-- without pairs rows are compared by variable, and to ascend is what paper 01 asks of rows
+pub record NothingLent (n : ℕ) (a b : List ℕ) : Type 0 where
+  pub bytes : merged n [] a b ≡ mergedBy n (below n) a b
+  pub order : settlingOrder n [] ≡ below n
+  pub ascend : ascends (below n) (rowsIn n a) ≡ rowsAscend (rowsIn n a)
+
+abbrev pub Nothing-lent : Type 0
+Nothing-lent = (n : ℕ) (a b : List ℕ) → NothingLent n a b
+
+-- the plans that a run of an accepted sheet in the settling order of the pairs lists, as bytes
+abbrev pub plansOf : List ℕ → List ℕ → ℕ → ℕ → List ℕ
+plansOf b pairs limit room = flat (resultBy (settlingOrder (problemOf b .variables) pairs) (problemOf b) limit room .rows)
+
+-- where two runs of sheets for the same n, with the same pairs, are finished, the merge of their lists has exactly the plans of at least one of the two sheets
+abbrev pub Plans-of-either : Type 0
+Plans-of-either =
+    (b c pairs : List ℕ) (n : ℕ) → verdictOf b ≡ accepted → verdictOf c ≡ accepted → problemOf b .variables ≡ n → problemOf c .variables ≡ n →
+    (limit room limit′ room′ plans made plans′ made′ free : ℕ) →
+    resultBy (settlingOrder n pairs) (problemOf b) limit room .ending ≡ finished plans made → resultBy (settlingOrder n pairs) (problemOf c) limit′ room′ .ending ≡ finished plans′ made′ →
+    mergeVerdict n pairs (plansOf b pairs limit room) (plansOf c pairs limit′ room′) free ≡ accepted →
+    (r : List ℕ) → List·Memᴰ r (rowsIn n (merged n pairs (plansOf b pairs limit room) (plansOf c pairs limit′ room′))) ↔
+    (LeaderBy (settlingOrder n pairs) (problemOf b) r ⊎ LeaderBy (settlingOrder n pairs) (problemOf c) r)

@@ -1,0 +1,8 @@
+-- The laws, in the order of the argument.
+pub mod Order
+pub mod Reordered
+pub mod LeadersBy
+pub mod SetsBy
+pub mod RunBy
+pub mod Lent
+pub mod Placing

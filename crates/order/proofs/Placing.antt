@@ -1,0 +1,239 @@
+-- Pairs by their index, and the order one place after another. Assumes nothing.
+use mathlib.Core.Path.{_≡_, refl, sym, ap, ap₂, _∙_, subst}
+use mathlib.Core.Bool.{Bool, true, false, not}
+use mathlib.Core.List.{List, [], _∷_, _++_, List·Memᴰ, List·Memᴰ·head, List·Memᴰ·tail, List·Memᴰ·not-nil}
+use Prim.Native.Nat.{ℕ, zero, suc, _+_, _*_, _%_, _≤_, _<_}
+use native.Mathlib.Nat.{not-suc-le-zero}
+use native.Mathlib.Decide.{ℕ-discrete}
+use native.Mathlib.Omega.{arith}
+use lib.Bits.{bitOr}
+use lib.Dec.{T, ltb, eqb, ltb→lt, lt→ltb, T-not}
+use lib.ListN.{length, take, set, length-set}
+use borrow.Author.Tests.{le-leb, lt-leb, eq-eqb, ne-eqb, eqb-true}
+use Rattle.model.specs.Lists.{all, any, at, both, either}
+use Rattle.model.specs.ValueSets.{has, least}
+use Rattle.model.specs.Verdict.{Verdict, accepted, ask, isAccepted}
+use Rattle.order.specs.Order.{pairsIn, Before, canFollow, settledFirst, settlingOrder, settlesAll, orderVerdict, Settling}
+use Rattle.model.proofs.Lists.{T-of, of-T, not-of, of-not, both-l, both-r, all-i, all-e, any-cons, among-i, among-e, mem-at, at-mem, at-ext, at-take, at-set, at-set-other}
+use Rattle.model.proofs.Masks.{has-or}
+use Rattle.model.proofs.Sets.{has-none}
+use Rattle.order.proofs.Order.{follow-i, follow-e, first-length, first-at, order-passed}
+use Rattle.order.specs.Settled.{Holds, Settled, Ordered}
+
+-- ---- pairs by their index
+pub before-at : (pairs : List ℕ) (i : ℕ) → 2 * i + 1 < length pairs → Before pairs (at pairs (2 * i)) (at pairs (2 * i + 1))
+unfolding pairsIn at
+before-at [] i h = absurd (not-suc-le-zero h)
+before-at (x ∷ []) i h = absurd (omega arith)
+before-at (x ∷ y ∷ pairs) zero h = List·Memᴰ·head refl
+before-at (x ∷ y ∷ pairs) (suc i) h =
+    let e : 2 * suc i ≡ suc (suc (2 * i)) = omega arith in
+    let f : 2 * suc i + 1 ≡ suc (suc (2 * i + 1)) = omega arith in
+    subst (λ (k : ℕ). List·Memᴰ (at (x ∷ y ∷ pairs) k, at (x ∷ y ∷ pairs) (2 * suc i + 1)) (pairsIn (x ∷ y ∷ pairs))) (sym e)
+    (subst (λ (k : ℕ). List·Memᴰ (at pairs (2 * i), at (x ∷ y ∷ pairs) k) (pairsIn (x ∷ y ∷ pairs))) (sym f) (List·Memᴰ·tail (before-at pairs i (omega arith))))
+
+pub record Indexed (pairs : List ℕ) (x y : ℕ) : Type 0 where
+  pub index : ℕ
+  pub inside : 2 * index + 1 < length pairs
+  pub first : at pairs (2 * index) ≡ x
+  pub second : at pairs (2 * index + 1) ≡ y
+
+pub before-index : (pairs : List ℕ) (x y : ℕ) → Before pairs x y → Indexed pairs x y
+unfolding pairsIn at
+before-index [] x y m = absurd (List·Memᴰ·not-nil m)
+before-index (a ∷ []) x y m = absurd (List·Memᴰ·not-nil m)
+before-index (a ∷ b ∷ pairs) x y (List·Memᴰ·head e) = record { index = 0; inside = omega arith; first = sym (ap (λ (z : ℕ × ℕ). z .0) e); second = sym (ap (λ (z : ℕ × ℕ). z .1) e) }
+before-index (a ∷ b ∷ pairs) x y (List·Memᴰ·tail m) = later (before-index pairs x y m)
+  where
+    later : Indexed pairs x y → Indexed (a ∷ b ∷ pairs) x y
+    later r =
+        let e : 2 * suc (r .index) ≡ suc (suc (2 * r .index)) = omega arith in
+        let f : 2 * suc (r .index) + 1 ≡ suc (suc (2 * r .index + 1)) = omega arith in
+        record { index = suc (r .index); inside = omega (arith, r .inside); first = ap (at (a ∷ b ∷ pairs)) e ∙ r .first; second = ap (at (a ∷ b ∷ pairs)) f ∙ r .second }
+
+-- ---- loops: one more
+pub more : (l : List ℕ) (n i : ℕ) → ((j : ℕ) → j < i → at l j < n) → at l i < n → (j : ℕ) → j < i + 1 → at l j < n
+more l n i h k j m = go (ℕ-discrete j i)
+  where
+    go : Dec (j ≡ i) → at l j < n
+    go (yes e) = subst (λ (z : ℕ). at l z < n) (sym e) k
+    go (no e) = h j (omega arith)
+
+pub more-no : (f : ℕ → Bool) (i : ℕ) → ((j : ℕ) → j < i → f j ≡ false) → f i ≡ false → (j : ℕ) → j < i + 1 → f j ≡ false
+more-no f i h k j m = go (ℕ-discrete j i)
+  where
+    go : Dec (j ≡ i) → f j ≡ false
+    go (yes e) = ap f e ∙ k
+    go (no e) = h j (omega arith)
+
+-- ---- question 29
+pub below-all : (pairs : List ℕ) (n : ℕ) → ((i : ℕ) → i < length pairs → at pairs i < n) → true ≡ all (λ x. ltb x n) pairs
+below-all pairs n h =
+    sym (of-T (all (λ x. ltb x n) pairs) (all-i (λ x. ltb x n) pairs (λ x m. let r = at-mem pairs x m in lt→ltb x n (subst (λ (z : ℕ). z < n) (r .2) (h (r .0) (r .1))))))
+
+pub below-not : (pairs : List ℕ) (n i : ℕ) → i < length pairs → n ≤ at pairs i → false ≡ all (λ x. ltb x n) pairs
+below-not pairs n i h l =
+    sym (not-of (all (λ x. ltb x n) pairs) (λ t. let k = ltb→lt (at pairs i) n (all-e (λ x. ltb x n) pairs t (at pairs i) (mem-at pairs i h)) in omega arith))
+
+-- ---- what can follow
+module _ (pairs l : List ℕ) (settled y : ℕ) (h : Holds settled l) where
+  member : (x : ℕ) → T (has settled x) → List·Memᴰ x l
+  member x t = among-e x l (subst T (h x) t)
+
+  member-has : (x : ℕ) → List·Memᴰ x l → T (has settled x)
+  member-has x m = subst T (sym (h x)) (among-i x l m)
+
+  pub settled-not : T (has settled y) → false ≡ canFollow pairs l y
+  settled-not t = sym (not-of (canFollow pairs l y) (λ c. follow-e pairs l y c .0 (member y t)))
+
+  pub waits-not : (i : ℕ) → 2 * i + 1 < length pairs → T (both (eqb (at pairs (2 * i + 1)) y) (not (has settled (at pairs (2 * i))))) → false ≡ canFollow pairs l y
+  waits-not i k t =
+      let e : at pairs (2 * i + 1) ≡ y = eqb-true (at pairs (2 * i + 1)) y (of-T _ (both-l (eqb (at pairs (2 * i + 1)) y) (not (has settled (at pairs (2 * i)))) t)) in
+      let n : T (has settled (at pairs (2 * i))) → ⊥ = T-not (has settled (at pairs (2 * i))) (both-r (eqb (at pairs (2 * i + 1)) y) (not (has settled (at pairs (2 * i)))) t) in
+      sym (not-of (canFollow pairs l y) (λ c. n (member-has (at pairs (2 * i)) (follow-e pairs l y c .1 (at pairs (2 * i)) (subst (λ (z : ℕ). Before pairs (at pairs (2 * i)) z) e (before-at pairs i k))))))
+
+  pub follows : has settled y ≡ false → ((i : ℕ) → 2 * i + 1 < length pairs → both (eqb (at pairs (2 * i + 1)) y) (not (has settled (at pairs (2 * i)))) ≡ false) → true ≡ canFollow pairs l y
+  follows n w = sym (of-T (canFollow pairs l y) (follow-i pairs l y (λ m. of-not (has settled y) n (member-has y m)) (λ x b. into x (before-index pairs x y b))))
+    where
+      into : (x : ℕ) → Indexed pairs x y → List·Memᴰ x l
+      into x r = member x (go (has settled x) (subst (λ (z : ℕ). both (eqb (at pairs (2 * r .index + 1)) y) (not (has settled z)) ≡ false) (r .first) (w (r .index) (r .inside))))
+        where
+          go : (b : Bool) → both (eqb (at pairs (2 * r .index + 1)) y) (not b) ≡ false → T b
+          go true q = tt
+          go false q = absurd (of-not _ q (T-of _ (ap (λ (c : Bool). both c true) (eq-eqb (at pairs (2 * r .index + 1)) y (r .second)))))
+
+-- ---- the order, one place after another
+any-last : (x : ℕ) (b : Bool) → either b (any (eqb x) []) ≡ b
+unfolding any
+any-last x true = refl
+any-last x false = refl
+
+any-append : (x : ℕ) (l : List ℕ) (z : ℕ) → any (eqb x) (l ++ (z ∷ [])) ≡ either (any (eqb x) l) (eqb x z)
+any-append x [] z = any-cons (eqb x) z [] ∙ any-last x (eqb x z) ∙ ap (λ (b : Bool). either b (eqb x z)) (sym (any-last x false))
+any-append x (a ∷ l) z = any-cons (eqb x) a (l ++ (z ∷ [])) ∙ go (any-append x l z) (eqb x a) ∙ ap (λ (b : Bool). either b (eqb x z)) (sym (any-cons (eqb x) a l))
+  where
+    go : any (eqb x) (l ++ (z ∷ [])) ≡ either (any (eqb x) l) (eqb x z) → (b : Bool) → either b (any (eqb x) (l ++ (z ∷ []))) ≡ either (either b (any (eqb x) l)) (eqb x z)
+    go ih true = refl
+    go ih false = ih
+
+module _ (n : ℕ) (pairs : List ℕ) where
+  abbrev nextOf : ℕ → ℕ
+  nextOf k = least n (canFollow pairs (settledFirst n pairs k))
+
+  first-more : (k : ℕ) → settledFirst n pairs (suc k) ≡ settledFirst n pairs k ++ (nextOf k ∷ [])
+  unfolding settledFirst
+  first-more k = refl
+
+  -- the first k places are settled, and each is below n
+  pub record Placing (k settled : ℕ) (old new : List ℕ) : Type 0 where
+    pub holds : Holds settled (settledFirst n pairs k)
+    pub placed : (i : ℕ) → i < k → at new i ≡ nextOf i
+    pub small : (i : ℕ) → i < k → nextOf i < n
+    pub size : length new ≡ length old
+
+  pub placing-begin : (l : List ℕ) → Placing 0 0 l l
+  unfolding settledFirst any
+  placing-begin l = record { holds = λ x. has-none x; placed = λ i h. absurd (not-suc-le-zero h); small = λ i h. absurd (not-suc-le-zero h); size = refl }
+
+  pub placing-turn : (k settled x one : ℕ) (old new : List ℕ) → Placing k settled old new → k < length old → x ≡ nextOf k → x < n → ((y : ℕ) → has one y ≡ eqb y x) →
+      Placing (k + 1) (bitOr settled one) old (set new k x)
+  placing-turn k settled x one old new r h e l o = record {
+    holds = λ y. has-or settled one y ∙ ap₂ either (r .holds y) (o y ∙ ap (eqb y) e) ∙ sym (any-append y (settledFirst n pairs k) (nextOf k)) ∙ ap (any (eqb y)) (sym step);
+    placed = λ i m. placed i m (ℕ-discrete i k);
+    small = λ i m. small i m (ℕ-discrete i k);
+    size = length-set new k x ∙ r .size;
+  }
+    where
+      step : settledFirst n pairs (k + 1) ≡ settledFirst n pairs k ++ (nextOf k ∷ [])
+      step = ap (settledFirst n pairs) (let q : k + 1 ≡ suc k = omega arith in q) ∙ first-more k
+
+      placed : (i : ℕ) → i < k + 1 → Dec (i ≡ k) → at (set new k x) i ≡ nextOf i
+      placed i m (yes q) = ap (at (set new k x)) q ∙ at-set new k x (omega (arith, r .size)) ∙ e ∙ ap (λ (j : ℕ). nextOf j) (sym q)
+      placed i m (no q) = at-set-other new k x i q ∙ r .placed i (omega arith)
+
+      small : (i : ℕ) → i < k + 1 → Dec (i ≡ k) → nextOf i < n
+      small i m (yes q) = subst (λ (j : ℕ). nextOf j < n) (sym q) (subst (λ (z : ℕ). z < n) e l)
+      small i m (no q) = r .small i (omega arith)
+
+  pub placing-stuck : (k settled x : ℕ) (old new : List ℕ) → Placing k settled old new → k < n → x ≡ nextOf k → n ≤ x → Settled n pairs old new false
+  unfolding settlesAll settlingOrder
+  placing-stuck k settled x old new r h e l = record {
+    answer = below-not (settledFirst n pairs n) n k (omega (arith, first-length n pairs n)) (subst (λ (z : ℕ). n ≤ z) (e ∙ sym (first-at n pairs n k h)) l);
+    places = λ t i m. absurd t;
+    size = r .size;
+  }
+
+  pub placing-end : (k settled : ℕ) (old new : List ℕ) → Placing k settled old new → n ≤ k → k ≤ n → Settled n pairs old new true
+  unfolding settlesAll settlingOrder
+  placing-end k settled old new r h l = record {
+    answer = below-all (settledFirst n pairs n) n (λ i m. let q : i < n = omega (arith, first-length n pairs n) in subst (λ (z : ℕ). z < n) (sym (first-at n pairs n i q)) (r .small i (omega arith)));
+    places = λ t i m. r .placed i (omega arith) ∙ sym (first-at n pairs n i m);
+    size = r .size;
+  }
+
+-- ---- the answers
+order-long : (n : ℕ) (pairs : List ℕ) → length (settlingOrder n pairs) ≡ n
+unfolding settlingOrder
+order-long n pairs = first-length n pairs n
+
+module _ (n : ℕ) (pairs old : List ℕ) where
+  pub many : 128 < length pairs → Ordered n pairs old old 28
+  unfolding orderVerdict
+  many h = record {
+    answer = λ later. ap (λ (b : Bool). ask (both b (eqb (length pairs % 2) 0)) 28 0 (ask (all (λ x. ltb x n) pairs) 29 0 (ask (settlesAll n pairs) 30 0 later))) (lt-leb (length pairs) 128 h);
+    settled = λ e. absurd (omega arith);
+    kept = λ e. refl;
+    size = refl;
+  }
+
+  module _ (few : length pairs ≤ 128) where
+    pub odd : (length pairs % 2 ≡ 0 → ⊥) → Ordered n pairs old old 28
+    unfolding orderVerdict
+    odd h = record {
+      answer = λ later. ap₂ (λ (b c : Bool). ask (both b c) 28 0 (ask (all (λ x. ltb x n) pairs) 29 0 (ask (settlesAll n pairs) 30 0 later))) (le-leb (length pairs) 128 few) (ne-eqb (length pairs % 2) 0 h);
+      settled = λ e. absurd (omega arith);
+      kept = λ e. refl;
+      size = refl;
+    }
+
+    module _ (whole : length pairs % 2 ≡ 0) where
+      first-asked : (later : Verdict) → orderVerdict n pairs later ≡ ask (all (λ x. ltb x n) pairs) 29 0 (ask (settlesAll n pairs) 30 0 later)
+      unfolding orderVerdict
+      first-asked later = ap₂ (λ (b c : Bool). ask (both b c) 28 0 (ask (all (λ x. ltb x n) pairs) 29 0 (ask (settlesAll n pairs) 30 0 later))) (le-leb (length pairs) 128 few) (eq-eqb (length pairs % 2) 0 whole)
+
+      pub outside : all (λ x. ltb x n) pairs ≡ false → Ordered n pairs old old 29
+      outside h = record {
+        answer = λ later. first-asked later ∙ ap (λ (b : Bool). ask b 29 0 (ask (settlesAll n pairs) 30 0 later)) h;
+        settled = λ e. absurd (omega arith);
+        kept = λ e. refl;
+        size = refl;
+      }
+
+      module _ (inside : all (λ x. ltb x n) pairs ≡ true) where
+        pub circle : (mid new : List ℕ) (r : Bool) → Settled n pairs mid new r → r ≡ false → Ordered n pairs old old 30
+        circle mid new r s e = record {
+          answer = λ later. first-asked later ∙ ap₂ (λ (b c : Bool). ask b 29 0 (ask c 30 0 later)) inside (sym (s .answer) ∙ e);
+          settled = λ z. absurd (omega arith);
+          kept = λ z. refl;
+          size = refl;
+        }
+
+        pub ordered : (new : List ℕ) (r : Bool) → n ≤ length old → Settled n pairs old new r → r ≡ true → Ordered n pairs old new 0
+        ordered new r long s e = record {
+          answer = λ later. first-asked later ∙ ap₂ (λ (b c : Bool). ask b 29 0 (ask c 30 0 later)) inside (sym (s .answer) ∙ e);
+          settled = λ z. take-is;
+          kept = λ z. absurd (z refl);
+          size = s .size;
+        }
+          where
+            take-long : length (take n new) ≡ n
+            take-long = lib.ListN.length-take n new ∙ (let e = s .size in omega arith)
+
+            take-is : take n new ≡ settlingOrder n pairs
+            take-is = at-ext (take n new) (settlingOrder n pairs) (take-long ∙ sym (order-long n pairs)) (λ i h. let l : i < n = omega (arith, take-long) in at-take n new i l ∙ s .places (T-of r e) i l)
+
+-- ---- for callers: the bytes are the settling order in the paper's words
+pub settling-of : (n : ℕ) (pairs old new : List ℕ) (r : ℕ) → Ordered n pairs old new r → r ≡ 0 → Settling n pairs (take n new)
+settling-of n pairs old new r q e =
+    let a : orderVerdict n pairs accepted ≡ accepted = q .answer accepted ∙ ap (λ (b : Bool). ask b r 0 accepted) (eq-eqb r 0 e) in
+    subst (λ (l : List ℕ). Settling n pairs l) (sym (q .settled e)) (order-passed n pairs accepted (subst (λ (v : Verdict). T (isAccepted v)) (sym a) tt) .0 .settled)

@@ -1,0 +1,192 @@
+-- The run of any well-formed problem in any order (specs/RunBy): what it lists, its leaders, chains and counts. Assumes nothing.
+use mathlib.Core.Path.{_≡_, refl, sym, ap, ap₂, _∙_, subst, subst₂}
+use mathlib.Core.Bool.{Bool, true, false, not}
+use mathlib.Core.Logic.{_↔_, ∥∥₁-elim, ∥∥₁-map}
+use mathlib.Core.List.{List, [], _∷_, map, List·Memᴰ, List·Memᴰ·head, List·Memᴰ·tail, List·Memᴰ·not-nil, Memᴰ·cast, Memᴰ·map, Memᴰ·of-map, Sublistᴰ, Sublistᴰ·slnil, Sublistᴰ·cons, Sublistᴰ·cons-cons}
+use Prim.Native.Nat.{ℕ, zero, suc, _≤_}
+use native.Mathlib.Omega.{arith}
+use lib.Dec.{T, T-not, not-T, T-prop}
+use lib.ListN.{length, take, drop, length-map}
+use Rattle.model.specs.Lists.{both, any, keep, flat, below, earlier, rowsAscend}
+use Rattle.model.specs.Problem.{Problem, pair, isSolution, assignments, takes}
+use Rattle.model.specs.Verdict.{Verdict, accepted, refused, isAccepted}
+use Rattle.model.specs.Sheet.{verdictOf, problemOf}
+use Rattle.model.specs.Run.{Ending, finished, spent, full, plansIn, nodesIn, resultOf, ended, answerFor, answerOf, written, listFor, listOf, listedPlans}
+use Rattle.model.specs.Claims.{isLeader, leaders, OneMore}
+use Rattle.order.specs.Order.{Ordering, settlingOrder, orderVerdict}
+use Rattle.order.specs.Reordered.{read, write, earlierBy, renamed, symmetryIn, reordered, LeaderBy, ChainBy}
+use Rattle.order.specs.RunBy.{resultBy, isLeaderBy, leadersBy, CountsBy}
+use Rattle.model.specs.WellFormed.{WellFormed, Respected}
+use Rattle.model.proofs.Lists.{both-i, both-l, both-r, T-ext, any-i, any-e, keep-i, keep-e, sorted-keep, rowsAscend-of}
+use Rattle.model.proofs.Assignments.{assignments-sorted, assign-e}
+use Rattle.model.proofs.Tree.{solution-e, plans-of-tree, well-sized}
+use Rattle.model.proofs.Accepted.{well-formed}
+use Rattle.model.proofs.Leaders.{sol-drawn, leader-e, leader-i}
+use Rattle.model.proofs.OneMore.{one-more}
+use Rattle.model.proofs.More.{FewerIn, withSymmetries}
+use Rattle.model.proofs.Demands.{listed-back, same-test}
+use Rattle.order.proofs.Order.{OrderPassed, order-passed, no-pairs, no-pairs-asked}
+use Rattle.order.proofs.SetsBy.{largest-by}
+use Rattle.order.proofs.Reordered as O
+use Rattle.order.proofs.LeadersBy as L
+use Rattle.model.proofs.More as M
+use Rattle.model.proofs.Runs as R
+use Rattle.model.proofs.Chains as C
+
+-- ---- lists
+keep-map : {A B : Type 0} (f : A → B) (p : A → Bool) (q : B → Bool) (l : List A) → ((x : A) → List·Memᴰ x l → p x ≡ q (f x)) → map f (keep p l) ≡ keep q (map f l)
+unfolding keep
+keep-map f p q [] h = refl
+keep-map {A} {B} f p q (x ∷ l) h = go (keep-map f p q l (λ y m. h y (List·Memᴰ·tail m))) (p x) (q (f x)) (h x (List·Memᴰ·head refl))
+  where
+    go : map f (keep p l) ≡ keep q (map f l) → (b c : Bool) → b ≡ c → map f (elim b [ true ↦ x ∷ keep p l | false ↦ keep p l ]) ≡ elim c [ true ↦ f x ∷ keep q (map f l) | false ↦ keep q (map f l) ]
+    go ih true true e = ap (λ (r : List B). f x ∷ r) ih
+    go ih true false e = absurd (subst T e tt)
+    go ih false true e = absurd (subst T (sym e) tt)
+    go ih false false e = ih
+
+take-map : {A B : Type 0} (f : A → B) (n : ℕ) (l : List A) → take n (map f l) ≡ map f (take n l)
+take-map f zero l = refl
+take-map f (suc n) [] = refl
+take-map {A} {B} f (suc n) (x ∷ l) = ap (λ (r : List B). f x ∷ r) (take-map f n l)
+
+pub sublist-map : {A B : Type 0} (f : A → B) {l m : List A} → Sublistᴰ l m → Sublistᴰ (map f l) (map f m)
+sublist-map f Sublistᴰ·slnil = Sublistᴰ·slnil
+sublist-map f (Sublistᴰ·cons s) = Sublistᴰ·cons (sublist-map f s)
+sublist-map f (Sublistᴰ·cons-cons e s) = Sublistᴰ·cons-cons (ap f e) (sublist-map f s)
+
+map-back : {A B : Type 0} (f : A → B) (g : B → A) (l : List A) → ((x : A) → List·Memᴰ x l → g (f x) ≡ x) → map g (map f l) ≡ l
+map-back f g [] h = refl
+map-back {A} {B} f g (x ∷ l) h = ap₂ (λ (y : A) (r : List A). y ∷ r) (h x (List·Memᴰ·head refl)) (map-back f g l (λ y m. h y (List·Memᴰ·tail m)))
+
+-- ---- a well-formed problem in any order
+module _ (p : Problem) (w : WellFormed p) (respected : Respected p) (order : List ℕ) (o : Ordering (p .variables) order) where
+  abbrev p2 : Problem
+  p2 = reordered order p
+
+  pub w2 : WellFormed (reordered order p)
+  w2 = O.well-reordered p order o w
+
+  r2 : Respected (reordered order p)
+  r2 = O.respected-reordered p order o w respected
+
+  abbrev beats : List ℕ → List ℕ → List ℕ → Bool
+  beats s g t = both (isSolution p t) (both (earlierBy order t s) (takes p g t s))
+
+  -- the test says what it should
+  pub leaderBy-e : (s : List ℕ) → T (isLeaderBy order p s) → LeaderBy order p s
+  leaderBy-e s t = record {
+    solves = both-l (isSolution p s) _ t;
+    unbeaten = λ g u m su e tk. T-not (any (λ g. any (beats s g) (assignments (p .initial))) (p .symmetries))
+        (both-r (isSolution p s) (not (any (λ g. any (beats s g) (assignments (p .initial))) (p .symmetries))) t)
+        (any-i (λ g. any (beats s g) (assignments (p .initial))) (p .symmetries) g m (any-i (beats s g) (assignments (p .initial)) u (sol-drawn p w u su)
+        (both-i (isSolution p u) (both (earlierBy order u s) (takes p g u s)) su (both-i (earlierBy order u s) (takes p g u s) e tk))));
+  }
+
+  pub leaderBy-i : (s : List ℕ) → LeaderBy order p s → T (isLeaderBy order p s)
+  leaderBy-i s l =
+      both-i (isSolution p s) (not (any (λ g. any (beats s g) (assignments (p .initial))) (p .symmetries))) (l .solves)
+      (not-T (any (λ g. any (beats s g) (assignments (p .initial))) (p .symmetries)) (λ t.
+      let r = any-e (λ g. any (beats s g) (assignments (p .initial))) (p .symmetries) t in
+      let q = any-e (beats s (r .0)) (assignments (p .initial)) (r .2) in
+      let u = q .0 in
+      let b = both-r (isSolution p u) (both (earlierBy order u s) (takes p (r .0) u s)) (q .2) in
+      l .unbeaten (r .0) u (r .1) (both-l (isSolution p u) (both (earlierBy order u s) (takes p (r .0) u s)) (q .2)) (both-l (earlierBy order u s) (takes p (r .0) u s) b) (both-r (earlierBy order u s) (takes p (r .0) u s) b)))
+
+  drawn-length : (r : List ℕ) → List·Memᴰ r (assignments (read order (p .initial))) → length r ≡ p .variables
+  drawn-length r m = assign-e (read order (p .initial)) r m .0 ∙ O.read-length p order o (p .initial)
+
+  -- the leaders in the order are those of the reordered problem, written by place number
+  pub leadersBy-is : map (write order) (leaders (reordered order p)) ≡ leadersBy order p
+  leadersBy-is =
+      keep-map (write order) (isLeader p2) (isLeaderBy order p) (assignments (read order (p .initial)))
+      (λ r m. let n = drawn-length r m in
+      T-ext (isLeader p2 r) (isLeaderBy order p (write order r)) (λ t. leaderBy-i (write order r) (L.leader-write p order o w r n .0 (leader-e p2 w2 r2 r t)))
+      (λ t. leader-i p2 w2 r2 r (L.leader-write p order o w r n .1 (leaderBy-e (write order r) t))))
+
+  pub leadersBy-ascend : T (rowsAscend (map (read order) (leadersBy order p)))
+  leadersBy-ascend =
+      subst (λ (l : List (List ℕ)). T (rowsAscend l))
+      (sym (map-back (write order) (read order) (leaders p2) (λ r m. O.read-write p order o r (drawn-length r (keep-e (isLeader p2) (assignments (read order (p .initial))) r m .0)))) ∙ ap (map (read order)) leadersBy-is)
+      (rowsAscend-of (leaders p2) (sorted-keep (λ (x y : List ℕ). T (earlier x y)) (isLeader p2) (assignments (read order (p .initial))) (assignments-sorted (read order (p .initial)))))
+
+  pub leadersBy-hold : (s : List ℕ) → List·Memᴰ s (leadersBy order p) ↔ LeaderBy order p s
+  leadersBy-hold s = (
+    λ m. leaderBy-e s (keep-e (isLeaderBy order p) (map (write order) (assignments (read order (p .initial)))) s m .1),
+    λ l. let n = solution-e p s (l .solves) .sized in
+        let d = sol-drawn p2 w2 (read order s) (subst T (O.solution-read p order o w s n) (l .solves)) in
+        keep-i (isLeaderBy order p) (map (write order) (assignments (read order (p .initial)))) s (Memᴰ·cast (sym (O.write-read p order o s n)) (Memᴰ·map (write order) d)) (leaderBy-i s l),
+  )
+
+  -- every solution is reached from a leader by a chain that reads later and later in the order, and nothing else is
+  pub chainsBy : (s : List ℕ) → length s ≡ p .variables → T (isSolution p s) ↔ ∥ ((l : List ℕ) × List·Memᴰ l (leadersBy order p) × ChainBy order p l s) ∥₁
+  chainsBy s n = (
+    λ sol. ∥∥₁-map (C.chains p2 w2 (leaders p2) refl (read order s) (O.read-length p order o s) .0 (subst T (O.solution-read p order o w s n) sol))
+        (λ r. (
+          write order (r .0),
+          subst (List·Memᴰ (write order (r .0))) leadersBy-is (Memᴰ·map (write order) (r .1)),
+          subst (ChainBy order p (write order (r .0))) (O.write-read p order o s n)
+              (L.chain-write p order o w (r .0) (read order s) (both-l (isSolution p2 (r .0)) _ (keep-e (isLeader p2) (assignments (read order (p .initial))) (r .0) (r .1) .1)) (r .2)),
+        )),
+    λ h. ∥∥₁-elim h (T-prop (isSolution p s)) (λ r. L.chain-end p order o w (r .0) s (leadersBy-hold (r .0) .0 (r .1) .solves) (r .2)),
+  )
+
+  -- runs
+  pub rows-sized-by : (limit room : ℕ) (r : List ℕ) → List·Memᴰ r (resultBy order p limit room .rows) → length r ≡ p .variables
+  unfolding resultBy
+  rows-sized-by limit room r m = let q = Memᴰ·of-map (write order) (resultOf p2 limit room .rows) m in ap length (sym (q .2)) ∙ O.write-length p order o (q .0)
+
+  pub rows-counted-by : (limit room : ℕ) → plansIn (resultBy order p limit room .ending) ≡ length (resultBy order p limit room .rows)
+  unfolding resultBy
+  rows-counted-by limit room = R.rows-counted p2 limit room ∙ sym (length-map (resultOf p2 limit room .rows) (write order))
+
+  pub finished-lists : (limit room plans made : ℕ) → resultBy order p limit room .ending ≡ finished plans made → resultBy order p limit room .rows ≡ leadersBy order p
+  unfolding resultBy
+  finished-lists limit room plans made e = ap (map (write order)) (R.finished-rows p2 limit room plans made e .0 ∙ plans-of-tree p2 w2 ∙ same-test p2 w2 r2) ∙ leadersBy-is
+
+  pub first-lists : (limit room : ℕ) → resultBy order p limit room .rows ≡ take (plansIn (resultBy order p limit room .ending)) (leadersBy order p)
+  unfolding resultBy
+  first-lists limit room =
+      ap (map (write order)) (R.rows-first p2 limit room ∙ ap₂ (λ (n : ℕ) (l : List (List ℕ)). take n l) (sym (R.rows-counted p2 limit room)) (plans-of-tree p2 w2 ∙ same-test p2 w2 r2))
+      ∙ sym (take-map (write order) (plansIn (resultOf p2 limit room .ending)) (leaders p2)) ∙ ap (take (plansIn (resultOf p2 limit room .ending))) leadersBy-is
+
+  -- an empty list exactly where there is no solution
+  pub none-lists : leadersBy order p ≡ [] ↔ ((s : List ℕ) → T (isSolution p s) → ⊥)
+  none-lists = (
+    λ e s sol. ∥∥₁-elim (chainsBy s (solution-e p s sol .sized) .0 sol) (λ x y. absurd x) (λ r. List·Memᴰ·not-nil (subst (List·Memᴰ (r .0)) e (r .1))),
+    λ h. none-of (leadersBy order p) (λ l m. h l (leadersBy-hold l .0 m .solves)),
+  )
+    where
+      none-of : (r : List (List ℕ)) → ((l : List ℕ) → List·Memᴰ l r → ⊥) → r ≡ []
+      none-of [] h = refl
+      none-of (l ∷ r) h = absurd (h l (List·Memᴰ·head refl))
+
+  pub counts-by : (limit room : ℕ) (e : Ending) → resultBy order p limit room .ending ≡ e → (nodesIn e ≤ limit) × CountsBy (reordered order p) limit room e
+  unfolding resultBy
+  counts-by limit room e h = (subst (λ (x : Ending). nodesIn x ≤ limit) h (R.nodes-allowed p2 limit room), same e (R.counts p2 limit room e h))
+    where
+      same : (e : Ending) → R.Counted (reordered order p) limit room e → CountsBy (reordered order p) limit room e
+      same (finished plans made) h = h
+      same (spent plans made) h = h
+      same (full plans made) h = h
+
+-- further symmetries: the reordered problem gets their tables
+pub fewer-by : (p : Problem) (order : List ℕ) (gs : List (List ℕ)) → WellFormed p → Ordering (p .variables) order → ((g : List ℕ) → List·Memᴰ g (p .symmetries) → List·Memᴰ g gs) →
+    FewerIn (reordered order p) (reordered order (withSymmetries p gs))
+unfolding symmetryIn renamed pair
+fewer-by p order gs w o h =
+    M.fewer (reordered order p) (map (symmetryIn order (withSymmetries p gs)) gs) (well-sized (reordered order p) (O.well-reordered p order o w))
+    (λ g m. let r = Memᴰ·of-map (symmetryIn order p) (p .symmetries) m in Memᴰ·cast (sym (r .2)) (Memᴰ·map (symmetryIn order (withSymmetries p gs)) (h (r .0) (r .1))))
+
+-- ---- the order 0, 1, .. changes nothing
+pub same-result : (p : Problem) → WellFormed p → (limit room : ℕ) → (resultBy (below (p .variables)) p limit room .ending ≡ resultOf p limit room .ending) × (resultBy (below (p .variables)) p limit room .rows ≡ resultOf p limit room .rows)
+unfolding resultBy
+same-result p w limit room =
+    let e = L.reordered-below p w in (
+      ap (λ (q : Problem). resultOf q limit room .ending) e,
+      ap (λ (q : Problem). map (write (below (p .variables))) (resultOf q limit room .rows)) e ∙ rows-same (resultOf p limit room .rows) (R.rows-sized p limit room),
+    )
+  where
+    rows-same : (rows : List (List ℕ)) → ((r : List ℕ) → List·Memᴰ r rows → length r ≡ p .variables) → map (write (below (p .variables))) rows ≡ rows
+    rows-same [] h = refl
+    rows-same (r ∷ rows) h = ap₂ (λ (x : List ℕ) (y : List (List ℕ)). x ∷ y) (L.write-below p w r (h r (List·Memᴰ·head refl))) (rows-same rows (λ s m. h s (List·Memᴰ·tail m)))

@@ -1,0 +1,7 @@
+-- The settling order, a problem with its variables in another order, and what the code answers.
+pub mod Order
+pub mod Reordered
+pub mod RunBy
+pub mod Lent
+pub mod LentClaims
+pub mod Settled

@@ -1,0 +1,28 @@
+-- What the function of this crate answers, and what those inside it say to each other.
+use mathlib.Core.Path.{_≡_}
+use mathlib.Core.Bool.{Bool}
+use mathlib.Core.List.{List}
+use Prim.Native.Nat.{ℕ, _<_}
+use lib.Dec.{T, eqb}
+use lib.ListN.{length, take}
+use Rattle.model.specs.Lists.{any, at}
+use Rattle.model.specs.ValueSets.{has}
+use Rattle.model.specs.Verdict.{Verdict, ask}
+use Rattle.order.specs.Order.{settlingOrder, settlesAll, orderVerdict}
+
+-- the answer r to the questions 28 to 30, 0 where there is no "no"; the order stands in the first n bytes, and after a "no" the bytes are as they were
+pub record Ordered (n : ℕ) (pairs old new : List ℕ) (r : ℕ) : Type 0 where
+  pub answer : (later : Verdict) → orderVerdict n pairs later ≡ ask (eqb r 0) r 0 later
+  pub settled : r ≡ 0 → take n new ≡ settlingOrder n pairs
+  pub kept : (r ≡ 0 → ⊥) → new ≡ old
+  pub size : length new ≡ length old
+
+-- ---- inside
+-- the set has the numbers of the list
+abbrev pub Holds : ℕ → List ℕ → Type 0
+Holds set l = (x : ℕ) → has set x ≡ any (eqb x) l
+
+pub record Settled (n : ℕ) (pairs old new : List ℕ) (r : Bool) : Type 0 where
+  pub answer : r ≡ settlesAll n pairs
+  pub places : T r → (i : ℕ) → i < n → at new i ≡ at (settlingOrder n pairs) i
+  pub size : length new ≡ length old

@@ -1,0 +1,58 @@
+// The images of the pairs, with the variables renamed on both sides.
+use crate::places::entry;
+ghost use mathlib.Core.Path.{_≡_};
+ghost use Prim.Native.Nat.{_+_, _*_, _≤_, _<_};
+ghost use lib.ListN.{length};
+ghost use Rattle.model.specs.Lists.{at};
+ghost use Rattle.model.specs.Filling.{Filled};
+ghost use Rattle.reorder.specs.Steps.{Small, renamedTo, imageFrom, MovedImages};
+
+// Read by a function, whose result is known to be a byte.
+fn image(images: &[u8; 26112], q: usize) -> u8
+    requires { ⌜ q < 26112 ⌝ }
+    ensures { λ r. ⌜ r ≡ at (now (images .entry)) q ⌝ }
+{
+    images[q]
+}
+
+// An image with its variable named by its position.
+fn renamed(stands: &[u8; 16], q: u8) -> u8
+    ensures { λ r. ⌜ r ≡ renamedTo (now (stands .entry)) q ⌝ }
+{
+    let y = entry(stands, (q / 16) as usize) % 16;
+    16 * y + q % 16
+}
+
+// The pairs of a symmetry whose images stand from a place on.
+fn symmetry(
+    order: &[u8; 16],
+    stands: &[u8; 16],
+    n: usize,
+    from: usize,
+    old: &[u8; 26112],
+    images: &mut [u8; 26112],
+)
+    requires { ⌜ (n ≤ 12) × (from + 192 ≤ 26112) × Small n (now order) × (length (now images) ≡ 26112) ⌝ }
+    ensures { λ _. ⌜ Filled (λ j. from + j) (λ j r. r ≡ renamedTo (now (stands .entry)) (at (now (old .entry)) (from + imageFrom (now (order .entry)) j))) (16 * n) (now (images .entry)) (now (images .exit)) ⌝ }
+{
+    let m = 16 * n;
+    let mut j = 0;
+    while j < m {
+        let x = entry(order, j / 16) as usize;
+        images[from + j] = renamed(stands, image(old, from + (16 * x + j % 16)));
+        j += 1;
+    }
+}
+
+// The pairs of every symmetry.
+pub fn rename(order: &[u8; 16], stands: &[u8; 16], n: usize, g: usize, images: &mut [u8; 26112])
+    requires { ⌜ (n ≤ 12) × (g ≤ 136) × Small n (now order) × (length (now images) ≡ 26112) ⌝ }
+    ensures { λ _. ⌜ MovedImages n (now (order .entry)) (now (stands .entry)) g (now (images .entry)) (now (images .exit)) ⌝ }
+{
+    let old = *images;
+    let mut e = 0;
+    while e < g {
+        symmetry(order, stands, n, 192 * e, &old, images);
+        e += 1;
+    }
+}
