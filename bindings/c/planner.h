@@ -76,6 +76,69 @@ uint32_t planner_run(const uint8_t *sheet, size_t sheet_len, uint32_t node_limit
  * PLANNER_REPORT_ROOM it returns 0 and writes nothing. */
 size_t planner_report(const uint8_t *input, size_t input_len, uint8_t *out, size_t out_len);
 
+/* ---- Plans stored by window (#103): rows to columns and back. The answer has PLANNER_ANSWER_BYTES bytes: kind
+ * 1, the number of bytes written, 0. 0 is returned where the call has answered; number * 256 + item where it
+ * refuses, and then every lent buffer, the answer too, holds the bytes it came with; PLANNER_ANSWER_ROOM,
+ * likewise and asked first, where the answer has another length. */
+
+/* Writes rows of `places` bytes as columns to the front of out: four 16-bit numbers, low byte first (places,
+ * plans, offset 8, total length), then place 0 of every plan, place 1 of every plan, and so on. Bytes after
+ * them are unchanged. Refusals: 20 (1 to 12 places, whole rows, at most 4,096 of them), 21 (each value is
+ * below 16), 22 (out holds the 8 bytes and the rows). */
+uint32_t planner_columns(uint32_t places, const uint8_t *rows, size_t rows_len, uint8_t *out, size_t out_len,
+                         uint8_t *answer, size_t answer_len);
+
+/* Turns such a store back into rows at the front of out. Refusals: 23 (at least 8 bytes, the offset is 8, the
+ * length is both the total and 8 + places * plans), then 20 to 22 as above, of the bytes after the header. */
+uint32_t planner_rows(const uint8_t *store, size_t store_len, uint8_t *out, size_t out_len,
+                      uint8_t *answer, size_t answer_len);
+
+/* ---- One list from two (#106). */
+/* Writes the rows of either list, ascending, each once, to the front of out; bytes after them are unchanged. Rows have `places` bytes, any
+ * value, and are compared in the settling order of the pairs (two bytes each, "this place before that place": always the lowest place whose
+ * forerunners are all settled), without pairs by place. The answer is kind 1, the number of bytes written (its lowest 32 bits), 0. Refusals: 24 (1 to 12
+ * places, both lists whole rows), 28 (at most 64 pairs and no half pair), 29 (places below `places`), 30 (no circle), 25 and 26 (the first and
+ * the second list strictly ascending), 27 (out holds the merged list). */
+uint32_t planner_merge(uint32_t places, const uint8_t *pairs, size_t pairs_len, const uint8_t *first, size_t first_len,
+                       const uint8_t *second, size_t second_len, uint8_t *out, size_t out_len, uint8_t *answer,
+                       size_t answer_len);
+
+/* ---- Tables of exchanges kept by course (0 to 3) and hall (one byte), four halls a course, at most 2,048 bytes
+ * each (#110). A store is PLANNER_STORE_BYTES lent bytes, handed from call to call; all bytes 0: empty. Any
+ * bytes are a store. What a course gets back depends only on its own calls. The answer has
+ * PLANNER_ANSWER_BYTES bytes: kind 1, the bytes written to out (put and drop: 0), 0. 0 is returned where the
+ * call has answered; number * 256 where it refuses, and then every lent buffer, the answer too, holds the
+ * bytes it came with; PLANNER_WRONG_SIZE, likewise and asked first, where store or answer has another size. */
+#define PLANNER_STORE_BYTES 32832
+#define PLANNER_WRONG_SIZE (255u * 256u)
+
+/* Puts a table in place of the one there. Refusals: 31 (the course is 0 to 3), 33 (the table has at most 2,048
+ * bytes), 32 (the course has this hall or fewer than four). */
+uint32_t planner_store_put(uint8_t *store, size_t store_len, uint32_t course, uint8_t hall,
+                           const uint8_t *table, size_t table_len, uint8_t *answer, size_t answer_len);
+
+/* Copies a table to the front of out; the bytes after it are unchanged. With out a sheet's own bytes from its
+ * third offset on, questions 14 to 16 are put to the table as to any. Refusals: 31, 34 (the course has this
+ * hall), 35 (out holds the table). */
+uint32_t planner_store_fetch(const uint8_t *store, size_t store_len, uint32_t course, uint8_t hall,
+                             uint8_t *out, size_t out_len, uint8_t *answer, size_t answer_len);
+
+/* Drops a table; its room is used again. Refusals: 31, 34. */
+uint32_t planner_store_drop(uint8_t *store, size_t store_len, uint32_t course, uint8_t hall,
+                            uint8_t *answer, size_t answer_len);
+
+/* ---- Every small sheet (#114): all sheets of two windows and two duties with one rule on both and at most one
+ * exchange, by their position from 0. Order: first set 1 to 3, second set 1 to 3, row set 0 to 15 (bits 0 to 3
+ * for 00, 01, 10, 11), 144 without an exchange; then in that same order those with one, each with all its
+ * acceptable tables ascending. */
+
+/* Writes the small sheet at position k to the front of out; the bytes after it are unchanged. The answer has
+ * PLANNER_ANSWER_BYTES bytes: kind 1, the number of bytes written, 0. 0 is returned where the call has answered;
+ * number * 256 + item where it refuses (39: k is past the last; 40, asked after it: out has under 52 bytes), and
+ * then both buffers hold the bytes they came with; PLANNER_ANSWER_ROOM, likewise and asked first, where the
+ * answer has another length. */
+uint32_t planner_small_sheet(uint32_t k, uint8_t *out, size_t out_len, uint8_t *answer, size_t answer_len);
+
 #ifdef __cplusplus
 }
 #endif

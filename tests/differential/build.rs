@@ -4,7 +4,19 @@
 
 use std::{env, fs};
 
-const FUNCTIONS: [&str; 4] = ["planner_question", "planner_filter", "planner_run", "planner_report"];
+const FUNCTIONS: &[&str] = &[
+    "planner_question",
+    "planner_filter",
+    "planner_run",
+    "planner_report",
+    "planner_columns",
+    "planner_rows",
+    "planner_merge",
+    "planner_store_put",
+    "planner_store_fetch",
+    "planner_store_drop",
+    "planner_small_sheet",
+];
 
 fn main() {
     let here = env::var("CARGO_MANIFEST_DIR").unwrap();

@@ -1,6 +1,6 @@
-//! The paper's sheet A and its worked filter, through the safe functions.
+//! The paper's sheet A, its worked filter and the small sheets, through the safe functions.
 
-use planner::{filter, question, report, run, ABSENT};
+use planner::{filter, question, report, run, small_sheet, small_sheets, ABSENT};
 
 /// Two windows, three duties, one rule (the windows differ), one exchange (the windows change places).
 const SHEET_A: [u16; 32] = [
@@ -27,4 +27,7 @@ fn main() {
     let filtered = filter(&mut sets, &index, &equal, &not_equal);
     println!("{filtered:?} {sets:?}");
     println!("{:?}", filter(&mut [], &[], &[], &[]));
+
+    println!("{} small sheets", small_sheets().count());
+    println!("{:?} {:?}", small_sheet(543, &mut [0; 52]), small_sheet(544, &mut [0; 52]));
 }

@@ -5,6 +5,16 @@
 
 use std::{fmt, io, panic, thread};
 
+mod columns;
+mod merge;
+mod small;
+mod store;
+
+pub use columns::{columns, rows};
+pub use merge::merge;
+pub use small::{small_sheet, small_sheets};
+pub use store::{Store, STORE_BYTES, TABLE_BYTES};
+
 mod exported {
     extern "C" {
         pub fn planner_question(sheet: *const u8, sheet_len: usize) -> u32;
@@ -76,6 +86,17 @@ pub enum Ending {
     Full,
 }
 
+impl Ending {
+    /// The ending that an answer's kind stands for.
+    fn from_kind(kind: u32) -> Ending {
+        match kind {
+            1 => Ending::Finished,
+            2 => Ending::Spent,
+            _ => Ending::Full,
+        }
+    }
+}
+
 /// What a run answers: its ending, the plans listed and the trials made.
 #[derive(Clone, Copy, Debug, PartialEq, Eq)]
 pub struct Answer {
@@ -137,13 +158,13 @@ pub fn run(sheet: &[u8], node_limit: u32, list: &mut [u8]) -> Result<Answer, Ref
             answer.len(),
         )
     })?;
-    let word = |i: usize| u32::from_le_bytes(answer[4 * i..4 * i + 4].try_into().unwrap());
-    let ending = match word(0) {
-        1 => Ending::Finished,
-        2 => Ending::Spent,
-        _ => Ending::Full,
-    };
-    Ok(Answer { ending, plans: word(1), nodes: word(2) })
+    let [kind, plans, nodes] = [0, 1, 2].map(|i| number(&answer, i));
+    Ok(Answer { ending: Ending::from_kind(kind), plans, nodes })
+}
+
+/// The i-th of an answer's 32-bit numbers, low byte first.
+fn number(answer: &[u8], i: usize) -> u32 {
+    u32::from_le_bytes(answer[4 * i..4 * i + 4].try_into().expect("four bytes"))
 }
 
 /// What the lister prints for this standard input.

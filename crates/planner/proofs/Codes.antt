@@ -11,14 +11,14 @@ use Rattle.model.specs.Lists.{both, all, at, ascending, rowsAscend, upFrom, bel
 use Rattle.model.specs.ValueSets.{least, leastStep}
 use Rattle.model.specs.Problem.{Problem, respects}
 use Rattle.model.specs.Verdict.{Verdict, accepted, refused, ask}
-use Rattle.model.specs.Sheet.{Header, headerOf, problemOf, word, scopeAt, rowsAt, afterAt, tableAt, permutesPairs, setsVerdict, constraintsVerdict, symmetriesVerdict, verdictOf}
+use Rattle.model.specs.Sheet.{Header, headerOf, problemOf, word, scopeAt, rowsAt, afterAt, tableAt, permutesPairs, headerVerdict, setsVerdict, constraintVerdict, constraintsVerdict, formVerdict, symmetriesVerdict, verdictOf}
 use Rattle.model.specs.Nogood.{entryOk, firstWrong, filterVerdict}
 
 abbrev pub Small : Verdict → Type 0
 Small accepted = Unit {0}
 Small (refused number item) = item < 256
 
-ask-small : (c : Bool) (number item : ℕ) (later : Verdict) → item < 256 → (c ≡ true → Small later) → Small (ask c number item later)
+pub ask-small : (c : Bool) (number item : ℕ) (later : Verdict) → item < 256 → (c ≡ true → Small later) → Small (ask c number item later)
 ask-small true number item later h k = k refl
 ask-small false number item later h k = h
 
@@ -40,7 +40,7 @@ sets-small b h (suc k) a later le s =
     ask-small (both (ltb w (2 ^ h .values)) (not (eqb w 0))) 8 a (setsVerdict b h (upFrom (suc a) k) later) (omega arith) (λ e. rest)
 
 constraints-small : (b : List ℕ) (h : Header) (k i o : ℕ) (later : Verdict) → i + k < 256 → Small later → Small (constraintsVerdict b h k i o later)
-unfolding constraintsVerdict
+unfolding constraintsVerdict constraintVerdict
 constraints-small b h zero i o later le s = ask-small (eqb o (h .third)) 9 i later (omega arith) (λ e. s)
 constraints-small b h (suc k) i o later le s =
     let l : i < 256 = omega arith in
@@ -81,7 +81,7 @@ unfolding problemOf below
 tables b = length-map (upFrom 0 (headerOf b .symmetries)) (tableAt b (headerOf b)) ∙ length-upFrom (headerOf b .symmetries) 0
 
 pub verdict-small : (b : List ℕ) → Small (verdictOf b)
-unfolding verdictOf below
+unfolding verdictOf formVerdict headerVerdict below
 verdict-small b =
     let h = headerOf b in
     let n = h .variables in

@@ -70,11 +70,11 @@ accepted-of : (b : List ℕ) → verdictOf b ≡ accepted → T (isAccepted (ver
 accepted-of b e = subst (λ (v : Verdict). T (isAccepted v)) (sym e) tt
 
 pub sized-short : (b : List ℕ) → length b < 2 → Sized b 0
-sized-short b h = record { most = omega arith; true-of = λ e. absurd (omega (arith, passed b (accepted-of b e) .long)) }
+sized-short b h = record { most = omega arith; true-of = λ e. absurd (omega (arith, passed b (accepted-of b e) .header .long)) }
 
 pub sized-large : (b : List ℕ) → 12 < at b 0 + 256 * at b 1 → Sized b 0
 unfolding headerOf word
-sized-large b h = record { most = omega arith; true-of = λ e. absurd (omega (arith, passed b (accepted-of b e) .few)) }
+sized-large b h = record { most = omega arith; true-of = λ e. absurd (omega (arith, passed b (accepted-of b e) .header .few)) }
 
 pub sized : (b : List ℕ) → at b 0 + 256 * at b 1 ≤ 12 → Sized b (at b 0 + 256 * at b 1)
 unfolding problemOf headerOf word
@@ -108,7 +108,7 @@ module _ (b : List ℕ) (n : ℕ) (out : List ℕ) (e : Ending) (size : Sized b 
 
   pub listed : (list : List ℕ) → length list ≡ length out → Listed e n list
   listed list same =
-      let some : 0 < n = omega (arith, width, variables-of b, passed b (accepted-of b verdict) .some) in
+      let some : 0 < n = omega (arith, width, variables-of b, passed b (accepted-of b verdict) .header .some) in
       record { few = size .most; most = le-of-mul-le-mul-right fitting some; inside = omega (arith, fitting) }
 
   pub ended-text : (list : List ℕ) → list ≡ listOf b 1000000 out → endedText e n list ≡ reportFor (verdictOf b) b

@@ -1,3 +1,7 @@
 -- What the exported functions answer and leave in every lent buffer.
 pub mod Exported
+pub mod Outcomes
+pub mod Merged
+pub mod SmallSheets
 pub mod Inner
+pub mod Stored

@@ -1,6 +1,10 @@
 // The planner for C and Rust: exported functions on numbers and byte slices. A refusal's number and item are those of paper 01.
 mod bytes;
+mod lists;
+mod small_sheets;
+mod stored;
 mod text;
+mod transpose;
 
 ghost use mathlib.Core.Path.{_≡_};
 ghost use Prim.Native.Nat.{_+_, _*_, _<_};

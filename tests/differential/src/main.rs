@@ -1,13 +1,17 @@
-//! The proved planner beside the oracle: `differential [question] [filter] [run] [report]`, with no word all
-//! four parts. SEED and CASES are read from the environment, and SHARED_BENCH for another folder of sheets
-//! with reports than ../shared/bench beside the repository. Case i of a part draws from SEED + i, so that
-//! a difference comes back with that seed and one case. Every refusal number must be reached.
+//! The proved planner beside the oracle: `differential [PART ..]`, with no word all parts. SEED and CASES
+//! are read from the environment, and SHARED_BENCH for another folder of sheets with reports than
+//! ../shared/bench beside the repository. Case i of a part draws from SEED + i, so that a difference comes
+//! back with that seed and one case. Every refusal number must be reached.
 
+mod columns;
 mod filter;
+mod merge;
 mod planner;
 mod question;
 mod report;
 mod run;
+mod small;
+mod store;
 mod tally;
 
 use sheets::Rng;
@@ -15,7 +19,16 @@ use std::path::{Path, PathBuf};
 use std::time::Instant;
 use tally::Tally;
 
-const PARTS: [&str; 4] = ["question", "filter", "run", "report"];
+const PARTS: &[&str] = &["question", "filter", "run", "report", "columns", "merge", "store", "small"];
+/// The refusal numbers that a part must reach.
+const REFUSALS: &[(&str, std::ops::RangeInclusive<u32>)] = &[
+    ("question", 1..=16),
+    ("filter", 17..=19),
+    ("columns", 20..=23),
+    ("merge", 24..=30),
+    ("store", 31..=35),
+    ("small", 39..=40),
+];
 const CASES: usize = 2000;
 /// With fewer cases, numbers that nothing reached are no failure.
 const ENOUGH_CASES: usize = 1000;
@@ -28,11 +41,11 @@ fn environment(name: &str, otherwise: usize) -> usize {
 fn main() {
     let mut parts: Vec<String> = std::env::args().skip(1).collect();
     if parts.iter().any(|part| !PARTS.contains(&part.as_str())) {
-        eprintln!("differential [question] [filter] [run] [report]");
+        eprintln!("differential [PART ..], of {}", PARTS.join(" "));
         std::process::exit(2);
     }
     if parts.is_empty() {
-        parts = PARTS.map(String::from).to_vec();
+        parts = PARTS.iter().map(|part| part.to_string()).collect();
     }
     let (seed, cases) = (environment("SEED", 1), environment("CASES", CASES));
     println!("differential: SEED={seed} CASES={cases}");
@@ -55,8 +68,18 @@ fn test(part: &str, seed: usize, cases: usize, tally: &mut Tally) {
             "question" => question::case(seed + number, &mut rng, tally),
             "filter" => filter::case(&mut rng, tally),
             "run" => run::case(&mut rng, tally),
+            "columns" => columns::case(&mut rng, tally),
+            "merge" => merge::case(&mut rng, tally),
+            "store" => store::case(&mut rng, tally),
+            "small" => small::case(&mut rng, tally),
             _ => report::case(seed + number, &mut rng, tally),
         }
+    }
+    if part == "columns" {
+        columns::all_shapes(tally);
+    }
+    if part == "small" {
+        small::all(tally);
     }
     if part == "report" {
         report::many_plans(tally);
@@ -72,13 +95,15 @@ fn test(part: &str, seed: usize, cases: usize, tally: &mut Tally) {
 /// How many cases got each number, and a failure for each number that none got.
 fn reached(parts: &[String], cases: usize, tally: &mut Tally) {
     println!("accepted {}", tally.accepted);
-    let tested = |part: &str| parts.iter().any(|word| word == part);
-    for number in 1..20 {
-        println!("refused {number}: {}", tally.refused[number]);
-        let part = if number < 17 { "question" } else { "filter" };
-        if tally.refused[number] == 0 && tested(part) && cases >= ENOUGH_CASES {
-            println!("refusal {number} was never reached");
-            tally.failed += 1;
+    for (part, numbers) in REFUSALS {
+        let tested = parts.iter().any(|word| word == part);
+        for number in numbers.clone() {
+            let count = tally.refused.get(&number).copied().unwrap_or(0);
+            println!("refused {number}: {count}");
+            if count == 0 && tested && cases >= ENOUGH_CASES {
+                println!("refusal {number} was never reached");
+                tally.failed += 1;
+            }
         }
     }
 }

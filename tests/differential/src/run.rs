@@ -16,25 +16,33 @@ pub fn case(rng: &mut Rng, tally: &mut Tally) {
     tally.answer(&whole);
     let (plans, nodes) = whole.map_or((1, 1), |outcome| (outcome.plans as usize, outcome.nodes));
     for _ in 0..4 {
-        let limit = match rng.below(6) {
-            0 => rng.below(nodes as usize + 1) as u32,
-            1 => nodes.saturating_sub(1),
-            2 => nodes,
-            3 => rng.below(4) as u32,
-            _ => rng.pick(&[nodes + 1, 1_000_000, u32::MAX]),
-        };
-        let full = plans * problem.variables;
-        let room = match rng.below(6) {
-            0 => rng.below(full + 1),
-            1 => full.saturating_sub(1),
-            2 => rng.below(3),
-            3 => full,
-            _ => full + rng.below(40),
-        };
+        let (limit, room) = (node_limit(rng, nodes), room(rng, plans * problem.variables));
         run(&sheet, limit, room, rng, tally);
     }
     if rng.chance(10) {
         wrong_answer_room(&sheet, rng, tally);
+    }
+}
+
+/// A node limit around the end of a search of so many nodes.
+pub fn node_limit(rng: &mut Rng, nodes: u32) -> u32 {
+    match rng.below(6) {
+        0 => rng.below(nodes as usize + 1) as u32,
+        1 => nodes.saturating_sub(1),
+        2 => nodes,
+        3 => rng.below(4) as u32,
+        _ => rng.pick(&[nodes + 1, 1_000_000, u32::MAX]),
+    }
+}
+
+/// A room around the one that is just enough.
+pub fn room(rng: &mut Rng, enough: usize) -> usize {
+    match rng.below(6) {
+        0 => rng.below(enough + 1),
+        1 => enough.saturating_sub(1),
+        2 => rng.below(3),
+        3 => enough,
+        _ => enough + rng.below(40),
     }
 }
 
@@ -62,7 +70,7 @@ fn run(sheet: &[u8], limit: u32, room: usize, rng: &mut Rng, tally: &mut Tally) 
 }
 
 /// Kind, plans, trials.
-fn words(outcome: Outcome) -> [u32; 3] {
+pub fn words(outcome: Outcome) -> [u32; 3] {
     let kind = match outcome.ending {
         Ending::Finished => 1,
         Ending::Spent => 2,

@@ -1,6 +1,7 @@
 //! What passed, what failed, and how many cases got each refusal number.
 
 use oracle::Refusal;
+use std::collections::BTreeMap;
 
 /// How many differences are printed in full.
 const SHOWN: usize = 10;
@@ -10,7 +11,7 @@ pub struct Tally {
     pub passed: usize,
     pub failed: usize,
     pub accepted: usize,
-    pub refused: [usize; 20],
+    pub refused: BTreeMap<u32, usize>,
     /// What is tested now, printed with a difference.
     pub case: String,
 }
@@ -35,7 +36,7 @@ impl Tally {
     pub fn answer<T>(&mut self, answer: &Result<T, Refusal>) {
         match answer {
             Ok(_) => self.accepted += 1,
-            Err(refusal) => self.refused[refusal.number as usize] += 1,
+            Err(refusal) => *self.refused.entry(refusal.number).or_default() += 1,
         }
     }
 }

@@ -1,10 +1,17 @@
 //! The paper's definitions as plain Rust, written from the paper alone and as simply as they can be
 //! run. Speed is no aim: forbidden sets and assignments are drawn one by one.
 
+pub mod columns;
+pub mod lent;
+pub mod listing;
+pub mod merge;
 pub mod nogood;
+pub mod order;
 pub mod report;
 pub mod search;
 pub mod sheet;
+pub mod small;
+pub mod store;
 
 pub use nogood::filter;
 pub use report::report;

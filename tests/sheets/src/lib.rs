@@ -1,14 +1,18 @@
-//! Random sheets, right and damaged, and random nogood lists, for tests.
+//! Random sheets, right and damaged, random nogood lists and pairs of places, for tests.
 
 pub mod damage;
 pub mod encode;
 pub mod lists;
+pub mod pairs;
 pub mod random;
 pub mod rng;
 pub mod symmetry;
+pub mod typed;
 
 pub use damage::damaged;
 pub use encode::encode;
 pub use lists::{lists, right_lists, Lists};
+pub use pairs::{pairs, right_pairs};
 pub use random::{large_problem, problem};
 pub use rng::Rng;
+pub use typed::typed_in;

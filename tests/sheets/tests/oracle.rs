@@ -1,32 +1,11 @@
 //! The oracle beside listings by brute force, on random sheets and lists.
 
-use oracle::nogood::{assignments, filtered_by_assignments, filtered_by_products, Entry};
-use oracle::{Ending, Problem};
+use oracle::nogood::{filtered_by_assignments, filtered_by_products, Entry};
+use oracle::Ending;
 use sheets::{encode, problem, right_lists, Rng};
 
-/// All solutions in reading order.
-fn solutions(problem: &Problem) -> Vec<Vec<usize>> {
-    let mut all = assignments(&problem.initial);
-    for constraint in &problem.constraints {
-        all.retain(|solution| {
-            let row: Vec<usize> = constraint.scope.iter().map(|&variable| solution[variable]).collect();
-            constraint.rows.contains(&row)
-        });
-    }
-    all
-}
-
-/// The image of a solution, as the values in place order.
-fn image(problem: &Problem, table: &[usize], solution: &[usize]) -> Vec<usize> {
-    let mut pairs: Vec<_> = solution
-        .iter()
-        .enumerate()
-        .map(|(variable, &value)| problem.image(table, (variable, value)))
-        .collect();
-    pairs.sort();
-    assert!(pairs.iter().enumerate().all(|(i, pair)| pair.0 == i), "an image of a solution is an assignment");
-    pairs.iter().map(|pair| pair.1).collect()
-}
+mod common;
+use common::{image, solutions};
 
 /// Plans are the solutions onto which no exchange brings an earlier one.
 #[test]

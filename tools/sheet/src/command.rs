@@ -4,13 +4,22 @@
 use crate::problem::Problem;
 use crate::text::Fault;
 use crate::words::nearest;
-use crate::{explain, make, page, plans, show, why};
+use crate::{columns, explain, make, merge, page, plans, show, why};
 use std::io::{Read, Write};
 use std::ops::RangeInclusive;
 
 /// The commands, in the order of the help.
-const COMMANDS: [Command; 6] =
-    [plans::COMMAND, why::COMMAND, page::COMMAND, make::COMMAND, show::COMMAND, explain::COMMAND];
+const COMMANDS: [Command; 9] = [
+    plans::COMMAND,
+    why::COMMAND,
+    page::COMMAND,
+    make::COMMAND,
+    show::COMMAND,
+    explain::COMMAND,
+    columns::COLUMNS,
+    columns::ROWS,
+    merge::COMMAND,
+];
 
 /// The exit statuses.
 #[derive(Clone, Copy, Debug, PartialEq, Eq)]
@@ -29,7 +38,7 @@ pub struct Command {
     /// What follows the name.
     pub usage: &'static str,
     pub about: &'static str,
-    /// How many files it takes.
+    /// How many words it takes, files and others.
     pub files: RangeInclusive<usize>,
     pub options: &'static [Choice],
     pub run: fn(&Arguments) -> Result<Outcome, Stop>,
@@ -75,8 +84,10 @@ impl Arguments {
                 _ => (word.as_str(), None),
             };
             match command.options.iter().find(|choice| choice.name == name) {
-                Some(Choice { name, value: Some(_), .. }) => match given.or_else(|| words.next().cloned()) {
+                Some(Choice { name, value: Some(kind), .. }) => match given.or_else(|| words.next().cloned())
+                {
                     Some(value) => options.push((*name, value)),
+                    None if *kind == "FILE" => return refuse(format!("{name} takes a file")),
                     None => return refuse(format!("{name} takes a number")),
                 },
                 Some(choice) if given.is_none() => options.push((choice.name, String::new())),
@@ -84,19 +95,33 @@ impl Arguments {
                 _ => return refuse(format!("{} takes no {word}", command.name)),
             }
         }
-        match command.files.contains(&sources.len()) {
-            true => Ok(Arguments { sources, options }),
-            false => refuse(format!("sheet {} {}", command.name, command.usage)),
+        if !command.files.contains(&sources.len()) {
+            return refuse(format!("sheet {} {}", command.name, command.usage));
         }
+        let names = sources.iter().map(|source: &Source| &source.0);
+        if names.chain(options.iter().map(|(_, value)| value)).filter(|name| *name == "-").count() > 1 {
+            return refuse("standard input can stand for one file only");
+        }
+        Ok(Arguments { sources, options })
     }
 
     pub fn has(&self, name: &str) -> bool {
         self.options.iter().any(|(other, _)| *other == name)
     }
 
+    /// What an option gives, if it is there.
+    fn value(&self, name: &str) -> Option<&String> {
+        self.options.iter().rev().find(|(other, _)| *other == name).map(|(_, value)| value)
+    }
+
+    /// The file that an option names, if it is there.
+    pub fn file(&self, name: &str) -> Option<Source> {
+        self.value(name).cloned().map(Source)
+    }
+
     /// The number that an option gives, if it is there; at most `most`.
     pub fn number(&self, name: &str, most: u32) -> Result<Option<u32>, Stop> {
-        let Some((_, value)) = self.options.iter().rev().find(|(other, _)| *other == name) else {
+        let Some(value) = self.value(name) else {
             return Ok(None);
         };
         match value.replace([',', '_'], "").parse::<u32>() {
@@ -117,7 +142,11 @@ impl Source {
             "-" => std::io::stdin().lock().read_to_end(&mut bytes).map(|_| bytes),
             file => std::fs::read(file),
         };
-        read.map_err(|error| Stop { status: Status::Failed, text: format!("{}: {error}", self.name()) })
+        read.map_err(|error| self.failed(error))
+    }
+
+    fn failed(&self, error: std::io::Error) -> Stop {
+        Stop { status: Status::Failed, text: format!("{}: {error}", self.name()) }
     }
 
     /// The file's name for people.
@@ -189,7 +218,9 @@ fn help() -> String {
     let mut text =
         "Halls as texts, sheets and plans. TEXT is a file, or - for standard input.\n\n".to_string();
     for command in &COMMANDS {
-        text += &format!("  {:28}{}\n", format!("sheet {} {}", command.name, command.usage), command.about);
+        let usage = format!("sheet {} {}", command.name, command.usage);
+        let gap = if usage.len() < 28 { String::new() } else { format!("\n  {:28}", "") };
+        text += &format!("  {usage:28}{gap}{}\n", command.about);
     }
     text + "\n`sheet COMMAND --help` has a command's options. Exit status: 0 finished, 1 refused or a fault\n\
             in the text, 2 stopped short, 3 reading or writing failed.\n"

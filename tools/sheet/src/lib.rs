@@ -1,15 +1,19 @@
 //! Halls as texts: `parse` reads a text, `compose` and `pack` make what its sheet states, `make` the sheet;
-//! `listing` runs the planner. Each command is a module: `plans`, `why`, `page`, `make`, `show`, `explain`.
+//! `listing` runs the planner. Each command is a module: `plans`, `why`, `page`, `make`, `show`,
+//! `explain`, `columns` (with `rows`), `merge`.
 //! Whether a sheet is accepted, and which plans it has, is always asked of the proved planner.
 
+pub mod columns;
 pub mod command;
 pub mod compose;
 pub mod explain;
 pub mod input;
 pub mod listing;
 pub mod make;
+pub mod merge;
 pub mod pack;
 pub mod page;
+pub mod pairs;
 pub mod parse;
 pub mod plans;
 pub mod problem;

@@ -13,6 +13,11 @@ pub const COMMAND: Command = Command {
     options: &[
         Choice { name: "--csv", value: None, about: "as CSV; the ending goes to standard error" },
         Choice { name: "--json", value: None, about: "as one JSON object" },
+        Choice {
+            name: "--rows",
+            value: None,
+            about: "as plain bytes, a number for each window's duty; the ending goes to standard error",
+        },
         Choice { name: "--first", value: None, about: "one plan is enough" },
         TRIALS_OPTION,
         PLANS_OPTION,
@@ -24,8 +29,8 @@ pub const COMMAND: Command = Command {
 const LEFT_OUT: &str = "(a plan that an exchange makes of an earlier one is left out)\n";
 
 fn run(arguments: &Arguments) -> Result<Outcome, Stop> {
-    if arguments.has("--csv") && arguments.has("--json") {
-        return refuse("plans takes --csv or --json, not both");
+    if ["--csv", "--json", "--rows"].iter().filter(|name| arguments.has(name)).count() > 1 {
+        return refuse("plans takes one of --csv, --json and --rows");
     }
     let limits = Limits::of(arguments)?;
     let input = Input::read(&arguments.sources[0])?;
@@ -33,13 +38,16 @@ fn run(arguments: &Arguments) -> Result<Outcome, Stop> {
     let status = listing.status();
     let ending = listing.ending() + listing.hint() + "\n";
     let (output, note) = if arguments.has("--json") {
-        (json(problem, &listing), String::new())
+        (json(problem, &listing).into_bytes(), String::new())
     } else if arguments.has("--csv") {
-        (csv(problem, &listing), ending)
+        (csv(problem, &listing).into_bytes(), ending)
+    } else if arguments.has("--rows") {
+        (listing.plans.concat(), ending)
     } else {
         let gap = if listing.plans.is_empty() { "" } else { "\n" };
         let left = if problem.symmetries.is_empty() { "" } else { LEFT_OUT };
-        (table(problem, &listing) + gap + &ending + left, String::new())
+        let text = table(problem, &listing) + gap + &ending + left;
+        (text.into_bytes(), String::new())
     };
-    Ok(Outcome { output: output.into_bytes(), note, status })
+    Ok(Outcome { output, note, status })
 }

@@ -91,6 +91,9 @@ fn endings() {
     let csv = output("plans --csv --trials 5 examples/hall.txt");
     let note = "stopped at the allowance of 5 trials, 1 plan listed: more plans may exist (--trials N allows more)\n";
     is(csv, 2, "sell1,sell2,cash,pay,desk\nann,ben,cid,dora,eve\n", note);
+    let rows = output("plans --rows --trials 5 examples/hall.txt");
+    is(rows, 2, "\0\u{1}\u{2}\u{3}\u{4}", note);
+    is(output("plans --rows examples/a.txt"), 0, "\0\u{1}\0\u{2}\u{1}\u{2}", "finished: 3 plans, 6 trials\n");
 }
 
 /// A sheet is taken for its text.
@@ -137,7 +140,8 @@ fn wrong_words() {
             "--plans takes a number from 0 to 10000000, not `10000001`\n",
         ),
         ("plans --first=1 examples/a.txt", "plans takes no --first=1\n"),
-        ("plans --csv --json examples/a.txt", "plans takes --csv or --json, not both\n"),
+        ("plans --csv --json examples/a.txt", "plans takes one of --csv, --json and --rows\n"),
+        ("plans --rows --json examples/a.txt", "plans takes one of --csv, --json and --rows\n"),
     ] {
         is(output(words), 1, "", said);
     }
