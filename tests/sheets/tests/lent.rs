@@ -1,12 +1,10 @@
 //! The oracle's run in the settling order beside listings by brute force, and beside the run without pairs.
 
 use oracle::lent::{question_lent, run_lent, search_in, sets_at, Tallied};
+use oracle::listing::{image, solutions};
 use oracle::order::reading;
 use oracle::{members, Ending, Problem};
 use sheets::{damaged, encode, pairs, problem, right_pairs, typed_in, Rng};
-
-mod common;
-use common::{image, solutions};
 
 /// A problem with pairs, and the order that comes of them.
 fn lent(rng: &mut Rng) -> (Problem, Vec<u8>, Vec<usize>) {

@@ -1,11 +1,9 @@
 //! The oracle beside listings by brute force, on random sheets and lists.
 
+use oracle::listing::{image, solutions};
 use oracle::nogood::{filtered_by_assignments, filtered_by_products, Entry};
 use oracle::Ending;
 use sheets::{encode, problem, right_lists, Rng};
-
-mod common;
-use common::{image, solutions};
 
 /// Plans are the solutions onto which no exchange brings an earlier one.
 #[test]
