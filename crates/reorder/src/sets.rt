@@ -1,5 +1,7 @@
 // The numbers that are kept by variable: the sets of constraints that touch it, and the initial sets.
 use crate::places::entry;
+use layout::INITIAL;
+use layout::TOUCHING;
 ghost use mathlib.Core.Path.{_≡_};
 ghost use Prim.Native.Nat.{_+_, _≤_};
 ghost use lib.ListN.{length};
@@ -24,6 +26,6 @@ pub fn move_sets(order: &[u8; 16], n: usize, numbers: &mut [u64; 384])
     ensures { λ _. ⌜ MovedSets n (now (order .entry)) (now (numbers .entry)) (now (numbers .exit)) ⌝ }
 {
     let old = *numbers;
-    spread(order, n, 0, &old, numbers);
-    spread(order, n, 16, &old, numbers);
+    spread(order, n, TOUCHING, &old, numbers);
+    spread(order, n, INITIAL, &old, numbers);
 }
