@@ -1,6 +1,6 @@
 //! Rows to stores and back through the program: what it writes, and its words and exit status for each refusal.
 
-use std::io::Write;
+use std::io::{ErrorKind, Write};
 use std::process::{Command, Stdio};
 
 /// The program's standard output, or what it says where its exit status is 1.
@@ -12,7 +12,10 @@ fn sheet(words: &[&str], input: &[u8]) -> Result<Vec<u8>, String> {
         .stderr(Stdio::piped())
         .spawn()
         .unwrap();
-    program.stdin.take().unwrap().write_all(input).unwrap();
+    // where its words are wrong it ends without reading
+    if let Err(fault) = program.stdin.take().unwrap().write_all(input) {
+        assert_eq!(fault.kind(), ErrorKind::BrokenPipe);
+    }
     let done = program.wait_with_output().unwrap();
     if done.status.success() {
         return Ok(done.stdout);
