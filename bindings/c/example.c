@@ -30,9 +30,16 @@ static void list_plans(uint32_t node_limit) {
     printf("%s %u %u\n", kinds[kind], plans, trials);
 }
 
+static void show_counts(void) {
+    uint8_t list[16], answer[PLANNER_COUNTS_BYTES];
+    planner_run_counts(sheet_a, sizeof sheet_a, 1000000, list, sizeof list, answer, sizeof answer);
+    printf("trials by window: %u %u\n", number(answer + 12), number(answer + 16));
+}
+
 int main(void) {
     list_plans(1000000);
     list_plans(2);
+    show_counts();
     uint32_t code = planner_question(sheet_a, 63);
     printf("a byte short: refused %u %u\n", PLANNER_NUMBER(code), PLANNER_ITEM(code));
     return 0;

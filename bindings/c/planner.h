@@ -11,7 +11,8 @@
  *
  * Stack. The most that a call takes below the caller, on the sheet that goes deepest (12 windows of 16 duties,
  * each duty tried one below the other):
- *   planner_question 21 KB, planner_filter 4 KB, planner_run 197 KB, planner_report 246 KB (KB: 1,000 bytes).
+ *   planner_question 21 KB, planner_filter 4 KB, planner_run and planner_run_counts 200 KB, planner_report 249 KB
+ *   (KB: 1,000 bytes).
  * With less the process ends by a fault at the guard page. A thread of PLANNER_STACK_BYTES is enough for
  * each; some systems give a thread less unless asked (musl: 128 KB). */
 #ifndef PLANNER_H
@@ -70,6 +71,13 @@ uint32_t planner_filter(uint8_t *sets, size_t sets_len, const uint8_t *index, si
  * PLANNER_ANSWER_ROOM; list and answer are then as they came. */
 uint32_t planner_run(const uint8_t *sheet, size_t sheet_len, uint32_t node_limit, uint8_t *list,
                      size_t list_len, uint8_t *answer, size_t answer_len);
+
+/* ---- Trials by window (#107). As planner_run, and the answer has PLANNER_COUNTS_BYTES bytes: kind, plans, trials,
+ * then twelve 32-bit numbers, low byte first: the trials by place. They add up to the trials; windows that the
+ * sheet hasn't have 0. PLANNER_ANSWER_ROOM, asked first, where the answer has another length. */
+#define PLANNER_COUNTS_BYTES 60
+uint32_t planner_run_counts(const uint8_t *sheet, size_t sheet_len, uint32_t node_limit, uint8_t *list,
+                            size_t list_len, uint8_t *answer, size_t answer_len);
 
 /* Writes what the lister prints for this standard input (node limit 1,000,000, room for 4,096 plans) to
  * the front of out and returns its length; the bytes after it are unchanged. With less room than

@@ -8,6 +8,7 @@ const FUNCTIONS: &[&str] = &[
     "planner_question",
     "planner_filter",
     "planner_run",
+    "planner_run_counts",
     "planner_report",
     "planner_columns",
     "planner_rows",

@@ -1,6 +1,6 @@
 //! The paper's sheet A, its worked filter and the small sheets, through the safe functions.
 
-use planner::{filter, question, report, run, small_sheet, small_sheets, ABSENT};
+use planner::{filter, question, report, run, run_counts, small_sheet, small_sheets, ABSENT};
 
 /// Two windows, three duties, one rule (the windows differ), one exchange (the windows change places).
 const SHEET_A: [u16; 32] = [
@@ -19,6 +19,9 @@ fn main() {
     let mut list = [0; 4];
     let answer = run(&sheet, 1_000_000, &mut list).expect("an accepted sheet");
     println!("{:?} {} {}: {:?}", answer.ending, answer.plans, answer.nodes, list);
+
+    let counted = run_counts(&sheet, 1_000_000, &mut [0; 6]).expect("an accepted sheet");
+    println!("{:?}: {:?}", counted.answer.ending, &counted.counts[..2]);
 
     let mut sets = [6, 6, 6, 2, 2, 6];
     let index = [0, 1, 2, 3, 4, 2, 5, 0];

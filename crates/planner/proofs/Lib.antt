@@ -6,3 +6,4 @@ pub mod Outcomes
 pub mod Merged
 pub mod Replies
 pub mod SmallSheets
+pub mod Tallied

@@ -2,7 +2,7 @@
 use mathlib.Core.Path.{_≡_}
 use Prim.Native.Nat.{ℕ, _*_, _^_, _≤_, _<_}
 use mathlib.Core.List.{List}
-use lib.ListN.{length}
+use lib.ListN.{length, getD}
 use Rattle.model.specs.Verdict.{accepted}
 use Rattle.model.specs.Sheet.{verdictOf, problemOf}
 use Rattle.model.specs.Run.{Ending, finished, spent, full, plansIn, nodesIn}
@@ -28,3 +28,8 @@ Stop (full plans made) = Unit {0}
 pub record Counted (e : Ending) : Type 0 where
   pub plans : plansIn e < 2 ^ 32
   pub made : nodesIn e < 2 ^ 32
+
+-- twelve counts that four bytes hold each
+pub record Twelve (counts : List ℕ) : Type 0 where
+  pub long : length counts ≡ 12
+  pub small : (i : ℕ) → getD counts i 0 < 2 ^ 32

@@ -3,5 +3,6 @@ pub mod Exported
 pub mod Outcomes
 pub mod Merged
 pub mod SmallSheets
+pub mod Tallied
 pub mod Inner
 pub mod Stored

@@ -51,7 +51,7 @@ fn two(out: &mut [u8], at: usize, x: u16) -> usize
     next + 1
 }
 
-fn four(out: &mut [u8], at: usize, x: usize) -> usize
+pub fn four(out: &mut [u8], at: usize, x: usize) -> usize
     requires { ⌜ (at + 4 ≤ length (now out)) × (x < 2 ^ 32) ⌝ }
     ensures { λ r. ⌜ Written (now (out .entry)) at (fourBytes x) (now (out .exit)) r ⌝ }
 {

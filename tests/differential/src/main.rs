@@ -4,6 +4,7 @@
 //! back with that seed and one case. Every refusal number must be reached.
 
 mod columns;
+mod counts;
 mod filter;
 mod merge;
 mod planner;
@@ -19,7 +20,8 @@ use std::path::{Path, PathBuf};
 use std::time::Instant;
 use tally::Tally;
 
-const PARTS: &[&str] = &["question", "filter", "run", "report", "columns", "merge", "store", "small"];
+const PARTS: &[&str] =
+    &["question", "filter", "run", "counts", "report", "columns", "merge", "store", "small"];
 /// The refusal numbers that a part must reach.
 const REFUSALS: &[(&str, std::ops::RangeInclusive<u32>)] = &[
     ("question", 1..=16),
@@ -68,6 +70,7 @@ fn test(part: &str, seed: usize, cases: usize, tally: &mut Tally) {
             "question" => question::case(seed + number, &mut rng, tally),
             "filter" => filter::case(&mut rng, tally),
             "run" => run::case(&mut rng, tally),
+            "counts" => counts::case(&mut rng, tally),
             "columns" => columns::case(&mut rng, tally),
             "merge" => merge::case(&mut rng, tally),
             "store" => store::case(&mut rng, tally),

@@ -25,6 +25,11 @@ pub fn run_lent(sheet: &[u8], pairs: &[u8], node_limit: u32, list: &mut [u8]) ->
     Ok(search_in(&problem, &order, node_limit, list))
 }
 
+/// A run without pairs: the places in their order.
+pub fn run_counts(sheet: &[u8], node_limit: u32, list: &mut [u8]) -> Result<Tallied, Refusal> {
+    run_lent(sheet, &[], node_limit, list)
+}
+
 /// The search that settles the places in the order.
 pub fn search_in(problem: &Problem, order: &[usize], node_limit: u32, list: &mut [u8]) -> Tallied {
     let (mut plans, mut nodes, mut counts) = (0, 0, [0; 12]);

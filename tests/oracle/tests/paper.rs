@@ -1,5 +1,6 @@
 //! The paper's checked examples, tried on the oracle.
 
+use oracle::lent::run_counts;
 use oracle::sheet::Constraint;
 use oracle::{filter, question, report, run, Ending, Outcome, Problem, Refusal};
 
@@ -28,6 +29,13 @@ fn sheet_a_has_three_plans() {
     assert_eq!(report(&a()), "plan 0 1\nplan 0 2\nplan 1 2\nfinished 3 6 3\n");
     let mut list = [9; 100];
     assert_eq!(run(&sheet_a(&[]), 1_000_000, &mut list), outcome(Ending::Finished, 6, 9));
+}
+
+#[test]
+fn sheet_a_has_three_trials_of_each_place() {
+    let counts = |limit| run_counts(&a(), limit, &mut [0; 6]).unwrap().counts;
+    assert_eq!(counts(1_000_000)[..3], [3, 3, 0]);
+    assert_eq!(counts(2)[..3], [1, 1, 0]);
 }
 
 #[test]

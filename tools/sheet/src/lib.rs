@@ -6,6 +6,7 @@
 pub mod columns;
 pub mod command;
 pub mod compose;
+pub mod counts;
 pub mod explain;
 pub mod input;
 pub mod listing;

@@ -59,6 +59,8 @@ pub struct Listing {
     pub ending: Ending,
     pub plans: Vec<Vec<u8>>,
     pub trials: u32,
+    /// The trials by window.
+    pub counts: [u32; 12],
     pub limits: Limits,
 }
 
@@ -76,19 +78,21 @@ pub fn list(
         Some(_) => WATCHED.min(limits.trials),
         None => limits.trials,
     };
-    let answer = loop {
-        let answer = planner::run(&made.sheet, allowance, &mut room)?;
+    let counted = loop {
+        let counted = planner::run_counts(&made.sheet, allowance, &mut room)?;
+        let answer = counted.answer;
         let enough = limits.first && answer.plans > 0;
         if answer.ending != Ending::Spent || allowance == limits.trials || enough {
-            break answer;
+            break counted;
         }
         if let Some(watch) = &mut watch {
             watch(answer);
         }
         allowance = allowance.saturating_mul(2).min(limits.trials);
     };
+    let (answer, counts) = (counted.answer, counted.counts);
     let plans = room.chunks(n).take(answer.plans as usize).map(<[u8]>::to_vec).collect();
-    Ok(Listing { ending: answer.ending, plans, trials: answer.nodes, limits })
+    Ok(Listing { ending: answer.ending, plans, trials: answer.nodes, counts, limits })
 }
 
 /// Lists the plans, and shows on a terminal how far a long run has come.

@@ -1,6 +1,7 @@
 //! `sheet page`: the hall and its plans as one page that needs nothing else.
 
 use crate::command::{Arguments, Command, Outcome, Stop};
+use crate::counts::share;
 use crate::input::Input;
 use crate::listing::{Limits, Listing, PLANS_OPTION, TRIALS_OPTION};
 use crate::problem::Problem;
@@ -62,7 +63,9 @@ impl Page<'_> {
 
     pub fn html(&self) -> String {
         let title = escaped(&self.title);
-        let parts = [self.ending(), self.no_plan(), self.windows(), self.lines(), self.plans()].concat();
+        let parts =
+            [self.ending(), self.no_plan(), self.windows(), self.lines(), self.plans(), self.trials()]
+                .concat();
         let wide = if self.problem().variables.len() > 8 { "@page { size: landscape; }\n" } else { "" };
         format!(
             "<!DOCTYPE html>\n<html lang=\"en\">\n<head>\n<meta charset=\"utf-8\">\n\
@@ -186,6 +189,32 @@ impl Page<'_> {
             "<tr><th scope=\"row\">{}</th>{}</tr>\n",
             number + 1,
             plan.iter().map(cell).collect::<String>()
+        )
+    }
+    /// Where the trials went: a bar for each window, the longest for the largest count.
+    fn trials(&self) -> String {
+        let windows = &self.problem().variables;
+        let counts = self.listing.counts.map(u64::from);
+        let total = counts.iter().sum();
+        let most = counts.iter().copied().max().unwrap_or(0);
+        let row = |(window, count): (&String, u64)| {
+            format!(
+                "<tr><th scope=\"row\">{}</th><td class=\"number\">{count}</td><td class=\"number\">{}</td><td>\
+                 <svg class=\"bar\" viewBox=\"0 0 1000 1\" preserveAspectRatio=\"none\" aria-hidden=\"true\">\
+                 <rect width=\"{}\" height=\"1\"/></svg></td></tr>\n",
+                escaped(window),
+                share(count, total),
+                count * 1000 / most
+            )
+        };
+        if total == 0 {
+            return String::new();
+        }
+        format!(
+            "<h2>Where the trials went</h2>\n<div class=\"wide\"><table>\n<thead><tr><th scope=\"col\">Window</th>\
+             <th scope=\"col\">Trials</th><th scope=\"col\" colspan=\"2\">Share</th></tr></thead>\n\
+             <tbody>\n{}</tbody>\n</table></div>\n",
+            windows.iter().zip(counts).map(row).collect::<String>()
         )
     }
 }

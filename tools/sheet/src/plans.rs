@@ -1,6 +1,7 @@
 //! `sheet plans`: a text's plans by name.
 
 use crate::command::{refuse, Arguments, Choice, Command, Outcome, Stop};
+use crate::counts::drawn;
 use crate::input::Input;
 use crate::listing::{Limits, PLANS_OPTION, TRIALS_OPTION};
 use crate::table::{csv, json, table};
@@ -19,11 +20,19 @@ pub const COMMAND: Command = Command {
             about: "as plain bytes, a number for each window's duty; the ending goes to standard error",
         },
         Choice { name: "--first", value: None, about: "one plan is enough" },
+        Choice {
+            name: BY_WINDOW,
+            value: None,
+            about: "after the ending, a line for each window: its trials, their share and a bar",
+        },
         TRIALS_OPTION,
         PLANS_OPTION,
     ],
     run,
 };
+
+/// Shows where the trials go.
+const BY_WINDOW: &str = "--by-window";
 
 /// What a list leaves out under exchanges.
 const LEFT_OUT: &str = "(a plan that an exchange makes of an earlier one is left out)\n";
@@ -31,6 +40,9 @@ const LEFT_OUT: &str = "(a plan that an exchange makes of an earlier one is left
 fn run(arguments: &Arguments) -> Result<Outcome, Stop> {
     if ["--csv", "--json", "--rows"].iter().filter(|name| arguments.has(name)).count() > 1 {
         return refuse("plans takes one of --csv, --json and --rows");
+    }
+    if arguments.has(BY_WINDOW) && ["--csv", "--json", "--rows"].iter().any(|name| arguments.has(name)) {
+        return refuse("--by-window goes with the table alone");
     }
     let limits = Limits::of(arguments)?;
     let input = Input::read(&arguments.sources[0])?;
@@ -46,7 +58,9 @@ fn run(arguments: &Arguments) -> Result<Outcome, Stop> {
     } else {
         let gap = if listing.plans.is_empty() { "" } else { "\n" };
         let left = if problem.symmetries.is_empty() { "" } else { LEFT_OUT };
-        let text = table(problem, &listing) + gap + &ending + left;
+        let by_window =
+            if arguments.has(BY_WINDOW) { drawn(&problem.variables, &listing.counts) } else { String::new() };
+        let text = table(problem, &listing) + gap + &ending + left + &by_window;
         (text.into_bytes(), String::new())
     };
     Ok(Outcome { output, note, status })

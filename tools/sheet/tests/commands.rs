@@ -56,6 +56,7 @@ fn golden_files() {
     golden("hall.json", output("plans examples/hall.txt --json"), 0);
     golden("hall.html", output("page examples/hall.txt"), 0);
     golden("stand.table", output("plans examples/stand.txt"), 0);
+    golden("hall.trials", output("plans --by-window examples/hall.txt"), 0);
     golden("spent.html", output("page --trials=4 examples/cycle.txt"), 2);
     golden("full.json", output("plans --plans 2 --json examples/cycle.txt"), 2);
     golden("broken.html", output("page tools/sheet/tests/golden/broken.txt"), 0);
@@ -93,6 +94,11 @@ fn endings() {
     is(csv, 2, "sell1,sell2,cash,pay,desk\nann,ben,cid,dora,eve\n", note);
     let rows = output("plans --rows --trials 5 examples/hall.txt");
     is(rows, 2, "\0\u{1}\u{2}\u{3}\u{4}", note);
+    let bar = "#".repeat(40);
+    let by_window =
+        format!("finished: 3 plans, 6 trials\n{left}left   3  50.0%  {bar}\nright  3  50.0%  {bar}\n");
+    let table = "left  right\nsell  pay\nsell  count\npay   count\n\n";
+    is(output("plans --by-window examples/a.txt"), 0, &format!("{table}{by_window}"), "");
     is(output("plans --rows examples/a.txt"), 0, "\0\u{1}\0\u{2}\u{1}\u{2}", "finished: 3 plans, 6 trials\n");
 }
 
@@ -142,6 +148,7 @@ fn wrong_words() {
         ("plans --first=1 examples/a.txt", "plans takes no --first=1\n"),
         ("plans --csv --json examples/a.txt", "plans takes one of --csv, --json and --rows\n"),
         ("plans --rows --json examples/a.txt", "plans takes one of --csv, --json and --rows\n"),
+        ("plans --csv --by-window examples/a.txt", "--by-window goes with the table alone\n"),
     ] {
         is(output(words), 1, "", said);
     }

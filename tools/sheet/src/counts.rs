@@ -25,7 +25,7 @@ pub fn drawn(names: &[String], counts: &[u32]) -> String {
 }
 
 /// A share in percent with one digit after the point, rounded to the nearest.
-fn share(count: u64, total: u64) -> String {
+pub fn share(count: u64, total: u64) -> String {
     if total == 0 {
         return "0.0%".into();
     }

@@ -1,0 +1,76 @@
+// Nodes by variable (paper 02, #107): a run whose answer has the twelve counts besides.
+use crate::bytes::four;
+use crate::code;
+use search::Ending;
+ghost use mathlib.Core.Path.{_≡_};
+ghost use mathlib.Core.List.{_++_};
+ghost use Prim.Native.Nat.{_+_, _^_, _≤_, _<_};
+ghost use lib.ListN.{length};
+ghost use Rattle.model.specs.Written.{Written};
+ghost use Rattle.search.specs.Meaning.{endingOf};
+ghost use Rattle.planner.specs.Exported.{threeNumbers, endingBytes};
+ghost use Rattle.planner.specs.Inner.{Counted, Twelve};
+ghost use Rattle.planner.specs.Tallied.{numbersOf, countsCode, countsList, countsAnswer};
+
+// Writes the counts from a place on.
+fn numbers(out: &mut [u8], start: usize, counts: [u32; 12])
+    requires { ⌜ (start + 48 ≤ length (now out)) × Twelve counts ⌝ }
+    ensures { λ _. ⌜ Written (now (out .entry)) start (numbersOf counts) (now (out .exit)) (start + 48) ⌝ }
+{
+    let mut at = start;
+    let mut i = 0;
+    while i < 12 {
+        at = four(out, at, counts[i] as usize);
+        i += 1;
+    }
+}
+
+fn told(out: &mut [u8], kind: usize, plans: usize, nodes: usize, counts: [u32; 12])
+    requires { ⌜ (length (now out) ≡ 60) × (kind < 2 ^ 32) × (plans < 2 ^ 32) × (nodes < 2 ^ 32) × Twelve counts ⌝ }
+    ensures { λ _. ⌜ now (out .exit) ≡ threeNumbers kind plans nodes ++ numbersOf counts ⌝ }
+{
+    let first = four(out, 0, kind);
+    let second = four(out, first, plans);
+    let third = four(out, second, nodes);
+    numbers(out, third, counts);
+}
+
+fn ending(out: &mut [u8], e: Ending, counts: [u32; 12])
+    requires { ⌜ (length (now out) ≡ 60) × Counted (endingOf e) × Twelve counts ⌝ }
+    ensures { λ _. ⌜ now (out .exit) ≡ endingBytes (endingOf e) ++ numbersOf counts ⌝ }
+{
+    match e {
+        Ending::Finished(plans, nodes) => told(out, 1, plans, nodes, counts),
+        Ending::Spent(plans, nodes) => told(out, 2, plans, nodes, counts),
+        Ending::Full(plans, nodes) => told(out, 3, plans, nodes, counts),
+    }
+}
+
+// As planner_run, and the answer has 60 bytes: kind, plans and nodes, then twelve numbers of four bytes, the nodes that settle each variable.
+// Returns 0, or the refusal, or, asked first, 255 times 256 where the answer has not 60 bytes; list and answer are then as they came.
+#[no_mangle]
+pub extern "C" fn planner_run_counts(
+    sheet: &[u8],
+    limit: u32,
+    list: &mut [u8],
+    answer: &mut [u8],
+) -> u32
+    ensures { λ r. ⌜ r ≡ countsCode (now (sheet .entry)) limit (now (list .entry)) (now (answer .entry)) ⌝ }
+    ensures { λ _. ⌜ now (list .exit) ≡ countsList (now (sheet .entry)) limit (now (list .entry)) (now (answer .entry)) ⌝ }
+    ensures { λ _. ⌜ now (answer .exit) ≡ countsAnswer (now (sheet .entry)) limit (now (list .entry)) (now (answer .entry)) ⌝ }
+{
+    if answer.len() != 60 {
+        return 65280;
+    }
+    let r = search::run_counted(sheet, limit, list);
+    let tally = r.tally;
+    let counts = tally.counts;
+    let said = r.answer;
+    match said {
+        search::Answer::Refused { number, item } => code(number, item),
+        search::Answer::Ended(e) => {
+            ending(answer, e, counts);
+            0
+        }
+    }
+}
