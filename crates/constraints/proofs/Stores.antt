@@ -19,7 +19,7 @@ use Rattle.model.proofs.Lists.{T-of, of-T, of-not, any-i, any-e, among-i, among
 use Rattle.model.proofs.Sets.{has-lt, mask-i, mask-e, member, set-sets}
 use Rattle.model.specs.Pruning.{Sets}
 use Rattle.model.proofs.Masks.{has-or, has-oneIf, lowest-op}
-use Rattle.model.proofs.Members.{both-no, both-yes, either-no, rest-begin, rest-i, has-0, and-i, and-e, rest-op, lowest-left}
+use Rattle.model.proofs.Members.{both-no, both-yes, either-no, rest-begin, rest-i, has-0, and-i, and-e, without-lowest-op, lowest-left}
 use Rattle.layout.specs.Places.{DEAD}
 use Rattle.layout.specs.Layout.{place}
 use Rattle.constraints.specs.Revised.{revised, Revision}
@@ -393,7 +393,7 @@ module _ {c : Constraint} {supports : List ℕ} {k x y z : ℕ} (p : Scoped c su
 -- ---- two of three sets have one value: one set of the table cuts the third
 single : (a : ℕ) → a < 2 ^ 16 → (a ≡ 0 → ⊥) → withoutMask a (lowestOf a) ≡ 0 → (v : ℕ) → T (has a v) → v ≡ lowestOf a
 single a h n e v t =
-    ⊎-elim (λ q. absurd (has-0 v (subst (λ (z : ℕ). T (has z v)) (rest-op a h ∙ e) q))) (λ q. q ∙ lowest-op 16 a) (rest-i 16 a (omega arith) h v t)
+    ⊎-elim (λ q. absurd (has-0 v (subst (λ (z : ℕ). T (has z v)) (without-lowest-op a h ∙ e) q))) (λ q. q ∙ lowest-op 16 a) (rest-i 16 a (omega arith) h v t)
 
 module _ {c : Constraint} {supports : List ℕ} {k x y z : ℕ} (p : Scoped c supports k (x ∷ y ∷ z ∷ [])) (ds : List ℕ) (s : Sets 16 ds) (g : Nonempty (x ∷ y ∷ z ∷ []) ds) (o : withoutMask (at ds x) (lowestOf (at ds x)) ≡ 0) (q : withoutMask (at ds y) (lowestOf (at ds y)) ≡ 0) where
   abbrev u : ℕ

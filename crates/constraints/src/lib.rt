@@ -12,7 +12,7 @@ ghost use lib.Dec.{eqb};
 ghost use lib.Bits.{bitAnd};
 ghost use lib.ListN.{length};
 ghost use Rattle.model.specs.Lists.{at};
-ghost use Rattle.model.specs.ValueSets.{withoutMask, lowestOf, oneIf};
+ghost use Rattle.model.specs.ValueSets.{oneIf};
 ghost use Rattle.model.specs.Problem.{Problem, Constraint};
 ghost use Rattle.model.specs.Pruning.{Sets};
 ghost use Rattle.layout.specs.Layout.{constraintAt};
@@ -37,18 +37,6 @@ struct Three {
     first: ValueSet,
     second: ValueSet,
     last: ValueSet,
-}
-
-// The set without its lowest value.
-fn rest(set: ValueSet) -> ValueSet
-    ensures { λ r. ⌜ r .bits ≡ withoutMask (set .bits) (lowestOf (set .bits)) ⌝ }
-{
-    if set.is_empty() {
-        return set;
-    }
-    ValueSet {
-        bits: set.bits & (set.bits - 1),
-    }
 }
 
 // The set of v, or the empty set.
@@ -87,7 +75,7 @@ fn joined(supports: &[u16; 8192], base: usize, a: ValueSet, b: ValueSet) -> Two
         let t = support.common(b);
         first = first.union(one_if(!t.is_empty(), v));
         last = last.union(t);
-        left = rest(left);
+        left = left.without_lowest();
     }
     Two { first, last }
 }
@@ -109,7 +97,7 @@ fn joined3(supports: &[u16; 8192], base: usize, a: ValueSet, b: ValueSet, e: Val
         first = first.union(one_if(!t.is_empty(), u));
         second = second.union(t);
         last = last.union(s);
-        left = rest(left);
+        left = left.without_lowest();
     }
     Three {
         first,
@@ -173,7 +161,7 @@ fn joined8(numbers: &[u64; 384], base: usize, a: ValueSet, b: ValueSet, e: Value
         let w = numbers[base + (u as usize)] & inside;
         first = first.union(one_if(w != 0, u));
         all = all | w;
-        left = rest(left);
+        left = left.without_lowest();
     }
     let second = full_lanes(all);
     let last = union_of(all);
@@ -259,7 +247,7 @@ fn revise_three(
 {
     let a = ValueSet { bits: sets[x] };
     let b = ValueSet { bits: sets[y] };
-    if rest(a).union(rest(b)).is_empty() {
+    if a.without_lowest().union(b.without_lowest()).is_empty() {
         let u = a.lowest() as usize;
         let v = b.lowest() as usize;
         return revise_one(sets, supports, 256 * k + 16 * u + v, z);

@@ -3,19 +3,21 @@ use mathlib.Core.Path.{_≡_, refl, sym, ap, _∙_, subst, fun-ext}
 use mathlib.Core.Bool.{Bool, true, false, not}
 use mathlib.Core.List.{List, [], _∷_, List·Memᴰ, List·Memᴰ·head, List·Memᴰ·tail}
 use Prim.Native.Nat.{ℕ, zero, suc, _+_, _*_, _/_, _%_, _^_, _≤_, _<_}
+use native.Mathlib.Nat.{mod-eq-of-lt}
 use native.Mathlib.Omega.{arith}
 use native.Mathlib.Decide.{ℕ-discrete}
-use lib.Dec.{T, eqb, ltb, leb, leb·zero}
+use lib.Dec.{T, ltb, leb, leb·zero}
 use lib.ListN.{length}
-use borrow.Author.Tests.{eqb-true, eq-eqb, ne-eqb, lt-ltb, le-ltb, le-leb, lt-leb, leb-true, leb-false}
+use lib.Pow.{pow-mono}
+use borrow.Author.Tests.{eqb-true, eq-eqb, lt-ltb, le-ltb, le-leb, lt-leb, leb-true, leb-false, ltb-true, ltb-false}
 use Rattle.model.specs.Lists.{any, at, same, both, either}
-use Rattle.model.specs.ValueSets.{has, maskOf, fullMask, withoutMask}
+use Rattle.model.specs.ValueSets.{has, maskOf}
 use Rattle.model.specs.Problem.{Problem}
-use Rattle.model.specs.Filling.{Filled}
+use Rattle.model.specs.Filling.{Filled, Gathered}
 use Rattle.model.proofs.Lists.{T-of, of-T, of-not, list-2, at-set-other}
-use Rattle.model.proofs.Sets.{has-none, has-mask, mask-lt}
+use Rattle.model.proofs.Sets.{has-none, has-out, pow2, has-mask, mask-lt, mask-ext}
 use Rattle.model.proofs.Masks.{has-not, is-mask}
-use Rattle.model.proofs.Members.{both-no, both-yes}
+use Rattle.model.proofs.Filling.{gathered-is}
 use Rattle.layout.specs.Places.{SCOPES, BY-ROWS, LOOSE, SMALLER}
 use Rattle.layout.specs.Layout.{constraintAt}
 use Rattle.layout.specs.Tables.{linkOf, byRows, goes, Rows}
@@ -70,39 +72,23 @@ not-link p i x y h b e =
 pub rows-skip : (p : Problem) (i : ℕ) (tables : List ℕ) → i < length (p .constraints) → byRows p i ≡ false → RowsTo p i tables → RowsTo p (i + 1) tables
 rows-skip p i tables h b r x v y hx hv hy = r x v y hx hv hy ∙ goes-other p i x v y (not-link p i x y h b) (not-link p i y x h b)
 
--- ---- the values whose sets have w: those below i that lack it are taken out
-pub record Column (f : ℕ → Bool) (i all : ℕ) : Type 0 where
-  pub narrow : all < 2 ^ 16
-  pub has-is : (u : ℕ) → u < 16 → has all u ≡ either (leb i u) (f u)
+-- ---- the values whose sets have w, gathered
+below-power : (n : ℕ) → n < 2 ^ n
+below-power zero = omega arith
+below-power (suc n) = omega (arith, below-power n, pow2 n)
 
-pub column-begin : (f : ℕ → Bool) (all : ℕ) → all ≡ fullMask 16 → Column f 0 all
-column-begin f all e = record {
-  narrow = subst (λ (n : ℕ). n < 2 ^ 16) (sym e) (mask-lt 16 _);
-  has-is = λ u l. ap (λ (n : ℕ). has n u) e ∙ has-mask 16 _ u l ∙ lt-ltb u 16 l ∙ sym (ap (λ (b : Bool). either b (f u)) (leb·zero u));
-}
+pub gathered-mask : (f : ℕ → Bool) (all : ℕ) → Gathered f 16 all → all % 65536 ≡ maskOf f
+gathered-mask f all g = ap (λ (n : ℕ). n % 65536) same ∙ mod-eq-of-lt (mask-lt 16 f)
+  where
+    go : (x : ℕ) (b : Bool) → ltb x 16 ≡ b → has all x ≡ has (maskOf f) x
+    go x true e = let l = ltb-true x 16 e in gathered-is f 16 all x g l ∙ sym (has-mask 16 f x l)
+    go x false e = g .has-is x ∙ ap (λ (b : Bool). both b (f x)) e ∙ sym (has-out 16 (maskOf f) x (mask-lt 16 f) (ltb-false x 16 e))
 
-module _ (f : ℕ → Bool) (i all : ℕ) (c : Column f i all) where
-  pub column-same : f i ≡ true → Column f (i + 1) all
-  column-same e = record { narrow = c .narrow; has-is = λ u l. c .has-is u l ∙ go u (ℕ-discrete u i) }
-    where
-      go : (u : ℕ) → Dec (u ≡ i) → either (leb i u) (f u) ≡ either (leb (i + 1) u) (f u)
-      go u (yes q) =
-          subst (λ (z : ℕ). either (leb i z) (f z) ≡ either (leb (i + 1) z) (f z)) (sym q)
-          (ap (λ (b : Bool). either b (f i)) (le-leb i i (omega arith)) ∙ sym (ap (λ (b : Bool). either b (f i)) (lt-leb (i + 1) i (omega arith)) ∙ e))
-      go u (no n) = ap (λ (b : Bool). either b (f u)) (other-link i u n)
-
-  pub column-less : (less : ℕ) → less ≡ withoutMask all i → f i ≡ false → Column f (i + 1) less
-  column-less less q e = record { narrow = subst (λ (n : ℕ). n < 2 ^ 16) (sym q) (mask-lt 16 _); has-is = λ u l. ap (λ (n : ℕ). has n u) q ∙ has-mask 16 _ u l ∙ ap (λ (b : Bool). both b (not (eqb u i))) (c .has-is u l) ∙ go u (ℕ-discrete u i) }
-    where
-      go : (u : ℕ) → Dec (u ≡ i) → both (either (leb i u) (f u)) (not (eqb u i)) ≡ either (leb (i + 1) u) (f u)
-      go u (yes s) =
-          subst (λ (z : ℕ). both (either (leb i z) (f z)) (not (eqb z i)) ≡ either (leb (i + 1) z) (f z)) (sym s)
-          (ap (λ (b : Bool). both (either (leb i i) (f i)) (not b)) (eq-eqb i i refl) ∙ both-no (either (leb i i) (f i)) ∙ sym (ap (λ (b : Bool). either b (f i)) (lt-leb (i + 1) i (omega arith)) ∙ e))
-      go u (no n) =
-          ap (λ (b : Bool). both (either (leb i u) (f u)) (not b)) (ne-eqb u i n) ∙ both-yes (either (leb i u) (f u)) ∙ ap (λ (b : Bool). either b (f u)) (other-link i u n)
-
-pub column-end : (f : ℕ → Bool) (i all : ℕ) → 16 ≤ i → Column f i all → all ≡ maskOf f
-column-end f i all h c = is-mask all f (c .narrow) (λ u l. c .has-is u l ∙ ap (λ (b : Bool). either b (f u)) (lt-leb i u (omega arith)))
+    same : all ≡ maskOf f
+    same =
+        let low : 2 ^ 16 ≤ 2 ^ (16 + all) = pow-mono (let h : 16 ≤ 16 + all = omega arith in h) in
+        let high : 2 ^ all ≤ 2 ^ (16 + all) = pow-mono (let h : all ≤ 16 + all = omega arith in h) in
+        mask-ext (16 + all) all (maskOf f) (omega (arith, below-power all, high)) (omega (arith, mask-lt 16 f, low)) (λ x l. go x (ltb x 16) refl)
 
 -- ---- a constraint that is pruned by variable
 module _ (p : Problem) (numbers supports : List ℕ) (g : RowsSource p numbers supports) (i : ℕ) (h : i < length (p .constraints)) where

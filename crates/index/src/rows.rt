@@ -1,5 +1,6 @@
 // For each pair the values of every variable that go with it, by the constraints that are pruned by variable.
 use crate::sets::contains;
+use crate::sets::one_if;
 use layout::BY_ROWS;
 use layout::CONSTRAINTS;
 use layout::SCOPES;
@@ -33,18 +34,18 @@ fn column(supports: &[u16; 8192], base: usize, w: u16) -> ValueSet
     requires { ⌜ base + 16 ≤ 8192 ⌝ }
     ensures { λ r. ⌜ r .bits ≡ maskOf (λ v. has (at (now (supports .entry)) (base + v)) w) ⌝ }
 {
-    let mut all = ValueSet::full(16);
-    let mut v = 0u16;
+    let mut all = 0u64;
+    let mut v = 0;
     while v < 16 {
         let set = ValueSet {
-            bits: supports[base + (v as usize)],
+            bits: supports[base + v],
         };
-        if !set.contains(w) {
-            all = all.without(v);
-        }
+        all = all | one_if(set.contains(w), v);
         v += 1;
     }
-    all
+    ValueSet {
+        bits: (all % 65536) as u16,
+    }
 }
 
 // Sixteen support sets into the rows of a variable, each at the other variable.

@@ -6,23 +6,10 @@ ghost use mathlib.Core.Path.{_≡_};
 ghost use mathlib.Core.Bool.{false};
 ghost use Prim.Native.Nat.{_+_, _*_, _≤_, _<_};
 ghost use lib.ListN.{length};
-ghost use Rattle.model.specs.ValueSets.{withoutMask, lowestOf};
 ghost use Rattle.model.specs.Problem.{Problem};
 ghost use Rattle.model.specs.Pruning.{Sets};
 ghost use Rattle.links.specs.Links.{ArcsPending, ArcsMade};
 ghost use Rattle.links.specs.Steps.{Narrow, Added, Cover, Covered, CutToCover, CanCut, CutBy};
-
-// The set without its lowest value.
-fn rest(set: ValueSet) -> ValueSet
-    ensures { λ r. ⌜ r .bits ≡ withoutMask (set .bits) (lowestOf (set .bits)) ⌝ }
-{
-    if set.is_empty() {
-        return set;
-    }
-    ValueSet {
-        bits: set.bits & (set.bits - 1),
-    }
-}
 
 // Adds sixteen sets of the tables, from a base on, to the cover.
 fn add(cover: &mut [u16; 16], tables: &[u16; 55296], base: usize)
@@ -46,7 +33,7 @@ fn cover_of(tables: &[u16; 55296], x: usize, set: ValueSet) -> [u16; 16]
     while !left.is_empty() {
         let v = left.lowest() as usize;
         add(&mut cover, tables, 256 * x + 16 * v);
-        left = rest(left);
+        left = left.without_lowest();
     }
     cover
 }
@@ -93,7 +80,7 @@ fn cut_by(sets: &mut [u16; 16], tables: &[u16; 55296], loose: u64, x: usize) -> 
     ensures { λ r. ⌜ ((p : Problem) → CanCut p (now (tables .entry)) (now (sets .entry)) loose x → CutBy p (now (sets .entry)) (now (sets .exit)) x r) ⌝ }
 {
     let set = ValueSet { bits: sets[x] };
-    if !rest(set).is_empty() {
+    if !set.without_lowest().is_empty() {
         if (loose >> x) & 1 == 1 {
             return 0;
         }

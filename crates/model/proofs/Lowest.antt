@@ -7,13 +7,12 @@ use native.Mathlib.Omega.{arith}
 use lib.Dec.{T, T-not, eqb, ltb}
 use lib.Bits.{bitOr, and-le-l}
 use lib.Pow.{pow-lt}
-use borrow.Author.Tests.{eqb-true, eqb-false, eq-eqb, lt-ltb, ltb-true, ltb-false, not-true, not-false}
-use Rattle.model.specs.Lists.{both}
+use borrow.Author.Tests.{eqb-true, eqb-false, eq-eqb, ltb-true, ltb-false, not-true, not-false}
 use Rattle.model.specs.ValueSets.{has, fullMask, withoutMask, onlyMask, unionMask, least, leastStep, lowestOf, members}
 use Rattle.model.proofs.Lists.{T-of, of-not, both-i, both-l, both-r, sorted-ext}
-use Rattle.model.proofs.Sets.{has-lt, has-mask, mask-i, mask-e, members-i, members-e, members-sorted}
-use Rattle.model.proofs.Masks.{has-one, least-below, lowest-op, is-mask, union-op, without-op}
-use Rattle.model.proofs.Members.{low-has}
+use Rattle.model.proofs.Sets.{has-lt, mask-i, mask-e, members-i, members-e, members-sorted}
+use Rattle.model.proofs.Masks.{least-below, lowest-op, union-op, without-op}
+use Rattle.model.proofs.Members.{low-has, one-op}
 
 least-le : (k : ℕ) (f : ℕ → Bool) → least k f ≤ k
 unfolding least
@@ -80,8 +79,5 @@ members-lowest s h n =
     back v (List·Memᴰ·tail m) = let q = members-e (withoutMask s (lowestOf s)) v m in members-i s v (q .0) (without-e s (lowestOf s) v (q .1) .0)
 
 -- ---- one member more
-pub one-mask : (v : ℕ) → v < 16 → onlyMask (fullMask 16) v ≡ 2 ^ v
-one-mask v h = sym (is-mask (2 ^ v) _ (pow-lt h) (λ x l. has-one v x ∙ sym (ap (λ (b : Bool). both b (eqb x v)) (has-mask 16 (λ u. ltb u 16) x l ∙ lt-ltb x 16 l))))
-
 pub with-one : (s v : ℕ) → s < 2 ^ 16 → v < 16 → unionMask s (onlyMask (fullMask 16) v) ≡ bitOr s (2 ^ v)
-with-one s v h l = ap (unionMask s) (one-mask v l) ∙ sym (union-op s (2 ^ v) h (pow-lt l))
+with-one s v h l = ap (unionMask s) (one-op v l) ∙ sym (union-op s (2 ^ v) h (pow-lt l))

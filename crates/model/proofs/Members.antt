@@ -2,8 +2,7 @@
 use mathlib.Core.Path.{_≡_, refl, sym, ap, ap₂, _∙_, subst}
 use mathlib.Core.Bool.{Bool, true, false, not}
 use mathlib.Core.Logic.{_⊎_, inl, inr, ⊎-elim}
-use mathlib.Core.List.{List, _∷_}
-use Prim.Native.Nat.{ℕ, zero, suc, _+_, _-_, _*_, _/_, _%_, _^_, _≤_, _<_}
+use Prim.Native.Nat.{ℕ, zero, suc, _-_, _*_, _/_, _%_, _^_, _<_}
 use native.Mathlib.Nat.{mod-eq-of-lt, lt-of-le-of-lt}
 use native.Mathlib.Omega.{arith}
 use native.Mathlib.Decide.{ℕ-discrete}
@@ -11,12 +10,12 @@ use lib.Dec.{T, eqb, eqb·suc-suc, eqb·suc-zero}
 use lib.Bits.{bitAnd, bitOr, and-step, and-self, and-le-l, and-le-r, or-add-and, bitXor, xor-add-and}
 use lib.Count.{trailingZeros, under}
 use lib.Pow.{pow-lt}
-use borrow.Author.Tests.{eq-eqb, ne-eqb, eqb-true, eqb-false, lt-ltb}
-use Rattle.model.specs.Lists.{both, either, keep, upFrom, below}
-use Rattle.model.specs.ValueSets.{has, withoutMask, lowestOf, members, fullMask, onlyMask, commonMask}
-use Rattle.model.proofs.Lists.{T-of, of-T, of-not, both-i, both-l, both-r, either-l, either-r, either-e, keep-yes, keep-no, keep-ext, upFrom-e}
+use borrow.Author.Tests.{eq-eqb, eqb-true, eqb-false, lt-ltb}
+use Rattle.model.specs.Lists.{both, either}
+use Rattle.model.specs.ValueSets.{has, withoutMask, lowestOf, fullMask, onlyMask, commonMask}
+use Rattle.model.proofs.Lists.{T-of, of-T, of-not, both-i, both-l, both-r, either-l, either-r, either-e}
 use Rattle.model.proofs.Sets.{has-zero, has-suc, has-none, pow2, mask-i}
-use Rattle.model.proofs.Masks.{has-and, has-or, has-one, is-mask, lowest-op, least-below}
+use Rattle.model.proofs.Masks.{has-and, has-or, has-one, is-mask, lowest-op}
 
 -- ---- the lowest member
 low-odd : (k s : ℕ) → s % 2 ≡ 1 → trailingZeros (suc k) s ≡ 0
@@ -103,51 +102,18 @@ module _ (k s : ℕ) (p : 0 < s) (h : s < 2 ^ k) where
       go true e = inr (eqb-true v (trailingZeros k s) e)
       go false e = inl (subst T (sym (rest-has k s v p h)) (both-i (has s v) (not (eqb v (trailingZeros k s))) t (T-of (not (eqb v (trailingZeros k s))) (ap not e))))
 
--- ---- the set without its lowest member, as a comprehension, and its members
-pub without-lowest-none : (s : ℕ) → s ≡ 0 → s ≡ withoutMask s (lowestOf s)
-without-lowest-none s e =
-    is-mask s (λ v. both (has s v) (not (eqb v (lowestOf s)))) (omega arith)
-    (λ v l. let n : has s v ≡ false = ap (λ (t : ℕ). has t v) e ∙ has-none v in n ∙ sym (ap (λ (b : Bool). both b (not (eqb v (lowestOf s)))) n))
-
-pub without-lowest-op : (s : ℕ) → 0 < s → s < 2 ^ 16 → bitAnd s (s - 1) ≡ withoutMask s (lowestOf s)
-without-lowest-op s p h =
-    is-mask (bitAnd s (s - 1)) (λ v. both (has s v) (not (eqb v (lowestOf s)))) (lt-of-le-of-lt (and-le-l s (s - 1)) h)
-    (λ v l. rest-has 16 s v p h ∙ ap (λ (u : ℕ). both (has s v) (not (eqb v u))) (lowest-op 16 s))
-
-pub lowest-has : (s : ℕ) → 0 < s → s < 2 ^ 16 → T (has s (lowestOf s)) × (lowestOf s < 16)
-lowest-has s p h = subst (λ (v : ℕ). T (has s v) × (v < 16)) (lowest-op 16 s) (low-has 16 s p h)
-
-pub without-lowest-less : (s : ℕ) → 0 < s → s < 2 ^ 16 → withoutMask s (lowestOf s) < s
-without-lowest-less s p h = omega (arith, without-lowest-op s p h, and-le-r s (s - 1))
-
--- numbers in order, kept by f, begin with the first that f keeps
-keep-lowest : (f g : ℕ → Bool) (l : ℕ) → ((v : ℕ) → v < l → f v ≡ false) → f l ≡ true → ((v : ℕ) → g v ≡ both (f v) (not (eqb v l))) →
-    (a k : ℕ) → a ≤ l → l < a + k → keep f (upFrom a k) ≡ l ∷ keep g (upFrom a k)
-unfolding upFrom
-keep-lowest f g l low here more a zero h i = absurd (omega arith)
-keep-lowest f g l low here more a (suc k) h i = go (keep-lowest f g l low here more (suc a) k) (eqb a l) refl
+-- ---- the set without its lowest member, as a comprehension
+pub without-lowest-op : (s : ℕ) → s < 2 ^ 16 → bitAnd s (s - 1) ≡ withoutMask s (lowestOf s)
+without-lowest-op s h = is-mask (bitAnd s (s - 1)) _ (lt-of-le-of-lt (and-le-l s (s - 1)) h) (λ v l. go v (ℕ-discrete s 0))
   where
-    go : (suc a ≤ l → l < suc a + k → keep f (upFrom (suc a) k) ≡ l ∷ keep g (upFrom (suc a) k)) → (b : Bool) → eqb a l ≡ b →
-        keep f (a ∷ upFrom (suc a) k) ≡ l ∷ keep g (a ∷ upFrom (suc a) k)
-    go ih true e =
-        let q : a ≡ l = eqb-true a l e in
-        keep-yes f a (upFrom (suc a) k) (ap f q ∙ here)
-        ∙ ap₂ (λ (x : ℕ) (xs : List ℕ). x ∷ xs) q
-        (keep-ext f g (upFrom (suc a) k) (λ x m. let r = upFrom-e (suc a) k x m in sym (more x ∙ ap (λ (b : Bool). both (f x) (not b)) (ne-eqb x l (λ z. let r0 = r .0 in omega arith)) ∙ both-yes (f x)))
-        ∙ sym (keep-no g a (upFrom (suc a) k) (more a ∙ ap (λ (b : Bool). both (f a) (not b)) e ∙ both-no (f a))))
-    go ih false e =
-        let q = eqb-false a l e in
-        let r : a < l = omega arith in
-        keep-no f a (upFrom (suc a) k) (low a r) ∙ ih (omega arith) (omega arith)
-        ∙ ap (λ (xs : List ℕ). l ∷ xs) (sym (keep-no g a (upFrom (suc a) k) (more a ∙ ap (λ (b : Bool). both b (not (eqb a l))) (low a r))))
+    go : (v : ℕ) → Dec (s ≡ 0) → has (bitAnd s (s - 1)) v ≡ both (has s v) (not (eqb v (lowestOf s)))
+    go v (yes e) =
+        let n : has s v ≡ false = ap (λ (z : ℕ). has z v) e ∙ has-none v in
+        has-and s (s - 1) v ∙ ap (λ (b : Bool). both b (has (s - 1) v)) n ∙ sym (ap (λ (b : Bool). both b (not (eqb v (lowestOf s)))) n)
+    go v (no n) = rest-has 16 s v (omega arith) h ∙ ap (λ (z : ℕ). both (has s v) (not (eqb v z))) (lowest-op 16 s)
 
-pub members-lowest : (s : ℕ) → 0 < s → s < 2 ^ 16 → members s ≡ lowestOf s ∷ members (withoutMask s (lowestOf s))
-unfolding members below
-members-lowest s p h =
-    let l = lowest-has s p h in
-    keep-lowest (has s) (has (withoutMask s (lowestOf s))) (lowestOf s) (least-below 16 (has s)) (of-T _ (l .0))
-    (λ v. ap (λ (t : ℕ). has t v) (sym (without-lowest-op s p h)) ∙ rest-has 16 s v p h ∙ ap (λ (u : ℕ). both (has s v) (not (eqb v u))) (lowest-op 16 s))
-    0 16 (omega arith) (omega (arith, l .1))
+pub without-lowest-none : (s : ℕ) → s ≡ 0 → s ≡ withoutMask s (lowestOf s)
+without-lowest-none s e = let z : s ≡ bitAnd s (s - 1) = omega (arith, and-le-l s (s - 1)) in z ∙ without-lowest-op s (omega arith)
 
 -- ---- one member
 pub one-bit : (k u : ℕ) → u < k → 1 * 2 ^ u % 2 ^ k ≡ 2 ^ u
@@ -226,18 +192,6 @@ pub union-end : (R : ℕ → ℕ → Type 0) (a m acc : ℕ) → m ≡ 0 → Uni
 union-end R a m acc e u v w t r = ⊎-elim (λ q. q) (λ q. absurd (has-0 v (subst (λ (n : ℕ). T (has n v)) e q))) (u .put v w t r)
 
 -- ---- the same by the operations of the type
-pub rest-op : (s : ℕ) → s < 2 ^ 16 → bitAnd s (s - 1) ≡ withoutMask s (lowestOf s)
-rest-op s h = is-mask (bitAnd s (s - 1)) _ (lt-of-le-of-lt (and-le-l s (s - 1)) h) (λ v l. go v (ℕ-discrete s 0))
-  where
-    go : (v : ℕ) → Dec (s ≡ 0) → has (bitAnd s (s - 1)) v ≡ both (has s v) (not (eqb v (lowestOf s)))
-    go v (yes e) =
-        let n : has s v ≡ false = ap (λ (z : ℕ). has z v) e ∙ has-none v in
-        has-and s (s - 1) v ∙ ap (λ (b : Bool). both b (has (s - 1) v)) n ∙ sym (ap (λ (b : Bool). both b (not (eqb v (lowestOf s)))) n)
-    go v (no n) = rest-has 16 s v (omega arith) h ∙ ap (λ (z : ℕ). both (has s v) (not (eqb v z))) (lowest-op 16 s)
-
-pub rest-empty : (s : ℕ) → s ≡ 0 → s ≡ withoutMask s (lowestOf s)
-rest-empty s e = let z : s ≡ bitAnd s (s - 1) = omega (arith, and-le-l s (s - 1)) in z ∙ rest-op s (omega arith)
-
 -- a bound of one of two sets is enough
 pub common-op-r : (s t : ℕ) → t < 2 ^ 16 → bitAnd s t ≡ commonMask s t
 common-op-r s t h = is-mask (bitAnd s t) _ (lt-of-le-of-lt (and-le-r s t) h) (λ v l. has-and s t v)
@@ -267,7 +221,7 @@ module _ (a m v : ℕ) (r : Rest 16 a m) (n : m ≡ 0 → ⊥) (low : v ≡ lowe
   -- and the others
   module _ (m′ : ℕ) (less : m′ ≡ withoutMask m (lowestOf m)) where
     less-is : bitAnd m (m - 1) ≡ m′
-    less-is = rest-op m (r .0) ∙ sym less
+    less-is = without-lowest-op m (r .0) ∙ sym less
 
     pub others-left : Rest 16 a m′
     others-left = subst (Rest 16 a) less-is (rest-turn 16 a m r n)
@@ -279,4 +233,4 @@ module _ (a m v : ℕ) (r : Rest 16 a m) (n : m ≡ 0 → ⊥) (low : v ≡ lowe
         (union-turn R 16 a m acc s r n u (λ w q. i w (subst (λ (z : ℕ). R z w) low-is q)) (λ w t. subst (λ (z : ℕ). R z w) (sym low-is) (o w t))))
 
 pub others-less : (m m′ : ℕ) → m < 2 ^ 16 → (m ≡ 0 → ⊥) → m′ ≡ withoutMask m (lowestOf m) → m′ < m
-others-less m m′ h n e = subst (λ (z : ℕ). z < m) (rest-op m h ∙ sym e) (rest-less m n)
+others-less m m′ h n e = subst (λ (z : ℕ). z < m) (without-lowest-op m h ∙ sym e) (rest-less m n)

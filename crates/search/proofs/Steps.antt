@@ -13,7 +13,8 @@ use Rattle.model.specs.Problem.{Problem}
 use Rattle.model.specs.Search.{setsAt, isLive, isPlan, nodesBelow}
 use Rattle.model.specs.Run.{settledBy}
 use Rattle.model.proofs.Sets.{members-of-none}
-use Rattle.model.proofs.Members.{both-no, members-lowest}
+use Rattle.model.proofs.Members.{both-no}
+use Rattle.model.proofs.Lowest.{members-lowest}
 use Rattle.layout.specs.Places.{ALL}
 use Rattle.search.specs.Walk.{State, listed, counted, exhausted, walk, nodesFor}
 use Rattle.search.proofs.Laws.{dead-below}
@@ -49,7 +50,7 @@ module _ (p : Problem) (order : ℕ → ℕ) (limit k : ℕ) (prefix : List ℕ)
 
     first : nodesFor p k prefix m ≡ node ∷ (nodesBelow p k node ++ more)
     unfolding nodesFor flat
-    first = ap (λ (l : List ℕ). flat (map (λ v. (prefix ++ (v ∷ [])) ∷ nodesBelow p k (prefix ++ (v ∷ []))) l)) (members-lowest m some small)
+    first = ap (λ (l : List ℕ). flat (map (λ v. (prefix ++ (v ∷ [])) ∷ nodesBelow p k (prefix ++ (v ∷ []))) l)) (members-lowest m small (λ e. omega arith))
 
     -- one value: its node, the nodes below, then the other values
     pub step : walk p order limit (nodesFor p k prefix m) s ≡ walk p order limit more (walk p order limit (node ∷ nodesBelow p k node) s)

@@ -16,7 +16,7 @@ use Rattle.model.specs.Search.{setsAt, isLive, nodesBelow}
 use Rattle.model.specs.Run.{Tally, settledBy}
 use Rattle.model.proofs.Lists.{T-of, both-l, at-set, at-set-other}
 use Rattle.model.proofs.Sets.{mask-e}
-use Rattle.model.proofs.Members.{lowest-has, without-lowest-less}
+use Rattle.model.proofs.Lowest.{lowest-in, without-less}
 use Rattle.model.proofs.Tally.{total-set}
 use Rattle.model.specs.WellFormed.{WellFormed}
 use Rattle.layout.specs.Places.{VARIABLES, LIMIT, ROOM, PLANS, MARKS, ALL, SPENT, DEEPER}
@@ -209,7 +209,7 @@ module _ (p : Problem) (stack work supports tables numbers list : List ℕ) (tal
     marked = marked-on p work put (take k put) k (h .ready .symmetries) (λ i l u. kept i (let f = h .ready .wellFormed .few in let n = h .inner in λ e. omega arith))
         (subst (λ (q : List ℕ). Marked p work q k) (sym taken) (h .marked));
     member = subst (λ (u : ℕ). T (has (at (setsAt p (take k put)) k) u)) (sym value)
-        (subst (λ (q : List ℕ). T (has (at (setsAt p q) k) (lowestOf m))) (sym taken) (g .values .inside (lowestOf m) (lowest-has m (g .some) small .0)));
+        (subst (λ (q : List ℕ). T (has (at (setsAt p q) k) (lowestOf m))) (sym taken) (g .values .inside (lowestOf m) (lowest-in m small (λ e. let o = g .some in omega arith))));
   }
 
   -- the tally with this node
@@ -365,7 +365,7 @@ pub try-falls : (k m : ℕ) → μ-try k m < μ-settle k m
 try-falls k m = omega arith
 
 pub rest-falls : (k m : ℕ) → 0 < m → m < 2 ^ 16 → μ-settle k (withoutMask m (lowestOf m)) < μ-settle k m
-rest-falls k m h l = let s = without-lowest-less m h l in omega arith
+rest-falls k m h l = let s = without-less m (lowestOf m) l (lowest-in m l (λ e. omega arith)) in omega arith
 
 pub next-falls : (k m m′ : ℕ) → k < 12 → m′ < 2 ^ 16 → μ-settle (k + 1) m′ < μ-try k m
 next-falls k m m′ h l = omega arith

@@ -68,11 +68,11 @@ union-requires c κs = search needs
 union-requires-2 : tie.Need-union-requires-2 Inv-loop μ-loop
 union-requires-2 c κs = search needs
 
-rest-requires : tie.Need-rest-requires Inv-loop μ-loop
-rest-requires c κs = search needs
+without-lowest-requires : tie.Need-without-lowest-requires Inv-loop μ-loop
+without-lowest-requires c κs = search needs
 
 loop-less : tie.Need-loop-less Inv-loop μ-loop
-loop-less c = others-less _ _ (search needs) (some (c .before .before .before .before .before .before .before .before)) (c .rest .ensures)
+loop-less c = others-less _ _ (search needs) (some (c .before .before .before .before .before .before .before .before)) (c .without-lowest .ensures)
 
 loop-again : tie.Need-loop-again Inv-loop μ-loop
 unfolding at
@@ -81,7 +81,7 @@ loop-again c =
     let x = support-is (c .before .before .before .before .before) in
     let i = l .before .before .before .loop .inv in (
       small _ _ (c .before .union2 .ensures),
-      joining-turn _ _ _ _ 16 _ _ _ (i .1) (some (l .before)) (l .lowest .ensures) (c .rest .ensures) (search needs)
+      joining-turn _ _ _ _ 16 _ _ _ (i .1) (some (l .before)) (l .lowest .ensures) (c .without-lowest .ensures) (search needs)
           (c .before .before .before .one-if .ensures ∙ ap (λ (z : Bool). oneIf (not z) (l .lowest .result)) (c .before .before .before .before .is-empty2 .ensures ∙ ap (λ (n : ℕ). eqb n 0) x))
           (c .before .before .union .ensures) (c .before .union2 .ensures ∙ sym (union-op _ _ (i .0) (search needs)) ∙ ap (bitOr (l .before .before .before .loop .last .bits)) x),
     )
@@ -107,7 +107,7 @@ joined-spec =
     one-if-requires
     union-requires
     union-requires-2
-    rest-requires
+    without-lowest-requires
     loop-less
     loop-again
     returns)

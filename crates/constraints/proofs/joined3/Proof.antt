@@ -63,16 +63,16 @@ union-requires-2 c κs = search needs
 union-requires-3 : tie.Need-union-requires-3 Inv-loop μ-loop
 union-requires-3 c κs = search needs
 
-rest-requires : tie.Need-rest-requires Inv-loop μ-loop
-rest-requires c κs = search needs
+without-lowest-requires : tie.Need-without-lowest-requires Inv-loop μ-loop
+without-lowest-requires c κs = search needs
 
 loop-less : tie.Need-loop-less Inv-loop μ-loop
-loop-less c = others-less _ _ (search needs) (some (c .before .before .before .before .before .before .before .before .before .before)) (c .rest .ensures)
+loop-less c = others-less _ _ (search needs) (some (c .before .before .before .before .before .before .before .before .before .before)) (c .without-lowest .ensures)
 
 loop-again : tie.Need-loop-again Inv-loop μ-loop
 loop-again c =
     let l = c .before .before .before .before .before .before .before .before .before in
-    joining3-turn _ _ _ _ _ _ _ _ (l .before .before .before .loop .inv) (some (l .before)) (l .lowest .ensures) (c .rest .ensures) (narrow (c .before .before .before .before .before .before .before .before) .0) (narrow (c .before .before .before .before .before .before .before .before) .1)
+    joining3-turn _ _ _ _ _ _ _ _ (l .before .before .before .loop .inv) (some (l .before)) (l .lowest .ensures) (c .without-lowest .ensures) (narrow (c .before .before .before .before .before .before .before .before) .0) (narrow (c .before .before .before .before .before .before .before .before) .1)
     (c .before .before .before .before .before .before .before .before .joined .ensures)
     (c .before .before .before .before .one-if .ensures ∙ ap (λ (z : Bool). oneIf (not z) (l .lowest .result)) (c .before .before .before .before .before .is-empty2 .ensures))
     (c .before .before .before .union .ensures) (c .before .before .union2 .ensures) (c .before .union3 .ensures)
@@ -98,7 +98,7 @@ joined3-spec =
     union-requires
     union-requires-2
     union-requires-3
-    rest-requires
+    without-lowest-requires
     loop-less
     loop-again
     returns)

@@ -55,17 +55,17 @@ one-if-requires c κs = omega (arith, low (c .before))
 union-requires : tie.Need-union-requires Inv-loop μ-loop
 union-requires c κs = search needs
 
-rest-requires : tie.Need-rest-requires Inv-loop μ-loop
-rest-requires c κs = search needs
+without-lowest-requires : tie.Need-without-lowest-requires Inv-loop μ-loop
+without-lowest-requires c κs = search needs
 
 loop-less : tie.Need-loop-less Inv-loop μ-loop
-loop-less c = others-less _ _ (search needs) (some (c .before .before .before .before .before)) (c .rest .ensures)
+loop-less c = others-less _ _ (search needs) (some (c .before .before .before .before .before)) (c .without-lowest .ensures)
 
 loop-again : tie.Need-loop-again Inv-loop μ-loop
 unfolding at
 loop-again c =
     let l = c .before .before .before .before in
-    joining-turn _ _ _ _ 64 _ _ _ (l .before .before .before .loop .inv) (some (l .before)) (l .lowest .ensures) (c .rest .ensures) (search needs) (c .before .before .one-if .ensures) (c .before .union .ensures) refl
+    joining-turn _ _ _ _ 64 _ _ _ (l .before .before .before .loop .inv) (some (l .before)) (l .lowest .ensures) (c .without-lowest .ensures) (search needs) (c .before .before .one-if .ensures) (c .before .union .ensures) refl
 
 full-lanes-requires : tie.Need-full-lanes-requires Inv-loop μ-loop
 full-lanes-requires c κs = search needs
@@ -95,7 +95,7 @@ joined8-spec =
     element-copy-out-w
     one-if-requires
     union-requires
-    rest-requires
+    without-lowest-requires
     loop-less
     loop-again
     full-lanes-requires

@@ -26,8 +26,8 @@ z-lt c = c .pre .1 .1 .1 .1 .inside _ (List·Memᴰ·tail (List·Memᴰ·tail (L
 ones : (c : tie.Then1) → let d = c .before .before .before .before .before .before .before .args in (withoutMask (at (d .sets .now) (d .x)) (lowestOf (at (d .sets .now) (d .x))) ≡ 0) × (withoutMask (at (d .sets .now) (d .y)) (lowestOf (at (d .sets .now) (d .y))) ≡ 0)
 unfolding at
 ones c =
-    let r = c .before .before .before .before .rest .ensures in
-    let s = c .before .before .before .rest2 .ensures in
+    let r = c .before .before .before .before .without-lowest .ensures in
+    let s = c .before .before .before .without-lowest2 .ensures in
     let n = union-none _ _ _ (small _ _ r) (small _ _ s) (c .before .before .union .ensures) (eqb-true _ 0 (sym (c .before .is-empty .ensures) ∙ c .if1 .taken)) in
     (sym r ∙ n .0, sym s ∙ n .1)
 
@@ -62,11 +62,11 @@ mul-if3-2 c = omega (arith, y-lt (c .before))
 element-copy-out-if3-2 : tie.Need-element-copy-out-if3-2
 element-copy-out-if3-2 c = y-lt (c .before)
 
-rest-requires : tie.Need-rest-requires
-rest-requires c κs = search needs
+without-lowest-requires : tie.Need-without-lowest-requires
+without-lowest-requires c κs = search needs
 
-rest-requires-2 : tie.Need-rest-requires-2
-rest-requires-2 c κs = search needs
+without-lowest-requires-2 : tie.Need-without-lowest-requires-2
+without-lowest-requires-2 c κs = search needs
 
 union-requires : tie.Need-union-requires
 union-requires c κs = search needs
@@ -181,8 +181,8 @@ revise-three-spec =
     element-copy-out-if3
     mul-if3-2
     element-copy-out-if3-2
-    rest-requires
-    rest-requires-2
+    without-lowest-requires
+    without-lowest-requires-2
     union-requires
     is-empty-requires
     lowest-requires

@@ -49,14 +49,14 @@ add-add c = omega (arith, low (c .before))
 add-requires : tie.Need-add-requires Inv-loop μ-loop
 add-requires c κs = (omega (arith, low (c .before)), narrow-at _ _ _ (low (c .before)) (c .before .before .before .before .before .pre .1), c .before .before .before .before .loop .inv .sets)
 
-rest-requires : tie.Need-rest-requires Inv-loop μ-loop
-rest-requires c κs = search needs
+without-lowest-requires : tie.Need-without-lowest-requires Inv-loop μ-loop
+without-lowest-requires c κs = search needs
 
 loop-less : tie.Need-loop-less Inv-loop μ-loop
-loop-less c = others-less _ _ (search needs) (some (c .before .before .before .before)) (c .rest .ensures)
+loop-less c = others-less _ _ (search needs) (some (c .before .before .before .before)) (c .without-lowest .ensures)
 
 loop-again : tie.Need-loop-again Inv-loop μ-loop
-loop-again c = covering-turn (c .before .before .before .before .before .before .loop .inv) (some (c .before .before .before .before)) (c .before .before .before .lowest .ensures) _ (c .before .add .ensures) (c .rest .ensures)
+loop-again c = covering-turn (c .before .before .before .before .before .before .loop .inv) (some (c .before .before .before .before)) (c .before .before .before .lowest .ensures) _ (c .before .add .ensures) (c .without-lowest .ensures)
 
 returns : tie.Need-returns Inv-loop μ-loop
 returns c = covering-end (c .before .before .loop .inv) (eqb-true _ 0 (sym (c .before .is-empty .ensures) ∙ not-false _ (c .if1 .left)))
@@ -75,7 +75,7 @@ cover-of-spec =
     mul-add-2
     add-add
     add-requires
-    rest-requires
+    without-lowest-requires
     loop-less
     loop-again
     returns)

@@ -13,8 +13,8 @@ mul-t7 c = search needs
 element-copy-out-t10 : tie.Need-element-copy-out-t10
 element-copy-out-t10 c = search needs
 
-rest-requires : tie.Need-rest-requires
-rest-requires c κs = search needs
+without-lowest-requires : tie.Need-without-lowest-requires
+without-lowest-requires c κs = search needs
 
 is-empty-requires : tie.Need-is-empty-requires
 is-empty-requires c κs = search needs
@@ -26,7 +26,7 @@ returns : tie.Need-returns
 unfolding at
 returns c =
     let n = eqb-false _ 0 (sym (c .before .before .is-empty .ensures) ∙ not-true _ (c .before .if1 .taken)) in
-    λ p w. by-loose w (bit-in _ _ (c .if2 .taken)) (λ e. n (c .before .before .before .rest .ensures ∙ e))
+    λ p w. by-loose w (bit-in _ _ (c .if2 .taken)) (λ e. n (c .before .before .before .without-lowest .ensures ∙ e))
 
 cover-of-requires : tie.Need-cover-of-requires
 cover-of-requires c κs = let w = c .before .before .before .before .pre .1 in (x-lt w, ready-narrow w)
@@ -51,7 +51,7 @@ cut-by-spec =
     (tie.spec
     mul-t7
     element-copy-out-t10
-    rest-requires
+    without-lowest-requires
     is-empty-requires
     shr-if2
     returns

@@ -11,7 +11,7 @@ returns : tie.Need-returns
 returns c = without-lowest-none _ (search needs)
 
 returns-2 : tie.Need-returns-2
-returns-2 c = without-lowest-op _ (search needs) (search needs)
+returns-2 c = without-lowest-op _ (search needs)
 
 pub without-lowest-spec : {M : Type 1} → statement M
 without-lowest-spec = tie.close (tie.spec sub-t4 returns returns-2)

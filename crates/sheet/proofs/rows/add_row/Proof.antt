@@ -4,7 +4,7 @@ use native.Mathlib.Omega.{arith}
 use lib.ListN.{set}
 use Rattle.model.specs.Lists.{at}
 use Rattle.model.specs.ValueSets.{unionMask, onlyMask}
-use Rattle.model.proofs.Lowest.{one-mask}
+use Rattle.model.proofs.Members.{one-op}
 use Rattle.sheet.specs.Fill.{withRow}
 use borrow.Author.Needs.{needs}
 use Rattle.sheet.proofs.rows.add_row.Statement.{statement}
@@ -54,7 +54,7 @@ element-write-supports c = search needs
 -- src/rows.rt:38:1
 returns : tie.Need-returns
 unfolding withRow at
-returns c = ap (set (c .before .before .before .before .args .supports .now) (c .before .before .before .before .args .base + c .before .before .before .before .args .key / 16)) (c .union .ensures ∙ ap (unionMask _) (c .before .only .ensures ∙ ap (λ (f : ℕ). onlyMask f (c .before .before .before .before .args .key % 16)) (c .before .before .full .ensures) ∙ one-mask (c .before .before .before .before .args .key % 16) (omega arith)))
+returns c = ap (set (c .before .before .before .before .args .supports .now) (c .before .before .before .before .args .base + c .before .before .before .before .args .key / 16)) (c .union .ensures ∙ ap (unionMask _) (c .before .only .ensures ∙ ap (λ (f : ℕ). onlyMask f (c .before .before .before .before .args .key % 16)) (c .before .before .full .ensures) ∙ one-op (c .before .before .before .before .args .key % 16) (omega arith)))
 
 pub add-row-spec : {M : Type 1} → statement M
 add-row-spec =
