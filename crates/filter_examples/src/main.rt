@@ -1,5 +1,6 @@
 // The filter's examples of paper 01, through the compiled code: refusals 17, 18 and 19 at each of their causes, the sets after them, the
-// longest lists, and source document 001's nogoods. Each line gives the case, the answer, and the sets afterwards as numbers.
+// longest lists, and source document 001's nogoods; with the three endings of paper 02, #102. Each line gives the case, the answer, and the
+// sets afterwards as numbers.
 use nogood::Answer;
 
 fn put(text: &[u8]) {
@@ -13,7 +14,9 @@ fn put_number(n: u64) {
 
 fn put_answer(answer: Answer) {
     match answer {
-        Answer::Filtered => put(b": filtered"),
+        Answer::Failed => put(b": failed"),
+        Answer::Entailed => put(b": entailed"),
+        Answer::Consistent => put(b": consistent"),
         Answer::Refused { number, item } => {
             put(b": refused");
             put_number(number as u64);
@@ -235,6 +238,8 @@ fn worked() {
         &equal,
         &not_equal,
     );
+    let mut forced = [6u16, 2, 6, 2, 2, 6];
+    show(b"001 with x2 = 1", &mut forced, &index, &equal, &not_equal);
 }
 
 // Twelve sets of sixteen values and 192 entries: each variable loses the values 0 to 14, then it is 15.

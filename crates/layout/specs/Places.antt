@@ -68,11 +68,14 @@ abbrev pub MARKS : ℕ
 MARKS = 16
 
 -- ---- marks
+abbrev pub ENTAILED : ℕ
+ENTAILED = 128
+
 abbrev pub OBEYED : ℕ
-OBEYED = 15
+OBEYED = 1920
 
 abbrev pub FAILED : ℕ
-FAILED = 16
+FAILED = 2048
 
 -- ---- outcomes
 abbrev pub DEAD : ℕ

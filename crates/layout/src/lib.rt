@@ -57,10 +57,13 @@ pub const ITEM: usize = 14;
 pub const MARKS: usize = 16;
 
 // ---- marks
-// The nogoods of the symmetry are obeyed for good; in place of a mark: no assignment obeys them.
-pub const OBEYED: u64 = 15;
+// A mark from ENTAILED times k on says that every assignment obeys the nogoods at the prefix of k values; its remainder by ENTAILED is the level
+// to resume at. The nogoods of the symmetry are obeyed for good; in place of a mark: no assignment obeys them.
+pub const ENTAILED: u64 = 128;
 
-pub const FAILED: u64 = 16;
+pub const OBEYED: u64 = 1920;
+
+pub const FAILED: u64 = 2048;
 
 // ---- outcomes
 // In place of the set of the changed variables: a set is empty.

@@ -1,27 +1,27 @@
 -- First parts of a list that are passed, one after another. Assumes nothing.
 use mathlib.Core.Path.{_≡_, refl, sym, ap, _∙_, subst}
-use mathlib.Core.List.{List, [], _∷_, _++_, append-assoc}
+use mathlib.Core.List.{List, [], _∷_, _++_, append-assoc, List·Memᴰ·head, Memᴰ·append-left, Memᴰ·append-right}
 use Prim.Native.Nat.{ℕ, _<_}
-use lib.Dec.{eqb}
+use lib.Dec.{T, eqb}
 use lib.ListN.{length, take}
-use Rattle.model.specs.Lists.{any}
-use Rattle.model.specs.ValueSets.{withoutMask, onlyMask}
+use Rattle.model.specs.Lists.{at, any}
+use Rattle.model.specs.ValueSets.{has, withoutMask, onlyMask}
 use Rattle.model.specs.Nogood.{Entry, equality}
 use Rattle.model.proofs.Sets.{inside-refl, inside-trans}
 use Rattle.nogood.specs.declared.entry.Step.{Step}
 use Rattle.nogood.specs.declared.entry.Step.the-variants.{Next, Obeyed}
 use Rattle.nogood.specs.Scan.{stepOf, keepStep, Right, None, Live, Passed}
-use Rattle.nogood.specs.Marks.{Vacuous, ObeyedForGood}
-use Rattle.nogood.proofs.Marks.{vacuous-append, vacuous-for-good, for-good-append, vacuous-mono, vacuous-next, for-good-step, obeying-vacuous, obeying-for-good}
+use Rattle.nogood.specs.Marks.{Vacuous}
+use Rattle.nogood.proofs.Marks.{vacuous-append, for-good-append, vacuous-mono, vacuous-next, gone-step, for-good-equality, obeying-vacuous, obeying-for-good}
 use Rattle.nogood.proofs.Front
 use Rattle.levels.specs.Levels.{CutsMade, CutsObeyed, NoneObeys}
 
 -- ---- two scans, one after the other
-pass-on : {n : ℕ} {ss rs ts : List ℕ} {es fs gs : List Entry} → Passed n ss es rs fs → Passed n rs fs ts gs → Passed n ss es ts gs
-pass-on p q = record { live = q .live; unused = λ x h. q .unused x h ∙ p .unused x h; same = λ t. p .same t ∙ q .same t }
+pub pass-on : {n : ℕ} {ss rs ts : List ℕ} {es fs gs : List Entry} → Passed n ss es rs fs → Passed n rs fs ts gs → Passed n ss es ts gs
+pass-on {n} {ss} {rs} {ts} p q = record { live = q .live; less = inside-trans (take n ts) (take n rs) (take n ss) (q .less) (p .less); unused = λ x h. q .unused x h ∙ p .unused x h; same = λ t. p .same t ∙ q .same t }
 
 -- the entries from the start, in other words
-from-as : {n : ℕ} {ss rs : List ℕ} {es ds fs : List Entry} → es ≡ ds → Passed n ss es rs fs → Passed n ss ds rs fs
+pub from-as : {n : ℕ} {ss rs : List ℕ} {es ds fs : List Entry} → es ≡ ds → Passed n ss es rs fs → Passed n ss ds rs fs
 from-as {n} {ss} {rs} {es} {ds} {fs} e p = subst (λ (l : List Entry). Passed n ss l rs fs) e p
 
 -- ---- the first n sets
@@ -32,17 +32,8 @@ same-length l m = Front.front-length m ∙ sym (Front.front-length l)
 pub vacuous-made : {n : ℕ} {ss : List ℕ} (es : List Entry) → Live n ss → Vacuous (take n ss) es → CutsMade n ss es ss
 vacuous-made {n} {ss} es l i =
     record {
-      passed = λ fs. record { live = l; unused = λ x h. refl; same = λ q. ap (any q) (obeying-vacuous (take n ss) es fs i) };
+      passed = λ fs. record { live = l; less = inside-refl (take n ss); unused = λ x h. refl; same = λ q. ap (any q) (obeying-vacuous (take n ss) es fs i) };
       vacuous = i;
-      less = inside-refl (take n ss);
-    }
-
-for-good-obeyed : {n : ℕ} {ss : List ℕ} (es : List Entry) → Live n ss → ObeyedForGood (take n ss) es → CutsObeyed n ss es ss
-for-good-obeyed {n} {ss} es l s =
-    record {
-      passed = λ fs. record { live = l; unused = λ x h. refl; same = λ q. ap (any q) (obeying-for-good (take n ss) (es ++ fs) (for-good-append (take n ss) es fs s)) };
-      for-good = s;
-      less = inside-refl (take n ss);
     }
 
 -- an equality by itself
@@ -57,7 +48,19 @@ module _ {n : ℕ} {ss : List ℕ} (x v : ℕ) (l : Live n ss) (r : Right n (equ
   equality-next e = vacuous-made (equality x v ∷ []) l (vacuous-next (take n ss) x v inside (Front.front-small l x) (front-step Next e))
 
   pub equality-obeyed : stepOf ss (equality x v) ≡ Obeyed → CutsObeyed n ss (equality x v ∷ []) ss
-  equality-obeyed e = for-good-obeyed (equality x v ∷ []) l (for-good-step (take n ss) x v inside (Front.front-small l x) (front-step Obeyed e))
+  equality-obeyed e =
+      record {
+        passed = λ fs. record {
+          live = l;
+          less = inside-refl (take n ss);
+          unused = λ y h. refl;
+          same = λ q. ap (any q) (obeying-for-good (take n ss) (equality x v ∷ fs) (for-good-append (take n ss) (equality x v ∷ []) fs (for-good-equality (take n ss) x v inside gone)));
+        };
+        gone = (x, v, List·Memᴰ·head refl, inside, gone);
+      }
+    where
+      gone : T (has (at (take n ss) x) v) → ⊥
+      gone = gone-step (take n ss) x v inside (Front.front-small l x) (front-step Obeyed e)
 
 -- ---- one part after another
 module _ {n : ℕ} {ss : List ℕ} {es : List Entry} {rs : List ℕ} (p : CutsMade n ss es rs) where
@@ -68,16 +71,14 @@ module _ {n : ℕ} {ss : List ℕ} {es : List Entry} {rs : List ℕ} (p : CutsMa
   made-on fs ts q =
       record {
         passed = λ gs. from-as (sym (append-assoc es fs gs)) (pass-on (p .passed (fs ++ gs)) (q .passed gs));
-        vacuous = vacuous-append (take n ts) es fs (vacuous-mono (take n rs) (take n ts) es (same-length made-live (q .passed [] .live)) (q .less) (p .vacuous)) (q .vacuous);
-        less = inside-trans (take n ts) (take n rs) (take n ss) (q .less) (p .less);
+        vacuous = vacuous-append (take n ts) es fs (vacuous-mono (take n rs) (take n ts) es (same-length made-live (q .passed [] .live)) (q .passed [] .less) (p .vacuous)) (q .vacuous);
       }
 
   pub obeyed-on : (fs : List Entry) (ts : List ℕ) → CutsObeyed n rs fs ts → CutsObeyed n ss (es ++ fs) ts
   obeyed-on fs ts q =
       record {
         passed = λ gs. from-as (sym (append-assoc es fs gs)) (pass-on (p .passed (fs ++ gs)) (q .passed gs));
-        for-good = vacuous-for-good (take n ts) es fs (vacuous-mono (take n rs) (take n ts) es (same-length made-live (q .passed [] .live)) (q .less) (p .vacuous)) (q .for-good);
-        less = inside-trans (take n ts) (take n rs) (take n ss) (q .less) (p .less);
+        gone = let g = q .gone in (g .0, g .1, Memᴰ·append-right es (g .2), g .3, g .4);
       }
 
   pub none-on : (fs : List Entry) → NoneObeys n rs fs → NoneObeys n ss (es ++ fs)
@@ -87,8 +88,7 @@ pub obeyed-more : {n : ℕ} {ss : List ℕ} {es : List Entry} {rs : List ℕ} (f
 obeyed-more {n} {ss} {es} {rs} fs p =
     record {
       passed = λ gs. from-as (sym (append-assoc es fs gs)) (p .passed (fs ++ gs));
-      for-good = for-good-append (take n rs) es fs (p .for-good);
-      less = p .less;
+      gone = let g = p .gone in (g .0, g .1, Memᴰ·append-left fs (g .2), g .3, g .4);
     }
 
 pub none-more : (n : ℕ) (ss : List ℕ) (es fs : List Entry) → NoneObeys n ss es → NoneObeys n ss (es ++ fs)

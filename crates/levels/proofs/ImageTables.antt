@@ -196,11 +196,11 @@ module _ {p : Problem} {ss tables : List ℕ} {e x v : ℕ} (w : Level p ss tabl
         record {
           passed = λ fs. record {
             live = record { few = w .held .live .few; sixteen = n; small = b; full = λ y l. full y (variable-lt y l) };
+            less = without-pairs .less;
             unused = beyond;
             same = pairs-same without-pairs fs;
           };
           vacuous = pairs-vacuous without-pairs;
-          less = without-pairs .less;
         }
 
     table-none : (y : ℕ) → y < 16 → at rs y ≡ 0 → NoneObeys (p .variables) ss (cuts p e x v)

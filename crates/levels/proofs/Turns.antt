@@ -2,7 +2,7 @@
 use mathlib.Core.Path.{_≡_, refl, sym, ap, _∙_, subst}
 use mathlib.Core.Bool.{Bool, true, false}
 use mathlib.Core.List.{List, [], _∷_, _++_}
-use Prim.Native.Nat.{ℕ, _+_, _/_, _%_, _≤_, _<_}
+use Prim.Native.Nat.{ℕ, _+_, _*_, _/_, _%_, _≤_, _<_}
 use native.Mathlib.Omega.{arith}
 use lib.Dec.{T}
 use lib.ListN.{take}
@@ -14,9 +14,9 @@ use Rattle.nogood.specs.declared.entry.Step.the-variants.{Next, Failed, Obeyed,
 use Rattle.nogood.specs.Scan.{Right, Stepped}
 use Rattle.nogood.proofs.Marks.{vacuous-nil, vacuous-mono}
 use Rattle.nogood.proofs.Front
-use Rattle.layout.specs.Places.{OBEYED, FAILED}
+use Rattle.layout.specs.Places.{ENTAILED, OBEYED, FAILED}
 use Rattle.layout.specs.Tables.{imageOf}
-use Rattle.levels.specs.Levels.{imageAt, keepOf, cuts, levelOf, levels, CutsMade, CutsObeyed, NoneObeys, Held, Level, CutResult, LevelResult, Ready, PassResult, failed, obeyed, ended, split-reached}
+use Rattle.levels.specs.Levels.{imageAt, keepOf, cuts, levelOf, levels, CutsMade, CutsObeyed, NoneObeys, Held, Level, CutResult, LevelResult, Ready, PassResult, passFailed, passObeyed, passEnded, passSplit}
 use Rattle.levels.proofs.Levels.{levels-none, levels-append, levels-one}
 use Rattle.levels.proofs.CutsMade.{same-length, vacuous-made, equality-next, equality-obeyed, made-live, made-on, obeyed-on, none-on, obeyed-more, none-more}
 use Rattle.levels.proofs.ImageTables.{image-inside, image-is}
@@ -80,10 +80,10 @@ module _ {p : Problem} {ss work tables : List ℕ} {e k start : ℕ} (w : Ready 
       }
 
   module _ {rs : List ℕ} {j : ℕ} (i : Passing p ss work e k start rs j) where
-    pub ends : k ≤ j → PassResult p ss work tables e k start rs k
+    pub ends : k ≤ j → PassResult p ss work tables e k start rs (ENTAILED * k + k)
     ends h =
         let q : j ≡ k = omega (arith, i .bound) in
-        ended refl (subst (λ (m : ℕ). CutsMade (p .variables) ss (levels p work e start m) rs) q (i .made))
+        passEnded refl (subst (λ (m : ℕ). CutsMade (p .variables) ss (levels p work e start m) rs) q (i .made))
 
     module _ (h : j < k) where
       pub turn-asks : Level p rs tables e j (at work j)
@@ -114,20 +114,20 @@ module _ {p : Problem} {ss work tables : List ℕ} {e k start : ℕ} (w : Ready 
 
         pub turn-failed : r ≡ Failed → PassResult p ss work tables e k start ts FAILED
         turn-failed q =
-            failed refl (subst (λ (es : List Entry). NoneObeys (p .variables) ss es) all
+            passFailed refl (subst (λ (es : List Entry). NoneObeys (p .variables) ss es) all
             (none-more (p .variables) ss (levels p work e start j ++ here) (levels p work e (j + 1) k) (none-on (i .made) here (level-as Failed q))))
 
         pub turn-obeyed : r ≡ Obeyed → PassResult p ss work tables e k start ts OBEYED
         turn-obeyed q =
-            obeyed refl (subst (λ (es : List Entry). CutsObeyed (p .variables) ss es ts) all
+            passObeyed refl (subst (λ (es : List Entry). CutsObeyed (p .variables) ss es ts) all
             (obeyed-more (levels p work e (j + 1) k) (obeyed-on (i .made) here ts (level-as Obeyed q))))
 
         pub turn-split : r ≡ Split → PassResult p ss work tables e k start ts j
         turn-split q =
             let s = level-as Split q in
-            split-reached h (record {
+            passSplit h (record {
               at-split = record { tabled = w .tabled; held = held-on (held-on (w .held) (i .made)) (s .made); prefix = w .prefix; inside = h; split = s .split };
               begun = i .begun;
-              before = vacuous-mono (take (p .variables) rs) (take (p .variables) ts) (levels p work e start j) (same-length (made-live (i .made)) (made-live (s .made))) (s .made .less) (i .made .vacuous);
+              before = vacuous-mono (take (p .variables) rs) (take (p .variables) ts) (levels p work e start j) (same-length (made-live (i .made)) (made-live (s .made))) (s .made .passed [] .less) (i .made .vacuous);
               made = made-on (i .made) (cuts p e j (at work j)) ts (s .made);
             })

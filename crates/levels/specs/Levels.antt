@@ -7,33 +7,44 @@ use mathlib.Core.List.{List, [], _∷_, _++_, map}
 use mathlib.Core.Logic.{_⊎_}
 use Prim.Native.Nat.{ℕ, _+_, _-_, _*_, _/_, _%_, _^_, _≤_, _<_}
 use lib.Bits.{bitAnd}
-use lib.Dec.{T, eqb, ltb}
+use lib.Dec.{T, eqb, ltb, leb}
 use lib.ListN.{length, take}
-use Rattle.model.specs.Lists.{at, keep, flat, upFrom}
+use Rattle.model.specs.Lists.{at, choose, keep, flat, upFrom}
 use Rattle.model.specs.ValueSets.{has, members, anyEmpty}
 use Rattle.model.specs.Problem.{Problem}
-use Rattle.model.specs.Nogood.{Entry, equality, disequality, filtered}
+use Rattle.model.specs.Nogood.{Entry, equality, disequality, filtered, FilterEnding, failed, entailed, consistent, filterEnding, Entails}
 use Rattle.model.specs.Search.{nogoodsOf}
 use Rattle.model.specs.Pruning.{Inside}
 use Rattle.model.specs.WellFormed.{WellFormed}
-use Rattle.layout.specs.Places.{SMALLER, OWN, OBEYED, FAILED}
+use Rattle.layout.specs.Places.{SMALLER, OWN, ENTAILED, OBEYED, FAILED}
 use Rattle.layout.specs.Layout.{symmetryAt}
 use Rattle.layout.specs.Tables.{ImageTables, imageOf}
 use Rattle.nogood.specs.declared.entry.Step.{Step}
 use Rattle.nogood.specs.declared.entry.Step.the-variants as step
 use Rattle.nogood.specs.Scan.{stepOf, None, Live, Passed, Remainder}
 use Rattle.nogood.specs.Lists.{forced}
-use Rattle.nogood.specs.Marks.{Vacuous, ObeyedForGood}
+use Rattle.nogood.specs.Marks.{Vacuous, NamesGone, Skippable}
 
 -- ---- the contract of the filter
--- what is known of symmetry e at a prefix, for sets ds: by the mark OBEYED, its nogoods are obeyed for good;
--- by a smaller mark m, the levels of the first m variables say nothing more
+-- what is known of symmetry e at a prefix, for sets ds, by its mark m: the levels of the first m % ENTAILED variables say nothing more; and where m
+-- is at least ENTAILED times the length of the prefix, every assignment obeys its nogoods
+pub record Resumes (p : Problem) (ds prefix : List ℕ) (e m : ℕ) : Type 0 where
+  pub begun : m % ENTAILED ≤ length prefix
+  pub vacuous : Vacuous ds (nogoodsOf p (symmetryAt p e) (take (m % ENTAILED) prefix))
+  pub below : m < ENTAILED * (length prefix + 1)
+  pub entailed : ENTAILED * length prefix ≤ m → Entails ds (nogoodsOf p (symmetryAt p e) prefix)
+
+-- by the mark OBEYED, every assignment obeys its nogoods and an equality of them names a value that is gone
 abbrev pub MarkBy : Bool → Problem → List ℕ → List ℕ → ℕ → ℕ → Type 0
-MarkBy true p ds prefix e m = ObeyedForGood ds (nogoodsOf p (symmetryAt p e) prefix)
-MarkBy false p ds prefix e m = (m ≤ length prefix) × Vacuous ds (nogoodsOf p (symmetryAt p e) (take m prefix))
+MarkBy true p ds prefix e m = Skippable ds (nogoodsOf p (symmetryAt p e) prefix)
+MarkBy false p ds prefix e m = Resumes p ds prefix e m
 
 abbrev pub Mark : Problem → List ℕ → List ℕ → ℕ → ℕ → Type 0
 Mark p ds prefix e m = MarkBy (eqb m OBEYED) p ds prefix e m
+
+-- how the filter ended at a prefix of k values, by its answer
+abbrev pub endingAt : ℕ → ℕ → FilterEnding
+endingAt k r = choose (eqb r FAILED) failed (choose (leb (ENTAILED * k) r) entailed consistent)
 
 -- the tables hold p's symmetries; the first k numbers of `work` are values of the initial sets of variables 0 to k - 1;
 -- of sixteen sets the first n are p's variables', none of them empty, and the others are {0}; the levels before `start` say nothing more
@@ -54,8 +65,9 @@ pub record FilterRequires (p : Problem) (sets work tables : List ℕ) (e k start
 abbrev pub leaves : Problem → List ℕ → List ℕ → ℕ → ℕ → List ℕ
 leaves p sets work e k = filtered (take (p .variables) sets) (nogoodsOf p (symmetryAt p e) (take k work))
 
--- the answer is FAILED where it leaves an empty set; else the sets are what it leaves, and the answer is a mark for them
+-- the answer says how the filter ended, and is FAILED where it leaves an empty set; else the sets are what it leaves, and the answer is a mark for them
 pub record FilterEnsures (p : Problem) (sets work : List ℕ) (e k : ℕ) (sets′ : List ℕ) (r : ℕ) : Type 0 where
+  pub ending : endingAt k r ≡ filterEnding (take (p .variables) sets) (nogoodsOf p (symmetryAt p e) (take k work))
   pub answers : eqb r FAILED ≡ anyEmpty (leaves p sets work e k)
   pub left : (r ≡ FAILED → ⊥) → take (p .variables) sets′ ≡ leaves p sets work e k
   pub live : (r ≡ FAILED → ⊥) → Live (p .variables) sets′
@@ -102,13 +114,11 @@ ownAt p work e j = imageOf p e j (at work j)
 pub record CutsMade (n : ℕ) (ss : List ℕ) (es : List Entry) (rs : List ℕ) : Type 0 where
   pub passed : (fs : List Entry) → Passed n ss (es ++ fs) rs fs
   pub vacuous : Vacuous (take n rs) es
-  pub less : Inside (take n rs) (take n ss)
 
--- its cuts are made, and it is obeyed for good
+-- its cuts are made, and it is obeyed, whatever comes after: an equality of it names a value that is gone
 pub record CutsObeyed (n : ℕ) (ss : List ℕ) (es : List Entry) (rs : List ℕ) : Type 0 where
   pub passed : (fs : List Entry) → Passed n ss (es ++ fs) rs []
-  pub for-good : ObeyedForGood (take n rs) es
-  pub less : Inside (take n rs) (take n ss)
+  pub gone : NamesGone (take n rs) es
 
 -- no assignment obeys it
 abbrev pub NoneObeys : ℕ → List ℕ → List Entry → Type 0
@@ -192,10 +202,10 @@ pub record SplitReached (p : Problem) (ss work tables : List ℕ) (e k start : �
 
 -- how far a pass from a level came
 pub data PassResult (p : Problem) (ss work tables : List ℕ) (e k start : ℕ) (rs : List ℕ) (r : ℕ) : Type 0 where
-  failed : r ≡ FAILED → NoneObeys (p .variables) ss (levels p work e start k) → PassResult p ss work tables e k start rs r
-  obeyed : r ≡ OBEYED → CutsObeyed (p .variables) ss (levels p work e start k) rs → PassResult p ss work tables e k start rs r
-  ended : r ≡ k → CutsMade (p .variables) ss (levels p work e start k) rs → PassResult p ss work tables e k start rs r
-  split-reached : r < k → SplitReached p ss work tables e k start rs r → PassResult p ss work tables e k start rs r
+  passFailed : r ≡ FAILED → NoneObeys (p .variables) ss (levels p work e start k) → PassResult p ss work tables e k start rs r
+  passObeyed : r ≡ OBEYED → CutsObeyed (p .variables) ss (levels p work e start k) rs → PassResult p ss work tables e k start rs r
+  passEnded : r ≡ ENTAILED * k + k → CutsMade (p .variables) ss (levels p work e start k) rs → PassResult p ss work tables e k start rs r
+  passSplit : r < k → SplitReached p ss work tables e k start rs r → PassResult p ss work tables e k start rs r
 
 -- the sets with the pair y forced
 abbrev pub forcedBy : List ℕ → ℕ → List ℕ
@@ -205,4 +215,5 @@ forcedBy ss y = forced ss (y / 16) (y % 16)
 pub record SplitResult (p : Problem) (ss work : List ℕ) (e k j : ℕ) (rs : List ℕ) (r : ℕ) : Type 0 where
   pub left : Remainder (p .variables) ss (splitEntries p work e k j) rs
   pub less : Inside (take (p .variables) rs) (take (p .variables) ss)
-  pub answer : ((r ≡ OBEYED) × ObeyedForGood (take (p .variables) rs) (keepOf (ownAt p work e j) ∷ [])) ⊎ (r ≡ j)
+  pub ending : endingAt k r ≡ filterEnding (take (p .variables) ss) (splitEntries p work e k j)
+  pub answer : ((r ≡ OBEYED) × NamesGone (take (p .variables) rs) (splitEntries p work e k j)) ⊎ ((r ≡ j) ⊎ (r ≡ ENTAILED * k + j))

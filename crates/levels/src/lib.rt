@@ -1,11 +1,14 @@
 // The exact filter for the nogoods of one symmetry at a prefix (paper 01, "The search"), with no list built: a level at a time from the tables.
 // It resumes at a mark, and answers the next one.
 ghost use mathlib.Core.Path.{_≡_};
-ghost use Prim.Native.Nat.{_+_, _≤_, _<_};
+ghost use Prim.Native.Nat.{_+_, _*_, _%_, _≤_, _<_};
+ghost use lib.Dec.{ltb};
+ghost use Rattle.layout.specs.Places.{ENTAILED};
 ghost use lib.ListN.{length};
 ghost use Rattle.model.specs.Lists.{at};
 ghost use Rattle.model.specs.Problem.{Problem};
 ghost use Rattle.levels.specs.Levels.{FilterRequires, FilterEnsures, imageAt, Missed, Taken, Level, cuts, CutResult, LevelResult, Ready, PassResult, AtSplit, SplitResult};
+use layout::ENTAILED;
 use layout::FAILED;
 use layout::OBEYED;
 use layout::OWN;
@@ -77,7 +80,7 @@ fn level(sets: &mut [u16; 16], tables: &[u16; 55296], e: usize, x: usize, v: usi
     entry::equality(sets, (y / 16) as usize, (y % 16) as u8)
 }
 
-// Passes the levels from a start, until the result is known: FAILED, OBEYED, the level that splits the assignments, or k at the end.
+// Passes the levels from a start, until the result is known: FAILED, OBEYED, the level that splits the assignments, or the mark of the end.
 fn pass(
     sets: &mut [u16; 16],
     work: &[u64; 256],
@@ -101,10 +104,12 @@ fn pass(
         }
         j += 1;
     }
-    k as u64
+    ENTAILED * k as u64 + k as u64
 }
 
-// At a level whose own pair some assignments have and some have not: the pair goes where no assignment that has it obeys the levels after it.
+// At a level whose own pair some assignments have and some have not: the pair goes where no assignment that has it obeys the levels after it, and
+// nothing else does. Those are passed on a copy with the pair forced, up to the next such level; where they took nothing, the same is asked
+// there. The mark says whether every assignment from the sets left obeys.
 fn resolve(
     sets: &mut [u16; 16],
     work: &[u64; 256],
@@ -121,27 +126,49 @@ fn resolve(
     let v = (y % 16) as u8;
     let mut ahead = *sets;
     entry::force(&mut ahead, x, v);
-    if pass(&mut ahead, work, tables, e, k, split + 1) == FAILED {
+    let forced = ahead;
+    let reached = pass(&mut ahead, work, tables, e, k, split + 1);
+    if reached == FAILED {
         entry::disequality(sets, x, v);
         return OBEYED;
     }
-    split as u64
+    if entry::changed(&forced, &ahead) {
+        return split as u64;
+    }
+    if reached < k as u64 {
+        if resolve(&mut ahead, work, tables, e, k, reached as usize) < ENTAILED {
+            return split as u64;
+        }
+        if entry::changed(&forced, &ahead) {
+            return split as u64;
+        }
+    }
+    ENTAILED * k as u64 + split as u64
+}
+
+// Whether a symmetry's nogoods are to be filtered at the prefix of k values: not where their mark says that they take nothing there.
+pub fn due(mark: u64, k: usize) -> bool
+    requires { ⌜ k ≤ 12 ⌝ }
+    ensures { λ r. ⌜ r ≡ ltb mark (ENTAILED * k) ⌝ }
+{
+    mark < ENTAILED * k as u64
 }
 
 // Takes from the sets each value that no assignment uses that is drawn from them and obeys the nogoods of symmetry e at the prefix of k values;
-// the levels before `start` say nothing more. FAILED where none obeys, and the sets then say nothing; else the mark.
+// the levels before the mark's say nothing more. FAILED where none obeys, and the sets then say nothing; else the next mark, which says too
+// whether every assignment from the sets left obeys.
 pub fn filter(
     sets: &mut [u16; 16],
     work: &[u64; 256],
     tables: &[u16; 55296],
     e: usize,
     k: usize,
-    start: usize,
+    mark: u64,
 ) -> u64
-    requires { ⌜ ((p : Problem) × FilterRequires p (now sets) (now work) (now tables) e k start) ⌝ }
-    ensures { λ r. ⌜ ((p : Problem) → FilterRequires p (now (sets .entry)) (now (work .entry)) (now (tables .entry)) e k start → FilterEnsures p (now (sets .entry)) (now (work .entry)) e k (now (sets .exit)) r) ⌝ }
+    requires { ⌜ ((p : Problem) × FilterRequires p (now sets) (now work) (now tables) e k (mark % ENTAILED)) ⌝ }
+    ensures { λ r. ⌜ ((p : Problem) → FilterRequires p (now (sets .entry)) (now (work .entry)) (now (tables .entry)) e k (mark % ENTAILED) → FilterEnsures p (now (sets .entry)) (now (work .entry)) e k (now (sets .exit)) r) ⌝ }
 {
-    let reached = pass(sets, work, tables, e, k, start);
+    let reached = pass(sets, work, tables, e, k, (mark % ENTAILED) as usize);
     if reached < k as u64 {
         return resolve(sets, work, tables, e, k, reached as usize);
     }

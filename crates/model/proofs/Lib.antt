@@ -11,6 +11,7 @@ pub mod Firsts
 pub mod Filling
 pub mod Assignments
 pub mod Filter
+pub mod Endings
 pub mod Accepted
 pub mod Prune
 pub mod Prunes

@@ -1,12 +1,12 @@
 -- Increasing nogoods (source document 001, section 3), and the exact filter for a list of them (paper 01, "Nogood lists").
 use mathlib.Core.Path.{_≡_}
-use mathlib.Core.Logic.{_⊎_}
+use mathlib.Core.Logic.{_⊎_, _↔_}
 use mathlib.Core.Bool.{Bool, true, false, not}
-use mathlib.Core.List.{List, [], _∷_}
+use mathlib.Core.List.{List, [], _∷_, List·Memᴰ}
 use Prim.Native.Nat.{ℕ, _<_}
 use lib.ListN.{length, getD}
 use lib.Dec.{T, eqb, ltb, leb}
-use Rattle.model.specs.Lists.{any, at, keep, both, either, tabulate}
+use Rattle.model.specs.Lists.{all, any, at, keep, both, either, tabulate}
 use Rattle.model.specs.ValueSets.{maskOf, least}
 use Rattle.model.specs.Problem.{assignments}
 use Rattle.model.specs.Verdict.{Verdict, accepted, refused, ask}
@@ -43,6 +43,27 @@ used n rows = tabulate n (λ x. maskOf (λ v. any (λ a. is a x v) rows))
 -- a value stays exactly if some assignment drawn from the sets uses it and obeys every nogood
 unfoldable pub filtered : List ℕ → List Entry → List ℕ
 filtered ds es = used (length ds) (obeying ds es)
+
+-- ---- how the filter ends, in 001's words (paper 02, #102)
+pub data FilterEnding : Type 0 where
+  failed : FilterEnding
+  entailed : FilterEnding
+  consistent : FilterEnding
+
+abbrev pub someObeys : List ℕ → List Entry → Bool
+someObeys ds es = any (λ a. obeys a es) (assignments ds)
+
+abbrev pub everyObeys : List ℕ → List Entry → Bool
+everyObeys ds es = all (λ a. obeys a es) (assignments ds)
+
+-- by whether some assignment from the lent sets obeys the nogoods, and whether every one from the sets left obeys them all
+abbrev pub endingBy : Bool → Bool → FilterEnding
+endingBy false every = failed
+endingBy true true = entailed
+endingBy true false = consistent
+
+unfoldable pub filterEnding : List ℕ → List Entry → FilterEnding
+filterEnding ds es = endingBy (someObeys ds es) (everyObeys (filtered ds es) es)
 
 -- ---- the three lists: index, equal, not-equal
 -- the mark for an absent value
@@ -111,6 +132,39 @@ filterVerdict ds xs es us =
 unfoldable pub setsAfter : Verdict → List ℕ → List Entry → List ℕ
 setsAfter accepted ds es = filtered ds es
 setsAfter (refused number item) ds es = ds
+
+-- what the filter answers: the number and the item of a refusal, or how it ended
+pub data FilterAnswer : Type 0 where
+  declined : ℕ → ℕ → FilterAnswer
+  answered : FilterEnding → FilterAnswer
+
+abbrev pub answerBy : Verdict → FilterEnding → FilterAnswer
+answerBy accepted ending = answered ending
+answerBy (refused number item) ending = declined number item
+
+unfoldable pub filterAnswer : List ℕ → List ℕ → List ℕ → List ℕ → FilterAnswer
+filterAnswer ds xs es us = answerBy (filterVerdict ds xs es us) (filterEnding ds (entries xs es us))
+
+-- ---- claims about the endings, for any sets and any list; the proofs are in proofs/Endings.antt
+-- no assignment from the sets obeys the nogoods
+abbrev pub Fails : List ℕ → List Entry → Type 0
+Fails ds es = (a : List ℕ) → List·Memᴰ a (assignments ds) → T (obeys a es) → ⊥
+
+-- every one does
+abbrev pub Entails : List ℕ → List Entry → Type 0
+Entails ds es = (a : List ℕ) → List·Memᴰ a (assignments ds) → T (obeys a es)
+
+-- failed exactly if no assignment from the lent sets obeys the nogoods
+abbrev pub Failed-exactly : Type 0
+Failed-exactly = (ds : List ℕ) (es : List Entry) → (filterEnding ds es ≡ failed) ↔ Fails ds es
+
+-- entailed exactly if it is not failed and every assignment from the sets left obeys them all
+abbrev pub Entailed-exactly : Type 0
+Entailed-exactly = (ds : List ℕ) (es : List Entry) → (filterEnding ds es ≡ entailed) ↔ ((Fails ds es → ⊥) × Entails (filtered ds es) es)
+
+-- else consistent
+abbrev pub Consistent-exactly : Type 0
+Consistent-exactly = (ds : List ℕ) (es : List Entry) → (filterEnding ds es ≡ consistent) ↔ ((Fails ds es → ⊥) × (Entails (filtered ds es) es → ⊥))
 
 -- ---- claims about the kinds; the proofs are in proofs/EntryKinds.antt
 -- each case as a condition on the two numbers

@@ -13,7 +13,8 @@ use Rattle.model.specs.Lists.{at}
 use Rattle.model.specs.ValueSets.{withoutMask, onlyMask, anyEmpty}
 use Rattle.model.specs.Nogood.{Entry, equality, disequality, obeysFrom, filtered}
 use Rattle.model.proofs.Lists.{either-l, at-out, at-set-other, set-each}
-use Rattle.model.proofs.Sets.{at-zeros, empty-i}
+use Rattle.model.specs.Pruning.{Inside}
+use Rattle.model.proofs.Sets.{at-zeros, empty-i, inside-refl, inside-trans}
 use Rattle.nogood.specs.declared.entry.Step.the-variants.{Next, Failed, Obeyed, Split}
 use Rattle.nogood.specs.Scan.{stepOf, after, cutStep, keepStep, models, None, Some, Live, Passed, Remainder, Right}
 use Rattle.nogood.proofs.Scan
@@ -94,9 +95,16 @@ module _ {n : ℕ} {ss : List ℕ} (l : Live n ss) where
     front-set : take n (set ss x s) ≡ set (take n ss) x s
     front-set = take-set-lt n ss x s h
 
+  -- a value taken from one of them
+  pub without-front : (x v : ℕ) → x < n → take n (set ss x (withoutMask (at ss x) v)) ≡ set (take n ss) x (withoutMask (at (take n ss) x) v)
+  without-front x v h = front-set x (withoutMask (at ss x) v) h ∙ ap (λ (t : ℕ). set (take n ss) x (withoutMask t v)) (sym (front-at x h))
+
+  pub without-less : (x v : ℕ) → x < n → Inside (take n (set ss x (withoutMask (at ss x) v))) (take n ss)
+  without-less x v h = subst (λ (l : List ℕ). Inside l (take n ss)) (sym (without-front x v h)) (Scan.cut-inside (take n ss) x (Scan.other v) (front-lt x h))
+
 -- ---- a scan goes on
 pub begin : {n : ℕ} {ss : List ℕ} (es : List Entry) → Live n ss → Passed n ss es ss es
-begin es l = record { live = l; unused = λ x h. refl; same = λ q. refl }
+begin {n} {ss} es l = record { live = l; less = inside-refl (take n ss); unused = λ x h. refl; same = λ q. refl }
 
 module _ {n : ℕ} {ss : List ℕ} {es : List Entry} {rs : List ℕ} where
   -- the entries left, in other words
@@ -108,13 +116,15 @@ module _ {n : ℕ} {ss : List ℕ} {es : List Entry} {rs : List ℕ} where
       let s : ℕ = withoutMask (at rs x) v in
       record {
         live = live-set (p .live) x s (r .0) (Scan.without-lt (at rs x) v) (eqb-false s 0 (next-cut (eqb s 0) e));
+        less = inside-trans (take n (set rs x s)) (take n rs) (take n ss) (without-less (p .live) x v (r .0)) (p .less);
         unused = λ y k. unused-set (p .live) x s (r .0) y k ∙ p .unused y k;
         same = λ q. p .same q ∙ Scan.at-disequality (take n rs) x v fs q (front-lt (p .live) x (r .0))
-            ∙ ap (λ (l : List ℕ). models l fs q) (ap (λ (t : ℕ). set (take n rs) x (withoutMask t v)) (front-at (p .live) x (r .0)) ∙ sym (front-set (p .live) x s (r .0)));
+            ∙ ap (λ (l : List ℕ). models l fs q) (sym (without-front (p .live) x v (r .0)));
       }
   pass-next (equality x v) fs p r e =
       record {
         live = p .live;
+        less = p .less;
         unused = p .unused;
         same = λ q. p .same q ∙ Scan.at-always (take n rs) x v fs q (front-lt (p .live) x (r .0)) (front-small (p .live) x)
             (ap (λ (t : ℕ). withoutMask t v) (front-at (p .live) x (r .0)) ∙ eqb-true _ 0 (next-keep _ (eqb (onlyMask (at rs x) v) 0) e));
@@ -131,6 +141,7 @@ module _ {n : ℕ} {ss : List ℕ} {es : List Entry} {rs : List ℕ} where
   pass-obeyed (equality x v) fs p r e =
       record {
         live = p .live;
+        less = p .less;
         unused = p .unused;
         same = λ q. p .same q ∙ Scan.at-never (take n rs) x v fs q (front-lt (p .live) x (r .0)) (front-small (p .live) x)
             (ap (λ (t : ℕ). onlyMask t v) (front-at (p .live) x (r .0)) ∙ eqb-true _ 0 (obeyed-keep (eqb (withoutMask (at rs x) v) 0) _ e));

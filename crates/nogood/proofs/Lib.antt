@@ -2,6 +2,7 @@ pub mod Steps
 pub mod Scan
 pub mod Front
 pub mod Marks
+pub mod Endings
 pub mod Turns
 pub mod Copies
 pub mod Questions

@@ -2,7 +2,7 @@
 -- or is obeyed for good. Assumes nothing.
 use mathlib.Core.Path.{_≡_, refl, sym, ap, ap₂, _∙_, subst}
 use mathlib.Core.Bool.{Bool, true, false, not}
-use mathlib.Core.List.{List, [], _∷_, _++_, append-assoc, append-nil, List·Memᴰ}
+use mathlib.Core.List.{List, [], _∷_, _++_, append-assoc, append-nil, List·Memᴰ, List·Memᴰ·head, List·Memᴰ·tail, List·Memᴰ·not-nil, Memᴰ·append-left}
 use mathlib.Core.Logic.{⊎-elim}
 use Prim.Native.Nat.{ℕ, _%_, _^_, _<_, _≤_}
 use native.Mathlib.Nat.{mod-eq-of-lt}
@@ -11,21 +11,21 @@ use lib.Dec.{T, eqb, ltb, eqb→eq, eqb-refl}
 use lib.ListN.{length}
 use borrow.Author.Tests.{eq-eqb, eqb-true, lt-ltb, le-ltb}
 use Rattle.model.specs.Lists.{at, both}
-use Rattle.model.specs.ValueSets.{has, maskOf, withoutMask, onlyMask, anyEmpty}
+use Rattle.model.specs.ValueSets.{has, maskOf, withoutMask, onlyMask}
 use Rattle.model.specs.Problem.{assignments}
-use Rattle.model.specs.Nogood.{Entry, equality, disequality, Kind, isEquality, isDisequality, bothAbsent, bothPresent, mark, kindBy, kindOf, entryIn, entryOf, valueOk, entryOk, is, obeysFrom, obeys, obeying, used, filtered}
-use Rattle.model.proofs.Lists.{T-of, of-T, not-of, of-not, both-i, keep-ext, getD-at}
+use Rattle.model.specs.Nogood.{Entry, equality, disequality, Kind, isEquality, isDisequality, bothAbsent, bothPresent, mark, kindBy, kindOf, entryIn, entryOf, valueOk, entryOk, is, obeysFrom, obeys, obeying}
+use Rattle.model.proofs.Lists.{T-of, of-T, not-of, of-not, both-i, both-l, both-r, keep-ext, getD-at}
 use Rattle.model.proofs.Sets.{has-none, has-lt, mask-i}
 use Rattle.model.specs.Pruning.{Inside}
 use Rattle.model.proofs.Assignments.{assign-mono, drawn-e}
-use Rattle.model.proofs.Filter
 use Rattle.model.proofs.EntryKinds.{right-kinds}
+use Rattle.model.proofs.Endings.{entailed-left, entails-mono}
 use Rattle.nogood.specs.declared.Kind as code
 use Rattle.nogood.specs.declared.Kind.the-variants.{Equality, Disequality, BothAbsent, BothPresent}
 use Rattle.nogood.specs.declared.entry.Step.the-variants.{Next, Obeyed}
 use Rattle.nogood.specs.Scan.{Right, stepOf}
 use Rattle.nogood.specs.Lists.{kindAs}
-use Rattle.nogood.specs.Marks.{Vacuous, ObeyedForGood}
+use Rattle.nogood.specs.Marks.{Vacuous, ObeyedForGood, NamesGone, Skippable, Skipped-here, Skipped-below}
 use Rattle.nogood.proofs.Scan
 use Rattle.nogood.proofs.Front
 
@@ -119,9 +119,6 @@ vacuous-nil ds a m fs = refl
 pub vacuous-append : (ds : List ℕ) (es fs : List Entry) → Vacuous ds es → Vacuous ds fs → Vacuous ds (es ++ fs)
 vacuous-append ds es fs i j a m gs = ap (obeys a) (append-assoc es fs gs) ∙ i a m (fs ++ gs) ∙ j a m gs
 
-pub vacuous-for-good : (ds : List ℕ) (es fs : List Entry) → Vacuous ds es → ObeyedForGood ds fs → ObeyedForGood ds (es ++ fs)
-vacuous-for-good ds es fs i s a m gs = subst T (sym (ap (obeys a) (append-assoc es fs gs) ∙ i a m (fs ++ gs))) (s a m gs)
-
 pub for-good-append : (ds : List ℕ) (es fs : List Entry) → ObeyedForGood ds es → ObeyedForGood ds (es ++ fs)
 for-good-append ds es fs s a m gs = subst (λ (l : List Entry). T (obeys a l)) (sym (append-assoc es fs gs)) (s a m (fs ++ gs))
 
@@ -129,8 +126,10 @@ for-good-append ds es fs s a m gs = subst (λ (l : List Entry). T (obeys a l)) (
 pub vacuous-mono : (ds rs : List ℕ) (es : List Entry) → length rs ≡ length ds → Inside rs ds → Vacuous ds es → Vacuous rs es
 vacuous-mono ds rs es l h i a m fs = i a (assign-mono rs ds a l h m) fs
 
-pub for-good-mono : (ds rs : List ℕ) (es : List Entry) → length rs ≡ length ds → Inside rs ds → ObeyedForGood ds es → ObeyedForGood rs es
-for-good-mono ds rs es l h s a m fs = s a (assign-mono rs ds a l h m) fs
+pub skippable-mono : (ds rs : List ℕ) (es : List Entry) → length rs ≡ length ds → Inside rs ds → Skippable ds es → Skippable rs es
+skippable-mono ds rs es l h s =
+    let g = s .gone in
+    record { entailed = entails-mono ds rs es l h (s .entailed); gone = (g .0, g .1, g .2, subst (λ (n : ℕ). g .0 < n) (sym l) (g .3), λ t. g .4 (h (g .0) (g .1) t)) }
 
 -- ---- one entry
 module _ (ds : List ℕ) (x v : ℕ) (h : x < length ds) where
@@ -178,19 +177,13 @@ module _ (ds : List ℕ) (x v : ℕ) (h : x < length ds) (b : at ds x < 2 ^ 16) 
       let z : withoutMask (at ds x) v ≡ 0 = eqb-true _ 0 (Front.next-keep _ (eqb (onlyMask (at ds x) v) 0) e) in
       vacuous-equality ds x v h (λ w t. alone z w t (eqb w v) refl)
 
-  pub for-good-step : stepOf ds (equality x v) ≡ Obeyed → ObeyedForGood ds (equality x v ∷ [])
-  for-good-step e =
-      let z : onlyMask (at ds x) v ≡ 0 = eqb-true _ 0 (Front.obeyed-keep (eqb (withoutMask (at ds x) v) 0) _ e) in
-      for-good-equality ds x v h (λ t. present (λ u. eqb u v) v t (eqb-refl v) z)
+  pub gone-step : stepOf ds (equality x v) ≡ Obeyed → T (has (at ds x) v) → ⊥
+  gone-step e t = present (λ u. eqb u v) v t (eqb-refl v) (eqb-true _ 0 (Front.obeyed-keep (eqb (withoutMask (at ds x) v) 0) _ e))
 
 -- ---- what the filter leaves
 pub obeying-vacuous : (ds : List ℕ) (es fs : List Entry) → Vacuous ds es → obeying ds (es ++ fs) ≡ obeying ds fs
 unfolding obeying
 obeying-vacuous ds es fs i = keep-ext (λ a. obeys a (es ++ fs)) (λ a. obeys a fs) (assignments ds) (λ a m. i a m fs)
-
-pub filtered-vacuous : (ds : List ℕ) (es fs : List Entry) → Vacuous ds es → filtered ds (es ++ fs) ≡ filtered ds fs
-unfolding filtered
-filtered-vacuous ds es fs i = ap (used (length ds)) (obeying-vacuous ds es fs i)
 
 pub obeying-for-good : (ds : List ℕ) (es : List Entry) → ObeyedForGood ds es → obeying ds es ≡ obeying ds []
 unfolding obeying obeysFrom
@@ -198,6 +191,45 @@ obeying-for-good ds es s =
     keep-ext (λ a. obeys a es) (λ a. true) (assignments ds)
     (λ a m. of-T (obeys a es) (subst (λ (l : List Entry). T (obeys a l)) (append-nil es) (s a m [])))
 
-pub filtered-for-good : (ds : List ℕ) (es : List Entry) → ((x : ℕ) → at ds x < 2 ^ 16) → anyEmpty ds ≡ false → ObeyedForGood ds es → filtered ds es ≡ ds
-unfolding filtered
-filtered-for-good ds es small full s = ap (used (length ds)) (obeying-for-good ds es s) ∙ Filter.filtered-none ds small full
+-- ---- an entailed list
+pub skipped-here : Skipped-here
+skipped-here ds rs es e n w small full = entailed-left rs es (entails-mono ds rs es n w e) small full
+
+pub skipped-below : Skipped-below
+unfolding obeysFrom
+skipped-below ds es s a m fs = behind true es (s .entailed a m) (s .gone .2)
+  where
+    g : NamesGone ds es
+    g = s .gone
+
+    x : ℕ
+    x = g .0
+
+    v : ℕ
+    v = g .1
+
+    Broken : Entry → Type 0
+    Broken (equality y w) = is a y w ≡ false
+    Broken (disequality y w) = ⊥
+
+    both-false : (c b : Bool) → b ≡ false → both c b ≡ false
+    both-false true b e = e
+    both-false false b e = refl
+
+    -- behind the equality nothing is asked
+    behind : (c : Bool) (es : List Entry) → T (obeysFrom c a es) → List·Memᴰ (equality x v) es → T (obeysFrom c a (es ++ fs))
+    behind c [] t i = absurd (List·Memᴰ·not-nil i)
+    behind c (equality y w ∷ es) t (List·Memᴰ·head e) =
+        T-of (obeysFrom (both c (is a y w)) a (es ++ fs))
+        (ap (λ (b : Bool). obeysFrom b a (es ++ fs)) (both-false c (is a y w) (subst Broken e (absent ds x v (g .3) (g .4) a m))) ∙ Scan.obeys-unheld a (es ++ fs))
+    behind c (equality y w ∷ es) t (List·Memᴰ·tail i) = behind (both c (is a y w)) es t i
+    behind c (disequality y w ∷ es) t (List·Memᴰ·head e) = absurd (subst Broken e (absent ds x v (g .3) (g .4) a m))
+    behind c (disequality y w ∷ es) t (List·Memᴰ·tail i) =
+        let d = not (both c (is a y w)) in
+        both-i d (obeysFrom c a (es ++ fs)) (both-l d (obeysFrom c a es) t) (behind c es (both-r d (obeysFrom c a es) t) i)
+
+-- and stays so as the list grows
+pub skippable-append : (ds : List ℕ) (es fs : List Entry) → Skippable ds es → Skippable ds (es ++ fs)
+skippable-append ds es fs s =
+    let g = s .gone in
+    record { entailed = λ a m. skipped-below ds es s a m fs; gone = (g .0, g .1, Memᴰ·append-left fs (g .2), g .3, g .4) }

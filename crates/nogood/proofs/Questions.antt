@@ -9,13 +9,15 @@ use lib.ListN.{length}
 use borrow.Author.Tests.{eq-eqb, ne-eqb, eqb-true, le-leb, lt-leb, leb-true, not-false}
 use Rattle.model.specs.Lists.{at, both}
 use Rattle.model.specs.Verdict.{Verdict, accepted, refused, ask}
-use Rattle.model.specs.Nogood.{Entry, entryOk, firstWrong, filterVerdict, setsAfter, filtered}
+use Rattle.model.specs.Nogood.{entries, entryOk, firstWrong, filterVerdict, setsAfter, filterEnding, answerBy, filterAnswer}
 use Rattle.model.proofs.Lists.{T-of}
 use Rattle.model.proofs.Masks.{least-none, least-at, least-below}
 use Rattle.model.proofs.Members.{both-no}
 use Rattle.nogood.specs.declared.Answer.{Answer}
-use Rattle.nogood.specs.declared.Answer.the-variants.{Filtered, Refused}
-use Rattle.nogood.specs.Lists.{Listed, means}
+use Rattle.nogood.specs.declared.Answer.the-variants as answer
+use Rattle.nogood.specs.declared.Verdict as code
+use Rattle.nogood.specs.declared.Verdict.the-variants.{Accepted, Refused}
+use Rattle.nogood.specs.Lists.{Listed, Applied, means, verdictIs}
 use Rattle.nogood.proofs.Marks.{ok-right}
 
 -- ---- the first entry that is not right
@@ -96,11 +98,11 @@ both-true : (a b : Bool) → both a b ≡ true → (a ≡ true) × (b ≡ true)
 both-true true b e = (refl, e)
 both-true false b e = absurd (subst T (sym e) tt)
 
-module _ (ds xs es us : List ℕ) (a : Answer) (v : means a ≡ filterVerdict ds xs es us) where
-  pub accepted-listed : a ≡ Filtered → (length ds ≤ 12) × Listed (length ds) xs es us
+module _ (ds xs es us : List ℕ) (a : code.Verdict) (v : verdictIs a ≡ filterVerdict ds xs es us) where
+  pub accepted-listed : a ≡ Accepted → (length ds ≤ 12) × Listed (length ds) xs es us
   unfolding filterVerdict
   accepted-listed e =
-      let p = passed _ 17 0 _ (ap means (sym e) ∙ v) in
+      let p = passed _ 17 0 _ (ap verdictIs (sym e) ∙ v) in
       let q = passed _ 18 0 _ (p .1) in
       let r = passed (eqb (firstWrong (length ds) xs es us) (length xs)) 19 (firstWrong (length ds) xs es us) accepted (q .1) in
       let n = both-true (leb 1 (length ds)) (leb (length ds) 12) (p .0) in
@@ -115,10 +117,16 @@ module _ (ds xs es us : List ℕ) (a : Answer) (v : means a ≡ filterVerdict ds
         },
       )
 
-  pub after-accepted : (rs : List ℕ) (l : List Entry) → a ≡ Filtered → rs ≡ filtered ds l → rs ≡ setsAfter (filterVerdict ds xs es us) ds l
-  unfolding setsAfter
-  after-accepted rs l e h = h ∙ ap (λ (w : Verdict). setsAfter w ds l) (ap means (sym e) ∙ v)
+  pub after-accepted : (rs : List ℕ) (r : Answer) → a ≡ Accepted → Applied ds (entries xs es us) rs r
+      → (means r ≡ filterAnswer ds xs es us) × (rs ≡ setsAfter (filterVerdict ds xs es us) ds (entries xs es us))
+  unfolding setsAfter filterAnswer
+  after-accepted rs r e h =
+      let q : accepted ≡ filterVerdict ds xs es us = ap verdictIs (sym e) ∙ v in
+      (h .answer ∙ ap (λ (w : Verdict). answerBy w (filterEnding ds (entries xs es us))) q, h .left ∙ ap (λ (w : Verdict). setsAfter w ds (entries xs es us)) q)
 
-  pub after-refused : (l : List Entry) (number item : ℕ) → a ≡ Refused number item → ds ≡ setsAfter (filterVerdict ds xs es us) ds l
-  unfolding setsAfter
-  after-refused l number item e = ap (λ (w : Verdict). setsAfter w ds l) (ap means (sym e) ∙ v)
+  pub after-refused : (number item : ℕ) → a ≡ Refused number item
+      → (means (answer.Refused number item) ≡ filterAnswer ds xs es us) × (ds ≡ setsAfter (filterVerdict ds xs es us) ds (entries xs es us))
+  unfolding setsAfter filterAnswer
+  after-refused number item e =
+      let q : refused number item ≡ filterVerdict ds xs es us = ap verdictIs (sym e) ∙ v in
+      (ap (λ (w : Verdict). answerBy w (filterEnding ds (entries xs es us))) q, ap (λ (w : Verdict). setsAfter w ds (entries xs es us)) q)

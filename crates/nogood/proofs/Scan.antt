@@ -15,8 +15,9 @@ use borrow.Author.Tests.{eq-eqb, eqb-true}
 use Rattle.model.specs.Lists.{both, either, any, at, tabulate}
 use Rattle.model.specs.ValueSets.{has, maskOf, withoutMask, onlyMask}
 use Rattle.model.specs.Problem.{assignments}
+use Rattle.model.specs.Pruning.{Inside}
 use Rattle.model.specs.Nogood.{Entry, equality, disequality, is, obeysFrom, obeys, obeying, used, filtered}
-use Rattle.model.proofs.Lists.{T-of, of-T, not-of, T-ext, both-i, both-l, both-r, either-l, either-r, either-e, any-i, any-e, keep-i, keep-e, getD-at, at-ext, at-tabulate, length-tabulate, at-set, at-set-other, set-at, set-each, both-less}
+use Rattle.model.proofs.Lists.{T-of, of-T, not-of, of-not, T-ext, both-i, both-l, both-r, either-l, either-r, either-e, any-i, any-e, keep-i, keep-e, getD-at, at-ext, at-tabulate, length-tabulate, at-set, at-set-other, set-at, set-each, both-less}
 use Rattle.model.proofs.Sets.{has-mask, has-none, mask-lt, mask-i, mask-e, members-i, members-e, member, at-zeros}
 use Rattle.model.proofs.Masks.{is-mask}
 use Rattle.model.proofs.Members.{either-no}
@@ -42,17 +43,17 @@ models-e ss es q t =
     (r .0, (d .0, λ x l. members-e (at ss x) (at (r .0) x) (d .1 x l)), r .2, k .1)
 
 -- variable x has the value v in a drawn assignment
-is-at : (ss a : List ℕ) (x v : ℕ) → x < length ss → Draw ss a → is a x v ≡ eqb (at a x) v
+pub is-at : (ss a : List ℕ) (x v : ℕ) → x < length ss → Draw ss a → is a x v ≡ eqb (at a x) v
 is-at ss a x v h d = ap (λ (n : ℕ). eqb n v) (getD-at a x 16 (subst (λ (n : ℕ). x < n) (sym (d .0)) h))
 
 -- ---- one set made smaller
-abbrev narrow : (ℕ → Bool) → ℕ → ℕ
+abbrev pub narrow : (ℕ → Bool) → ℕ → ℕ
 narrow f s = maskOf (λ v. both (has s v) (f v))
 
-abbrev cut : List ℕ → ℕ → (ℕ → Bool) → List ℕ
+abbrev pub cut : List ℕ → ℕ → (ℕ → Bool) → List ℕ
 cut ss x f = set ss x (narrow f (at ss x))
 
-cut-i : (ss : List ℕ) (x : ℕ) (f : ℕ → Bool) (a : List ℕ) → x < length ss → Draw ss a → T (f (at a x)) → Draw (cut ss x f) a
+pub cut-i : (ss : List ℕ) (x : ℕ) (f : ℕ → Bool) (a : List ℕ) → x < length ss → Draw ss a → T (f (at a x)) → Draw (cut ss x f) a
 cut-i ss x f a h d t = (
   d .0 ∙ sym (length-set ss x _),
   λ y l. set-each (λ z s. (at a z < 16) × T (has s (at a z))) ss x _ y h
@@ -60,7 +61,7 @@ cut-i ss x f a h d t = (
       (λ e. d .1 y (subst (λ (n : ℕ). y < n) (length-set ss x _) l)),
 )
 
-cut-e : (ss : List ℕ) (x : ℕ) (f : ℕ → Bool) (a : List ℕ) → x < length ss → Draw (cut ss x f) a → Draw ss a × T (f (at a x))
+pub cut-e : (ss : List ℕ) (x : ℕ) (f : ℕ → Bool) (a : List ℕ) → x < length ss → Draw (cut ss x f) a → Draw ss a × T (f (at a x))
 cut-e ss x f a h d = ((d .0 ∙ length-set ss x _, λ y l. go y (ℕ-discrete y x) l), both-r (has (at ss x) (at a x)) (f (at a x)) here)
   where
     drawn : (y : ℕ) → y < length ss → (at a y < 16) × T (has (at (cut ss x f) y) (at a y))
@@ -73,6 +74,11 @@ cut-e ss x f a h d = ((d .0 ∙ length-set ss x _, λ y l. go y (ℕ-discrete y 
     go y (yes e) l = subst (λ (z : ℕ). (at a z < 16) × T (has (at ss z) (at a z))) (sym e) (drawn x h .0, both-l (has (at ss x) (at a x)) (f (at a x)) here)
     go y (no e) l = (drawn y l .0, subst (λ (s : ℕ). T (has s (at a y))) (at-set-other ss x _ y e) (drawn y l .1))
 
+pub cut-inside : (ss : List ℕ) (x : ℕ) (f : ℕ → Bool) → x < length ss → Inside (cut ss x f) ss
+cut-inside ss x f l i v =
+    set-each (λ z s. T (has s v) → T (has (at ss z) v)) ss x (narrow f (at ss x)) i l
+    (λ t. both-l (has (at ss x) v) (f v) (mask-e (λ w. both (has (at ss x) w) (f w)) v t .1)) (λ e t. t)
+
 -- ---- one entry
 pub obeys-unheld : (a : List ℕ) (es : List Entry) → obeysFrom false a es ≡ true
 unfolding obeysFrom
@@ -80,10 +86,10 @@ obeys-unheld a [] = refl
 obeys-unheld a (equality x v ∷ es) = obeys-unheld a es
 obeys-unheld a (disequality x v ∷ es) = obeys-unheld a es
 
-abbrev other : ℕ → ℕ → Bool
+abbrev pub other : ℕ → ℕ → Bool
 other u v = not (eqb v u)
 
-abbrev equal : ℕ → ℕ → Bool
+abbrev pub equal : ℕ → ℕ → Bool
 equal u v = eqb v u
 
 module _ (ss : List ℕ) (x u : ℕ) (es : List Entry) (q : List ℕ → Bool) (h : x < length ss) where
@@ -154,7 +160,7 @@ only-u true true e = refl
 only-u true false e = e
 only-u false c e = refl
 
-no-member : (f : ℕ → Bool) (s v : ℕ) → v < 16 → narrow f s ≡ 0 → both (has s v) (f v) ≡ false
+pub no-member : (f : ℕ → Bool) (s v : ℕ) → v < 16 → narrow f s ≡ 0 → both (has s v) (f v) ≡ false
 no-member f s v l e = sym (has-mask 16 (λ w. both (has s w) (f w)) v l) ∙ ap (λ (n : ℕ). has n v) e ∙ has-none v
 
 pub kept-only : (s u : ℕ) → s < 2 ^ 16 → withoutMask s u ≡ 0 → onlyMask s u ≡ s
@@ -204,6 +210,11 @@ full-set ss x s h f l y k = set-each (λ z t. t ≡ 0 → ⊥) ss x s y h l (λ 
 pub without-lt : (s u : ℕ) → withoutMask s u < 2 ^ 16
 without-lt s u = mask-lt 16 (λ v. both (has s v) (not (eqb v u)))
 
+-- the value that went is no member
+pub without-gone : (s u : ℕ) → T (has (withoutMask s u) u) → ⊥
+without-gone s u t =
+    of-not (not (eqb u u)) (ap not (eq-eqb u u refl)) (both-r (has s u) (not (eqb u u)) (mask-e (λ v. both (has s v) (not (eqb v u))) u t .1))
+
 pub only-lt : (s u : ℕ) → onlyMask s u < 2 ^ 16
 only-lt s u = mask-lt 16 (λ v. both (has s v) (eqb v u))
 
@@ -221,7 +232,7 @@ drawable (s ∷ ss) b f =
     each v m a r zero l = m
     each v m a r (suc x) l = r x (le-of-suc-le-suc l)
 
-drawable-at : (ss : List ℕ) (i v : ℕ) → Small ss → Full ss → i < length ss → v < 16 → T (has (at ss i) v) → (a : List ℕ) × Draw ss a × T (is a i v)
+pub drawable-at : (ss : List ℕ) (i v : ℕ) → Small ss → Full ss → i < length ss → v < 16 → T (has (at ss i) v) → (a : List ℕ) × Draw ss a × T (is a i v)
 drawable-at ss i v b f l h t =
     let r = drawable ss b f in
     let k : i < length (r .0) = subst (λ (n : ℕ). i < n) (sym (r .1 .0)) l in (
@@ -290,19 +301,13 @@ module _ (ss : List ℕ) (x u : ℕ) (es : List Entry) (b : Small ss) (f : Full 
       ∙ ap (λ (c : Bool). either c (models on es (λ a. is a i v)))
       (at-end out i v (small-set ss x _ l b (without-lt (at ss x) u)) (full-set ss x _ l f some) (subst (λ (j : ℕ). i < j) (sym (length-set ss x _)) k) h)
 
-  -- a value of a cut set was there
-  cut-sub : (g : ℕ → Bool) (i v : ℕ) → T (has (at (cut ss x g) i) v) → T (has (at ss i) v)
-  cut-sub g i v =
-      set-each (λ z s. T (has s v) → T (has (at ss z) v)) ss x (narrow g (at ss x)) i l
-      (λ t. both-l (has (at ss x) v) (g v) (mask-e (λ w. both (has (at ss x) w) (g w)) v t .1)) (λ e t. t)
-
   pub split-kept : T (models on es (λ a. true)) → ss ≡ filtered ss (equality x u ∷ es)
   split-kept t =
       filtered-is ss ss (equality x u ∷ es) refl b
       (λ i v k h. parts i v k h
       ∙ T-ext (either (lft i v) (rgt i v)) (has (at ss i) v)
-      (λ e. ⊎-elim {C = T (has (at ss i) v)} (cut-sub (other u) i v)
-      (λ y. cut-sub (equal u) i v (at-most on es i v (subst (λ (j : ℕ). i < j) (sym (length-set ss x _)) k) y))
+      (λ e. ⊎-elim {C = T (has (at ss i) v)} (cut-inside ss x (other u) l i v)
+      (λ y. cut-inside ss x (equal u) l i v (at-most on es i v (subst (λ (j : ℕ). i < j) (sym (length-set ss x _)) k) y))
       (either-e (lft i v) (rgt i v) e))
       (λ e. back i v h e (ℕ-discrete i x)))
     where

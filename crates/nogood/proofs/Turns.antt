@@ -92,8 +92,8 @@ module _ {n : ℕ} {ss xs es us : List ℕ} {start : ℕ} (w : Ready n ss xs es 
             subst (λ (l : List ℕ). Passed n ss (drop start (entries xs es us)) l []) (sym (s .sets ∙ obeyed-after rs here (sym (s .step) ∙ e)))
             (Front.pass-obeyed here (drop (suc i) (entries xs es us)) now (w .listed .right i h) (sym (s .step) ∙ e))
 
-        pub turn-split : r ≡ Split → SplitReached n ss xs es us start ts i
-        turn-split e =
+        pub turn-split : start ≤ i → r ≡ Split → SplitReached n ss xs es us start ts i
+        turn-split b e =
             let q = split-is rs (at xs i) (at es i) (at us i) (sym (s .step) ∙ e) in
             subst (λ (l : List ℕ). SplitReached n ss xs es us start l i) (sym (s .sets ∙ q .2))
-            record { at-split = record { listed = w .listed; live = p .live; bound = h; is-equality = q .0; split = q .1 }; passed = p }
+            record { at-split = record { listed = w .listed; live = p .live; bound = h; is-equality = q .0; split = q .1 }; begun = b; passed = p }

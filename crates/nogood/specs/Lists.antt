@@ -7,24 +7,34 @@ use lib.ListN.{length, set, take, drop}
 use Rattle.model.specs.Lists.{at}
 use Rattle.model.specs.ValueSets.{onlyMask}
 use Rattle.model.specs.Verdict.{Verdict, accepted, refused}
-use Rattle.model.specs.Nogood.{Entry, equality, Kind, isEquality, isDisequality, bothAbsent, bothPresent, entryOf, entries}
+use Rattle.model.specs.Nogood.{Entry, equality, filtered, failed, entailed, consistent, filterEnding, FilterAnswer, declined, answered, Kind, isEquality, isDisequality, bothAbsent, bothPresent, entryOf, entries}
 use Rattle.nogood.specs.declared.Answer.{Answer}
-use Rattle.nogood.specs.declared.Answer.the-variants.{Filtered, Refused}
-use Rattle.nogood.specs.declared.Kind as code
+use Rattle.nogood.specs.declared.Answer.the-variants as answer
+use Rattle.nogood.specs.declared.Verdict as code
+use Rattle.nogood.specs.declared.Verdict.the-variants as verdict
+use Rattle.nogood.specs.declared.Ending.{Ending}
+use Rattle.nogood.specs.declared.Ending.the-variants as ending
+use Rattle.nogood.specs.declared.Kind as kind
 use Rattle.nogood.specs.declared.Kind.the-variants.{Equality, Disequality, BothAbsent, BothPresent}
 use Rattle.nogood.specs.declared.Reached.{Reached}
 use Rattle.nogood.specs.declared.Reached.the-variants.{Failed, End, Split}
 use Rattle.nogood.specs.declared.entry.Step.the-variants as step
-use Rattle.nogood.specs.Scan.{Right, stepOf, None, Some, Live, Passed}
+use Rattle.nogood.specs.Scan.{Right, stepOf, None, Live, Passed, Resolved}
 
--- the number and the item of paper 01 for each answer
-abbrev pub means : Answer → Verdict
-means Filtered = accepted
-means (Refused number item) = refused number item
+-- the ending of paper 02, #102, or the number and the item of paper 01 for each answer
+abbrev pub means : Answer → FilterAnswer
+means answer.Failed = answered failed
+means answer.Entailed = answered entailed
+means answer.Consistent = answered consistent
+means (answer.Refused number item) = declined number item
 
 -- ---- between the functions of the crate: no reader has to believe what follows
+abbrev pub verdictIs : code.Verdict → Verdict
+verdictIs verdict.Accepted = accepted
+verdictIs (verdict.Refused number item) = refused number item
+
 -- an entry's kind as the code has it: with the value that is there
-abbrev pub kindAs : Kind → ℕ → ℕ → code.Kind
+abbrev pub kindAs : Kind → ℕ → ℕ → kind.Kind
 kindAs isEquality equal unequal = Equality equal
 kindAs isDisequality equal unequal = Disequality unequal
 kindAs bothAbsent equal unequal = BothAbsent
@@ -52,6 +62,7 @@ pub record AtSplit (n : ℕ) (ss xs es us : List ℕ) (k : ℕ) : Type 0 where
 
 pub record SplitReached (n : ℕ) (ss xs es us : List ℕ) (start : ℕ) (rs : List ℕ) (k : ℕ) : Type 0 where
   pub at-split : AtSplit n rs xs es us k
+  pub begun : start ≤ k
   pub passed : Passed n ss (drop start (entries xs es us)) rs (drop k (entries xs es us))
 
 abbrev pub PassResult : ℕ → List ℕ → List ℕ → List ℕ → List ℕ → ℕ → List ℕ → Reached → Type 0
@@ -63,10 +74,11 @@ PassResult n ss xs es us start rs (Split k) = SplitReached n ss xs es us start r
 abbrev pub forced : List ℕ → ℕ → ℕ → List ℕ
 forced ss x v = set ss x (onlyMask (at ss x) v)
 
--- some assignment from the sets obeys the entries, or none does
-abbrev pub SomeOrNone : Bool → ℕ → List ℕ → List Entry → Type 0
-SomeOrNone true n ss es = Some n ss es
-SomeOrNone false n ss es = None n ss es
+-- the result of a whole scan
+abbrev pub ScanResult : Ending → ℕ → List ℕ → List Entry → List ℕ → Type 0
+ScanResult ending.Failed n ss es rs = None n ss es
+ScanResult ending.Entailed n ss es rs = Resolved true n ss es rs
+ScanResult ending.Consistent n ss es rs = Resolved false n ss es rs
 
 -- ---- the lent sets
 abbrev pub zeros : List ℕ → List ℕ
@@ -76,3 +88,8 @@ zeros ss = map (λ s. 0) ss
 abbrev pub Loaded : Bool → List ℕ → List ℕ → Type 0
 Loaded true ss rs = (x : ℕ) × (x < length ss) × (at ss x ≡ 0)
 Loaded false ss rs = (take (length ss) rs ≡ ss) × Live (length ss) rs
+
+-- they are what the filter leaves, and the answer says how it ended
+pub record Applied (ss : List ℕ) (es : List Entry) (rs : List ℕ) (r : Answer) : Type 0 where
+  pub left : rs ≡ filtered ss es
+  pub answer : means r ≡ answered (filterEnding ss es)

@@ -8,7 +8,8 @@ use lib.ListN.{length, set, take}
 use lib.Dec.{T, eqb}
 use Rattle.model.specs.Lists.{any, at}
 use Rattle.model.specs.ValueSets.{withoutMask, onlyMask}
-use Rattle.model.specs.Nogood.{Entry, equality, disequality, obeying, filtered}
+use Rattle.model.specs.Nogood.{Entry, equality, disequality, obeying, filtered, endingBy, filterEnding}
+use Rattle.model.specs.Pruning.{Inside}
 use Rattle.nogood.specs.declared.entry.Step.{Step}
 use Rattle.nogood.specs.declared.entry.Step.the-variants.{Next, Failed, Obeyed, Split}
 
@@ -62,9 +63,10 @@ pub record Live (n : ℕ) (ss : List ℕ) : Type 0 where
   pub small : (x : ℕ) → at ss x < 2 ^ 16
   pub full : (x : ℕ) → x < n → at ss x ≡ 0 → ⊥
 
--- es asks of the first n of ss what fs asks of the first n of rs; the other sets are as they were
+-- es asks of the first n of ss what fs asks of the first n of rs, which lie inside; the other sets are as they were
 pub record Passed (n : ℕ) (ss : List ℕ) (es : List Entry) (rs : List ℕ) (fs : List Entry) : Type 0 where
   pub live : Live n rs
+  pub less : Inside (take n rs) (take n ss)
   pub unused : (x : ℕ) → n ≤ x → at rs x ≡ at ss x
   pub same : (q : List ℕ → Bool) → models (take n ss) es q ≡ models (take n rs) fs q
 
@@ -74,7 +76,13 @@ pub record Remainder (n : ℕ) (ss : List ℕ) (es : List Entry) (rs : List ℕ)
   pub unused : (x : ℕ) → n ≤ x → at rs x ≡ at ss x
   pub left : take n rs ≡ filtered (take n ss) es
 
--- the outcome of a whole scan, by whether no assignment obeys
-abbrev pub ScanResult : Bool → ℕ → List ℕ → List Entry → List ℕ → Type 0
-ScanResult true n ss es rs = None n ss es
-ScanResult false n ss es rs = Remainder n ss es rs
+-- and how the filter ends, where some assignment obeys: by whether every one does that is drawn from the sets left
+pub record Resolved (every : Bool) (n : ℕ) (ss : List ℕ) (es : List Entry) (rs : List ℕ) : Type 0 where
+  pub remainder : Remainder n ss es rs
+  pub ending : filterEnding (take n ss) es ≡ endingBy true every
+
+-- ---- two times sixteen sets
+-- one of them is another, or none is
+abbrev pub Changed : Bool → List ℕ → List ℕ → Type 0
+Changed true old new = (y : ℕ) × (y < 16) × (at new y ≡ at old y → ⊥)
+Changed false old new = (y : ℕ) → y < 16 → at new y ≡ at old y

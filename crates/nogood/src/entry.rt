@@ -6,7 +6,7 @@ ghost use lib.ListN.{set};
 ghost use Rattle.model.specs.Lists.{at};
 ghost use Rattle.model.specs.ValueSets.{onlyMask};
 ghost use Rattle.model.specs.Nogood.{equality, disequality};
-ghost use Rattle.nogood.specs.Scan.{Stepped};
+ghost use Rattle.nogood.specs.Scan.{Stepped, Changed};
 use model::ValueSet;
 
 // What one entry comes to.
@@ -59,4 +59,17 @@ pub fn force(sets: &mut [u16; 16], x: usize, v: u8)
     let set = ValueSet { bits: sets[x] };
     let kept = set.only(v as u16);
     sets[x] = kept.bits;
+}
+
+// Whether a set is another than it was.
+pub fn changed(old: &[u16; 16], new: &[u16; 16]) -> bool
+    ensures { λ r. ⌜ Changed r (now (old .entry)) (now (new .entry)) ⌝ }
+{
+    let mut other = false;
+    let mut y = 0;
+    while y < 16 {
+        other = other | (old[y] != new[y]);
+        y += 1;
+    }
+    other
 }

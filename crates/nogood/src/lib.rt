@@ -5,16 +5,31 @@ ghost use mathlib.Core.Path.{_≡_};
 ghost use Prim.Native.Nat.{ℕ, suc, _≤_, _<_, _^_};
 ghost use lib.ListN.{length, take, drop};
 ghost use Rattle.model.specs.Lists.{at};
-ghost use Rattle.model.specs.Nogood.{kindOf, entries, entryOf, entryOk, firstWrong, filtered, filterVerdict, setsAfter};
-ghost use Rattle.nogood.specs.Scan.{Stepped, Right, Remainder, ScanResult};
-ghost use Rattle.nogood.specs.Lists.{Ready, PassResult, AtSplit, SomeOrNone, forced, Loaded, Listed, zeros, kindAs, means};
+ghost use Rattle.model.specs.Nogood.{kindOf, entries, entryOf, entryOk, firstWrong, filterVerdict, filterAnswer, setsAfter};
+ghost use Rattle.nogood.specs.Scan.{Stepped, Right, Resolved};
+ghost use Rattle.nogood.specs.Lists.{Ready, PassResult, AtSplit, ScanResult, Loaded, Listed, Applied, zeros, kindAs, verdictIs, means};
 use entry::Step;
 use model::ValueSet;
 
-// The answer of the filter: `means` in specs/Lists.antt gives paper 01's number and item for each case.
+// The answer of the filter: `means` in specs/Lists.antt gives the ending of paper 02, #102, or paper 01's number and item for each case.
 pub enum Answer {
-    Filtered,
+    Failed,
+    Entailed,
+    Consistent,
     Refused { number: u8, item: usize },
+}
+
+// How the questions end.
+enum Verdict {
+    Accepted,
+    Refused { number: u8, item: usize },
+}
+
+// How the filter ends on sixteen sets.
+enum Ending {
+    Failed,
+    Entailed,
+    Consistent,
 }
 
 // How far a pass over the entries came: to an empty set, to the end, or to an equality that some assignments keep and some break.
@@ -102,46 +117,50 @@ fn pass(sets: &mut [u16; 16], index: &[u8], equal: &[u8], not_equal: &[u8], star
     Reached::End
 }
 
-// At an equality that some assignments keep and some break: whether an assignment that keeps it obeys the entries after it.
-fn stays(sets: &[u16; 16], index: &[u8], equal: &[u8], not_equal: &[u8], k: usize) -> bool
+// At an equality that some assignments keep and some break, of which nothing has been passed: the value goes where no assignment keeps it, and
+// nothing else does. The entries after it are passed on a copy with the pair forced, up to the next such equality; where they took nothing,
+// the same is asked there. True where every assignment from the sets left obeys all entries from here on.
+fn resolve(sets: &mut [u16; 16], index: &[u8], equal: &[u8], not_equal: &[u8], k: usize) -> bool
     requires { ⌜ ((n : ℕ) × AtSplit n (now sets) (now index) (now equal) (now «not_equal») k) ⌝ }
-    ensures { λ r. ⌜ ((n : ℕ) → AtSplit n (now (sets .entry)) (now (index .entry)) (now (equal .entry)) (now («not_equal» .entry)) k → SomeOrNone r n (forced (now (sets .entry)) (at (now (index .entry)) k) (at (now (equal .entry)) k)) (drop (suc k) (entries (now (index .entry)) (now (equal .entry)) (now («not_equal» .entry))))) ⌝ }
+    ensures { λ r. ⌜ ((n : ℕ) → AtSplit n (now (sets .entry)) (now (index .entry)) (now (equal .entry)) (now («not_equal» .entry)) k → Resolved r n (now (sets .entry)) (drop k (entries (now (index .entry)) (now (equal .entry)) (now («not_equal» .entry)))) (now (sets .exit))) ⌝ }
 {
-    let mut work = *sets;
     let x = index[k] as usize;
-    entry::force(&mut work, x, equal[k]);
-    let reached = pass(&mut work, index, equal, not_equal, k + 1);
+    let mut ahead = *sets;
+    entry::force(&mut ahead, x, equal[k]);
+    let forced = ahead;
+    let reached = pass(&mut ahead, index, equal, not_equal, k + 1);
     match reached {
-        Reached::Failed => false,
-        Reached::End => true,
-        Reached::Split(_) => true,
+        Reached::Failed => {
+            entry::disequality(sets, x, equal[k]);
+            true
+        }
+        Reached::End => !entry::changed(&forced, &ahead),
+        Reached::Split(j) => {
+            if entry::changed(&forced, &ahead) {
+                return false;
+            }
+            if !resolve(&mut ahead, index, equal, not_equal, j) {
+                return false;
+            }
+            !entry::changed(&forced, &ahead)
+        }
     }
 }
 
-// There the value goes where no assignment keeps it, and nothing else does.
-fn resolve(sets: &mut [u16; 16], index: &[u8], equal: &[u8], not_equal: &[u8], k: usize)
-    requires { ⌜ ((n : ℕ) × AtSplit n (now sets) (now index) (now equal) (now «not_equal») k) ⌝ }
-    ensures { λ _. ⌜ ((n : ℕ) → AtSplit n (now (sets .entry)) (now (index .entry)) (now (equal .entry)) (now («not_equal» .entry)) k → Remainder n (now (sets .entry)) (drop k (entries (now (index .entry)) (now (equal .entry)) (now («not_equal» .entry)))) (now (sets .exit))) ⌝ }
-{
-    if stays(sets, index, equal, not_equal, k) {
-        return;
-    }
-    let x = index[k] as usize;
-    entry::disequality(sets, x, equal[k]);
-}
-
-// The exact filter on sixteen sets: true where no assignment obeys.
-fn propagate(sets: &mut [u16; 16], index: &[u8], equal: &[u8], not_equal: &[u8]) -> bool
+// The exact filter on sixteen sets.
+fn propagate(sets: &mut [u16; 16], index: &[u8], equal: &[u8], not_equal: &[u8]) -> Ending
     requires { ⌜ ((n : ℕ) × Ready n (now sets) (now index) (now equal) (now «not_equal») 0) ⌝ }
     ensures { λ r. ⌜ ((n : ℕ) → Ready n (now (sets .entry)) (now (index .entry)) (now (equal .entry)) (now («not_equal» .entry)) 0 → ScanResult r n (now (sets .entry)) (entries (now (index .entry)) (now (equal .entry)) (now («not_equal» .entry))) (now (sets .exit))) ⌝ }
 {
     let reached = pass(sets, index, equal, not_equal, 0);
     match reached {
-        Reached::Failed => true,
-        Reached::End => false,
+        Reached::Failed => Ending::Failed,
+        Reached::End => Ending::Entailed,
         Reached::Split(k) => {
-            resolve(sets, index, equal, not_equal, k);
-            false
+            if resolve(sets, index, equal, not_equal, k) {
+                return Ending::Entailed;
+            }
+            Ending::Consistent
         }
     }
 }
@@ -185,20 +204,30 @@ fn clear(sets: &mut [u16])
 }
 
 // The exact filter, on lists that passed the questions.
-fn apply(sets: &mut [u16], index: &[u8], equal: &[u8], not_equal: &[u8])
+fn apply(sets: &mut [u16], index: &[u8], equal: &[u8], not_equal: &[u8]) -> Answer
     requires { ⌜ (length (now sets) ≤ 12) × Listed (length (now sets)) (now index) (now equal) (now «not_equal») ⌝ }
-    ensures { λ _. ⌜ now (sets .exit) ≡ filtered (now (sets .entry)) (entries (now (index .entry)) (now (equal .entry)) (now («not_equal» .entry))) ⌝ }
+    ensures { λ r. ⌜ Applied (now (sets .entry)) (entries (now (index .entry)) (now (equal .entry)) (now («not_equal» .entry))) (now (sets .exit)) r ⌝ }
 {
     let mut work = [1u16; 16];
     if load(sets, &mut work) {
         clear(sets);
-        return;
+        return Answer::Failed;
     }
-    if propagate(&mut work, index, equal, not_equal) {
-        clear(sets);
-        return;
+    let ending = propagate(&mut work, index, equal, not_equal);
+    match ending {
+        Ending::Failed => {
+            clear(sets);
+            Answer::Failed
+        }
+        Ending::Entailed => {
+            store(&work, sets);
+            Answer::Entailed
+        }
+        Ending::Consistent => {
+            store(&work, sets);
+            Answer::Consistent
+        }
     }
-    store(&work, sets);
 }
 
 // The first entry that is not right, and the number of entries where there is none.
@@ -217,42 +246,41 @@ fn first_wrong(n: usize, index: &[u8], equal: &[u8], not_equal: &[u8]) -> usize
 }
 
 // The questions 17, 18 and 19.
-fn question(sets: &[u16], index: &[u8], equal: &[u8], not_equal: &[u8]) -> Answer
-    ensures { λ r. ⌜ means r ≡ filterVerdict (now (sets .entry)) (now (index .entry)) (now (equal .entry)) (now («not_equal» .entry)) ⌝ }
+fn question(sets: &[u16], index: &[u8], equal: &[u8], not_equal: &[u8]) -> Verdict
+    ensures { λ r. ⌜ verdictIs r ≡ filterVerdict (now (sets .entry)) (now (index .entry)) (now (equal .entry)) (now («not_equal» .entry)) ⌝ }
 {
     let n = sets.len();
     if n < 1 || 12 < n {
-        return Answer::Refused {
+        return Verdict::Refused {
             number: 17,
             item: 0,
         };
     }
     let m = index.len();
     if equal.len() != m || not_equal.len() != m || 192 < m {
-        return Answer::Refused {
+        return Verdict::Refused {
             number: 18,
             item: 0,
         };
     }
     let wrong = first_wrong(n, index, equal, not_equal);
     if wrong != m {
-        return Answer::Refused {
+        return Verdict::Refused {
             number: 19,
             item: wrong,
         };
     }
-    Answer::Filtered
+    Verdict::Accepted
 }
 
 // Takes from the sets each value that no assignment uses that is drawn from them and obeys every nogood. A refusal leaves them as they came.
 pub fn filter(sets: &mut [u16], index: &[u8], equal: &[u8], not_equal: &[u8]) -> Answer
-    ensures answer { λ r. ⌜ means r ≡ filterVerdict (now (sets .entry)) (now (index .entry)) (now (equal .entry)) (now («not_equal» .entry)) ⌝ }
+    ensures answer { λ r. ⌜ means r ≡ filterAnswer (now (sets .entry)) (now (index .entry)) (now (equal .entry)) (now («not_equal» .entry)) ⌝ }
     ensures remainder { λ _. ⌜ now (sets .exit) ≡ setsAfter (filterVerdict (now (sets .entry)) (now (index .entry)) (now (equal .entry)) (now («not_equal» .entry))) (now (sets .entry)) (entries (now (index .entry)) (now (equal .entry)) (now («not_equal» .entry))) ⌝ }
 {
-    let answer = question(sets, index, equal, not_equal);
-    match answer {
-        Answer::Filtered => apply(sets, index, equal, not_equal),
-        Answer::Refused { number: _, item: _ } => {}
+    let verdict = question(sets, index, equal, not_equal);
+    match verdict {
+        Verdict::Accepted => apply(sets, index, equal, not_equal),
+        Verdict::Refused { number, item } => Answer::Refused { number, item },
     }
-    answer
 }

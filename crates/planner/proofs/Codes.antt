@@ -12,7 +12,8 @@ use Rattle.model.specs.ValueSets.{least, leastStep}
 use Rattle.model.specs.Problem.{Problem, respects}
 use Rattle.model.specs.Verdict.{Verdict, accepted, refused, ask}
 use Rattle.model.specs.Sheet.{Header, headerOf, problemOf, word, scopeAt, rowsAt, afterAt, tableAt, permutesPairs, headerVerdict, setsVerdict, constraintVerdict, constraintsVerdict, formVerdict, symmetriesVerdict, verdictOf}
-use Rattle.model.specs.Nogood.{entryOk, firstWrong, filterVerdict}
+use Rattle.model.specs.Nogood.{entryOk, firstWrong, filterVerdict, filterEnding, filterAnswer, answerBy, entries}
+use Rattle.planner.specs.Inner.{SmallAnswer}
 
 abbrev pub Small : Verdict → Type 0
 Small accepted = Unit {0}
@@ -21,10 +22,6 @@ Small (refused number item) = item < 256
 pub ask-small : (c : Bool) (number item : ℕ) (later : Verdict) → item < 256 → (c ≡ true → Small later) → Small (ask c number item later)
 ask-small true number item later h k = k refl
 ask-small false number item later h k = h
-
-both-left : (a b : Bool) → both a b ≡ true → a ≡ true
-both-left true b e = refl
-both-left false b e = e
 
 both-right : (a b : Bool) → both a b ≡ true → b ≡ true
 both-right true b e = e
@@ -127,7 +124,7 @@ least-most (suc k) f = go (f 0) (least-most k (λ v. f (suc v)))
     go true h = omega arith
     go false h = omega arith
 
-pub filter-small : (ds xs es us : List ℕ) → Small (filterVerdict ds xs es us)
+filter-small : (ds xs es us : List ℕ) → Small (filterVerdict ds xs es us)
 unfolding filterVerdict firstWrong
 filter-small ds xs es us =
     let n = length ds in
@@ -141,6 +138,14 @@ filter-small ds xs es us =
     ask-small c17 17 0 (ask c18 18 0 v18) z
     (λ e. ask-small c18 18 0 v18 z
     (λ few. ask-small (eqb wrong m) 19 wrong accepted (omega (arith, most, leb-true m 192 (both-right (both (eqb (length es) m) (eqb (length us) m)) (leb m 192) few))) (λ e. tt)))
+
+pub answer-small : (ds xs es us : List ℕ) → SmallAnswer (filterAnswer ds xs es us)
+unfolding filterAnswer
+answer-small ds xs es us = go (filterVerdict ds xs es us) (filter-small ds xs es us)
+  where
+    go : (v : Verdict) → Small v → SmallAnswer (answerBy v (filterEnding ds (entries xs es us)))
+    go accepted s = tt
+    go (refused number item) s = s
 
 -- a caller gets the number and the item of a refusal back from its code
 pub code-number : (number item : ℕ) → item < 256 → (number * 256 + item) / 256 ≡ number

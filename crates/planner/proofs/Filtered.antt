@@ -1,4 +1,4 @@
--- The filter's code and bytes: an odd number of bytes, too many sets, a refusal, and sets that are filtered. Assumes nothing.
+-- The filter's code and bytes: an odd number of bytes, too many sets, and a refusal. Assumes nothing.
 use mathlib.Core.Path.{_≡_, refl, sym, ap, _∙_}
 use mathlib.Core.Bool.{Bool, true, false}
 use mathlib.Core.List.{List}
@@ -9,22 +9,22 @@ use lib.ListN.{length, getD}
 use borrow.Author.Tests.{eq-eqb, ne-eqb, lt-leb}
 use Rattle.model.specs.Lists.{both}
 use Rattle.model.specs.Verdict.{Verdict, accepted, refused, ask}
-use Rattle.model.specs.Nogood.{entries, firstWrong, filterVerdict, setsAfter}
-use Rattle.planner.specs.Exported.{codeOf, wrongLength, setsIn, bytesOf, filteredBytes, filterCode, filterBytes}
+use Rattle.model.specs.Nogood.{declined, answerBy, entries, firstWrong, filterVerdict, filterAnswer, filterEnding, setsAfter}
+use Rattle.planner.specs.Exported.{filterAnswerCode, wrongLength, setsIn, bytesOf, filteredBytes, filterCode, filterBytes}
 use Rattle.planner.proofs.Numbers.{length-sets, bytes-back}
 
 module _ (sets xs es us : List ℕ) where
   pub odd-code : (length sets % 2 ≡ 0 → ⊥) → wrongLength ≡ filterCode sets xs es us
   unfolding filterCode
-  odd-code h = sym (ap {B = ℕ} (λ (b : Bool). elim b [ true ↦ codeOf (filterVerdict (setsIn sets) xs es us) | false ↦ wrongLength ]) (ne-eqb (length sets % 2) 0 h))
+  odd-code h = sym (ap {B = ℕ} (λ (b : Bool). elim b [ true ↦ filterAnswerCode (filterAnswer (setsIn sets) xs es us) | false ↦ wrongLength ]) (ne-eqb (length sets % 2) 0 h))
 
   pub odd-bytes : (length sets % 2 ≡ 0 → ⊥) → sets ≡ filterBytes sets xs es us
   unfolding filterBytes
   odd-bytes h = sym (ap {B = List ℕ} (λ (b : Bool). elim b [ true ↦ filteredBytes sets xs es us | false ↦ sets ]) (ne-eqb (length sets % 2) 0 h))
 
-  pub even-code : length sets % 2 ≡ 0 → codeOf (filterVerdict (setsIn sets) xs es us) ≡ filterCode sets xs es us
+  pub even-code : length sets % 2 ≡ 0 → filterAnswerCode (filterAnswer (setsIn sets) xs es us) ≡ filterCode sets xs es us
   unfolding filterCode
-  even-code h = sym (ap {B = ℕ} (λ (b : Bool). elim b [ true ↦ codeOf (filterVerdict (setsIn sets) xs es us) | false ↦ wrongLength ]) (eq-eqb (length sets % 2) 0 h))
+  even-code h = sym (ap {B = ℕ} (λ (b : Bool). elim b [ true ↦ filterAnswerCode (filterAnswer (setsIn sets) xs es us) | false ↦ wrongLength ]) (eq-eqb (length sets % 2) 0 h))
 
   pub even-bytes : length sets % 2 ≡ 0 → filteredBytes sets xs es us ≡ filterBytes sets xs es us
   unfolding filterBytes
@@ -50,6 +50,7 @@ module _ (sets xs es us : List ℕ) where
       not-both true b e = e
       not-both false b e = refl
 
-  pub accepted-bytes : (ws : List ℕ) → filterVerdict (setsIn sets) xs es us ≡ accepted → ws ≡ setsAfter (filterVerdict (setsIn sets) xs es us) (setsIn sets) (entries xs es us) → bytesOf ws ≡ filteredBytes sets xs es us
-  unfolding filteredBytes
-  accepted-bytes ws e h = ap bytesOf h
+  -- a refusal by the questions is the answer
+  pub declined-by : (number item : ℕ) → filterVerdict (setsIn sets) xs es us ≡ refused number item → filterAnswer (setsIn sets) xs es us ≡ declined number item
+  unfolding filterAnswer
+  declined-by number item e = ap (λ (v : Verdict). answerBy v (filterEnding (setsIn sets) (entries xs es us))) e

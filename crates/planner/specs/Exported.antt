@@ -8,7 +8,7 @@ use Rattle.model.specs.Lists.{choose}
 use Rattle.model.specs.Bytes.{twoBytes, fourBytes}
 use Rattle.model.specs.Verdict.{Verdict, accepted, refused}
 use Rattle.model.specs.Sheet.{verdictOf}
-use Rattle.model.specs.Nogood.{entries, filterVerdict, setsAfter}
+use Rattle.model.specs.Nogood.{FilterEnding, failed, entailed, consistent, FilterAnswer, declined, answered, entries, filterVerdict, filterAnswer, setsAfter}
 use Rattle.model.specs.Run.{Ending, finished, spent, full, Answer, refusal, ended, answerOf, listOf}
 use Rattle.model.specs.Report.{reportOf}
 use Rattle.report.specs.Text.{room}
@@ -37,8 +37,18 @@ unfoldable pub bytesOf : List ℕ → List ℕ
 bytesOf [] = []
 bytesOf (s ∷ ss) = twoBytes s ++ bytesOf ss
 
+-- how the filter ended (paper 02, #102) as one number, or the number and the item of its refusal
+abbrev pub filterEndingCode : FilterEnding → ℕ
+filterEndingCode consistent = 0
+filterEndingCode entailed = 1
+filterEndingCode failed = 2
+
+abbrev pub filterAnswerCode : FilterAnswer → ℕ
+filterAnswerCode (answered ending) = filterEndingCode ending
+filterAnswerCode (declined number item) = number * 256 + item
+
 unfoldable pub filterCode : List ℕ → List ℕ → List ℕ → List ℕ → ℕ
-filterCode sets xs es us = elim (eqb (length sets % 2) 0) [ true ↦ codeOf (filterVerdict (setsIn sets) xs es us) | false ↦ wrongLength ]
+filterCode sets xs es us = elim (eqb (length sets % 2) 0) [ true ↦ filterAnswerCode (filterAnswer (setsIn sets) xs es us) | false ↦ wrongLength ]
 
 -- the bytes of the sets that the filter leaves
 unfoldable pub filteredBytes : List ℕ → List ℕ → List ℕ → List ℕ → List ℕ

@@ -4,8 +4,14 @@ use Prim.Native.Nat.{ℕ, _*_, _^_, _≤_, _<_}
 use mathlib.Core.List.{List}
 use lib.ListN.{length, getD}
 use Rattle.model.specs.Verdict.{accepted}
+use Rattle.model.specs.Nogood.{FilterAnswer, declined, answered}
 use Rattle.model.specs.Sheet.{verdictOf, problemOf}
 use Rattle.model.specs.Run.{Ending, finished, spent, full, plansIn, nodesIn}
+
+-- the item of a refusal by the filter stands in one byte
+abbrev pub SmallAnswer : FilterAnswer → Type 0
+SmallAnswer (declined number item) = item < 256
+SmallAnswer (answered ending) = Unit {0}
 
 -- n is the number of variables of a sheet that is accepted, and never above 12
 pub record Sized (b : List ℕ) (n : ℕ) : Type 0 where

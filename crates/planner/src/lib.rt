@@ -10,8 +10,10 @@ mod transpose;
 ghost use mathlib.Core.Path.{_≡_};
 ghost use Prim.Native.Nat.{_+_, _*_, _<_};
 ghost use lib.ListN.{length};
-ghost use Rattle.model.specs.Nogood.{filterVerdict};
-ghost use Rattle.planner.specs.Exported.{codeOf, setsIn, filteredBytes, questionCode, filterCode, filterBytes, runCode, runList, runAnswer, reportLength, reportBytes};
+ghost use Rattle.model.specs.Nogood.{filterAnswer};
+ghost use Rattle.nogood.specs.Lists.{means};
+ghost use Rattle.planner.specs.Inner.{SmallAnswer};
+ghost use Rattle.planner.specs.Exported.{filterAnswerCode, setsIn, filteredBytes, questionCode, filterCode, filterBytes, runCode, runList, runAnswer, reportLength, reportBytes};
 
 // A refusal as one number.
 fn code(number: u8, item: usize) -> u32
@@ -33,7 +35,20 @@ pub extern "C" fn planner_question(sheet: &[u8]) -> u32
     }
 }
 
-// The filter, with room for the sets as words.
+// How the filter ended as one number, or its refusal.
+fn filter_code(answer: nogood::Answer) -> u32
+    requires { ⌜ SmallAnswer (means answer) ⌝ }
+    ensures { λ r. ⌜ r ≡ filterAnswerCode (means answer) ⌝ }
+{
+    match answer {
+        nogood::Answer::Consistent => 0,
+        nogood::Answer::Entailed => 1,
+        nogood::Answer::Failed => 2,
+        nogood::Answer::Refused { number, item } => code(number, item),
+    }
+}
+
+// The filter, with room for the sets as words; what it leaves is written back, a refusal's sets as they came.
 fn filter_words(
     sets: &mut [u8],
     words: &mut [u16],
@@ -42,22 +57,17 @@ fn filter_words(
     not_equal: &[u8],
 ) -> u32
     requires { ⌜ length (now sets) ≡ 2 * length (now words) ⌝ }
-    ensures { λ r. ⌜ r ≡ codeOf (filterVerdict (setsIn (now (sets .entry))) (now (index .entry)) (now (equal .entry)) (now («not_equal» .entry))) ⌝ }
+    ensures { λ r. ⌜ r ≡ filterAnswerCode (filterAnswer (setsIn (now (sets .entry))) (now (index .entry)) (now (equal .entry)) (now («not_equal» .entry))) ⌝ }
     ensures { λ _. ⌜ now (sets .exit) ≡ filteredBytes (now (sets .entry)) (now (index .entry)) (now (equal .entry)) (now («not_equal» .entry)) ⌝ }
 {
     bytes::load(sets, words);
     let answer = nogood::filter(words, index, equal, not_equal);
-    match answer {
-        nogood::Answer::Refused { number, item } => code(number, item),
-        nogood::Answer::Filtered => {
-            bytes::store(words, sets);
-            0
-        }
-    }
+    bytes::store(words, sets);
+    filter_code(answer)
 }
 
-// Filters sets of values, each two bytes, low byte first: 0 where they are filtered, else the refusal as above and the sets as they
-// came. An odd number of bytes is 255 times 256.
+// Filters sets of values, each two bytes, low byte first: 0 where it ended consistent, 1 entailed, 2 failed (paper 02, #102), else the
+// refusal as above and the sets as they came. An odd number of bytes is 255 times 256.
 #[no_mangle]
 pub extern "C" fn planner_filter(
     sets: &mut [u8],

@@ -2,7 +2,7 @@
 use mathlib.Core.Path.{_≡_, refl, sym, ap, _∙_, subst}
 use mathlib.Core.Bool.{Bool, true, false}
 use mathlib.Core.List.{List, []}
-use Prim.Native.Nat.{ℕ, _+_, _*_, _≤_, _<_}
+use Prim.Native.Nat.{ℕ, _+_, _*_, _%_, _≤_, _<_}
 use native.Mathlib.Omega.{arith}
 use native.Mathlib.Decide.{ℕ-discrete}
 use lib.Dec.{T, ltb}
@@ -21,12 +21,12 @@ use Rattle.model.proofs.Firsts.{take-sets, take-e, take-i, full-take}
 use Rattle.model.proofs.Filter.{filtered-inside}
 use Rattle.model.proofs.Prune.{filter-removal}
 use Rattle.model.proofs.Prunes.{prunes-none, prunes-then, removal-prunes}
-use Rattle.layout.specs.Places.{FAILED, MARKS, OBEYED, SYMMETRIES}
+use Rattle.layout.specs.Places.{ENTAILED, FAILED, MARKS, SYMMETRIES}
 use Rattle.layout.specs.Layout.{symmetryAt}
 use Rattle.layout.specs.Pruning.{setsOf}
 use Rattle.nogood.specs.Marks.{Vacuous}
-use Rattle.levels.specs.Levels.{Mark, MarkBy, FilterRequires, FilterEnsures, leaves}
-use Rattle.levels.proofs.Marks.{mark-mono, mark-obeyed}
+use Rattle.levels.specs.Levels.{Mark, Resumes, FilterRequires, FilterEnsures, leaves}
+use Rattle.levels.proofs.Marks.{mark-mono, mark-skips, mark-resumes}
 use Rattle.prune.specs.Node.{MarksRight}
 use Rattle.prune.specs.Steps.{ArraysHold, PrefixHeld, LiveSets, AllFiltered, AllFilteredOr, OnlyMarks}
 
@@ -116,31 +116,31 @@ module _ {p : Problem} {supports tables numbers : List ℕ} (st : ArraysHold p s
               (ap (λ (z : List ℕ). filtered (setsOf p z) (nogoodsOf p (symmetryAt p e) (take k work₀))) (sym same) ∙ sym left ∙ ap (setsOf p) q)
           go (no o) = s .fixed same i (omega arith)
 
-    -- nothing to do for a symmetry that is obeyed for good
-    pub filtered-skip : at work (16 * k + MARKS + e) ≡ OBEYED → FilteredSoFar p k work₀ ds work es (e + 1)
+    depth-is : length (take k work₀) ≡ k
+    depth-is = take-length work₀ k (g .work-length) (omega (arith, k-few))
+
+    -- a symmetry whose nogoods are not due takes nothing
+    pub filtered-skip : ltb (at work (16 * k + MARKS + e)) (ENTAILED * k) ≡ false → FilteredSoFar p k work₀ ds work es (e + 1)
     filtered-skip q = record {
       live = s .live;
       less = s .less;
       way = s .way;
-      fixed = fixed-turn es (s .live .sixteen) (λ x v t. t) (sym (mark-obeyed p (setsOf p es) (take k work₀) e es-sets (s .live .full) (subst (Mark p (setsOf p es) (take k work₀) e) q mark)));
+      fixed = fixed-turn es (s .live .sixteen) (λ x v t. t) (sym (mark-skips p (setsOf p es) (take k work₀) e (at work (16 * k + MARKS + e)) (omega (arith, depth-is, k-few)) mark (rw depth-is q) es-sets (s .live .full)));
       marking = s .marking;
       kept = s .kept;
     }
 
-    module _ (n : at work (16 * k + MARKS + e) ≡ OBEYED → ⊥) where
-      abbrev start : ℕ
-      start = at work (16 * k + MARKS + e)
+    module _ (d : ltb (at work (16 * k + MARKS + e)) (ENTAILED * k) ≡ true) where
+      resumes : Resumes p (setsOf p es) (take k work₀) e (at work (16 * k + MARKS + e))
+      resumes = mark-resumes p (setsOf p es) (take k work₀) e (at work (16 * k + MARKS + e)) (omega (arith, depth-is, k-few)) mark (rw depth-is d)
 
-      resumes : (at work (16 * k + MARKS + e) ≤ length (take k work₀)) × Vacuous (setsOf p es) (nogoodsOf p (symmetryAt p e) (take (at work (16 * k + MARKS + e)) (take k work₀)))
-      resumes = subst (λ (b : Bool). MarkBy b p (setsOf p es) (take k work₀) e (at work (16 * k + MARKS + e))) (ne-eqb (at work (16 * k + MARKS + e)) OBEYED n) mark
-
-      begun : at work (16 * k + MARKS + e) ≤ k
-      begun = subst (λ (z : ℕ). at work (16 * k + MARKS + e) ≤ z) (take-length work₀ k (g .work-length) (omega (arith, k-few))) (resumes .0)
+      begun : at work (16 * k + MARKS + e) % ENTAILED ≤ k
+      begun = omega (arith, depth-is, resumes .begun)
 
       prefix-is : take k work ≡ take k work₀
       prefix-is = same-take work₀ work k k (g .work-length) (s .kept) (omega (arith, k-few))
 
-      pub levelled : FilterRequires p es work tables e k (at work (16 * k + MARKS + e))
+      pub levelled : FilterRequires p es work tables e k (at work (16 * k + MARKS + e) % ENTAILED)
       levelled = record {
         imageTables = st .indexed .imageTables;
         wellFormed = st .wellFormed;
@@ -153,7 +153,7 @@ module _ {p : Problem} {supports tables numbers : List ℕ} (st : ArraysHold p s
         unused = s .live .unused;
         begun = begun;
         vacuous = subst (λ (z : List ℕ). Vacuous (setsOf p es) (nogoodsOf p (symmetryAt p e) z))
-            (take-take work₀ (at work (16 * k + MARKS + e)) k (g .work-length) begun (omega (arith, k-few)) ∙ sym (same-take work₀ work k (at work (16 * k + MARKS + e)) (g .work-length) (s .kept) (omega (arith, k-few, begun)))) (resumes .1);
+            (take-take work₀ (at work (16 * k + MARKS + e) % ENTAILED) k (g .work-length) begun (omega (arith, k-few)) ∙ sym (same-take work₀ work k (at work (16 * k + MARKS + e) % ENTAILED) (g .work-length) (s .kept) (omega (arith, k-few, begun)))) (resumes .vacuous);
       }
 
       -- what the filter leaves, at the prefix

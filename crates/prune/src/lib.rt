@@ -4,7 +4,6 @@ use layout::FAILED;
 use layout::INITIAL;
 use layout::LINKED;
 use layout::MARKS;
-use layout::OBEYED;
 use layout::OTHERS;
 use layout::SYMMETRIES;
 use layout::VARIABLES;
@@ -68,8 +67,8 @@ fn filters(
     let mut e = 0;
     while e < g {
         let start = work[16 * k + MARKS + e];
-        if start != OBEYED {
-            let mark = levels::filter(sets, work, tables, e, k, start as usize);
+        if levels::due(start, k) {
+            let mark = levels::filter(sets, work, tables, e, k, start);
             if mark == FAILED {
                 return true;
             }

@@ -1,12 +1,14 @@
 -- The loop's invariant: the levels from the start to j are passed. Assumes nothing.
 use mathlib.Core.Path.{_≡_, refl, _∙_}
 use Prim.Native.Nat.{_-_}
+use native.Mathlib.Omega.{arith}
 use lib.ListN.{length}
 use borrow.Author.Needs.{needs}
 use Rattle.model.specs.Lists.{at}
 use Rattle.model.specs.Problem.{Problem}
 use Rattle.levels.specs.Levels.{Ready}
 use Rattle.levels.proofs.Turns.{Passing, passing-none, ends, turn-asks, turn-next, turn-failed, turn-obeyed, turn-split}
+use Rattle.levels.proofs.Splits.{short}
 use Rattle.levels.proofs.pass.Statement.{statement}
 use Rattle.levels.proofs.pass.Tie as tie
 
@@ -63,6 +65,12 @@ loop-again : tie.Need-loop-again Inv-loop μ-loop
 unfolding at
 loop-again c = (c .before .before .level .ensures .0 ∙ c .before .before .before .before .before .before .loop .inv .0, λ p w. turn-next w (c .before .before .before .before .before .before .loop .inv .1 p w) (c .before .before .before .before .before .loop-test .taken) (c .before .before .level .last .0) (c .before .before .level .result) (c .before .before .level .ensures .1 p (turn-asks w (c .before .before .before .before .before .before .loop .inv .1 p w) (c .before .before .before .before .before .loop-test .taken))) (c .enum-told .given .1))
 
+mul-result : tie.Need-mul-result Inv-loop μ-loop
+mul-result c = let p = c .before .before .pre in omega (arith, short (p .1))
+
+add-result : tie.Need-add-result Inv-loop μ-loop
+add-result c = let p = c .before .before .pre in omega (arith, short (p .1))
+
 returns-4 : tie.Need-returns-4 Inv-loop μ-loop
 returns-4 c = (c .before .loop .inv .0, λ p w. ends w (c .before .loop .inv .1 p w) (c .loop-test .left))
 
@@ -86,4 +94,6 @@ pass-spec =
     add-j
     loop-less
     loop-again
+    mul-result
+    add-result
     returns-4)

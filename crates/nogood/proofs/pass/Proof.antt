@@ -12,13 +12,13 @@ use Rattle.nogood.proofs.pass.Statement.{statement}
 use Rattle.nogood.proofs.pass.Tie as tie
 
 abbrev Inv-loop : tie.InvT-loop
-Inv-loop sets₀ index equal not-equal start i₀ sets i = (i ≤ length index) × ((n : ℕ) → Ready n sets₀ index equal not-equal start → Passed n sets₀ (drop start (entries index equal not-equal)) sets (drop i (entries index equal not-equal)))
+Inv-loop sets₀ index equal not-equal start i₀ sets i = ((start ≤ i) × (i ≤ length index)) × ((n : ℕ) → Ready n sets₀ index equal not-equal start → Passed n sets₀ (drop start (entries index equal not-equal)) sets (drop i (entries index equal not-equal)))
 
 abbrev μ-loop : tie.MeasureT-loop
 μ-loop sets₀ index equal not-equal start i₀ sets i = length index - i
 
 loop-holds : tie.Need-loop-holds Inv-loop μ-loop
-loop-holds c = (c .before .before .before .pre .1 .bound, λ n w. starts w)
+loop-holds c = ((search needs, c .before .before .before .pre .1 .bound), λ n w. starts w)
 
 shared-slice-read-x : tie.Need-shared-slice-read-x Inv-loop μ-loop
 shared-slice-read-x c = search needs
@@ -58,7 +58,7 @@ enum-told-4 c = search needs
 
 returns-3 : tie.Need-returns-3 Inv-loop μ-loop
 unfolding at
-returns-3 c = λ n w. turn-split w (c .before .before .before .before .before .before .before .before .loop .inv .1 n w) (c .before .before .before .before .before .before .before .loop-test .taken) (c .before .before .read .ensures) (c .enum-told4 .given .1)
+returns-3 c = λ n w. turn-split w (c .before .before .before .before .before .before .before .before .loop .inv .1 n w) (c .before .before .before .before .before .before .before .loop-test .taken) (c .before .before .read .ensures) (c .before .before .before .before .before .before .before .before .loop .inv .0 .0) (c .enum-told4 .given .1)
 
 add-i : tie.Need-add-i Inv-loop μ-loop
 add-i c = search needs
@@ -68,7 +68,7 @@ loop-less c = search needs
 
 loop-again : tie.Need-loop-again Inv-loop μ-loop
 unfolding at
-loop-again c = (search needs, λ n w. turn-next w (c .before .before .before .before .before .before .before .before .loop .inv .1 n w) (c .before .before .before .before .before .before .before .loop-test .taken) (c .before .before .read .ensures) (c .enum-told .given .1))
+loop-again c = ((search needs, search needs), λ n w. turn-next w (c .before .before .before .before .before .before .before .before .loop .inv .1 n w) (c .before .before .before .before .before .before .before .loop-test .taken) (c .before .before .read .ensures) (c .enum-told .given .1))
 
 returns-4 : tie.Need-returns-4 Inv-loop μ-loop
 returns-4 c = λ n w. ends w (c .before .loop .inv .1 n w) (c .loop-test .left)

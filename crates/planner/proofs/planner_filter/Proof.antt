@@ -4,8 +4,8 @@ use Prim.Native.Nat.{ℕ, _*_, _/_}
 use native.Mathlib.Omega.{arith}
 use lib.ListN.{length, replicate}
 use lib.Seq.{length-take-le}
-use Rattle.planner.specs.Exported.{codeOf}
-use Rattle.planner.proofs.Filtered.{odd-code, odd-bytes, even-code, even-bytes, refused-bytes, many}
+use Rattle.planner.specs.Exported.{filterAnswerCode}
+use Rattle.planner.proofs.Filtered.{odd-code, odd-bytes, even-code, even-bytes, refused-bytes, many, declined-by}
 use borrow.Author.Needs.{needs}
 use Rattle.planner.proofs.planner_filter.Statement.{statement}
 use Rattle.planner.proofs.planner_filter.Tie as tie
@@ -23,7 +23,7 @@ returns-2 c =
     let n = length sets / 2 in
     let twice : length sets ≡ 2 * n = omega arith in
     let e = many sets (a .index .now) (a .equal .now) (a .not-equal .now) n twice (c .if2 .taken) in (
-      sym (ap codeOf e) ∙ even-code sets (a .index .now) (a .equal .now) (a .not-equal .now) even,
+      sym (ap filterAnswerCode (declined-by sets (a .index .now) (a .equal .now) (a .not-equal .now) 17 0 e)) ∙ even-code sets (a .index .now) (a .equal .now) (a .not-equal .now) even,
       refused-bytes sets (a .index .now) (a .equal .now) (a .not-equal .now) n 17 0 twice (λ i. c .before .before .before .before .before .slice-known .given i .fits) e
           ∙ even-bytes sets (a .index .now) (a .equal .now) (a .not-equal .now) even,
     )

@@ -1,5 +1,5 @@
 -- The loop over the symmetries. Assumes nothing.
-use mathlib.Core.Path.{_≡_, refl, sym, subst}
+use mathlib.Core.Path.{_≡_, refl, sym, _∙_, subst}
 use mathlib.Core.Logic.{⊎-elim}
 use mathlib.Core.List.{List}
 use Prim.Native.Nat.{ℕ, _+_, _*_, _-_, _≤_, _<_}
@@ -55,53 +55,58 @@ mul-start-2 c = omega (arith, few-k c, few-e c)
 element-copy-out-start : tie.Need-element-copy-out-start Inv-loop μ-loop
 element-copy-out-start c = omega (arith, few-k c, few-e c)
 
+due-requires : tie.Need-due-requires Inv-loop μ-loop
+due-requires c κs = few-k (c .before)
+
 filter-requires : tie.Need-filter-requires Inv-loop μ-loop
 unfolding at
 filter-requires c κs =
-    let i = c .before .before .before .before in
+    let i = c .before .before .before .before .before in
     let q = i .before .before .before .pre in
-    (q .0, levelled (q .1) (q .2) _ (turn i) (i .before .loop .inv .1 (q .0) (q .1) (q .2) (q .3) (q .4)) (c .before .before .if1 .taken))
+    (q .0, levelled (q .1) (q .2) _ (turn i) (i .before .loop .inv .1 (q .0) (q .1) (q .2) (q .3) (q .4)) (sym (c .before .before .before .due .ensures) ∙ c .before .before .if1 .taken))
 
 returns : tie.Need-returns Inv-loop μ-loop
 unfolding at
 returns c = λ p s g l m.
-    let i = c .before .before .before .before .before .before in
+    let t = c .before .before .before .before in
+    let i = t .before .before .before in
     let r = i .before .loop .inv .1 p s g l m in
-    filtered-dead s g _ (turn i) r (c .before .before .before .before .if1 .taken) (c .before .filter .ensures p (levelled s g _ (turn i) r (c .before .before .before .before .if1 .taken))) (c .if2 .taken)
+    let d = sym (t .before .due .ensures) ∙ t .if1 .taken in
+    filtered-dead s g _ (turn i) r d (c .before .filter .ensures p (levelled s g _ (turn i) r d)) (c .if2 .taken)
 
 mul-work : tie.Need-mul-work Inv-loop μ-loop
-mul-work c = omega (arith, few-k (c .before .before .before .before .before .before))
+mul-work c = omega (arith, few-k (c .before .before .before .before .before .before .before))
 
 add-work : tie.Need-add-work Inv-loop μ-loop
-add-work c = omega (arith, few-k (c .before .before .before .before .before .before))
+add-work c = omega (arith, few-k (c .before .before .before .before .before .before .before))
 
 add-work-2 : tie.Need-add-work-2 Inv-loop μ-loop
-add-work-2 c = omega (arith, few-k (c .before .before .before .before .before .before), few-e (c .before .before .before .before .before .before))
+add-work-2 c = omega (arith, few-k (c .before .before .before .before .before .before .before), few-e (c .before .before .before .before .before .before .before))
 
 mul-work-2 : tie.Need-mul-work-2 Inv-loop μ-loop
-mul-work-2 c = omega (arith, few-k (c .before .before .before .before .before .before), few-e (c .before .before .before .before .before .before))
+mul-work-2 c = omega (arith, few-k (c .before .before .before .before .before .before .before), few-e (c .before .before .before .before .before .before .before))
 
 element-write-work : tie.Need-element-write-work Inv-loop μ-loop
-element-write-work c = omega (arith, few-k (c .before .before .before .before .before .before), few-e (c .before .before .before .before .before .before))
+element-write-work c = omega (arith, few-k (c .before .before .before .before .before .before .before), few-e (c .before .before .before .before .before .before .before))
 
 add-e : tie.Need-add-e Inv-loop μ-loop
-add-e c = omega (arith, few-e (c .before .before))
+add-e c = omega (arith, few-e (c .before .before .before))
 
 loop-less : tie.Need-loop-less Inv-loop μ-loop
-loop-less c = omega (arith, c .before .before .loop-test .taken)
+loop-less c = omega (arith, c .before .before .before .loop-test .taken)
 
 loop-again : tie.Need-loop-again Inv-loop μ-loop
 unfolding at
 loop-again c = (
-  c .before .before .before .loop .inv .0,
+  c .before .before .before .before .loop .inv .0,
   λ p s g l m.
-      let i = c .before .before in
+      let i = c .before .before .before in
       let a = i .before .before .before .args in
       let r = i .before .loop .inv .1 p s g l m in
       let Next : List ℕ → List ℕ → Type 0 = λ work sets. FilteredSoFar p (a .k) (a .work .now) (a .sets .now) work sets (i .before .loop .e + 1) in
       ⊎-elim {C = Next (c .if1 .work) (c .if1 .sets)}
-      (λ w. subst (λ (z : List ℕ). Next z (c .if1 .sets)) (sym (w .6)) (subst (λ (z : List ℕ). Next (set (i .before .loop .work) (16 * a .k + MARKS + i .before .loop .e) (w .3 .result)) z) (sym (w .5)) (filtered-turn s g (a .sets .now) (turn i) r (w .0 .taken) (w .3 .ensures p (levelled s g (a .sets .now) (turn i) r (w .0 .taken))) (w .4 .left))))
-      (λ w. subst (λ (z : List ℕ). Next z (c .if1 .sets)) (sym (w .2)) (subst (λ (z : List ℕ). Next (i .before .loop .work) z) (sym (w .1)) (filtered-skip s g (a .sets .now) (turn i) r (w .0 .left))))
+      (λ w. subst (λ (z : List ℕ). Next z (c .if1 .sets)) (sym (w .6)) (subst (λ (z : List ℕ). Next (set (i .before .loop .work) (16 * a .k + MARKS + i .before .loop .e) (w .3 .result)) z) (sym (w .5)) (filtered-turn s g (a .sets .now) (turn i) r (sym (c .before .due .ensures) ∙ w .0 .taken) (w .3 .ensures p (levelled s g (a .sets .now) (turn i) r (sym (c .before .due .ensures) ∙ w .0 .taken))) (w .4 .left))))
+      (λ w. subst (λ (z : List ℕ). Next z (c .if1 .sets)) (sym (w .2)) (subst (λ (z : List ℕ). Next (i .before .loop .work) z) (sym (w .1)) (filtered-skip s g (a .sets .now) (turn i) r (sym (c .before .due .ensures) ∙ w .0 .left))))
       (c .if1 .came),
 )
 
@@ -121,6 +126,7 @@ filters-spec =
     add-start-2
     mul-start-2
     element-copy-out-start
+    due-requires
     filter-requires
     returns
     mul-work
