@@ -13,6 +13,7 @@ use Rattle.model.specs.Run.{Tally}
 use Rattle.layout.specs.Places.{ALL, DEEPER}
 use Rattle.search.specs.Walk.{withNode}
 use Rattle.search.specs.Pair.{settling, Countable, Counted, AtValues, AtValue, Walked, Entered, tried, lowestTried}
+use Rattle.search.proofs.Written.{settling-inside}
 use Rattle.search.proofs.Turns.{turn-asks, turn-goes, values-ask, μ-settle, rest-falls}
 
 -- ---- tests
@@ -53,7 +54,7 @@ module _ (p : Problem) (stack work supports tables numbers list : List ℕ) (tal
   module _ (x : ℕ) (at-x : x ≡ settling numbers k) where
     pub node-counts : Countable x tally
     node-counts = record {
-      few = subst (λ (y : ℕ). y < 12) (sym at-x) (g .values .prefix .order k variable-few);
+      few = let f = g .values .prefix .ready .wellFormed .few in let i = settling-inside numbers (p .variables) k (g .values .prefix .order) (g .values .prefix .inner) in omega arith;
       summed = g .values .prefix .summed;
       fits = let a = g .values .prefix .allowed in let d = g .due in let l = g .values .prefix .limited in omega arith;
     }

@@ -3,6 +3,7 @@ pub mod Walk
 pub mod Outcome
 pub mod Steps
 pub mod Prefix
+pub mod Written
 pub mod Listing
 pub mod Turns
 pub mod Facts

@@ -9,6 +9,7 @@ use native.Mathlib.Omega.{arith}
 use lib.ListN.{length, set, length-set}
 use Rattle.model.specs.Lists.{at}
 use Rattle.model.proofs.Lists.{at-set, at-set-other}
+use Rattle.order.specs.Reordered.{write}
 use Rattle.layout.specs.Places.{PLANS, ALL, FULL}
 use Rattle.search.specs.Walk.{overwritten, listed}
 use Rattle.search.specs.Pair.{prefixOf, ListRoom, Listed, stateOf}
@@ -38,21 +39,21 @@ module _ (n room : ℕ) (list : List ℕ) (plans : ℕ) (h : ListRoom n room lis
       let l = fits-one e in
       let m : suc plans * 1 ≤ suc plans * n = mul-le-mul-left (suc plans) (h .some) in omega arith
 
-module _ (n room : ℕ) (work list : List ℕ) (h : ListRoom n room list (at work PLANS)) where
-  pub full-now : at work PLANS ≡ room → Listed n work list work list FULL
+module _ (n room : ℕ) (order work list : List ℕ) (h : ListRoom n room list (at work PLANS)) where
+  pub full-now : at work PLANS ≡ room → Listed n order work list work list FULL
   full-now e = record {
-    state = λ tally. sym (listed-full n (prefixOf work n) (stateOf tally work ALL list) (subst (λ (k : ℕ). length list < suc k * n) (sym e) (h .most)));
+    state = λ tally. sym (listed-full n (write order (prefixOf work n)) (stateOf tally work ALL list) (subst (λ (k : ℕ). length list < suc k * n) (sym e) (h .most)));
     known = omega arith;
     others = λ i o. refl;
     work-length = refl;
   }
 
-  pub kept-now : (list′ : List ℕ) → length work ≡ 256 → (at work PLANS ≡ room → ⊥) → list′ ≡ overwritten (at work PLANS * n) (prefixOf work n) list →
-      Listed n work list (set work PLANS (at work PLANS + 1)) list′ ALL
+  pub kept-now : (list′ : List ℕ) → length work ≡ 256 → (at work PLANS ≡ room → ⊥) → list′ ≡ overwritten (at work PLANS * n) (write order (prefixOf work n)) list →
+      Listed n order work list (set work PLANS (at work PLANS + 1)) list′ ALL
   kept-now list′ w e q = record {
     state = λ tally.
         ap₂ (λ (k : ℕ) (l : List ℕ). record { tally = tally; plans = k; stop = ALL; list = l }) (at-set work PLANS (at work PLANS + 1) (omega arith) ∙ add-one (at work PLANS)) q
-        ∙ sym (listed-kept n (prefixOf work n) (stateOf tally work ALL list) (fits-one n room list (at work PLANS) h e));
+        ∙ sym (listed-kept n (write order (prefixOf work n)) (stateOf tally work ALL list) (fits-one n room list (at work PLANS) h e));
     known = omega arith;
     others = λ i o. at-set-other work PLANS (at work PLANS + 1) i o;
     work-length = length-set work PLANS (at work PLANS + 1);

@@ -1,8 +1,9 @@
 -- The walk along the nodes of the tree, from nothing counted and nothing listed, is the run: it comes to the ending of model's `resultOf`, the tally
--- has the nodes made, counted in the order, and the list the run's rows at its front and all bytes after them as they came. Assumes nothing.
+-- has the nodes made, counted in the order, and the list the run's rows, written in the order, at its front and all bytes after them as they came.
+-- Assumes nothing.
 use mathlib.Core.Path.{_≡_, refl, sym, ap, ap₂, _∙_, subst}
 use mathlib.Core.Bool.{Bool, true, false}
-use mathlib.Core.List.{List, [], _∷_, _++_, append-nil}
+use mathlib.Core.List.{List, [], _∷_, _++_, map, append-nil}
 use Prim.Native.Nat.{ℕ, zero, suc, _+_, _*_, _≤_}
 use native.Mathlib.Numerals.{add-one}
 use native.Mathlib.Omega.{arith}
@@ -10,16 +11,17 @@ use lib.Dec.{eqb, leb}
 use lib.ListN.{length, take, drop, length-append, length-drop}
 use lib.Seq.{take-at, drop-append-add, drop-drop}
 use borrow.Author.Tests.{leb-true, leb-false, eqb-true, eqb-false}
-use Rattle.model.specs.Lists.{flat, keep, tabulate}
+use Rattle.model.specs.Lists.{flat, keep, tabulate, at}
 use Rattle.model.specs.Problem.{Problem}
 use Rattle.model.specs.Search.{isPlan, nodes}
 use Rattle.model.specs.Run.{spent, full, plansIn, nodesIn, Result, search, resultOf, written, Tally, settledBy, countsBy}
-use Rattle.model.proofs.Lists.{flat-append}
+use Rattle.model.proofs.Lists.{flat-append, map-append}
 use Rattle.model.proofs.Runs.{turn, search-turn}
 use Rattle.model.proofs.Tally.{counts-snoc}
+use Rattle.order.specs.Reordered.{write}
 use Rattle.layout.specs.Places.{ALL}
 use Rattle.search.specs.Walk.{withNode, noNodes, State, overwritten, listed, counted, visit, walk, stopIn, tallyBy}
-use Rattle.search.proofs.Walk.{listed-full, listed-kept, visit-spent, visit-other, visit-plan, walk-stopped, plan-sized}
+use Rattle.search.proofs.Walk.{listed-full, listed-kept, visit-spent, visit-other, visit-plan, walk-stopped, length-write}
 
 -- rows of n bytes
 flat-one : (t : List ℕ) → flat (t ∷ []) ≡ t
@@ -54,26 +56,29 @@ take-next {A} (suc k) (x ∷ l) a rest e = ap (λ (r : List A). x ∷ r) (take-n
 drop-next : {A : Type 0} (k : ℕ) (l : List A) (a : A) (rest : List A) → drop k l ≡ a ∷ rest → drop (suc k) l ≡ rest
 drop-next {A} k l a rest e = ap (λ (n : ℕ). drop n l) (sym (add-one k)) ∙ sym (drop-drop 1 k l) ∙ ap (drop 1) e
 
-module _ (p : Problem) (order : ℕ → ℕ) (limit : ℕ) (out : List ℕ) where
+module _ (p : Problem) (order : List ℕ) (sized : length order ≡ p .variables) (limit : ℕ) (out : List ℕ) where
+  abbrev by : List (List ℕ) → List (List ℕ)
+  by rows = map (write order) rows
+
   -- the state after nodes that listed these rows
   abbrev from : ℕ → List (List ℕ) → State
-  from made rows = record { tally = tallyBy order p made; plans = length rows; stop = ALL; list = written rows out }
+  from made rows = record { tally = tallyBy order p made; plans = length rows; stop = ALL; list = written (by rows) out }
 
   abbrev to : Result → State
-  to r = record { tally = tallyBy order p (nodesIn (r .ending)); plans = plansIn (r .ending); stop = stopIn (r .ending); list = written (r .rows) out }
+  to r = record { tally = tallyBy order p (nodesIn (r .ending)); plans = plansIn (r .ending); stop = stopIn (r .ending); list = written (by (r .rows)) out }
 
   -- the tally of the nodes made, and of the next
-  tally-next : (made : ℕ) (t : List ℕ) (ts : List (List ℕ)) → drop made (nodes p) ≡ t ∷ ts → withNode (order (settledBy t)) (tallyBy order p made) ≡ tallyBy order p (suc made)
+  tally-next : (made : ℕ) (t : List ℕ) (ts : List (List ℕ)) → drop made (nodes p) ≡ t ∷ ts → withNode (at order (settledBy t)) (tallyBy order p made) ≡ tallyBy order p (suc made)
   unfolding tallyBy
   tally-next made t ts e =
       ap₂ (λ (n : ℕ) (l : List ℕ). record { nodes = n; counts = l }) (add-one made)
-      (sym (counts-snoc (λ u. order (settledBy u)) (take made (nodes p)) t) ∙ ap (countsBy (λ u. order (settledBy u))) (sym (take-next made (nodes p) t ts e)))
+      (sym (counts-snoc (λ u. at order (settledBy u)) (take made (nodes p)) t) ∙ ap (countsBy (λ u. at order (settledBy u))) (sym (take-next made (nodes p) t ts e)))
 
   nodes-by : (made : ℕ) → tallyBy order p made .nodes ≡ made
   unfolding tallyBy
   nodes-by made = refl
 
-  walk-search : (ts : List (List ℕ)) (made : ℕ) (rows : List (List ℕ)) → drop made (nodes p) ≡ ts → length (flat rows) ≡ length rows * p .variables → length rows * p .variables ≤ length out →
+  walk-search : (ts : List (List ℕ)) (made : ℕ) (rows : List (List ℕ)) → drop made (nodes p) ≡ ts → length (flat (by rows)) ≡ length rows * p .variables → length rows * p .variables ≤ length out →
       walk p order limit ts (from made rows) ≡ to (search p limit (length out) ts made rows)
   unfolding walk search
   walk-search [] made rows d z h = refl
@@ -86,7 +91,7 @@ module _ (p : Problem) (order : ℕ → ℕ) (limit : ℕ) (out : List ℕ) wher
       s = from made rows
 
       x : ℕ
-      x = order (settledBy t)
+      x = at order (settledBy t)
 
       S : Result
       S = record { ending = spent (length rows) made; rows = rows }
@@ -100,17 +105,17 @@ module _ (p : Problem) (order : ℕ → ℕ) (limit : ℕ) (out : List ℕ) wher
       Y : Result
       Y = search p limit (length out) ts (suc made) (rows ++ (t ∷ []))
 
-      same : length (written rows out) ≡ length out
-      same = length-written rows out (omega arith)
+      same : length (written (by rows) out) ≡ length out
+      same = length-written (by rows) out (omega arith)
 
       next : counted x (from made rows) ≡ from (suc made) rows
-      next = ap (λ (a : Tally). record { tally = a; plans = length rows; stop = ALL; list = written rows out }) (tally-next made t ts d)
+      next = ap (λ (a : Tally). record { tally = a; plans = length rows; stop = ALL; list = written (by rows) out }) (tally-next made t ts d)
 
       due : eqb made limit ≡ false → from made rows .tally .nodes ≡ limit → ⊥
       due e q = eqb-false made limit e (sym (nodes-by made) ∙ q)
 
       go : walk p order limit ts (from (suc made) rows) ≡ to (search p limit (length out) ts (suc made) rows) →
-          (length (flat (rows ++ (t ∷ []))) ≡ length (rows ++ (t ∷ [])) * p .variables → length (rows ++ (t ∷ [])) * p .variables ≤ length out →
+          (length (flat (by (rows ++ (t ∷ [])))) ≡ length (rows ++ (t ∷ [])) * p .variables → length (rows ++ (t ∷ [])) * p .variables ≤ length out →
           walk p order limit ts (from (suc made) (rows ++ (t ∷ []))) ≡ to (search p limit (length out) ts (suc made) (rows ++ (t ∷ [])))) →
           (b : Bool) → eqb made limit ≡ b → (c : Bool) → isPlan p t ≡ c → (d : Bool) → leb (suc (length rows) * p .variables) (length out) ≡ d →
           walk p order limit ts (visit p order limit t s) ≡ to (turn b c d S N F Y)
@@ -122,17 +127,19 @@ module _ (p : Problem) (order : ℕ → ℕ) (limit : ℕ) (out : List ℕ) wher
       go ih jh false e true e′ false e″ =
           let l = leb-false (suc (length rows) * p .variables) (length out) e″ in
           ap (walk p order limit ts)
-          (visit-plan p order limit t s refl (due e) e′ ∙ ap (listed (p .variables) t) next ∙ listed-full (p .variables) t _ (let q = same in omega arith))
+          (visit-plan p order limit t s refl (due e) e′ ∙ ap (listed (p .variables) (write order t)) next ∙ listed-full (p .variables) (write order t) _ (let q = same in omega arith))
           ∙ walk-stopped p order limit ts _ (λ q. omega arith)
       go ih jh false e true e′ true e″ =
           let l = leb-true (suc (length rows) * p .variables) (length out) e″ in
           let g : length (rows ++ (t ∷ [])) ≡ suc (length rows) = length-append rows (t ∷ []) ∙ omega arith in
-          let f : length (flat (rows ++ (t ∷ []))) ≡ length (flat rows) + length t = ap length (flat-snoc rows t) ∙ length-append (flat rows) t in
-          let z′ = plan-sized p t e′ in
+          let m : by (rows ++ (t ∷ [])) ≡ by rows ++ (write order t ∷ []) = map-append (write order) rows (t ∷ []) in
+          let f : length (flat (by (rows ++ (t ∷ [])))) ≡ length (flat (by rows)) + length (write order t) =
+          ap (λ (l : List (List ℕ)). length (flat l)) m ∙ ap length (flat-snoc (by rows) (write order t)) ∙ length-append (flat (by rows)) (write order t) in
+          let z′ : length (write order t) ≡ p .variables = length-write order t ∙ sized in
           let q : suc (length rows) * p .variables ≡ length rows * p .variables + p .variables = omega arith in
           ap (walk p order limit ts)
-          (visit-plan p order limit t s refl (due e) e′ ∙ ap (listed (p .variables) t) next ∙ listed-kept (p .variables) t _ (let q = same in omega arith)
-          ∙ ap₂ (λ (k : ℕ) (l : List ℕ). record { tally = tallyBy order p (suc made); plans = k; stop = ALL; list = l }) (sym g) (written-snoc rows t out (length rows * p .variables) z))
+          (visit-plan p order limit t s refl (due e) e′ ∙ ap (listed (p .variables) (write order t)) next ∙ listed-kept (p .variables) (write order t) _ (let q = same in omega arith)
+          ∙ ap₂ (λ (k : ℕ) (l : List ℕ). record { tally = tallyBy order p (suc made); plans = k; stop = ALL; list = l }) (sym g) (written-snoc (by rows) (write order t) out (length rows * p .variables) z ∙ ap (λ (l : List (List ℕ)). written l out) (sym m)))
           ∙ jh (f ∙ (omega arith) ∙ ap (λ (k : ℕ). k * p .variables) (sym g)) (subst (λ (k : ℕ). k * p .variables ≤ length out) (sym g) l)
 
   -- the whole tree, from nothing counted and nothing listed

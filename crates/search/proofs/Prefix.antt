@@ -1,15 +1,14 @@
 -- Laws of the prefix in `work`: it has k values, goes by them alone, and grows by the next. Assumes nothing.
-use mathlib.Core.Path.{_≡_, refl, sym, ap, ap₂, _∙_, subst}
+use mathlib.Core.Path.{_≡_, refl, sym, ap, _∙_, subst}
 use mathlib.Core.List.{List, [], _∷_, _++_}
 use Prim.Native.Nat.{ℕ, suc, _+_, _≤_, _<_}
 use native.Mathlib.Numerals.{add-one}
 use native.Mathlib.Decide.{decLt}
 use native.Mathlib.Omega.{arith}
-use lib.ListN.{length, take, drop, getD, length-append, List·getD-append}
-use lib.Seq.{length-take-le, getD-take, getD-at, paste}
+use lib.ListN.{length, take, getD, length-append, List·getD-append}
+use lib.Seq.{length-take-le, getD-take, getD-at}
 use Rattle.model.specs.Lists.{at, tabulate}
 use Rattle.model.proofs.Lists.{length-tabulate, at-tabulate, at-ext}
-use Rattle.search.specs.Walk.{overwritten}
 use Rattle.search.specs.Pair.{prefixOf}
 
 pub length-prefix : (work : List ℕ) (k : ℕ) → length (prefixOf work k) ≡ k
@@ -56,12 +55,7 @@ pub prefix-zero : (work : List ℕ) → prefixOf work 0 ≡ []
 unfolding prefixOf tabulate
 prefix-zero work = refl
 
--- ---- the bytes of a plan over a list, as a copy
-pub pasted : (list : List ℕ) (start : ℕ) (work : List ℕ) (n : ℕ) → n ≤ length work → paste list start work n ≡ overwritten start (prefixOf work n) list
-unfolding overwritten
-pasted list start work n h =
-    ap₂ (λ (row : List ℕ) (k : ℕ). take start list ++ row ++ drop (start + k) list) (prefix-take work n h) (sym (length-prefix work n))
-
+-- ---- a byte
 pub small : (l : List ℕ) (i : ℕ) → at l i < 256 → getD l i 0 < 256
 unfolding at
 small l i h = h

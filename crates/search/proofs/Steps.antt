@@ -15,6 +15,7 @@ use Rattle.model.specs.Run.{settledBy}
 use Rattle.model.proofs.Sets.{members-of-none}
 use Rattle.model.proofs.Members.{both-no}
 use Rattle.model.proofs.Lowest.{members-lowest}
+use Rattle.order.specs.Reordered.{write}
 use Rattle.layout.specs.Places.{ALL}
 use Rattle.search.specs.Walk.{State, listed, counted, exhausted, walk, nodesFor}
 use Rattle.search.proofs.Laws.{dead-below}
@@ -36,7 +37,7 @@ pub below-is : (p : Problem) (k : ℕ) (prefix : List ℕ) → nodesBelow p (suc
 unfolding nodesBelow nodesFor
 below-is p k prefix = refl
 
-module _ (p : Problem) (order : ℕ → ℕ) (limit k : ℕ) (prefix : List ℕ) where
+module _ (p : Problem) (order : List ℕ) (limit k : ℕ) (prefix : List ℕ) where
   pub step-none : (s : State) → walk p order limit (nodesFor p k prefix 0) s ≡ s
   unfolding walk nodesFor flat
   step-none s = ap (λ (l : List ℕ). walk p order limit (flat (map (λ v. (prefix ++ (v ∷ [])) ∷ nodesBelow p k (prefix ++ (v ∷ []))) l)) s) members-of-none
@@ -64,14 +65,14 @@ module _ (p : Problem) (order : ℕ → ℕ) (limit k : ℕ) (prefix : List ℕ)
 
   -- ---- a node and those below it: dead, a plan, or neither
   module _ (t : List ℕ) (s : State) (going : s .stop ≡ ALL) (allowed : s .tally .nodes ≡ limit → ⊥) where
-    pub node-dead : isLive p t ≡ false → walk p order limit (t ∷ nodesBelow p k t) s ≡ counted (order (settledBy t)) s
+    pub node-dead : isLive p t ≡ false → walk p order limit (t ∷ nodesBelow p k t) s ≡ counted (at order (settledBy t)) s
     unfolding walk
     node-dead d = ap₂ (walk p order limit) (dead-below p k t d) (visit-other p order limit t s going allowed (dead-no-plan p t d))
 
-    pub node-plan : isLive p t ≡ true → length t ≡ p .variables → k ≡ 0 → walk p order limit (t ∷ nodesBelow p k t) s ≡ listed (p .variables) t (counted (order (settledBy t)) s)
+    pub node-plan : isLive p t ≡ true → length t ≡ p .variables → k ≡ 0 → walk p order limit (t ∷ nodesBelow p k t) s ≡ listed (p .variables) (write order t) (counted (at order (settledBy t)) s)
     unfolding walk nodesBelow
     node-plan l n z = ap₂ (λ (j : ℕ) (u : State). walk p order limit (nodesBelow p j t) u) z (visit-plan p order limit t s going allowed (is-plan p t n l))
 
-    pub node-inner : (length t ≡ p .variables → ⊥) → walk p order limit (t ∷ nodesBelow p k t) s ≡ walk p order limit (nodesBelow p k t) (counted (order (settledBy t)) s)
+    pub node-inner : (length t ≡ p .variables → ⊥) → walk p order limit (t ∷ nodesBelow p k t) s ≡ walk p order limit (nodesBelow p k t) (counted (at order (settledBy t)) s)
     unfolding walk
     node-inner n = ap (walk p order limit (nodesBelow p k t)) (visit-other p order limit t s going allowed (short-no-plan p t n))

@@ -19,15 +19,18 @@ use Rattle.model.proofs.Sets.{mask-e}
 use Rattle.model.proofs.Lowest.{lowest-in, without-less}
 use Rattle.model.proofs.Tally.{total-set}
 use Rattle.model.specs.WellFormed.{WellFormed}
+use Rattle.order.specs.Order.{Ordering}
+use Rattle.order.specs.Reordered.{write}
 use Rattle.layout.specs.Places.{VARIABLES, LIMIT, ROOM, PLANS, MARKS, ALL, SPENT, DEEPER}
 use Rattle.prune.specs.Node.{Ready, Holds, Marked, AtNode, Reached, longer}
 use Rattle.prune.proofs.Marks.{marked-on}
 use Rattle.search.specs.Walk.{withNode, Summed, State, listed, counted, walk, nodesFor}
-use Rattle.search.specs.Pair.{prefixOf, settling, stateOf, ListRoom, Listed, AtPrefix, AtValues, AtValue, Walked, Entered, tried, lowestNode, lowestTried}
+use Rattle.search.specs.Pair.{prefixOf, settling, orderIn, stateOf, ListRoom, Listed, AtPrefix, AtValues, AtValue, Walked, Entered, tried, lowestNode, lowestTried}
 use Rattle.search.proofs.Laws.{live-values}
 use Rattle.search.proofs.Walk.{Fits, walk-fits, walk-stopped}
 use Rattle.search.proofs.Steps.{below-is, step-none, step, step-spent, node-dead, node-plan, node-inner}
 use Rattle.search.proofs.Prefix.{length-prefix, prefix-at, prefix-ext, prefix-take, prefix-snoc}
+use Rattle.search.proofs.Written.{order-at, length-order, settling-inside}
 
 -- the arrays still hold p where what was lent kept its length
 ready-on : {p : Problem} {stack work supports tables numbers stack′ work′ : List ℕ} → Ready p stack work supports tables numbers → length stack′ ≡ length stack → length work′ ≡ length work →
@@ -62,8 +65,8 @@ module _ (p : Problem) (stack work supports tables numbers list : List ℕ) (tal
   abbrev limit : ℕ
   limit = at numbers LIMIT
 
-  abbrev order : ℕ → ℕ
-  order = settling numbers
+  abbrev order : List ℕ
+  order = orderIn numbers (p .variables)
 
   abbrev left : ℕ
   left = p .variables - (k + 1)
@@ -120,7 +123,7 @@ module _ (p : Problem) (stack work supports tables numbers list : List ℕ) (tal
       fits : Fits p limit (length list) (stateOf tally′ work′ stop list′)
       fits =
           subst (Fits p limit (length list)) (sym (d .state))
-          (walk-fits p order limit (length list) (lowestTried p work k m) now-at record { allowed = h .prefix .allowed; sized = refl; roomy = h .prefix .room .listed })
+          (walk-fits p order (length-order numbers (p .variables)) limit (length list) (lowestTried p work k m) now-at record { allowed = h .prefix .allowed; sized = refl; roomy = h .prefix .room .listed })
 
       pub turn-asks : AtValues p stack′ work′ supports tables numbers list′ tally′ k more
       turn-asks = record {
@@ -219,11 +222,11 @@ module _ (p : Problem) (stack work supports tables numbers list : List ℕ) (tal
   abbrev next : Tally
   next = withNode x tally
 
-  few : k < 12
-  few = let f = h .ready .wellFormed .few in let i = h .inner in omega arith
+  few : x < 12
+  few = let f = h .ready .wellFormed .few in let i = settling-inside numbers (p .variables) k (h .order) (h .inner) in omega arith
 
   summed₂ : Summed next
-  summed₂ = summed-more x tally (h .order k few) (h .summed)
+  summed₂ = summed-more x tally few (h .summed)
 
   module _ (stack₂ work₂ : List ℕ) (dead : Bool) (q : Reached p (longer put k) (k + 1) stack put stack₂ work₂ dead) where
     sets₂ : (i : ℕ) → i < 16 * suc k → at stack₂ i ≡ at stack i
@@ -255,10 +258,10 @@ module _ (p : Problem) (stack work supports tables numbers list : List ℕ) (tal
     length-node = ap length (sym node₂) ∙ length-prefix work₂ (k + 1)
 
     -- the node settles the variable of its depth
-    settled : settling numbers (settledBy here) ≡ x
-    settled = ap (settling numbers) (let l = length-node in omega arith)
+    settled : at (orderIn numbers (p .variables)) (settledBy here) ≡ x
+    settled = ap (at (orderIn numbers (p .variables))) (let l = length-node in omega arith) ∙ order-at numbers (p .variables) k (h .inner)
 
-    state₂ : stateOf next work₂ ALL list ≡ counted (settling numbers (settledBy here)) (stateOf tally work ALL list)
+    state₂ : stateOf next work₂ ALL list ≡ counted (at (orderIn numbers (p .variables)) (settledBy here)) (stateOf tally work ALL list)
     state₂ =
         ap (λ (n : ℕ). record { tally = next; plans = n; stop = ALL; list = list }) plans₂
         ∙ ap (λ (y : ℕ). counted y (stateOf tally work ALL list)) (sym settled)
@@ -275,7 +278,7 @@ module _ (p : Problem) (stack work supports tables numbers list : List ℕ) (tal
     pub entered-dead : dead ≡ true → Out stack₂ work₂ list ALL
     entered-dead e = record {
       walked = λ n. record {
-        state = state₂ ∙ sym (node-dead p (settling numbers) (at numbers LIMIT) (p .variables - (k + 1)) (prefixOf work k) here (stateOf tally work ALL list) refl (g .due) (dead₂ e));
+        state = state₂ ∙ sym (node-dead p (orderIn numbers (p .variables)) (at numbers LIMIT) (p .variables - (k + 1)) (prefixOf work k) here (stateOf tally work ALL list) refl (g .due) (dead₂ e));
         summed = summed₂;
         sets = sets₂;
         values = before₂;
@@ -301,16 +304,19 @@ module _ (p : Problem) (stack work supports tables numbers list : List ℕ) (tal
         let a : at here i ≡ at work₂ i = ap (λ (t : List ℕ). at t i) (sym node₂) ∙ prefix-at work₂ (k + 1) i z in
         omega arith
 
+    pub plan-order : Ordering (at numbers VARIABLES) (orderIn numbers (at numbers VARIABLES))
+    plan-order = subst (λ (n : ℕ). Ordering n (orderIn numbers n)) (sym (h .ready .indexed .numbered .variables)) (h .order)
+
     pub plan-sized : length work₂ ≡ 256
     plan-sized = work-length₂ ∙ h .ready .work-length
 
-    pub entered-plan : dead ≡ false → k + 1 ≡ p .variables → (work₃ list₃ : List ℕ) (stop : ℕ) → Listed (at numbers VARIABLES) work₂ list work₃ list₃ stop → Out stack₂ work₃ list₃ stop
+    pub entered-plan : dead ≡ false → k + 1 ≡ p .variables → (work₃ list₃ : List ℕ) (stop : ℕ) → Listed (at numbers VARIABLES) (orderIn numbers (at numbers VARIABLES)) work₂ list work₃ list₃ stop → Out stack₂ work₃ list₃ stop
     entered-plan e n work₃ list₃ stop w = record {
       walked = λ z. record {
         state = w .state next
-            ∙ ap (λ (j : ℕ). listed j (prefixOf work₂ j) (stateOf next work₂ ALL list)) (h .ready .indexed .numbered .variables)
-            ∙ ap₂ (λ (t : List ℕ) (s : State). listed (p .variables) t s) (ap (prefixOf work₂) (sym n) ∙ node₂) state₂
-            ∙ sym (node-plan p (settling numbers) (at numbers LIMIT) (p .variables - (k + 1)) (prefixOf work k) here (stateOf tally work ALL list) refl (g .due) (live₂ e) (length-node ∙ n) (omega arith));
+            ∙ ap (λ (j : ℕ). listed j (write (orderIn numbers j) (prefixOf work₂ j)) (stateOf next work₂ ALL list)) (h .ready .indexed .numbered .variables)
+            ∙ ap₂ (λ (t : List ℕ) (s : State). listed (p .variables) (write (orderIn numbers (p .variables)) t) s) (ap (prefixOf work₂) (sym n) ∙ node₂) state₂
+            ∙ sym (node-plan p (orderIn numbers (p .variables)) (at numbers LIMIT) (p .variables - (k + 1)) (prefixOf work k) here (stateOf tally work ALL list) refl (g .due) (live₂ e) (length-node ∙ n) (omega arith));
         summed = summed₂;
         sets = sets₂;
         values = λ i l. w .others i (let f = h .ready .wellFormed .few in let z = h .inner in λ e. omega arith) ∙ before₂ i l;
@@ -342,9 +348,9 @@ module _ (p : Problem) (stack work supports tables numbers list : List ℕ) (tal
       walked = λ z. absurd (z refl);
       next = λ z. next₂ e n;
       then = λ z stack₃ work₃ list₃ tally₃ stop w. record {
-        state = w .state ∙ ap (λ (ts : List (List ℕ)). walk p (settling numbers) (at numbers LIMIT) ts (stateOf next work₂ ALL list)) (tried-all p stack₂ work₂ supports tables numbers list next (k + 1) (next₂ e n))
-            ∙ ap₂ (λ (t : List ℕ) (s : State). walk p (settling numbers) (at numbers LIMIT) (nodesBelow p (p .variables - (k + 1)) t) s) node₂ state₂
-            ∙ sym (node-inner p (settling numbers) (at numbers LIMIT) (p .variables - (k + 1)) (prefixOf work k) here (stateOf tally work ALL list) refl (g .due) (λ z. n (sym length-node ∙ z)));
+        state = w .state ∙ ap (λ (ts : List (List ℕ)). walk p (orderIn numbers (p .variables)) (at numbers LIMIT) ts (stateOf next work₂ ALL list)) (tried-all p stack₂ work₂ supports tables numbers list next (k + 1) (next₂ e n))
+            ∙ ap₂ (λ (t : List ℕ) (s : State). walk p (orderIn numbers (p .variables)) (at numbers LIMIT) (nodesBelow p (p .variables - (k + 1)) t) s) node₂ state₂
+            ∙ sym (node-inner p (orderIn numbers (p .variables)) (at numbers LIMIT) (p .variables - (k + 1)) (prefixOf work k) here (stateOf tally work ALL list) refl (g .due) (λ z. n (sym length-node ∙ z)));
         summed = w .summed;
         sets = λ i l. w .sets i (omega arith) ∙ sets₂ i l;
         values = λ i l. w .values i (omega arith) ∙ before₂ i l;

@@ -4,19 +4,25 @@ use mathlib.Core.Bool.{Bool, true, false}
 use mathlib.Core.List.{List, [], _∷_, _++_}
 use Prim.Native.Nat.{ℕ, suc, _+_, _*_, _≤_, _<_}
 use native.Mathlib.Omega.{arith}
-use lib.Dec.{T, eqb, leb}
+use lib.Dec.{eqb, leb}
 use lib.ListN.{length, length-append, length-take, length-drop}
 use borrow.Author.Tests.{leb-true, leb-false, eqb-true, eqb-false, eq-eqb, ne-eqb, le-leb, lt-leb}
-use Rattle.model.specs.Lists.{both}
+use Rattle.model.specs.Lists.{at}
 use Rattle.model.specs.Problem.{Problem}
-use Rattle.model.specs.Search.{isPlan, isLive}
+use Rattle.model.specs.Search.{isPlan}
 use Rattle.model.specs.Run.{settledBy}
+use Rattle.model.proofs.Lists.{length-below}
+use Rattle.order.specs.Reordered.{position, write}
 use Rattle.layout.specs.Places.{ALL, FULL}
 use Rattle.search.specs.Walk.{State, overwritten, listed, counted, exhausted, visit, walk}
 
 pub length-overwritten : (i : ℕ) (row list : List ℕ) → i + length row ≤ length list → length (overwritten i row list) ≡ length list
 unfolding overwritten
 length-overwritten i row list h = simp (length-append, length-take, length-drop) (omega arith)
+
+pub length-write : (order r : List ℕ) → length (write order r) ≡ length order
+unfolding write
+length-write order r = length-below (λ x. at r (position order x)) (length order)
 
 -- ---- a plan is found
 pub listed-full : (n : ℕ) (row : List ℕ) (s : State) → length (s .list) < suc (s .plans) * n → listed n row s ≡ record { tally = s .tally; plans = s .plans; stop = FULL; list = s .list }
@@ -28,7 +34,7 @@ pub listed-kept : (n : ℕ) (row : List ℕ) (s : State) → suc (s .plans) * n 
 unfolding listed
 listed-kept n row s h = rw (le-leb (suc (s .plans) * n) (length (s .list)) h)
 
-module _ (p : Problem) (order : ℕ → ℕ) (limit : ℕ) where
+module _ (p : Problem) (order : List ℕ) (limit : ℕ) where
   -- ---- one node
   pub visit-stopped : (t : List ℕ) (s : State) → (s .stop ≡ ALL → ⊥) → visit p order limit t s ≡ s
   unfolding visit
@@ -38,11 +44,11 @@ module _ (p : Problem) (order : ℕ → ℕ) (limit : ℕ) where
   unfolding visit
   visit-spent t s g h = rw (eq-eqb (s .stop) ALL g, eq-eqb (s .tally .nodes) limit h)
 
-  pub visit-other : (t : List ℕ) (s : State) → s .stop ≡ ALL → (s .tally .nodes ≡ limit → ⊥) → isPlan p t ≡ false → visit p order limit t s ≡ counted (order (settledBy t)) s
+  pub visit-other : (t : List ℕ) (s : State) → s .stop ≡ ALL → (s .tally .nodes ≡ limit → ⊥) → isPlan p t ≡ false → visit p order limit t s ≡ counted (at order (settledBy t)) s
   unfolding visit
   visit-other t s g h e = rw (eq-eqb (s .stop) ALL g, ne-eqb (s .tally .nodes) limit h, e)
 
-  pub visit-plan : (t : List ℕ) (s : State) → s .stop ≡ ALL → (s .tally .nodes ≡ limit → ⊥) → isPlan p t ≡ true → visit p order limit t s ≡ listed (p .variables) t (counted (order (settledBy t)) s)
+  pub visit-plan : (t : List ℕ) (s : State) → s .stop ≡ ALL → (s .tally .nodes ≡ limit → ⊥) → isPlan p t ≡ true → visit p order limit t s ≡ listed (p .variables) (write order t) (counted (at order (settledBy t)) s)
   unfolding visit
   visit-plan t s g h e = rw (eq-eqb (s .stop) ALL g, ne-eqb (s .tally .nodes) limit h, e)
 
@@ -63,15 +69,7 @@ pub record Fits (p : Problem) (limit room : ℕ) (s : State) : Type 0 where
   pub sized : length (s .list) ≡ room
   pub roomy : s .plans * p .variables ≤ room
 
-pub plan-sized : (p : Problem) (t : List ℕ) → isPlan p t ≡ true → length t ≡ p .variables
-unfolding isPlan
-plan-sized p t e = go (eqb (length t) (p .variables)) refl e
-  where
-    go : (b : Bool) → eqb (length t) (p .variables) ≡ b → both b (isLive p t) ≡ true → length t ≡ p .variables
-    go true q h = eqb-true (length t) (p .variables) q
-    go false q h = absurd (subst T (sym h) tt)
-
-module _ (p : Problem) (order : ℕ → ℕ) (limit room : ℕ) where
+module _ (p : Problem) (order : List ℕ) (sized : length order ≡ p .variables) (limit room : ℕ) where
   listed-fits : (t : List ℕ) (s : State) → length t ≡ p .variables → Fits p limit room s → Fits p limit room (listed (p .variables) t s)
   listed-fits t s e f = go (leb (suc (s .plans) * p .variables) (length (s .list))) refl
     where
@@ -100,7 +98,7 @@ module _ (p : Problem) (order : ℕ → ℕ) (limit room : ℕ) where
       go true d false e true h =
           let n = eqb-false (s .tally .nodes) limit e in
           subst (Fits p limit room) (sym (visit-plan p order limit t s (eqb-true (s .stop) ALL d) n h))
-          (listed-fits t (counted (order (settledBy t)) s) (plan-sized p t h) record { allowed = let l = f .allowed in omega arith; sized = f .sized; roomy = f .roomy })
+          (listed-fits (write order t) (counted (at order (settledBy t)) s) (length-write order t ∙ sized) record { allowed = let l = f .allowed in omega arith; sized = f .sized; roomy = f .roomy })
 
   pub walk-fits : (ts : List (List ℕ)) (s : State) → Fits p limit room s → Fits p limit room (walk p order limit ts s)
   unfolding walk

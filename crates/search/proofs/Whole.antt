@@ -2,7 +2,7 @@
 -- run's answer, list and tally. Assumes nothing.
 use mathlib.Core.Path.{_≡_, refl, sym, ap, ap₂, _∙_, subst}
 use mathlib.Core.Bool.{Bool, true, false}
-use mathlib.Core.List.{List, []}
+use mathlib.Core.List.{List, [], _∷_, map}
 use Prim.Native.Nat.{ℕ, zero, suc, _+_, _*_, _/_, _%_, _^_, _≤_, _<_}
 use native.Mathlib.Nat.{div-add-mod', mod-lt, sub-zero, not-suc-le-zero}
 use native.Mathlib.Decide.{decLt}
@@ -10,17 +10,23 @@ use native.Mathlib.Omega.{arith}
 use lib.Dec.{T, eqb}
 use borrow.Author.Tests.{not-true, not-false, eqb-true, eqb-false}
 use lib.ListN.{length, take, set, length-set, length-replicate}
-use Rattle.model.specs.Lists.{at, choose, total}
+use lib.Seq.{length-take-le}
+use Rattle.model.specs.Lists.{at, upFrom, below, choose, total}
 use Rattle.model.specs.ValueSets.{has}
 use Rattle.model.specs.Problem.{Problem}
 use Rattle.model.specs.Search.{isLive, setsAt, nodes, nodesBelow}
 use Rattle.model.specs.Verdict.{Verdict, accepted, refused}
 use Rattle.model.specs.Sheet.{verdictOf, problemOf}
-use Rattle.model.specs.Run.{finished, spent, full, ended, resultOf, answerFor, answerOf, listFor, listOf, Tally, settledBy, tallyAt, tallyFor, tallyOf, plansIn, nodesIn}
+use Rattle.model.specs.Run.{finished, spent, full, ended, resultOf, written, answerFor, answerOf, listFor, listOf, Tally, settledBy, tallyAt, tallyFor, tallyOf, plansIn, nodesIn}
 use Rattle.model.specs.Run as Run
 use Rattle.model.specs.WellFormed.{WellFormed}
-use Rattle.model.proofs.Lists.{T-of, at-set, at-set-other}
+use Rattle.model.proofs.Lists.{T-of, at-ext, at-take, at-set, at-set-other}
 use Rattle.model.proofs.Tally.{counts-ext, settled-few, tally-nodes}
+use Rattle.order.specs.Order.{Ordering}
+use Rattle.order.specs.Reordered.{write}
+use Rattle.order.specs.RunBy.{resultBy}
+use Rattle.order.proofs.LeadersBy.{below-at, ordering-below, reordered-below}
+use Rattle.order.proofs.RunBy.{same-result}
 use Rattle.layout.specs.Places.{VARIABLES, VALUES, CONSTRAINTS, SYMMETRIES, LIMIT, ROOM, LINKED, BY-ROWS, OTHERS, LOOSE, ORDER, LANES, PLANS, NUMBER, ITEM, ALL, SPENT, DEEPER, REFUSED}
 use Rattle.layout.specs.Layout.{Numbers, Compiled}
 use Rattle.layout.specs.Tables.{Linked, Indexed}
@@ -28,7 +34,7 @@ use Rattle.sheet.specs.Form.{Zeros}
 use Rattle.index.specs.Index.{Compact, Made}
 use Rattle.prune.specs.Node.{Ready, Holds, Marked, Reached}
 use Rattle.search.specs.Walk.{noNodes, Summed, State, walk, stopIn, tallyBy}
-use Rattle.search.specs.Pair.{prefixOf, settling, Cleared, stateOf, ListRoom, AtPrefix, AtValues, Walked, tried}
+use Rattle.search.specs.Pair.{prefixOf, orderIn, Cleared, stateOf, ListRoom, AtPrefix, AtValues, Walked, tried}
 use Rattle.search.specs.Meaning.{means}
 use Rattle.search.specs.Whole.{ordered, Prepared, RunTo, Explored, Stopped, Answered}
 use Rattle.search.specs.declared.Answer.{Answer}
@@ -37,6 +43,7 @@ use Rattle.search.proofs.Outcome.{outcome}
 use Rattle.search.proofs.Sheets.{WithinLimits, within-limits, answer-refused, list-refused}
 use Rattle.search.proofs.Turns.{values-ask, tried-all}
 use Rattle.search.proofs.Prefix.{prefix-zero}
+use Rattle.search.proofs.Written.{order-taken}
 
 -- ---- the numbers with the limit and the room among them
 numbers-kept : (p : Problem) (numbers numbers′ : List ℕ) → p .variables ≤ 12 → length (p .constraints) ≤ 32 → ((i : ℕ) → i < 68 → at numbers′ i ≡ at numbers i) → Numbers p numbers → Numbers p numbers′
@@ -75,26 +82,35 @@ indexed-kept p numbers numbers′ supports tables f c low high h = record {
   imageTables = h .imageTables;
 }
 
-ordered-other : (n i : ℕ) (l : List ℕ) → ((j : ℕ) → j < n → i ≡ ORDER + j → ⊥) → at (ordered n l) i ≡ at l i
-unfolding ordered
-ordered-other zero i l h = refl
-ordered-other (suc n) i l h = at-set-other (ordered n l) (ORDER + n) n i (h n (omega arith)) ∙ ordered-other n i l (λ j m. h j (omega arith))
+module _ (order : List ℕ) where
+  ordered-other : (n i : ℕ) (l : List ℕ) → ((j : ℕ) → j < n → i ≡ ORDER + j → ⊥) → at (ordered order n l) i ≡ at l i
+  unfolding ordered
+  ordered-other zero i l h = refl
+  ordered-other (suc n) i l h = at-set-other (ordered order n l) (ORDER + n) (at order n) i (h n (omega arith)) ∙ ordered-other n i l (λ j m. h j (omega arith))
 
-pub length-ordered : (n : ℕ) (l : List ℕ) → length (ordered n l) ≡ length l
-unfolding ordered
-length-ordered zero l = refl
-length-ordered (suc n) l = length-set (ordered n l) (ORDER + n) n ∙ length-ordered n l
+  pub length-ordered : (n : ℕ) (l : List ℕ) → length (ordered order n l) ≡ length l
+  unfolding ordered
+  length-ordered zero l = refl
+  length-ordered (suc n) l = length-set (ordered order n l) (ORDER + n) (at order n) ∙ length-ordered n l
 
-ordered-at : (n k : ℕ) (l : List ℕ) → ORDER + n ≤ length l → k < n → at (ordered n l) (ORDER + k) ≡ k
-unfolding ordered
-ordered-at zero k l h m = absurd (not-suc-le-zero m)
-ordered-at (suc n) k l h m = go (ordered-at n k l (omega arith)) (decLt k n)
-  where
-    go : (k < n → at (ordered n l) (ORDER + k) ≡ k) → Dec (k < n) → at (set (ordered n l) (ORDER + n) n) (ORDER + k) ≡ k
-    go ih (yes d) = at-set-other (ordered n l) (ORDER + n) n (ORDER + k) (λ e. omega arith) ∙ ih d
-    go ih (no d) =
-        let e : n ≡ k = omega arith in
-        ap (λ (j : ℕ). at (set (ordered n l) (ORDER + n) n) (ORDER + j)) (sym e) ∙ at-set (ordered n l) (ORDER + n) n (let s = length-ordered n l in omega arith) ∙ e
+  ordered-at : (n k : ℕ) (l : List ℕ) → ORDER + n ≤ length l → k < n → at (ordered order n l) (ORDER + k) ≡ at order k
+  unfolding ordered
+  ordered-at zero k l h m = absurd (not-suc-le-zero m)
+  ordered-at (suc n) k l h m = go (ordered-at n k l (omega arith)) (decLt k n)
+    where
+      go : (k < n → at (ordered order n l) (ORDER + k) ≡ at order k) → Dec (k < n) → at (set (ordered order n l) (ORDER + n) (at order n)) (ORDER + k) ≡ at order k
+      go ih (yes d) = at-set-other (ordered order n l) (ORDER + n) (at order n) (ORDER + k) (λ e. omega arith) ∙ ih d
+      go ih (no d) =
+          let e : n ≡ k = omega arith in
+          ap (λ (j : ℕ). at (set (ordered order n l) (ORDER + n) (at order n)) (ORDER + j)) (sym e) ∙ at-set (ordered order n l) (ORDER + n) (at order n) (let s = length-ordered n l in omega arith) ∙ ap (at order) e
+
+-- the order 0, 1, ..
+pub identity : (n : ℕ) → n ≤ 12 → take n (0 ∷ 1 ∷ 2 ∷ 3 ∷ 4 ∷ 5 ∷ 6 ∷ 7 ∷ 8 ∷ 9 ∷ 10 ∷ 11 ∷ 12 ∷ 13 ∷ 14 ∷ 15 ∷ []) ≡ below n
+unfolding below upFrom
+identity n l =
+    let e : length (take n (below 16)) ≡ n = length-take-le n (below 16) (omega arith) in
+    let o = ordering-below n .sized in
+    at-ext (take n (below 16)) (below n) (e ∙ sym o) (λ i h. let j : i < n = omega arith in at-take n (below 16) i j ∙ below-at 16 i (omega arith) ∙ sym (below-at n i j))
 
 pub none-summed : Summed noNodes
 unfolding total
@@ -108,6 +124,9 @@ module _ (b : List ℕ) (accepts : verdictOf b ≡ accepted) where
   fits = within-limits b accepts
 
   module _ (numbers supports images : List ℕ) (h : Compiled p numbers supports images) where
+    pub few-variables : p .variables ≤ 12
+    few-variables = fits .wellFormed .few
+
     pub some-variables : 0 < at numbers VARIABLES
     some-variables = subst (λ (n : ℕ). 0 < n) (sym (h .numbered .variables)) (fits .wellFormed .some)
 
@@ -131,18 +150,18 @@ module _ (b : List ℕ) (accepts : verdictOf b ≡ accepted) where
         tables-length = lt;
       }
 
-      module _ (tables indexed tables′ : List ℕ) (made : Made p bounded supports tables indexed tables′) (numbers′ : List ℕ) (orders : numbers′ ≡ ordered 12 indexed) where
+      module _ (tables indexed tables′ : List ℕ) (made : Made p bounded supports tables indexed tables′) (order : List ℕ) (long-order : length order ≡ 16) (order-is : take (p .variables) order ≡ below (p .variables)) (numbers′ : List ℕ) (orders : numbers′ ≡ ordered order 12 indexed) where
         low : (i : ℕ) → i < ORDER → at numbers′ i ≡ at indexed i
-        low i l = ap (λ (m : List ℕ). at m i) orders ∙ ordered-other 12 i indexed (λ j m e. omega arith)
+        low i l = ap (λ (m : List ℕ). at m i) orders ∙ ordered-other order 12 i indexed (λ j m e. omega arith)
 
         high : (i : ℕ) → LANES ≤ i → at numbers′ i ≡ at indexed i
-        high i l = ap (λ (m : List ℕ). at m i) orders ∙ ordered-other 12 i indexed (λ j m e. omega arith)
+        high i l = ap (λ (m : List ℕ). at m i) orders ∙ ordered-other order 12 i indexed (λ j m e. omega arith)
 
         indexed-length : length indexed ≡ 384
         indexed-length = made .numbers-length ∙ ap length put ∙ length-set (set numbers LIMIT limit) ROOM room ∙ length-set numbers LIMIT limit ∙ long
 
-        settles : (k : ℕ) → k < 12 → settling numbers′ k ≡ k
-        settles k l = ap (λ (m : List ℕ). at m (ORDER + k)) orders ∙ ordered-at 12 k indexed (let e = indexed-length in omega arith) l
+        order-put : orderIn numbers′ (p .variables) ≡ below (p .variables)
+        order-put = order-taken numbers′ order (p .variables) (let f = fits .wellFormed .few in omega arith) (λ k l. ap (λ (m : List ℕ). at m (ORDER + k)) orders ∙ ordered-at order 12 k indexed (let e = indexed-length in omega arith) (let f = fits .wellFormed .few in omega arith)) ∙ order-is
 
         pub ready : (stack work : List ℕ) → length stack ≡ 208 → length work ≡ 256 → Ready p stack work supports tables′ numbers′
         ready stack work ls lw = record {
@@ -179,7 +198,7 @@ module _ (b : List ℕ) (accepts : verdictOf b ≡ accepted) where
             limited = subst (λ (k : ℕ). k < 2 ^ 32) (sym limited) small;
             allowed = omega arith;
             summed = none-summed;
-            order = λ j l. subst (λ (k : ℕ). k < 12) (sym (settles j l)) l;
+            order = subst (Ordering (p .variables)) (sym order-put) (ordering-below (p .variables));
             room = subst (ListRoom (p .variables) (at numbers′ ROOM) list) (sym plans-none) (subst (λ (k : ℕ). ListRoom (p .variables) k list 0) (sym (low ROOM (omega arith) ∙ made .kept ROOM (omega arith) ∙ at-room)) (empty-room list same));
           }
 
@@ -203,7 +222,7 @@ module _ (b : List ℕ) (accepts : verdictOf b ≡ accepted) where
             dead = λ z. absurd (omega arith);
             known = λ z y. refl;
             bounded = λ z. limited;
-            order = λ z. settles;
+            order = λ z. order-put;
             live = λ z. start e;
           }
 
@@ -229,11 +248,15 @@ abbrev zeroth : List ℕ → State
 zeroth list = record { tally = noNodes; plans = 0; stop = ALL; list = list }
 
 -- in the order 0, 1, .. the counts are the defined ones
-tally-same : (p : Problem) → WellFormed p → (order : ℕ → ℕ) → ((k : ℕ) → k < 12 → order k ≡ k) → (k : ℕ) → tallyBy order p k ≡ tallyAt p k
+tally-same : (p : Problem) (k : ℕ) → tallyBy (below (p .variables)) p k ≡ tallyAt p k
 unfolding tallyBy tallyAt
-tally-same p w order same k =
+tally-same p k =
     ap (λ (l : List ℕ). record { nodes = k; counts = l })
-    (counts-ext (λ t. order (settledBy t)) settledBy (take k (nodes p)) (λ t m. same (settledBy t) (let s = settled-few p k t m in let f = w .few in omega arith)))
+    (counts-ext (λ t. at (below (p .variables)) (settledBy t)) settledBy (take k (nodes p)) (λ t m. below-at (p .variables) (settledBy t) (settled-few p k t m)))
+
+rows-same : (p : Problem) → WellFormed p → (limit room : ℕ) → map (write (below (p .variables))) (resultOf p limit room .rows) ≡ resultOf p limit room .rows
+unfolding resultBy
+rows-same p w limit room = ap (λ (q : Problem). map (write (below (p .variables))) (resultOf q limit room .rows)) (sym (reordered-below p w)) ∙ same-result p w limit room .1
 
 stop-in : (e : Run.Ending) → stopIn e < DEEPER
 stop-in (finished k u) = omega arith
@@ -241,13 +264,12 @@ stop-in (spent k u) = omega arith
 stop-in (full k u) = omega arith
 
 -- a walk along all nodes is the run
-run-to : (p : Problem) → WellFormed p → (order : ℕ → ℕ) → ((k : ℕ) → k < 12 → order k ≡ k) → (limit : ℕ) (list work′ list′ : List ℕ) (tally′ : Tally) (stop : ℕ) →
-    stateOf tally′ work′ stop list′ ≡ walk p order limit (nodes p) (zeroth list) → RunTo p (resultOf p limit (length list)) list work′ list′ tally′ stop
-run-to p w order same limit list work′ list′ tally′ stop h =
-    let s = h ∙ outcome p order limit list in
-    let e = resultOf p limit (length list) .ending in
+run-to : (p : Problem) (order : List ℕ) → length order ≡ p .variables → (limit : ℕ) (list work′ list′ : List ℕ) (tally′ : Tally) (stop : ℕ) →
+    stateOf tally′ work′ stop list′ ≡ walk p order limit (nodes p) (zeroth list) → RunTo p order (resultOf p limit (length list)) list work′ list′ tally′ stop
+run-to p order sized limit list work′ list′ tally′ stop h =
+    let s = h ∙ outcome p order sized limit list in
     record {
-      tally = ap (λ (x : State). x .tally) s ∙ tally-same p w order same (nodesIn e);
+      tally = ap (λ (x : State). x .tally) s;
       plans = ap (λ (x : State). x .plans) s;
       stopped = ap (λ (x : State). x .stop) s;
       wrote = ap (λ (x : State). x .list) s;
@@ -263,24 +285,27 @@ module _ (b : List ℕ) (limit : ℕ) (list stack work supports tables numbers :
     known = λ z. absurd (z s);
   }
 
-  well : (step ≡ REFUSED → ⊥) → WellFormed (problemOf b)
-  well n = within-limits b (h .accepted n) .wellFormed
+  abbrev order : List ℕ
+  order = below (problemOf b .variables)
+
+  sized : length order ≡ problemOf b .variables
+  sized = ordering-below (problemOf b .variables) .sized
 
   pub explored-dead : (tally tally′ : Tally) (stop : ℕ) → step ≡ ALL → stop ≡ ALL → Cleared tally′ → Explored b limit list tally work list tally′ stop
   unfolding nodes walk
   explored-dead tally tally′ stop e s t = record {
     refused = λ z. absurd (omega arith);
     accepted = λ z. h .accepted (λ f. omega arith);
-    ended = λ z. run-to (problemOf b) (well (λ f. omega arith)) (λ k. k) (λ k l. refl) limit list work list tally′ stop none;
+    ended = λ z. run-to (problemOf b) order sized limit list work list tally′ stop none;
     summed = λ z. t .summed;
     known = λ z. omega arith;
   }
     where
-      none : stateOf tally′ work stop list ≡ walk (problemOf b) (λ k. k) limit (nodes (problemOf b)) (zeroth list)
+      none : stateOf tally′ work stop list ≡ walk (problemOf b) order limit (nodes (problemOf b)) (zeroth list)
       none =
           ap₂ (λ (a : Tally) (k : ℕ). record { tally = a; plans = k; stop = stop; list = list }) (t .is) (h .begun (λ f. omega arith))
           ∙ ap (λ (k : ℕ). record { tally = noNodes; plans = 0; stop = k; list = list }) s
-          ∙ sym (ap (λ (ts : List (List ℕ)). walk (problemOf b) (λ k. k) limit ts (zeroth list)) (dead-below (problemOf b) (problemOf b .variables) [] (h .dead e)))
+          ∙ sym (ap (λ (ts : List (List ℕ)). walk (problemOf b) order limit ts (zeroth list)) (dead-below (problemOf b) (problemOf b .variables) [] (h .dead e)))
 
   module _ (e : step ≡ DEEPER) (count : Tally) (none : Cleared count) (values : ℕ) (all : values ≡ at stack (17 * 0)) where
     abbrev given : AtPrefix (problemOf b) stack work supports tables numbers list count 0
@@ -290,16 +315,17 @@ module _ (b : List ℕ) (limit : ℕ) (list stack work supports tables numbers :
     start-asks = subst (AtValues (problemOf b) stack work supports tables numbers list count 0) (sym all) (values-ask (problemOf b) stack work supports tables numbers list count 0 given)
 
     module _ (tally : Tally) (stack′ work′ list′ : List ℕ) (tally′ : Tally) (stop : ℕ) (w : Walked (problemOf b) (tried (problemOf b) work 0 values) stack work numbers list count 0 stack′ work′ list′ tally′ stop) where
-      whole : stateOf tally′ work′ stop list′ ≡ walk (problemOf b) (settling numbers) limit (nodes (problemOf b)) (zeroth list)
+      whole : stateOf tally′ work′ stop list′ ≡ walk (problemOf b) order limit (nodes (problemOf b)) (zeroth list)
       unfolding nodes
       whole =
           w .state
-          ∙ ap₂ (λ (k : ℕ) (ts : List (List ℕ)). walk (problemOf b) (settling numbers) k ts (stateOf count work ALL list)) (h .bounded e)
+          ∙ ap₂ (λ (k : ℕ) (ts : List (List ℕ)). walk (problemOf b) (orderIn numbers (problemOf b .variables)) k ts (stateOf count work ALL list)) (h .bounded e)
           (ap (tried (problemOf b) work 0) all ∙ tried-all (problemOf b) stack work supports tables numbers list count 0 given ∙ ap₂ (nodesBelow (problemOf b)) (sub-zero (problemOf b .variables)) (prefix-zero work))
-          ∙ ap₂ (λ (a : Tally) (k : ℕ). walk (problemOf b) (settling numbers) limit (nodesBelow (problemOf b) (problemOf b .variables) []) (record { tally = a; plans = k; stop = ALL; list = list })) (none .is) (h .begun (λ f. omega arith))
+          ∙ ap₂ (λ (a : Tally) (k : ℕ). walk (problemOf b) (orderIn numbers (problemOf b .variables)) limit (nodesBelow (problemOf b) (problemOf b .variables) []) (record { tally = a; plans = k; stop = ALL; list = list })) (none .is) (h .begun (λ f. omega arith))
+          ∙ ap (λ (o : List ℕ). walk (problemOf b) o limit (nodesBelow (problemOf b) (problemOf b .variables) []) (zeroth list)) (h .order e)
 
-      abbrev ended-so : RunTo (problemOf b) (resultOf (problemOf b) limit (length list)) list work′ list′ tally′ stop
-      ended-so = run-to (problemOf b) (well (λ f. omega arith)) (settling numbers) (h .order e) limit list work′ list′ tally′ stop whole
+      abbrev ended-so : RunTo (problemOf b) order (resultOf (problemOf b) limit (length list)) list work′ list′ tally′ stop
+      ended-so = run-to (problemOf b) order sized limit list work′ list′ tally′ stop whole
 
       stop-known : stop < DEEPER
       stop-known = let s = stop-in (resultOf (problemOf b) limit (length list) .ending) in let q = ended-so .stopped in omega arith
@@ -351,15 +377,15 @@ module _ (b : List ℕ) (limit : ℕ) (list : List ℕ) (tally : Tally) (work′
       let f = a .ended n in
       let o = h .ended n in
       let v = h .accepted n in
-      let m : nodesIn (f .0) ≡ nodesIn (x .ending) = f .3 ∙ is ∙ ap (λ (t : Tally). t .nodes) (o .tally) ∙ tally-nodes (problemOf b) (nodesIn (x .ending)) in
+      let m : nodesIn (f .0) ≡ nodesIn (x .ending) = f .3 ∙ is ∙ ap (λ (t : Tally). t .nodes) (o .tally ∙ tally-same (problemOf b) (nodesIn (x .ending))) ∙ tally-nodes (problemOf b) (nodesIn (x .ending)) in
       let s : endingBy (plansIn (f .0)) (nodesIn (f .0)) (stopIn (f .0)) ≡ endingBy (plansIn (x .ending)) (nodesIn (x .ending)) (stopIn (x .ending)) =
       ap₂ (λ (i j : ℕ). endingBy i j (stopIn (f .0))) (f .2 ∙ o .plans) m ∙ ap (endingBy (plansIn (x .ending)) (nodesIn (x .ending))) (f .4 ∙ o .stopped) in
       let e : f .0 ≡ x .ending = sym (ending-by (f .0)) ∙ s ∙ ending-by (x .ending) in
       let q : ended (x .ending) ≡ answerOf b limit list = ap (λ (u : Verdict). answerFor u b limit (length list)) (sym v) in
       record {
         answer = f .1 ∙ ap ended e ∙ q;
-        lists = o .wrote ∙ ap (λ (u : Verdict). listFor u b limit list) (sym v);
-        counts = o .tally ∙ ap (λ (u : Run.Answer). tallyFor u (problemOf b) tally) q;
+        lists = o .wrote ∙ ap (λ (r : List (List ℕ)). written r list) (rows-same (problemOf b) (within-limits b v .wellFormed) limit (length list)) ∙ ap (λ (u : Verdict). listFor u b limit list) (sym v);
+        counts = o .tally ∙ tally-same (problemOf b) (nodesIn (x .ending)) ∙ ap (λ (u : Run.Answer). tallyFor u (problemOf b) tally) q;
       }
 
   pub said : Said b limit list tally list′ tally′ r

@@ -10,6 +10,8 @@ use Rattle.model.specs.ValueSets.{has, lowestOf}
 use Rattle.model.specs.Problem.{Problem}
 use Rattle.model.specs.Search.{setsAt, isLive, nodesBelow}
 use Rattle.model.specs.Run.{Tally}
+use Rattle.order.specs.Order.{Ordering}
+use Rattle.order.specs.Reordered.{write}
 use Rattle.layout.specs.Places.{LIMIT, ROOM, ORDER, PLANS, MARKS, ALL, DEEPER}
 use Rattle.prune.specs.Node.{Ready, Holds, Marked}
 use Rattle.search.specs.Walk.{Summed, withNode, noNodes, State, listed, walk, nodesFor}
@@ -21,6 +23,10 @@ prefixOf work k = tabulate k (at work)
 -- the variable that is settled at depth k, by which its nodes are counted
 abbrev pub settling : List ℕ → ℕ → ℕ
 settling numbers k = at numbers (ORDER + k)
+
+-- the order of n variables
+unfoldable pub orderIn : List ℕ → ℕ → List ℕ
+orderIn numbers n = tabulate n (settling numbers)
 
 -- a node of variable x may be counted, and is
 pub record Countable (x : ℕ) (t : Tally) : Type 0 where
@@ -48,15 +54,15 @@ pub record ListRoom (n room : ℕ) (list : List ℕ) (plans : ℕ) : Type 0 wher
   pub most : length list < suc room * n
   pub listed : plans * n ≤ length list
 
--- a plan was found: the answer is FULL where it has no room, else it is listed, and counted in `work`
-pub record Listed (n : ℕ) (work list work′ list′ : List ℕ) (stop : ℕ) : Type 0 where
-  pub state : (tally : Tally) → stateOf tally work′ stop list′ ≡ listed n (prefixOf work n) (stateOf tally work ALL list)
+-- a plan was found: the answer is FULL where it has no room, else it is listed by variable number, and counted in `work`
+pub record Listed (n : ℕ) (order work list work′ list′ : List ℕ) (stop : ℕ) : Type 0 where
+  pub state : (tally : Tally) → stateOf tally work′ stop list′ ≡ listed n (write order (prefixOf work n)) (stateOf tally work ALL list)
   pub known : stop < DEEPER
   pub others : (i : ℕ) → (i ≡ PLANS → ⊥) → at work′ i ≡ at work i
   pub work-length : length work′ ≡ length work
 
 -- the prefix of k values in `work` is live, its sets and marks stand at depth k, and a run goes on that may make as many nodes as the numbers say,
--- whose counts add up, and go by an order of twelve variables
+-- whose counts add up, and go by an order of the variables
 pub record AtPrefix (p : Problem) (stack work supports tables numbers list : List ℕ) (tally : Tally) (k : ℕ) : Type 0 where
   pub ready : Ready p stack work supports tables numbers
   pub inner : k < p .variables
@@ -66,7 +72,7 @@ pub record AtPrefix (p : Problem) (stack work supports tables numbers list : Lis
   pub limited : at numbers LIMIT < 2 ^ 32
   pub allowed : tally .nodes ≤ at numbers LIMIT
   pub summed : Summed tally
-  pub order : (j : ℕ) → j < 12 → settling numbers j < 12
+  pub order : Ordering (p .variables) (orderIn numbers (p .variables))
   pub room : ListRoom (p .variables) (at numbers ROOM) list (at work PLANS)
 
 -- and m has values of variable k's set alone
@@ -82,7 +88,7 @@ pub record AtValue (p : Problem) (stack work supports tables numbers list : List
 
 -- a walk along the nodes ts, after which the counts still add up; no set and no mark of a depth up to k and no value of the prefix is changed
 pub record Walked (p : Problem) (ts : List (List ℕ)) (stack work numbers list : List ℕ) (tally : Tally) (k : ℕ) (stack′ work′ list′ : List ℕ) (tally′ : Tally) (stop : ℕ) : Type 0 where
-  pub state : stateOf tally′ work′ stop list′ ≡ walk p (settling numbers) (at numbers LIMIT) ts (stateOf tally work ALL list)
+  pub state : stateOf tally′ work′ stop list′ ≡ walk p (orderIn numbers (p .variables)) (at numbers LIMIT) ts (stateOf tally work ALL list)
   pub summed : Summed tally′
   pub sets : (i : ℕ) → i < 16 * suc k → at stack′ i ≡ at stack i
   pub values : (i : ℕ) → i < k → at work′ i ≡ at work i

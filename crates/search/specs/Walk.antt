@@ -11,6 +11,7 @@ use Rattle.model.specs.ValueSets.{members}
 use Rattle.model.specs.Problem.{Problem}
 use Rattle.model.specs.Search.{isPlan, nodesBelow, nodes}
 use Rattle.model.specs.Run.{Ending, finished, spent, full, Tally, settledBy, countsBy}
+use Rattle.order.specs.Reordered.{write}
 use Rattle.layout.specs.Places.{ALL, SPENT, FULL}
 
 -- one node more, which settles variable x
@@ -51,15 +52,17 @@ abbrev pub exhausted : State → State
 exhausted s = record { tally = s .tally; plans = s .plans; stop = SPENT; list = s .list }
 
 -- one node: nothing once the run has stopped; spent where the nodes made equal the limit; else one node more, and a plan is listed.
--- A node that settles p's variable j is counted as one of variable `order j`
-unfoldable pub visit : Problem → (ℕ → ℕ) → ℕ → List ℕ → State → State
+-- p's variables are a sheet's in an order: a node that settles p's variable j is counted as one of variable order[j], and a plan is written by
+-- variable number
+unfoldable pub visit : Problem → List ℕ → ℕ → List ℕ → State → State
 visit p order limit t s =
+    let s′ = counted (at order (settledBy t)) s in
     choose (eqb (s .stop) ALL)
     (choose (eqb (s .tally .nodes) limit) (exhausted s)
-    (choose (isPlan p t) (listed (p .variables) t (counted (order (settledBy t)) s)) (counted (order (settledBy t)) s)))
+    (choose (isPlan p t) (listed (p .variables) (write order t) s′) s′))
     s
 
-unfoldable pub walk : Problem → (ℕ → ℕ) → ℕ → List (List ℕ) → State → State
+unfoldable pub walk : Problem → List ℕ → ℕ → List (List ℕ) → State → State
 walk p order limit [] s = s
 walk p order limit (t ∷ ts) s = walk p order limit ts (visit p order limit t s)
 
@@ -74,5 +77,5 @@ stopIn (spent plans made) = SPENT
 stopIn (full plans made) = FULL
 
 -- the first k nodes of the tree, counted in an order
-unfoldable pub tallyBy : (ℕ → ℕ) → Problem → ℕ → Tally
-tallyBy order p k = record { nodes = k; counts = countsBy (λ t. order (settledBy t)) (take k (nodes p)) }
+unfoldable pub tallyBy : List ℕ → Problem → ℕ → Tally
+tallyBy order p k = record { nodes = k; counts = countsBy (λ t. at order (settledBy t)) (take k (nodes p)) }

@@ -1,27 +1,28 @@
 -- What the parts of a run ask and leave, around the search itself. No reader has to believe this: it stands between proved functions.
 use mathlib.Core.Path.{_≡_}
 use mathlib.Core.Bool.{false}
-use mathlib.Core.List.{List, []}
+use mathlib.Core.List.{List, [], map}
 use Prim.Native.Nat.{ℕ, zero, suc, _+_, _^_, _<_}
 use lib.ListN.{length, set}
-use Rattle.model.specs.Lists.{at}
+use Rattle.model.specs.Lists.{at, below}
 use Rattle.model.specs.Problem.{Problem}
 use Rattle.model.specs.Search.{isLive}
 use Rattle.model.specs.Verdict.{accepted, refused}
 use Rattle.model.specs.Sheet.{verdictOf, problemOf}
-use Rattle.model.specs.Run.{refusal, ended, plansIn, nodesIn, Result, resultOf, written, Tally, tallyAt}
+use Rattle.model.specs.Run.{refusal, ended, plansIn, nodesIn, Result, resultOf, written, Tally}
 use Rattle.model.specs.Run as Run
+use Rattle.order.specs.Reordered.{write}
 use Rattle.layout.specs.Places.{LIMIT, ORDER, PLANS, NUMBER, ITEM, ALL, DEEPER, REFUSED}
 use Rattle.sheet.specs.Form.{Zeros}
-use Rattle.search.specs.Walk.{noNodes, Summed, stopIn}
-use Rattle.search.specs.Pair.{settling, AtPrefix}
+use Rattle.search.specs.Walk.{noNodes, Summed, stopIn, tallyBy}
+use Rattle.search.specs.Pair.{orderIn, AtPrefix}
 use Rattle.search.specs.Meaning.{means}
 use Rattle.search.specs.declared.Answer.{Answer}
 
--- the first numbers of the order are put: variable j is settled at depth j
-unfoldable pub ordered : ℕ → List ℕ → List ℕ
-ordered zero numbers = numbers
-ordered (suc k) numbers = set (ordered k numbers) (ORDER + k) k
+-- the first k numbers of an order are put
+unfoldable pub ordered : List ℕ → ℕ → List ℕ → List ℕ
+ordered order zero numbers = numbers
+ordered order (suc k) numbers = set (ordered order k numbers) (ORDER + k) (at order k)
 
 -- new arrays
 pub record Blank (stack work supports tables numbers : List ℕ) : Type 0 where
@@ -44,21 +45,21 @@ pub record Prepared (b : List ℕ) (limit size : ℕ) (stack work supports table
   pub dead : step ≡ ALL → isLive (problemOf b) [] ≡ false
   pub known : (step ≡ REFUSED → ⊥) → (step ≡ ALL → ⊥) → step ≡ DEEPER
   pub bounded : step ≡ DEEPER → at numbers LIMIT ≡ limit
-  pub order : step ≡ DEEPER → (k : ℕ) → k < 12 → settling numbers k ≡ k
+  pub order : step ≡ DEEPER → orderIn numbers (problemOf b .variables) ≡ below (problemOf b .variables)
   pub live : step ≡ DEEPER → (list : List ℕ) → length list ≡ size → AtPrefix (problemOf b) stack work supports tables numbers list noNodes 0
 
--- the run of p has come to its end: the tally, the plans, how it stopped, and the list
-pub record RunTo (p : Problem) (r : Result) (list work′ list′ : List ℕ) (tally′ : Tally) (stop : ℕ) : Type 0 where
-  pub tally : tally′ ≡ tallyAt p (nodesIn (r .ending))
+-- the run of p, whose variables are a sheet's in an order, has come to its end: the tally, the plans, how it stopped, and the list
+pub record RunTo (p : Problem) (order : List ℕ) (r : Result) (list work′ list′ : List ℕ) (tally′ : Tally) (stop : ℕ) : Type 0 where
+  pub tally : tally′ ≡ tallyBy order p (nodesIn (r .ending))
   pub plans : at work′ PLANS ≡ plansIn (r .ending)
   pub stopped : stop ≡ stopIn (r .ending)
-  pub wrote : list′ ≡ written (r .rows) list
+  pub wrote : list′ ≡ written (map (write order) (r .rows)) list
 
 -- the sheet is refused, and nothing else is changed; or its run has come to its end, and the counts add up
 pub record Explored (b : List ℕ) (limit : ℕ) (list : List ℕ) (tally : Tally) (work′ list′ : List ℕ) (tally′ : Tally) (stop : ℕ) : Type 0 where
   pub refused : stop ≡ REFUSED → Refusal b work′ × (list′ ≡ list) × (tally′ ≡ tally)
   pub accepted : (stop ≡ REFUSED → ⊥) → verdictOf b ≡ accepted
-  pub ended : (stop ≡ REFUSED → ⊥) → RunTo (problemOf b) (resultOf (problemOf b) limit (length list)) list work′ list′ tally′ stop
+  pub ended : (stop ≡ REFUSED → ⊥) → RunTo (problemOf b) (below (problemOf b .variables)) (resultOf (problemOf b) limit (length list)) list work′ list′ tally′ stop
   pub summed : (stop ≡ REFUSED → ⊥) → Summed tally′
   pub known : (stop ≡ REFUSED → ⊥) → stop < DEEPER
 

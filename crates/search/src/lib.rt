@@ -20,9 +20,11 @@ ghost use Rattle.model.specs.ValueSets.{withoutMask, lowestOf};
 ghost use Rattle.model.specs.Problem.{Problem};
 ghost use Rattle.model.specs.Run.{answerOf, listOf, tallyOf};
 ghost use Rattle.model.specs.Run as Run;
+ghost use Rattle.order.specs.Order.{Ordering};
+ghost use Rattle.order.specs.Reordered.{write};
 ghost use Rattle.layout.specs.Places.{VARIABLES, LIMIT, ROOM, ORDER, PLANS};
 ghost use Rattle.search.specs.Walk.{noNodes, overwritten};
-ghost use Rattle.search.specs.Pair.{prefixOf, settling, Countable, Counted, Cleared, ListRoom, Listed, AtValues, AtValue, Walked, Entered, tried, lowestTried};
+ghost use Rattle.search.specs.Pair.{prefixOf, settling, orderIn, Countable, Counted, Cleared, ListRoom, Listed, AtValues, AtValue, Walked, Entered, tried, lowestTried};
 ghost use Rattle.search.specs.Meaning.{means, tallyIn};
 ghost use Rattle.search.specs.Whole.{ordered, Blank, Prepared, Explored, Stopped, Answered};
 
@@ -96,14 +98,16 @@ fn nodes_made(t: &Tally) -> u32
     t.nodes
 }
 
-// Writes the first n numbers of `work`, each a byte, over the list from `start` on.
-fn keep(list: &mut [u8], work: &[u64], n: usize, start: usize)
-    requires { ⌜ (n ≤ length (now work)) × (start + n ≤ length (now list)) × ((i : ℕ) → i < n → at (now work) i < 256) ⌝ }
-    ensures { λ _. ⌜ now (list .exit) ≡ overwritten start (prefixOf (now (work .entry)) n) (now (list .entry)) ⌝ }
+// Writes the first n numbers of `work`, each a byte, over the list from `start` on: a variable's value at the variable's number.
+fn keep(list: &mut [u8], work: &[u64], numbers: &[u64; 384], n: usize, start: usize)
+    requires { ⌜ (n ≤ 12) × (n ≤ length (now work)) × (start + n ≤ length (now list)) ⌝ }
+    requires { ⌜ ((i : ℕ) → i < n → at (now work) i < 256) × Ordering n (orderIn (now numbers) n) ⌝ }
+    ensures { λ _. ⌜ now (list .exit) ≡ overwritten start (write (orderIn (now (numbers .entry)) n) (prefixOf (now (work .entry)) n)) (now (list .entry)) ⌝ }
 {
     let mut i = 0;
     while i < n {
-        list[start + i] = work[i] as u8;
+        let x = numbers[ORDER + i] as usize;
+        list[start + x] = work[i] as u8;
         i += 1;
     }
 }
@@ -111,15 +115,15 @@ fn keep(list: &mut [u8], work: &[u64], n: usize, start: usize)
 // A plan was found: FULL where its bytes have no room, else the plan is listed and counted.
 fn list_plan(work: &mut [u64; 256], numbers: &[u64; 384], list: &mut [u8]) -> u8
     requires { ⌜ ListRoom (at (now numbers) VARIABLES) (at (now numbers) ROOM) (now list) (at (now work) PLANS) ⌝ }
-    requires { ⌜ (at (now numbers) VARIABLES ≤ 12) × ((i : ℕ) → i < at (now numbers) VARIABLES → at (now work) i < 256) × (length (now work) ≡ 256) ⌝ }
-    ensures { λ r. ⌜ Listed (at (now (numbers .entry)) VARIABLES) (now (work .entry)) (now (list .entry)) (now (work .exit)) (now (list .exit)) r ⌝ }
+    requires { ⌜ (at (now numbers) VARIABLES ≤ 12) × ((i : ℕ) → i < at (now numbers) VARIABLES → at (now work) i < 256) × (length (now work) ≡ 256) × Ordering (at (now numbers) VARIABLES) (orderIn (now numbers) (at (now numbers) VARIABLES)) ⌝ }
+    ensures { λ r. ⌜ Listed (at (now (numbers .entry)) VARIABLES) (orderIn (now (numbers .entry)) (at (now (numbers .entry)) VARIABLES)) (now (work .entry)) (now (list .entry)) (now (work .exit)) (now (list .exit)) r ⌝ }
 {
     let plans = work[PLANS] as usize;
     if plans == numbers[ROOM] as usize {
         return FULL;
     }
     let n = numbers[VARIABLES] as usize;
-    keep(list, work, n, plans * n);
+    keep(list, work, numbers, n, plans * n);
     work[PLANS] = (plans + 1) as u64;
     ALL
 }
@@ -266,14 +270,21 @@ fn put_bounds(numbers: &mut [u64], limit: u64, room: u64)
     numbers[ROOM] = room;
 }
 
-// Puts the order 0, 1, .. of the variables among the numbers.
-fn put_order(numbers: &mut [u64])
+// A byte as a number.
+fn wide(x: u8) -> u64
+    ensures { λ r. ⌜ r ≡ x ⌝ }
+{
+    x as u64
+}
+
+// Puts the order of the variables among the numbers.
+fn put_order(numbers: &mut [u64], order: &[u8; 16])
     requires { ⌜ ORDER + 12 ≤ length (now numbers) ⌝ }
-    ensures { λ _. ⌜ now (numbers .exit) ≡ ordered 12 (now (numbers .entry)) ⌝ }
+    ensures { λ _. ⌜ now (numbers .exit) ≡ ordered (now (order .entry)) 12 (now (numbers .entry)) ⌝ }
 {
     let mut k = 0;
     while k < 12 {
-        numbers[ORDER + k] = k as u64;
+        numbers[ORDER + k] = wide(order[k]);
         k += 1;
     }
 }
@@ -301,7 +312,8 @@ fn prepare(
             let room = size / n;
             put_bounds(numbers, limit as u64, room as u64);
             index::index(numbers, supports, &images, tables);
-            put_order(numbers);
+            let order = [0u8, 1, 2, 3, 4, 5, 6, 7, 8, 9, 10, 11, 12, 13, 14, 15];
+            put_order(numbers, &order);
             if prune::root(stack, work, supports, tables, numbers) {
                 ALL
             } else {

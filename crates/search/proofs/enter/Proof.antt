@@ -3,7 +3,7 @@ use mathlib.Core.Path.{sym, _∙_, subst}
 use Prim.Native.Nat.{ℕ, _<_}
 use native.Mathlib.Omega.{arith}
 use Rattle.model.specs.Lists.{at}
-use Rattle.search.proofs.Turns.{child-asks, entered-dead, plan-asks, plan-bytes, plan-sized, entered-plan, entered-inner}
+use Rattle.search.proofs.Turns.{child-asks, entered-dead, plan-asks, plan-bytes, plan-order, plan-sized, entered-plan, entered-inner}
 use borrow.Author.Needs.{needs}
 use Rattle.search.proofs.enter.Statement.{statement}
 use Rattle.search.proofs.enter.Tie as tie
@@ -53,6 +53,7 @@ list-plan-requires c κs =
         omega (arith, v, g .values .prefix .ready .wellFormed .few),
         λ i m. plan-bytes p _ _ _ _ _ _ _ _ _ g w _ l _ _ _ q (c .before .before .before .before .if1 .left) (c .before .before .if2 .taken ∙ v) i (subst (λ (n : ℕ). i < n) v m),
         plan-sized p _ _ _ _ _ _ _ _ _ g w _ l _ _ _ q,
+        plan-order p _ _ _ _ _ _ _ _ _ g w _ l _ _ _ q,
       ),
     )
 

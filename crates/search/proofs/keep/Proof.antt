@@ -1,42 +1,57 @@
--- `search::keep` meets its contract: after i turns the list is the list at entry with the first i numbers of `work` over it. Assumes nothing.
-use mathlib.Core.Path.{_≡_, sym, ap, _∙_}
-use Prim.Native.Nat.{ℕ, _+_, _-_, _≤_}
+-- `search::keep` meets its contract: after i turns the first i values in the order are put, each at its variable's number. Assumes nothing.
+use mathlib.Core.Path.{_≡_, subst}
+use Prim.Native.Nat.{ℕ, _+_, _-_, _≤_, _<_}
 use native.Mathlib.Omega.{arith}
-use native.Mathlib.Numerals.{add-one}
-use mathlib.Core.List.{List}
-use lib.ListN.{length, set, getD}
-use lib.Seq.{paste, paste-zero, paste-suc, length-paste}
-use Rattle.search.proofs.Prefix.{pasted, small}
+use lib.ListN.{set}
+use Rattle.model.specs.Lists.{at}
+use Rattle.search.specs.Pair.{orderIn}
+use Rattle.search.proofs.Prefix.{small}
+use Rattle.search.proofs.Written.{order-at, settling-inside, Put, put-none, put-turn, put-all}
 use Rattle.search.proofs.keep.Statement.{statement}
 use Rattle.search.proofs.keep.Tie as tie
 
 abbrev Inv-loop : tie.InvT-loop
-Inv-loop list₀ work n start i₀ list i = (i ≤ n) × (list ≡ paste list₀ start work i)
+Inv-loop list₀ work numbers n start i₀ list i = (i ≤ n) × Put start (orderIn numbers n) work list₀ i list
 
 abbrev μ-loop : tie.MeasureT-loop
-μ-loop list₀ work n start i₀ list i = n - i
+μ-loop list₀ work numbers n start i₀ list i = n - i
 
 loop-holds : tie.Need-loop-holds Inv-loop μ-loop
-loop-holds c = (omega arith, paste-zero (c .args .list .now) (c .args .start) (c .args .work .now))
+loop-holds c = (omega arith, put-none _ _ _ _)
+
+add-x : tie.Need-add-x Inv-loop μ-loop
+add-x c = omega arith
+
+mul-x : tie.Need-mul-x Inv-loop μ-loop
+mul-x c = omega arith
+
+element-copy-out-x : tie.Need-element-copy-out-x Inv-loop μ-loop
+element-copy-out-x c = omega arith
 
 mul-list : tie.Need-mul-list Inv-loop μ-loop
-mul-list c = omega (arith, c .before .before .good .1 .0 .1)
+mul-list c = omega arith
 
 shared-slice-read-list : tie.Need-shared-slice-read-list Inv-loop μ-loop
 shared-slice-read-list c = omega arith
 
 cast-list : tie.Need-cast-list Inv-loop μ-loop
 cast-list c =
-    record { fits = small (c .before .before .before .args .work .now) (c .before .before .loop .i) (c .before .before .before .pre .2 (c .before .before .loop .i) (omega arith)) }
+    let a = c .before .before .before .before in
+    let l = c .before .before .before .loop in
+    record { fits = small (a .args .work .now) (l .i) (a .pre .1 .0 (l .i) (omega arith)) }
 
 add-list : tie.Need-add-list Inv-loop μ-loop
-add-list c = omega (arith, c .before .before .before .good .0 .0)
+unfolding at
+add-list c =
+    let a = c .before .before .before .before in
+    omega (arith, a .good .0 .0, settling-inside (a .args .numbers .now) (a .args .n) (c .before .before .before .loop .i) (a .pre .1 .1) (omega arith))
 
 slice-write-list : tie.Need-slice-write-list Inv-loop μ-loop
+unfolding at
 slice-write-list c =
-    let a = c .before .before .before in
-    let e = ap length (c .before .before .loop .inv .1) ∙ length-paste (a .args .list .now) (a .args .start) (a .args .work .now) (c .before .before .loop .i) (omega arith) (omega arith) in
-    omega arith
+    let a = c .before .before .before .before in
+    let l = c .before .before .before .loop in
+    omega (arith, l .inv .1 .sized, settling-inside (a .args .numbers .now) (a .args .n) (l .i) (a .pre .1 .1) (omega arith))
 
 add-i : tie.Need-add-i Inv-loop μ-loop
 add-i c = omega arith
@@ -45,25 +60,27 @@ loop-less : tie.Need-loop-less Inv-loop μ-loop
 loop-less c = omega arith
 
 loop-again : tie.Need-loop-again Inv-loop μ-loop
+unfolding at
 loop-again c =
-    let a = c .before .before .before in
-    let i = c .before .before .loop .i in (
+    let a = c .before .before .before .before in
+    let l = c .before .before .before .loop in
+    let i : l .i < a .args .n = omega arith in (
       omega arith,
-      ap (λ (l : List ℕ). set l (a .args .start + i) (getD (a .args .work .now) i 0)) (c .before .before .loop .inv .1)
-          ∙ paste-suc (a .args .list .now) (a .args .start) (a .args .work .now) i 0 (omega arith) (omega arith)
-          ∙ ap (paste (a .args .list .now) (a .args .start) (a .args .work .now)) (sym (add-one i)),
+      subst (λ (x : ℕ). Put (a .args .start) (orderIn (a .args .numbers .now) (a .args .n)) (a .args .work .now) (a .args .list .now) (l .i + 1) (set (l .list) (a .args .start + x) (at (a .args .work .now) (l .i))))
+          (order-at (a .args .numbers .now) (a .args .n) (l .i) i)
+          (put-turn (a .args .start) (a .args .n) (orderIn (a .args .numbers .now) (a .args .n)) (a .args .work .now) (a .args .list .now) (a .pre .1 .1) (a .pre .0 .2) (l .i) (l .list) (l .inv .1) i),
     )
 
 same-length : tie.Need-same-length Inv-loop μ-loop
-same-length c =
-    let a = c .before .before in
-    ap length (c .before .loop .inv .1) ∙ length-paste (a .args .list .now) (a .args .start) (a .args .work .now) (c .before .loop .i) (omega arith) (omega arith)
+same-length c = c .before .loop .inv .1 .sized
 
 returns : tie.Need-returns Inv-loop μ-loop
 returns c =
     let a = c .before .before in
-    let e : c .before .loop .i ≡ a .args .n = omega arith in
-    c .before .loop .inv .1 ∙ ap (paste (a .args .list .now) (a .args .start) (a .args .work .now)) e ∙ pasted (a .args .list .now) (a .args .start) (a .args .work .now) (a .args .n) (omega arith)
+    let l = c .before .loop in
+    let e : l .i ≡ a .args .n = omega arith in
+    put-all (a .args .start) (a .args .n) (orderIn (a .args .numbers .now) (a .args .n)) (a .args .work .now) (a .args .list .now) (a .pre .1 .1) (a .pre .0 .2) (l .list)
+    (subst (λ (k : ℕ). Put (a .args .start) (orderIn (a .args .numbers .now) (a .args .n)) (a .args .work .now) (a .args .list .now) k (l .list)) e (l .inv .1))
 
 pub keep-spec : {M : Type 1} → statement M
 keep-spec =
@@ -72,6 +89,9 @@ keep-spec =
     Inv-loop
     μ-loop
     loop-holds
+    add-x
+    mul-x
+    element-copy-out-x
     mul-list
     shared-slice-read-list
     cast-list

@@ -14,7 +14,7 @@ element-copy-out-if1 c = search needs
 
 returns : tie.Need-returns
 unfolding at
-returns c = let a = c .before .before .before .before in full-now _ _ _ _ (a .pre .0) (c .if1 .taken)
+returns c = let a = c .before .before .before .before in full-now _ _ _ _ _ (a .pre .0) (c .if1 .taken)
 
 element-copy-out-n : tie.Need-element-copy-out-n
 element-copy-out-n c = search needs
@@ -27,9 +27,8 @@ keep-requires : tie.Need-keep-requires
 unfolding at
 keep-requires c κs =
     let a = c .before .before .before .before .before .before .before .before in (
-      omega (arith, a .pre .1 .0, a .pre .1 .2),
-      fits-bytes _ _ _ _ (a .pre .0) (c .before .before .before .before .if1 .left),
-      a .pre .1 .1,
+      (a .pre .1 .0, omega (arith, a .pre .1 .0, a .pre .1 .2), fits-bytes _ _ _ _ (a .pre .0) (c .before .before .before .before .if1 .left)),
+      (a .pre .1 .1, a .pre .1 .3),
     )
 
 add-work : tie.Need-add-work
@@ -49,7 +48,7 @@ returns-2 : tie.Need-returns-2
 unfolding at
 returns-2 c =
     let a = c .before .before .before .before .before .before .before .before .before .before .before in
-    kept-now _ _ _ _ (a .pre .0) _ (a .pre .1 .2) (c .before .before .before .before .before .before .before .if1 .left) (c .before .before .keep .ensures)
+    kept-now _ _ _ _ _ (a .pre .0) _ (a .pre .1 .2) (c .before .before .before .before .before .before .before .if1 .left) (c .before .before .keep .ensures)
 
 pub list-plan-spec : {M : Type 1} → statement M
 list-plan-spec =

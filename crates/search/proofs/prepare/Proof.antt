@@ -5,7 +5,7 @@ use denote.Ref.{now}
 use Rattle.model.specs.Lists.{at}
 use Rattle.model.specs.Sheet.{problemOf}
 use Rattle.sheet.specs.Meaning.{means}
-use Rattle.search.proofs.Whole.{some-variables, compact, ready, prepared-dead, prepared-live, prepared-refused}
+use Rattle.search.proofs.Whole.{identity, few-variables, some-variables, compact, ready, prepared-dead, prepared-live, prepared-refused}
 use borrow.Author.Needs.{needs}
 use Rattle.search.proofs.prepare.Statement.{statement}
 use Rattle.search.proofs.prepare.Tie as tie
@@ -47,17 +47,17 @@ put-order-requires c κs = search needs
 root-requires : tie.Need-root-requires
 unfolding at
 root-requires c κs =
-    let a = c .before .before .before .before .before .before .before .before .before .before .before .before .before .before .before .before .before .before .before .before .before .before in
+    let a = c .before .before .before .before .before .before .before .before .before .before .before .before .before .before .before .before .before .before .before .before .before .before .before in
     let b = now (a .args .sheet) in
-    let q = c .before .before .before .before .before .before .before .before .before .before .before .before .before .before .before .enum-told .given .1 in
-    let v = sym (c .before .before .before .before .before .before .before .before .before .before .before .before .before .before .before .before .before .compile .ensures .answers) ∙ ap means q in
-    let h = c .before .before .before .before .before .before .before .before .before .before .before .before .before .before .before .before .before .compile .ensures .compiled q in
+    let q = c .before .before .before .before .before .before .before .before .before .before .before .before .before .before .before .before .enum-told .given .1 in
+    let v = sym (c .before .before .before .before .before .before .before .before .before .before .before .before .before .before .before .before .before .before .compile .ensures .answers) ∙ ap means q in
+    let h = c .before .before .before .before .before .before .before .before .before .before .before .before .before .before .before .before .before .before .compile .ensures .compiled q in
     let w = a .fits .limit .fits in
-    let l = c .before .before .before .before .before .before .before .before .before .before .before .before .before .put-bounds-arg .given .0 .1 in
-    let s = c .before .before .before .before .before .before .before .before .before .before .before .before .put-bounds .ensures in
-    let m = c .before .before .before .before .before .before .before .index .ensures (problemOf b) (compact b v _ _ _ h (a .args .limit) w (a .args .size) _ refl l _ s _ (a .pre .tables-length)) in
+    let l = c .before .before .before .before .before .before .before .before .before .before .before .before .before .before .put-bounds-arg .given .0 .1 in
+    let s = c .before .before .before .before .before .before .before .before .before .before .before .before .before .put-bounds .ensures in
+    let m = c .before .before .before .before .before .before .before .before .index .ensures (problemOf b) (compact b v _ _ _ h (a .args .limit) w (a .args .size) _ refl l _ s _ (a .pre .tables-length)) in
     let o = c .before .before .before .before .before .put-order .ensures in
-    (problemOf b, ready b v _ _ _ h (a .args .limit) w (a .args .size) _ refl l _ s _ _ _ m _ o _ _ (a .pre .stack-length) (a .pre .work-blank .sized))
+    (problemOf b, ready b v _ _ _ h (a .args .limit) w (a .args .size) _ refl l _ s _ _ _ m _ refl (identity _ (few-variables b v _ _ _ h)) _ o _ _ (a .pre .stack-length) (a .pre .work-blank .sized))
 
 enum-known-verdict : tie.Need-enum-known-verdict
 enum-known-verdict c = search needs
@@ -74,34 +74,34 @@ element-write-work-2 c = search needs
 returns : tie.Need-returns
 unfolding at
 returns c =
-    let a = c .before .before .before .before .before .before .before .before .before .before .before .before .before .before .before .before .before .before .before .before .before .before .before .before in
+    let a = c .before .before .before .before .before .before .before .before .before .before .before .before .before .before .before .before .before .before .before .before .before .before .before .before .before in
     let b = now (a .args .sheet) in
-    let q = c .before .before .before .before .before .before .before .before .before .before .before .before .before .before .before .before .before .enum-told .given .1 in
-    let v = sym (c .before .before .before .before .before .before .before .before .before .before .before .before .before .before .before .before .before .before .before .compile .ensures .answers) ∙ ap means q in
-    let h = c .before .before .before .before .before .before .before .before .before .before .before .before .before .before .before .before .before .before .before .compile .ensures .compiled q in
+    let q = c .before .before .before .before .before .before .before .before .before .before .before .before .before .before .before .before .before .before .enum-told .given .1 in
+    let v = sym (c .before .before .before .before .before .before .before .before .before .before .before .before .before .before .before .before .before .before .before .before .compile .ensures .answers) ∙ ap means q in
+    let h = c .before .before .before .before .before .before .before .before .before .before .before .before .before .before .before .before .before .before .before .before .compile .ensures .compiled q in
     let w = a .fits .limit .fits in
-    let l = c .before .before .before .before .before .before .before .before .before .before .before .before .before .before .before .put-bounds-arg .given .0 .1 in
-    let s = c .before .before .before .before .before .before .before .before .before .before .before .before .before .before .put-bounds .ensures in
-    let m = c .before .before .before .before .before .before .before .before .before .index .ensures (problemOf b) (compact b v _ _ _ h (a .args .limit) w (a .args .size) _ refl l _ s _ (a .pre .tables-length)) in
+    let l = c .before .before .before .before .before .before .before .before .before .before .before .before .before .before .before .before .put-bounds-arg .given .0 .1 in
+    let s = c .before .before .before .before .before .before .before .before .before .before .before .before .before .before .before .put-bounds .ensures in
+    let m = c .before .before .before .before .before .before .before .before .before .before .index .ensures (problemOf b) (compact b v _ _ _ h (a .args .limit) w (a .args .size) _ refl l _ s _ (a .pre .tables-length)) in
     let o = c .before .before .before .before .before .before .before .put-order .ensures in
-    let r = c .before .root .ensures (problemOf b) (ready b v _ _ _ h (a .args .limit) w (a .args .size) _ refl l _ s _ _ _ m _ o _ _ (a .pre .stack-length) (a .pre .work-blank .sized)) in
-    prepared-dead b v _ _ _ h (a .args .limit) w (a .args .size) _ refl l _ s _ _ _ m _ o _ _ _ _ _ (a .pre .stack-length) (a .pre .work-blank) r (c .if1 .taken)
+    let r = c .before .root .ensures (problemOf b) (ready b v _ _ _ h (a .args .limit) w (a .args .size) _ refl l _ s _ _ _ m _ refl (identity _ (few-variables b v _ _ _ h)) _ o _ _ (a .pre .stack-length) (a .pre .work-blank .sized)) in
+    prepared-dead b v _ _ _ h (a .args .limit) w (a .args .size) _ refl l _ s _ _ _ m _ refl (identity _ (few-variables b v _ _ _ h)) _ o _ _ _ _ _ (a .pre .stack-length) (a .pre .work-blank) r (c .if1 .taken)
 
 returns-2 : tie.Need-returns-2
 unfolding at
 returns-2 c =
-    let a = c .before .before .before .before .before .before .before .before .before .before .before .before .before .before .before .before .before .before .before .before .before .before .before .before in
+    let a = c .before .before .before .before .before .before .before .before .before .before .before .before .before .before .before .before .before .before .before .before .before .before .before .before .before in
     let b = now (a .args .sheet) in
-    let q = c .before .before .before .before .before .before .before .before .before .before .before .before .before .before .before .before .before .enum-told .given .1 in
-    let v = sym (c .before .before .before .before .before .before .before .before .before .before .before .before .before .before .before .before .before .before .before .compile .ensures .answers) ∙ ap means q in
-    let h = c .before .before .before .before .before .before .before .before .before .before .before .before .before .before .before .before .before .before .before .compile .ensures .compiled q in
+    let q = c .before .before .before .before .before .before .before .before .before .before .before .before .before .before .before .before .before .before .enum-told .given .1 in
+    let v = sym (c .before .before .before .before .before .before .before .before .before .before .before .before .before .before .before .before .before .before .before .before .compile .ensures .answers) ∙ ap means q in
+    let h = c .before .before .before .before .before .before .before .before .before .before .before .before .before .before .before .before .before .before .before .before .compile .ensures .compiled q in
     let w = a .fits .limit .fits in
-    let l = c .before .before .before .before .before .before .before .before .before .before .before .before .before .before .before .put-bounds-arg .given .0 .1 in
-    let s = c .before .before .before .before .before .before .before .before .before .before .before .before .before .before .put-bounds .ensures in
-    let m = c .before .before .before .before .before .before .before .before .before .index .ensures (problemOf b) (compact b v _ _ _ h (a .args .limit) w (a .args .size) _ refl l _ s _ (a .pre .tables-length)) in
+    let l = c .before .before .before .before .before .before .before .before .before .before .before .before .before .before .before .before .put-bounds-arg .given .0 .1 in
+    let s = c .before .before .before .before .before .before .before .before .before .before .before .before .before .before .before .put-bounds .ensures in
+    let m = c .before .before .before .before .before .before .before .before .before .before .index .ensures (problemOf b) (compact b v _ _ _ h (a .args .limit) w (a .args .size) _ refl l _ s _ (a .pre .tables-length)) in
     let o = c .before .before .before .before .before .before .before .put-order .ensures in
-    let r = c .before .root .ensures (problemOf b) (ready b v _ _ _ h (a .args .limit) w (a .args .size) _ refl l _ s _ _ _ m _ o _ _ (a .pre .stack-length) (a .pre .work-blank .sized)) in
-    prepared-live b v _ _ _ h (a .args .limit) w (a .args .size) _ refl l _ s _ _ _ m _ o _ _ _ _ _ (a .pre .stack-length) (a .pre .work-blank) r (c .if1 .left)
+    let r = c .before .root .ensures (problemOf b) (ready b v _ _ _ h (a .args .limit) w (a .args .size) _ refl l _ s _ _ _ m _ refl (identity _ (few-variables b v _ _ _ h)) _ o _ _ (a .pre .stack-length) (a .pre .work-blank .sized)) in
+    prepared-live b v _ _ _ h (a .args .limit) w (a .args .size) _ refl l _ s _ _ _ m _ refl (identity _ (few-variables b v _ _ _ h)) _ o _ _ _ _ _ (a .pre .stack-length) (a .pre .work-blank) r (c .if1 .left)
 
 returns-3 : tie.Need-returns-3
 returns-3 c =
