@@ -4,5 +4,4 @@ pub mod Reordered
 pub mod LeadersBy
 pub mod SetsBy
 pub mod RunBy
-pub mod Lent
 pub mod Placing

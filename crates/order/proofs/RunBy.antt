@@ -3,30 +3,26 @@ use mathlib.Core.Path.{_≡_, refl, sym, ap, ap₂, _∙_, subst, subst₂}
 use mathlib.Core.Bool.{Bool, true, false, not}
 use mathlib.Core.Logic.{_↔_, ∥∥₁-elim, ∥∥₁-map}
 use mathlib.Core.List.{List, [], _∷_, map, List·Memᴰ, List·Memᴰ·head, List·Memᴰ·tail, List·Memᴰ·not-nil, Memᴰ·cast, Memᴰ·map, Memᴰ·of-map, Sublistᴰ, Sublistᴰ·slnil, Sublistᴰ·cons, Sublistᴰ·cons-cons}
-use Prim.Native.Nat.{ℕ, zero, suc, _≤_}
+use Prim.Native.Nat.{ℕ, zero, suc, _-_, _≤_, _<_}
 use native.Mathlib.Omega.{arith}
 use lib.Dec.{T, T-not, not-T, T-prop}
-use lib.ListN.{length, take, drop, length-map}
-use Rattle.model.specs.Lists.{both, any, keep, flat, below, earlier, rowsAscend}
+use lib.ListN.{length, take, length-map}
+use Rattle.model.specs.Lists.{both, any, keep, below, at, earlier, rowsAscend, total}
 use Rattle.model.specs.Problem.{Problem, pair, isSolution, assignments, takes}
-use Rattle.model.specs.Verdict.{Verdict, accepted, refused, isAccepted}
-use Rattle.model.specs.Sheet.{verdictOf, problemOf}
-use Rattle.model.specs.Run.{Ending, finished, spent, full, plansIn, nodesIn, resultOf, ended, answerFor, answerOf, written, listFor, listOf, listedPlans}
-use Rattle.model.specs.Claims.{isLeader, leaders, OneMore}
-use Rattle.order.specs.Order.{Ordering, settlingOrder, orderVerdict}
+use Rattle.model.specs.Search.{nodes}
+use Rattle.model.specs.Run.{Ending, finished, spent, full, plansIn, nodesIn, resultOf, settledBy, countsBy}
+use Rattle.model.specs.Claims.{isLeader, leaders}
+use Rattle.order.specs.Order.{Ordering}
 use Rattle.order.specs.Reordered.{read, write, earlierBy, renamed, symmetryIn, reordered, LeaderBy, ChainBy}
-use Rattle.order.specs.RunBy.{resultBy, isLeaderBy, leadersBy, CountsBy}
+use Rattle.order.specs.RunBy.{resultBy, isLeaderBy, leadersBy, CountsBy, placeCounts}
 use Rattle.model.specs.WellFormed.{WellFormed, Respected}
-use Rattle.model.proofs.Lists.{both-i, both-l, both-r, T-ext, any-i, any-e, keep-i, keep-e, sorted-keep, rowsAscend-of}
+use Rattle.model.proofs.Lists.{both-i, both-l, both-r, T-ext, any-i, any-e, keep-i, keep-e, sorted-keep, rowsAscend-of, mem-at}
 use Rattle.model.proofs.Assignments.{assignments-sorted, assign-e}
 use Rattle.model.proofs.Tree.{solution-e, plans-of-tree, well-sized}
-use Rattle.model.proofs.Accepted.{well-formed}
 use Rattle.model.proofs.Leaders.{sol-drawn, leader-e, leader-i}
-use Rattle.model.proofs.OneMore.{one-more}
 use Rattle.model.proofs.More.{FewerIn, withSymmetries}
-use Rattle.model.proofs.Demands.{listed-back, same-test}
-use Rattle.order.proofs.Order.{OrderPassed, order-passed, no-pairs, no-pairs-asked}
-use Rattle.order.proofs.SetsBy.{largest-by}
+use Rattle.model.proofs.Demands.{same-test}
+use Rattle.model.proofs.Tally.{length-counts, counts-total, counts-none, counts-ext, settled-few}
 use Rattle.order.proofs.Reordered as O
 use Rattle.order.proofs.LeadersBy as L
 use Rattle.model.proofs.More as M
@@ -190,3 +186,27 @@ same-result p w limit room =
     rows-same : (rows : List (List ℕ)) → ((r : List ℕ) → List·Memᴰ r rows → length r ≡ p .variables) → map (write (below (p .variables))) rows ≡ rows
     rows-same [] h = refl
     rows-same (r ∷ rows) h = ap₂ (λ (x : List ℕ) (y : List (List ℕ)). x ∷ y) (L.write-below p w r (h r (List·Memᴰ·head refl))) (rows-same rows (λ s m. h s (List·Memᴰ·tail m)))
+
+pub same-counts : (p : Problem) → WellFormed p → (k : ℕ) → placeCounts (below (p .variables)) p k ≡ countsBy settledBy (take k (nodes p))
+unfolding placeCounts
+same-counts p w k =
+    ap (λ (q : Problem). countsBy (λ t. at (below (p .variables)) (settledBy t)) (take k (nodes q))) (L.reordered-below p w)
+    ∙ counts-ext (λ t. at (below (p .variables)) (settledBy t)) settledBy (take k (nodes p)) (λ t m. L.below-at (p .variables) (settledBy t) (settled-few p k t m))
+
+-- ---- nodes by place
+module _ (p : Problem) (w : WellFormed p) (order : List ℕ) (o : Ordering (p .variables) order) where
+  place-below : (k : ℕ) (t : List ℕ) → List·Memᴰ t (take k (nodes (reordered order p))) → at order (settledBy t) < p .variables
+  place-below k t m = o .inside (at order (settledBy t)) (mem-at order (settledBy t) (let s = settled-few (reordered order p) k t m in let z = o .sized in omega arith))
+
+  -- the twelve counts add up to the nodes, and a place that is none of p's has none
+  pub places-total : (k : ℕ) → total (placeCounts order p k) ≡ length (take k (nodes (reordered order p)))
+  unfolding placeCounts
+  places-total k = counts-total (λ t. at order (settledBy t)) (take k (nodes (reordered order p))) (λ t m. let s = place-below k t m in let f = w .few in omega arith)
+
+  pub places-none : (k x : ℕ) → p .variables ≤ x → at (placeCounts order p k) x ≡ 0
+  unfolding placeCounts
+  places-none k x h = counts-none (λ t. at order (settledBy t)) (take k (nodes (reordered order p))) (p .variables) x (place-below k) h
+
+pub places-twelve : (p : Problem) (order : List ℕ) (k : ℕ) → length (placeCounts order p k) ≡ 12
+unfolding placeCounts
+places-twelve p order k = length-counts (λ t. at order (settledBy t)) (take k (nodes (reordered order p)))

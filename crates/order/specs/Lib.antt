@@ -2,6 +2,4 @@
 pub mod Order
 pub mod Reordered
 pub mod RunBy
-pub mod Lent
-pub mod LentClaims
 pub mod Settled

@@ -1,17 +1,17 @@
 -- A problem's run in an order of its variables (paper 02, requests 107 and 108): what it lists, its leaders, its sets at a prefix by place number,
--- and its nodes by the place that each settles. Everything is said of any problem and any order; specs/Lent has the run that is lent a sheet.
+-- and its nodes by the place that each settles. Everything is said of any problem and any order; crate lent has the run that is lent a sheet.
 use mathlib.Core.Path.{_≡_}
 use mathlib.Core.Bool.{Bool, false, not}
 use mathlib.Core.List.{List, [], _∷_, _++_, map, List·Memᴰ}
-use Prim.Native.Nat.{ℕ, suc, _+_, _-_, _*_, _/_, _%_, _^_, _<_}
+use Prim.Native.Nat.{ℕ, suc, _-_, _*_, _/_, _%_, _^_, _<_}
 use lib.ListN.{length, take, replicate}
-use lib.Dec.{T, ltb, eqb}
-use Rattle.model.specs.Lists.{any, keep, flat, below, at, both, tabulate}
+use lib.Dec.{T, ltb}
+use Rattle.model.specs.Lists.{any, keep, flat, below, at, both}
 use Rattle.model.specs.ValueSets.{has, members, anyEmpty}
 use Rattle.model.specs.Problem.{Problem, Constraint, pair, isSolution, assignments, takes}
 use Rattle.model.specs.Nogood.{Entry, equality, disequality, filtered}
 use Rattle.model.specs.Search.{rowWith, setsAt, isLive, nodes}
-use Rattle.model.specs.Run.{Ending, finished, spent, full, Result, resultOf}
+use Rattle.model.specs.Run.{Ending, finished, spent, full, Result, resultOf, settledBy, countsBy}
 use Rattle.model.specs.Claims.{plansAmong}
 use Rattle.order.specs.Reordered.{read, write, earlierBy, reordered}
 
@@ -74,14 +74,6 @@ CountsBy p limit room (spent plans made) = (made ≡ limit) × (made < length (n
 CountsBy p limit room (full plans made) = (room < suc plans * p .variables) × (plansAmong p made ≡ suc plans) × (plansAmong p (made - 1) ≡ plans)
 
 -- ---- nodes by place (request 107)
--- of the first k nodes of the tree, those that settle place x: a node of i + 1 values settles order[i]
-unfoldable pub nodesAtPlace : List ℕ → Problem → ℕ → ℕ → ℕ
-nodesAtPlace order p k x = length (keep (λ t. eqb (at order (length t - 1)) x) (take k (nodes (reordered order p))))
-
--- the twelve counts
+-- of the first k nodes of the tree, those that settle each of twelve places: a node of i + 1 values settles order[i]
 unfoldable pub placeCounts : List ℕ → Problem → ℕ → List ℕ
-placeCounts order p k = tabulate 12 (nodesAtPlace order p k)
-
-unfoldable pub total : List ℕ → ℕ
-total [] = 0
-total (x ∷ xs) = x + total xs
+placeCounts order p k = countsBy (λ t. at order (settledBy t)) (take k (nodes (reordered order p)))

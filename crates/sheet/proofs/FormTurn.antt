@@ -20,7 +20,7 @@ use Rattle.reader.specs.declared.Header.{Header}
 use Rattle.sheet.specs.declared.Answer.{Answer}
 use Rattle.sheet.specs.declared.Answer.the-variants.{Accepted, Refused}
 use Rattle.sheet.proofs.Passed.{fit, good, is-accepted}
-use Rattle.sheet.proofs.Numbered.{numbered, supports-hold}
+use Rattle.sheet.proofs.Numbered.{numbered, numbered-length, supports-length, supports-hold}
 
 -- counts multiplied
 pub pair-room : (n d : ℕ) → n ≤ 12 → d ≤ 16 → n * d ≤ 192
@@ -97,6 +97,8 @@ module _ (b : List ℕ) where
                 passed = asked true q accepted;
                 numbered = subst (Numbers (problemOf b)) (sym (el ∙ whole)) (numbered b f gs old mid (zn .sized) (zn .blank) sets);
                 supported = subst (Supports (problemOf b)) (sym (a₃ .supported e₃)) (supports-hold b f gs sup (zs .sized) (zs .blank));
+                numbers-length = ap length (el ∙ whole) ∙ numbered-length b f gs old mid (zn .sized) (zn .blank) sets;
+                supports-length = ap length (a₃ .supported e₃) ∙ supports-length b f gs sup (zs .sized) (zs .blank);
               };
             }
           where

@@ -52,6 +52,9 @@ module _ (n d c g : ℕ) (l : List ℕ) (long : length l ≡ entries) where
   counted-c : at (counted n d c g l) 66 ≡ c
   counted-c = at-set-other (set (set (set l 64 n) 65 d) 66 c) 67 g 66 (λ e. omega arith) ∙ at-set (set (set l 64 n) 65 d) 66 c (omega (arith, long2))
 
+  counted-length : length (counted n d c g l) ≡ entries
+  counted-length = length-set (set (set (set l 64 n) 65 d) 66 c) 67 g ∙ long3
+
   counted-g : at (counted n d c g l) 67 ≡ g
   counted-g = at-set (set (set (set l 64 n) 65 d) 66 c) 67 g (omega (arith, long3))
 
@@ -108,6 +111,9 @@ module _ (b : List ℕ) where
           ∙ ap₂ (λ (u v : Bool). either u (both v (any (eqb x) (scopeAt b (offsetAt b (headerOf b .second) k))))) (ap (λ (s : ℕ). has s k) (sets .low x hx ∙ blank x) ∙ has-none k) (lt-ltb k (headerOf b .constraints) h)
           ∙ ap (any (eqb x)) (sym (scope-is k h))
 
+      pub numbered-length : length new ≡ entries
+      numbered-length = counted-length (headerOf b .variables) (headerOf b .values) (headerOf b .constraints) (headerOf b .symmetries) mid sized
+
       pub numbered : Numbers (problemOf b) new
       unfolding problemOf scopeAt
       numbered =
@@ -135,11 +141,17 @@ module _ (b : List ℕ) where
           tables = length-below (tableAt b (headerOf b)) (headerOf b .symmetries)
 
     -- ---- the support sets
+    supports-backed : (l : List ℕ) → length l ≡ 8192 → ((y : ℕ) → at l y ≡ 0) → Backed b (headerOf b .second) (headerOf b .constraints) l (supportsTo b (headerOf b .second) (headerOf b .constraints) l)
+    supports-backed l long blank = backed b (headerOf b .variables) (headerOf b .values) (headerOf b .second) (headerOf b .constraints) (f .sixteen) (f .constraints) good l long blank (headerOf b .constraints) (omega arith)
+
+    pub supports-length : (l : List ℕ) → length l ≡ 8192 → ((y : ℕ) → at l y ≡ 0) → length (supportsTo b (headerOf b .second) (headerOf b .constraints) l) ≡ 8192
+    supports-length l long blank = supports-backed l long blank .sized ∙ long
+
     pub supports-hold : (l : List ℕ) → length l ≡ 8192 → ((y : ℕ) → at l y ≡ 0) → Supports (problemOf b) (supportsTo b (headerOf b .second) (headerOf b .constraints) l)
     supports-hold l long blank k h vs size small =
         let w : k < headerOf b .constraints = omega (arith, many) in
         let p = offsetAt b (headerOf b .second) k in
-        let t = backed b (headerOf b .variables) (headerOf b .values) (headerOf b .second) (headerOf b .constraints) (f .sixteen) (f .constraints) good l long blank (headerOf b .constraints) (omega arith) in
+        let t = supports-backed l long blank in
         let s = at (supportsTo b (headerOf b .second) (headerOf b .constraints) l) (256 * k + place vs) in
         set-of-rows b (headerOf b .variables) (headerOf b .values) p (f .sixteen) (good k w) vs (size ∙ arity-is k w) small s (t .small (256 * k + place vs))
         (λ q v e z y. ap (λ (i : ℕ). has (at (supportsTo b (headerOf b .second) (headerOf b .constraints) l) (256 * k + i)) v) (sym e) ∙ t .holds k q v w z y)

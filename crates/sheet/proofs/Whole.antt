@@ -36,11 +36,15 @@ long b numbers supports r e a = form-passed b (a .formed e .passed) .fits .long
 
 -- a refusal leaves the arrays free
 pub compile-no : (b numbers supports images : List ℕ) (r : Answer) (n i : ℕ) → r ≡ Refused n i → means r ≡ verdictOf b → Compilation b numbers supports images r
-compile-no b numbers supports images r n i e a = record { answers = a; compiled = λ q. absurd (let z : _≡_ {A = ℕ} 0 1 = cc in omega arith) }
+compile-no b numbers supports images r n i e a = record { answers = a; compiled = λ q. absurd (never q); sizes = λ q. absurd (never q) }
+  where
+    never : r ≡ Accepted → ⊥
+    never q = let z : _≡_ {A = ℕ} 0 1 = cc in omega arith
 
-pub compile-yes : (b numbers supports images : List ℕ) (r : Answer) → r ≡ Accepted → FormAsked b numbers supports r → verdictOf b ≡ accepted → Images (problemOf b) images → Compilation b numbers supports images Accepted
-compile-yes b numbers supports images r e a v i =
+pub compile-yes : (b numbers supports images : List ℕ) (r : Answer) → r ≡ Accepted → FormAsked b numbers supports r → verdictOf b ≡ accepted → Images (problemOf b) images → length images ≡ 26112 → Compilation b numbers supports images Accepted
+compile-yes b numbers supports images r e a v i l =
     record {
       answers = sym v;
       compiled = λ _. record { numbered = a .formed e .numbered; supported = a .formed e .supported; imaged = i };
+      sizes = λ _. record { numbers-length = a .formed e .numbers-length; supports-length = a .formed e .supports-length; images-length = l };
     }

@@ -26,12 +26,21 @@ pub record Formed (b : List ℕ) (numbers supports : List ℕ) : Type 0 where
   pub passed : formVerdict b accepted ≡ accepted
   pub numbered : Numbers (problemOf b) numbers
   pub supported : Supports (problemOf b) supports
+  pub numbers-length : length numbers ≡ 384
+  pub supports-length : length supports ≡ 8192
 
 pub record FormAsked (b : List ℕ) (numbers supports : List ℕ) (r : Answer) : Type 0 where
   pub answers : Answers (formVerdict b) r
   pub formed : r ≡ Accepted → Formed b numbers supports
 
+-- the arrays have their lengths
+pub record Sized (numbers supports images : List ℕ) : Type 0 where
+  pub numbers-length : length numbers ≡ 384
+  pub supports-length : length supports ≡ 8192
+  pub images-length : length images ≡ 26112
+
 -- the answer to all questions, and the compiled problem of an accepted sheet
 pub record Compilation (b : List ℕ) (numbers supports images : List ℕ) (r : Answer) : Type 0 where
   pub answers : means r ≡ verdictOf b
   pub compiled : r ≡ Accepted → Compiled (problemOf b) numbers supports images
+  pub sizes : r ≡ Accepted → Sized numbers supports images

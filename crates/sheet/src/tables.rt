@@ -49,7 +49,7 @@ fn decode(sheet: &[u8], from: usize, count: usize, d: usize, base: usize, images
 // The images of all tables.
 pub fn decode_all(sheet: &[u8], h: Header, images: &mut [u8; 26112])
     requires { ⌜ (verdictOf (now sheet) ≡ accepted) × (stated h ≡ headerOf (now sheet)) × (length (now images) ≡ 26112) ⌝ }
-    ensures { λ _. ⌜ Images (problemOf (now (sheet .entry))) (now (images .exit)) ⌝ }
+    ensures { λ _. ⌜ Images (problemOf (now (sheet .entry))) (now (images .exit)) × (length (now (images .exit)) ≡ 26112) ⌝ }
 {
     let g = h.symmetries;
     let d = h.values;

@@ -51,7 +51,7 @@ decode-all-requires c κs = (sym (whole-yes _ _ _ _ (c .before .before .before .
 
 -- src/lib.rt:38:1
 returns-3 : tie.Need-returns-3
-returns-3 c = compile-yes _ _ _ _ _ (c .before .before .before .before .before .before .before .before .enum-told .given .1) (c .before .before .before .before .before .before .before .before .before .before .ask .ensures) (sym (whole-yes _ _ _ _ (c .before .before .before .before .ask2 .result) (c .before .before .before .before .before .before .before .before .enum-told .given .1) (c .before .before .before .before .before .before .before .before .before .before .ask .ensures) (c .before .before .before .before .ask2 .ensures)) ∙ ap means (c .before .before .enum-told3 .given .1)) (c .decode-all .ensures)
+returns-3 c = compile-yes _ _ _ _ _ (c .before .before .before .before .before .before .before .before .enum-told .given .1) (c .before .before .before .before .before .before .before .before .before .before .ask .ensures) (sym (whole-yes _ _ _ _ (c .before .before .before .before .ask2 .result) (c .before .before .before .before .before .before .before .before .enum-told .given .1) (c .before .before .before .before .before .before .before .before .before .before .ask .ensures) (c .before .before .before .before .ask2 .ensures)) ∙ ap means (c .before .before .enum-told3 .given .1)) (c .decode-all .ensures .0) (c .decode-all .ensures .1)
 
 pub compile-spec : {M : Type 1} → statement M
 compile-spec =

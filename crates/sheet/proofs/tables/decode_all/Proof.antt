@@ -63,7 +63,7 @@ loop-again c = (omega (arith, c .before .before .loop-test .taken), images-more 
 
 -- src/tables.rt:58:1
 returns : tie.Need-returns Inv-loop μ-loop
-returns c = images-all _ (c .before .before .before .before .pre .0) _ _ _ (omega (arith, c .loop-test .left, ap (λ (x : Numbers). x .symmetries) (c .before .before .before .before .pre .1))) (c .before .loop .inv .1)
+returns c = (images-all _ (c .before .before .before .before .pre .0) _ _ _ (omega (arith, c .loop-test .left, ap (λ (x : Numbers). x .symmetries) (c .before .before .before .before .pre .1))) (c .before .loop .inv .1), c .before .loop .inv .1 .sized)
 
 pub decode-all-spec : {M : Type 1} → statement M
 decode-all-spec =

@@ -1,0 +1,5 @@
+-- The laws, in the order of the argument.
+pub mod Lent
+pub mod LentQuestions
+pub mod LentTally
+pub mod Compiling

@@ -1,0 +1,15 @@
+-- On new arrays. Assumes nothing.
+use mathlib.Core.Path.{refl}
+use borrow.Author.Needs.{needs}
+use Rattle.lent.proofs.Compiling.{zeros}
+use Rattle.lent.proofs.question.Statement.{statement}
+use Rattle.lent.proofs.question.Tie as tie
+
+ask-requires : tie.Need-ask-requires
+ask-requires c κs = (zeros 384, zeros 8192, refl, refl)
+
+returns : tie.Need-returns
+returns c = search needs
+
+pub question-spec : {M : Type 1} → statement M
+question-spec = tie.close (tie.spec ask-requires returns)

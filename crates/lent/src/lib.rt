@@ -1,0 +1,93 @@
+// A run that is lent a sheet, pairs and a block (paper 02, #108 and #111): its questions, and the compiled problem whose tree the run walks.
+ghost use mathlib.Core.Path.{_≡_};
+ghost use Prim.Native.Nat.{_≤_};
+ghost use lib.ListN.{length};
+ghost use Rattle.model.specs.Problem.{Problem};
+ghost use Rattle.sheet.specs.Form.{Zeros};
+ghost use Rattle.sheet.specs.Meaning.{means};
+ghost use Rattle.lent.specs.Lent.{verdictLent};
+ghost use Rattle.lent.specs.Compile.{Lendings, AskedLent, CompiledLent};
+use layout::VARIABLES;
+use sheet::Answer;
+
+// Questions 28 to 30 and 36 of a sheet for n places, and the order of these in the first bytes.
+fn lendings(n: usize, pairs: &[u8], block: &[u8], order: &mut [u8; 16]) -> Answer
+    requires { ⌜ (n ≤ 12) × (length (now order) ≡ 16) ⌝ }
+    ensures { λ r. ⌜ ((p : Problem) → p .variables ≡ n → Lendings p (now (pairs .entry)) (now (block .entry)) (now (order .exit)) r) ⌝ }
+{
+    let number = order::settling_order(n, pairs, order);
+    if number != 0 {
+        return Answer::Refused { number, item: 0 };
+    }
+    if block.len() != 0 {
+        return Answer::Refused {
+            number: 36,
+            item: 0,
+        };
+    }
+    Answer::Accepted
+}
+
+// All questions in their order; where there is no "no", the arrays hold the sheet's problem.
+fn ask(
+    sheet: &[u8],
+    pairs: &[u8],
+    block: &[u8],
+    numbers: &mut [u64; 384],
+    supports: &mut [u16; 8192],
+    images: &mut [u8; 26112],
+    order: &mut [u8; 16],
+) -> Answer
+    requires { ⌜ Zeros 384 (now numbers) × Zeros 8192 (now supports) × (length (now images) ≡ 26112) × (length (now order) ≡ 16) ⌝ }
+    ensures { λ r. ⌜ AskedLent (now (sheet .entry)) (now (pairs .entry)) (now (block .entry)) (now (numbers .exit)) (now (supports .exit)) (now (images .exit)) (now (order .exit)) r ⌝ }
+{
+    let first = sheet::compile(sheet, numbers, supports, images);
+    let Answer::Accepted = first else {
+        return first;
+    };
+    lendings(numbers[VARIABLES] as usize, pairs, block, order)
+}
+
+// All questions, in their order, to any bytes.
+pub fn question(sheet: &[u8], pairs: &[u8], block: &[u8]) -> Answer
+    ensures { λ r. ⌜ means r ≡ verdictLent (now (sheet .entry)) (now (pairs .entry)) (now (block .entry)) ⌝ }
+{
+    let mut numbers = [0u64; 384];
+    let mut supports = [0u16; 8192];
+    let mut images = [0u8; 26112];
+    let mut order = [0u8; 16];
+    ask(
+        sheet,
+        pairs,
+        block,
+        &mut numbers,
+        &mut supports,
+        &mut images,
+        &mut order,
+    )
+}
+
+// The same, and for an accepted lending the arrays of the compiled problem (crate layout) with its variables in the settling order, and that order in the
+// first bytes of `order`. `numbers` and `supports` are lent full of zeros; after a refusal the arrays hold nothing that is meant.
+// Without pairs the order is 0, 1, .., and the problem is the sheet's own.
+pub fn compile(
+    sheet: &[u8],
+    pairs: &[u8],
+    block: &[u8],
+    numbers: &mut [u64; 384],
+    supports: &mut [u16; 8192],
+    images: &mut [u8; 26112],
+    order: &mut [u8; 16],
+) -> Answer
+    requires { ⌜ Zeros 384 (now numbers) × Zeros 8192 (now supports) × (length (now images) ≡ 26112) × (length (now order) ≡ 16) ⌝ }
+    ensures { λ r. ⌜ CompiledLent (now (sheet .entry)) (now (pairs .entry)) (now (block .entry)) (now (numbers .exit)) (now (supports .exit)) (now (images .exit)) (now (order .exit)) r ⌝ }
+{
+    let answer = ask(sheet, pairs, block, numbers, supports, images, order);
+    let Answer::Accepted = answer else {
+        return answer;
+    };
+    if pairs.len() != 0 {
+        reorder::reorder(order, numbers, supports, images);
+    }
+    Answer::Accepted
+}
