@@ -1,5 +1,5 @@
 -- The answers to the questions from those of the parts, and the compiled problem in the settling order. Assumes nothing.
-use mathlib.Core.Path.{_≡_, refl, sym, ap, _∙_, subst, subst₂}
+use mathlib.Core.Path.{_≡_, refl, sym, ap, _∙_, subst}
 use mathlib.Core.Bool.{Bool}
 use mathlib.Core.List.{List, [], _∷_}
 use Prim.Native.Nat.{ℕ, _≤_}
@@ -7,11 +7,10 @@ use native.Mathlib.Omega.{arith}
 use lib.Dec.{T, eqb}
 use lib.ListN.{length, take, replicate, length-replicate, length-map}
 use borrow.Author.Tests.{eq-eqb, ne-eqb}
-use Rattle.model.specs.Lists.{at, below}
+use Rattle.model.specs.Lists.{at}
 use Rattle.model.specs.Problem.{Problem}
 use Rattle.model.specs.Verdict.{Verdict, accepted, refused, ask, isAccepted}
 use Rattle.model.specs.Sheet.{verdictOf, problemOf}
-use Rattle.model.specs.WellFormed.{WellFormed}
 use Rattle.model.proofs.Lists.{at-replicate}
 use Rattle.model.proofs.Accepted.{constraints-are, symmetries-are, well-formed}
 use Rattle.order.specs.Order.{settlingOrder, orderVerdict, Ordering}

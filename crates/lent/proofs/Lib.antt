@@ -3,3 +3,4 @@ pub mod Lent
 pub mod LentQuestions
 pub mod LentTally
 pub mod Compiling
+pub mod LentExamples

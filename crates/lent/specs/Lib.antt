@@ -2,3 +2,4 @@
 pub mod Lent
 pub mod LentClaims
 pub mod Compile
+pub mod LentExamples
