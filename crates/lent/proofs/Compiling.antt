@@ -5,13 +5,12 @@ use mathlib.Core.List.{List, [], _∷_}
 use Prim.Native.Nat.{ℕ, _≤_}
 use native.Mathlib.Omega.{arith}
 use lib.Dec.{T, eqb}
-use lib.ListN.{length, take, replicate, length-replicate, length-map}
+use lib.ListN.{length, take, length-map}
 use borrow.Author.Tests.{eq-eqb, ne-eqb}
 use Rattle.model.specs.Lists.{at}
 use Rattle.model.specs.Problem.{Problem}
 use Rattle.model.specs.Verdict.{Verdict, accepted, refused, ask, isAccepted}
 use Rattle.model.specs.Sheet.{verdictOf, problemOf}
-use Rattle.model.proofs.Lists.{at-replicate}
 use Rattle.model.proofs.Accepted.{constraints-are, symmetries-are, well-formed}
 use Rattle.order.specs.Order.{settlingOrder, orderVerdict, Ordering}
 use Rattle.order.specs.Reordered.{constraintIn, symmetryIn, reordered}
@@ -22,17 +21,13 @@ use Rattle.order.proofs.LeadersBy.{reordered-below}
 use Rattle.layout.specs.Layout.{Compiled}
 use Rattle.layout.specs.Places.{VARIABLES}
 use Rattle.reorder.specs.Reorder.{Movable, Moved}
-use Rattle.sheet.specs.Form.{Zeros, Sized, Compilation}
+use Rattle.sheet.specs.Form.{Sized, Compilation}
 use Rattle.sheet.specs.Meaning.{means, andThen}
 use Rattle.sheet.specs.declared.Answer.{Answer}
 use Rattle.sheet.specs.declared.Answer.the-variants.{Accepted, Refused}
 use Rattle.lent.specs.Lent.{blockLent, verdictLent, orderLent, problemLent}
 use Rattle.lent.specs.Compile.{WithinLimits, CompiledLent, Lendings, AskedLent}
 use Rattle.lent.proofs.Lent.{passed-all, lent-passed, well-lent, ordering-lent}
-
--- a new array is full of zeros
-pub zeros : (n : ℕ) → Zeros n (replicate n 0)
-zeros n = record { sized = length-replicate n 0; blank = at-replicate n }
 
 -- a refusal is no acceptance
 never : (r : Answer) (number item : ℕ) → r ≡ Refused number item → r ≡ Accepted → ⊥

@@ -7,3 +7,4 @@ pub mod Merged
 pub mod Replies
 pub mod SmallSheets
 pub mod Tallied
+pub mod Lent

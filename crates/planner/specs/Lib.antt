@@ -4,5 +4,6 @@ pub mod Outcomes
 pub mod Merged
 pub mod SmallSheets
 pub mod Tallied
+pub mod Lent
 pub mod Inner
 pub mod Stored

@@ -1,7 +1,7 @@
 -- On new arrays. Assumes nothing.
 use mathlib.Core.Path.{refl}
 use borrow.Author.Needs.{needs}
-use Rattle.lent.proofs.Compiling.{zeros}
+use Rattle.sheet.proofs.Whole.{zeros}
 use Rattle.lent.proofs.question.Statement.{statement}
 use Rattle.lent.proofs.question.Tie as tie
 
