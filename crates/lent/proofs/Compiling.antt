@@ -25,7 +25,7 @@ use Rattle.sheet.specs.Form.{Sized, Compilation}
 use Rattle.sheet.specs.Meaning.{means, andThen}
 use Rattle.sheet.specs.declared.Answer.{Answer}
 use Rattle.sheet.specs.declared.Answer.the-variants.{Accepted, Refused}
-use Rattle.lent.specs.Lent.{blockLent, verdictLent, orderLent, problemLent}
+use Rattle.lent.specs.Lent.{blockLent, verdictLent, orderLent}
 use Rattle.lent.specs.Compile.{WithinLimits, CompiledLent, Lendings, AskedLent}
 use Rattle.lent.proofs.Lent.{passed-all, lent-passed, well-lent, ordering-lent}
 
@@ -134,14 +134,14 @@ module _ (b pairs block numbers supports images order : List ℕ) (r : Answer) (
   few-symmetries : length (problemOf b .symmetries) ≤ 16
   few-symmetries = let l = symmetries-are b in let f = lent-passed b pairs block good .sheet .header .symmetries in omega arith
 
-  limits : WithinLimits (problemLent b pairs block)
+  limits : WithinLimits (reordered (orderLent b pairs) (problemOf b))
   limits = record {
     wellFormed = well-reordered p (orderLent b pairs) ordered (well-lent b pairs block good);
     constraints = let l = length-map (p .constraints) (constraintIn (orderLent b pairs)) in let f = few-constraints in omega arith;
     symmetries = let l = length-map (p .symmetries) (symmetryIn (orderLent b pairs) p) in let f = few-symmetries in omega arith;
   }
 
-  whole : (numbers′ supports′ images′ : List ℕ) → Compiled (problemLent b pairs block) numbers′ supports′ images′ → Sized numbers′ supports′ images′ → CompiledLent b pairs block numbers′ supports′ images′ order Accepted
+  whole : (numbers′ supports′ images′ : List ℕ) → Compiled (reordered (orderLent b pairs) (problemOf b)) numbers′ supports′ images′ → Sized numbers′ supports′ images′ → CompiledLent b pairs block numbers′ supports′ images′ order Accepted
   whole numbers′ supports′ images′ c s = record {
     answers = sym (ap means e) ∙ a .answers;
     compiled = λ q. c;

@@ -7,12 +7,13 @@ use Rattle.model.specs.Problem.{Problem}
 use Rattle.model.specs.Sheet.{problemOf}
 use Rattle.model.specs.WellFormed.{WellFormed}
 use Rattle.order.specs.Order.{settlingOrder, orderVerdict, Ordering}
+use Rattle.order.specs.Reordered.{reordered}
 use Rattle.layout.specs.Layout.{Compiled}
 use Rattle.sheet.specs.Form.{Sized}
 use Rattle.sheet.specs.Meaning.{means}
 use Rattle.sheet.specs.declared.Answer.{Answer}
 use Rattle.sheet.specs.declared.Answer.the-variants.{Accepted}
-use Rattle.lent.specs.Lent.{blockLent, verdictLent, orderLent, problemLent}
+use Rattle.lent.specs.Lent.{blockLent, verdictLent, orderLent}
 
 -- a problem that the arrays have room for
 pub record WithinLimits (p : Problem) : Type 0 where
@@ -20,11 +21,11 @@ pub record WithinLimits (p : Problem) : Type 0 where
   pub constraints : length (p .constraints) ≤ 32
   pub symmetries : length (p .symmetries) ≤ 16
 
--- the answer to all questions; for an accepted lending the arrays hold the problem whose tree the run walks, and the order stands in the first bytes
+-- the answer to all questions; for an accepted lending the arrays hold the sheet's problem with its variables in the settling order, which stands in the first bytes
 pub record CompiledLent (b pairs block numbers supports images order : List ℕ) (r : Answer) : Type 0 where
   pub answers : means r ≡ verdictLent b pairs block
-  pub compiled : r ≡ Accepted → Compiled (problemLent b pairs block) numbers supports images
-  pub limits : r ≡ Accepted → WithinLimits (problemLent b pairs block)
+  pub compiled : r ≡ Accepted → Compiled (reordered (orderLent b pairs) (problemOf b)) numbers supports images
+  pub limits : r ≡ Accepted → WithinLimits (reordered (orderLent b pairs) (problemOf b))
   pub sizes : r ≡ Accepted → Sized numbers supports images
   pub order-is : r ≡ Accepted → take (problemOf b .variables) order ≡ orderLent b pairs
   pub ordering : r ≡ Accepted → Ordering (problemOf b .variables) (orderLent b pairs)
