@@ -3,7 +3,7 @@
 --     One              what is lent at one lifetime: held before the call, handed to the callee (a token, and what it owns), kept meanwhile, what the
 --                      callee says of the last value, held after the call
 --     mut, slice       a `&mut T`, a `&mut [T]`.        look     a `&mut T`, lent as a `&T`.        shr     a `&T`, copied
---     local, view      what lies in memory, lent as a `&mut T` and as a `&T`
+--     local, view      what lies in memory, lent as a `&mut T` and as a `&T`.        none     a `&[T]` of no element, made of nothing
 --     Loans            a chain of them: nil, cons; idle, that the callee is not handed; num, a number, that the caller does not hold
 --     num-uint         num, of an unsigned integer.        asks     what a callee requires, from its proof
 --     calls-lent       a call that is lent a chain: met is the callee's contract, at each choice of names; the rest of the walk has the chain after it
@@ -25,15 +25,16 @@ use contract.Monad.{fact, factI}
 use types.Kit.{Given, Item, ‵, raw, given, some, later, _⊛_, _$_, Post, runs, lands, Seq, move, keep, drop, use0, use1, use2, use3, split, join, pick, learn, check, await, updating, now as at-once, show, by, _∵_, !, qed, fsplit, fjoin, done, fsplit3, fjoin3, feqL, feqI}
 use types.Run.{Opds}
 use types.SemTy.{Body}
+use types.Share.{arr-parts}
 use types.Tokens.{lft-new, lft-end, lent-back}
 use types.Mut.{open-ref, close-ref}
 use denote.RattleType.{RattleType}
 use denote.Laws.{Is, shows}
-use denote.Memory.{mem, partAt}
+use denote.Memory.{mem, partAt, shares}
 use denote.Plain.{UInt, uint-makes}
 use denote.Ref.{MutRef, ShrRef, RefT}
-use denote.Slice.{MutSlice, Room, sliceVal, finally}
-use denote.Lend.{LentAgain, lends-again, comes-back, lends-shr, lends-ref, ref-back}
+use denote.Slice.{MutSlice, ShrSlice, Room, sliceVal, finally}
+use denote.Lend.{LentAgain, lends-again, comes-back, lends-shr, lends-shr-slice, lends-ref, ref-back}
 use denote.Steps.{nothing, facts, heard}
 use denote.Triple.Call.{calls-from}
 use Rattle.search.proofs.Reborrow as reborrow
@@ -306,6 +307,44 @@ module _ {M : Type 1} (𝓤 : URA M) (H : Heap 𝓤) (A : Atoms 𝓤) (W : Given
       last = λ n y. ftrue;
       goes = shr-goes;
       back = λ n y. shr-back;
+    }
+
+  -- ---- a `&[T]` of no element
+  module _ (S : RattleType) (b o : ℕ) (room : Room S 0) where
+    abbrev tok-none : ℕ × GName → Fml
+    tok-none n = flft (n .0 ∷ []) fullShare
+
+    abbrev own-none : ℕ × GName → Fml
+    own-none n = ShrSlice (named 0) (n .0 ∷ []) S .own (record { ptr = (b, o); name = n .1; now = [] }) (sliceVal (b, o) 0 ∷ [])
+
+    abbrev parts-none : Fml
+    parts-none = arr-parts (shares S) 0 .part fullShare [] b o
+
+    abbrev kept-none : ℕ × GName → Fml
+    kept-none n = flent (n .0 ∷ []) parts-none
+
+    pub none-goes : ent 𝓤 ⟦ ftrue ⟧ (H .⇛ (ex 𝓤 (Handed tok-none own-none kept-none)))
+    none-goes =
+        qed W (‵ ftrue ∷ []) ∵ updating ! $ feqI ! ℕ 0 0 refl $ fjoin ! $ lft-new ! tt (λ α. move ! (1 ∷ []) $
+        use1 W (later (some (λ (δ : GName). ‵ (own-none (α, δ)) ⊛ ‵ (kept-none (α, δ))))) (lends-shr-slice 𝓤 H A W S (named 0) (α ∷ []) fullShare [] b o room) $ await ! tt $ pick ! (λ δ. split ! $
+        move ! (2 ∷ 0 ∷ []) $ join ! $ at-once ! $ show ! (Handed tok-none own-none kept-none) (α, δ) $ done !))
+
+    pub none-back : (n : ℕ × GName) → ent 𝓤 (sep 𝓤 ⟦ kept-none n ⟧ (sep 𝓤 ⟦ tok-none n ⟧ ⟦ ftrue ⟧)) (H .⇛ (guard 𝓤 (Unit {0}) ⟦ ftrue ⟧))
+    none-back n = qed W (‵ (kept-none n) ∷ ‵ (tok-none n) ∷ ‵ ftrue ∷ []) ∵ updating ! $ keep ! (2 ∷ []) $ at-once ! $ check ! tt $ done !
+
+    abbrev pub none : One 𝓤 H A
+    none = record {
+      Name = ℕ × GName;
+      Last = Unit {0};
+      held = ftrue;
+      after = λ y. ftrue;
+      Fit = λ y. Unit {0};
+      tok = tok-none;
+      own = own-none;
+      kept = kept-none;
+      last = λ n y. ftrue;
+      goes = none-goes;
+      back = λ n y. none-back n;
     }
 
   -- ---- chains

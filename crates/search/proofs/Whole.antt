@@ -2,35 +2,35 @@
 -- run's answer, list and tally. Assumes nothing.
 use mathlib.Core.Path.{_≡_, refl, sym, ap, ap₂, _∙_, subst}
 use mathlib.Core.Bool.{Bool, true, false}
-use mathlib.Core.List.{List, [], _∷_, map}
+use mathlib.Core.List.{List, []}
 use Prim.Native.Nat.{ℕ, zero, suc, _+_, _*_, _/_, _%_, _^_, _≤_, _<_}
 use native.Mathlib.Nat.{div-add-mod', mod-lt, sub-zero, not-suc-le-zero}
 use native.Mathlib.Decide.{decLt}
 use native.Mathlib.Omega.{arith}
 use lib.Dec.{T, eqb}
 use borrow.Author.Tests.{not-true, not-false, eqb-true, eqb-false}
-use lib.ListN.{length, take, set, length-set, length-replicate}
-use lib.Seq.{length-take-le}
-use Rattle.model.specs.Lists.{at, upFrom, below, choose, total}
+use lib.ListN.{length, set, length-set, length-replicate}
+use Rattle.model.specs.Lists.{at, choose, total}
 use Rattle.model.specs.ValueSets.{has}
 use Rattle.model.specs.Problem.{Problem}
 use Rattle.model.specs.Search.{isLive, setsAt, nodes, nodesBelow}
 use Rattle.model.specs.Verdict.{Verdict, accepted, refused}
-use Rattle.model.specs.Sheet.{verdictOf, problemOf}
-use Rattle.model.specs.Run.{finished, spent, full, ended, resultOf, written, answerFor, answerOf, listFor, listOf, Tally, settledBy, tallyAt, tallyFor, tallyOf, plansIn, nodesIn}
+use Rattle.model.specs.Run.{finished, spent, full, ended, resultOf, Tally, plansIn, nodesIn}
 use Rattle.model.specs.Run as Run
-use Rattle.model.specs.WellFormed.{WellFormed}
-use Rattle.model.proofs.Lists.{T-of, at-ext, at-take, at-set, at-set-other}
-use Rattle.model.proofs.Tally.{counts-ext, settled-few, tally-nodes}
+use Rattle.model.proofs.Lists.{T-of, at-set, at-set-other}
 use Rattle.order.specs.Order.{Ordering}
-use Rattle.order.specs.Reordered.{write}
-use Rattle.order.specs.RunBy.{resultBy}
-use Rattle.order.proofs.LeadersBy.{below-at, ordering-below, reordered-below}
-use Rattle.order.proofs.RunBy.{same-result}
+use Rattle.order.specs.RunBy.{resultBy, placeCounts}
+use Rattle.lent.specs.Lent.{verdictLent, orderLent, problemLent, answerLentFor, answerLent, listLentFor, listLent, tallyLentFor, tallyLent}
+use Rattle.lent.specs.Compile.{WithinLimits, CompiledLent}
+use Rattle.lent.proofs.Lent.{passed-all, ordering-lent}
+use Rattle.lent.proofs.LentQuestions.{refused-lent}
 use Rattle.layout.specs.Places.{VARIABLES, VALUES, CONSTRAINTS, SYMMETRIES, LIMIT, ROOM, LINKED, BY-ROWS, OTHERS, LOOSE, ORDER, LANES, PLANS, NUMBER, ITEM, ALL, SPENT, DEEPER, REFUSED}
 use Rattle.layout.specs.Layout.{Numbers, Compiled}
 use Rattle.layout.specs.Tables.{Linked, Indexed}
 use Rattle.sheet.specs.Form.{Zeros}
+use Rattle.sheet.specs.Meaning as S
+use Rattle.sheet.specs.declared.Answer.{Answer as Verdicts}
+use Rattle.sheet.specs.declared.Answer.the-variants.{Accepted}
 use Rattle.index.specs.Index.{Compact, Made}
 use Rattle.prune.specs.Node.{Ready, Holds, Marked, Reached}
 use Rattle.search.specs.Walk.{noNodes, Summed, State, walk, stopIn, tallyBy}
@@ -40,7 +40,6 @@ use Rattle.search.specs.Whole.{ordered, Prepared, RunTo, Explored, Stopp
 use Rattle.search.specs.declared.Answer.{Answer}
 use Rattle.search.proofs.Laws.{dead-below}
 use Rattle.search.proofs.Outcome.{outcome}
-use Rattle.search.proofs.Sheets.{WithinLimits, within-limits, answer-refused, list-refused}
 use Rattle.search.proofs.Turns.{values-ask, tried-all}
 use Rattle.search.proofs.Prefix.{prefix-zero}
 use Rattle.search.proofs.Written.{order-taken}
@@ -104,41 +103,43 @@ module _ (order : List ℕ) where
           let e : n ≡ k = omega arith in
           ap (λ (j : ℕ). at (set (ordered order n l) (ORDER + n) (at order n)) (ORDER + j)) (sym e) ∙ at-set (ordered order n l) (ORDER + n) (at order n) (let s = length-ordered n l in omega arith) ∙ ap (at order) e
 
--- the order 0, 1, ..
-pub identity : (n : ℕ) → n ≤ 12 → take n (0 ∷ 1 ∷ 2 ∷ 3 ∷ 4 ∷ 5 ∷ 6 ∷ 7 ∷ 8 ∷ 9 ∷ 10 ∷ 11 ∷ 12 ∷ 13 ∷ 14 ∷ 15 ∷ []) ≡ below n
-unfolding below upFrom
-identity n l =
-    let e : length (take n (below 16)) ≡ n = length-take-le n (below 16) (omega arith) in
-    let o = ordering-below n .sized in
-    at-ext (take n (below 16)) (below n) (e ∙ sym o) (λ i h. let j : i < n = omega arith in at-take n (below 16) i j ∙ below-at 16 i (omega arith) ∙ sym (below-at n i j))
-
 pub none-summed : Summed noNodes
 unfolding total
 none-summed = record { twelve = length-replicate {A = ℕ} 12 0; sum = refl }
 
-module _ (b : List ℕ) (accepts : verdictOf b ≡ accepted) where
-  abbrev p : Problem
-  p = problemOf b
+-- `compile` has answered, and no question with "no": p is the problem whose tree the run walks, and the bytes begin with the order
+module _ (b pairs block : List ℕ) (numbers supports images bytes : List ℕ) (r : Verdicts) (left : CompiledLent b pairs block numbers supports images bytes r) where
+  module _ (is : r ≡ Accepted) where
+    abbrev p : Problem
+    p = problemLent b pairs block
 
-  abbrev fits : WithinLimits p
-  fits = within-limits b accepts
+    abbrev order : List ℕ
+    order = orderLent b pairs
 
-  module _ (numbers supports images : List ℕ) (h : Compiled p numbers supports images) where
-    pub few-variables : p .variables ≤ 12
-    few-variables = fits .wellFormed .few
+    accepts : verdictLent b pairs block ≡ accepted
+    accepts = sym (left .answers) ∙ ap S.means is
+
+    abbrev fits : WithinLimits p
+    fits = left .limits is
+
+    abbrev h : Compiled p numbers supports images
+    h = left .compiled is
+
+    long : length numbers ≡ 384
+    long = left .sizes is .numbers-length
 
     pub some-variables : 0 < at numbers VARIABLES
     some-variables = subst (λ (n : ℕ). 0 < n) (sym (h .numbered .variables)) (fits .wellFormed .some)
 
-    module _ (limit : ℕ) (small : limit < 2 ^ 32) (size room : ℕ) (rooms : room ≡ size / at numbers VARIABLES) (long : length numbers ≡ 384) (bounded : List ℕ) (put : bounded ≡ set (set numbers LIMIT limit) ROOM room) where
+    module _ (limit : ℕ) (small : limit < 2 ^ 32) (size room : ℕ) (rooms : room ≡ size / at numbers VARIABLES) (bounded : List ℕ) (put : bounded ≡ set (set numbers LIMIT limit) ROOM room) where
       kept : (i : ℕ) → i < 68 → at bounded i ≡ at numbers i
       kept i l = ap (λ (l : List ℕ). at l i) put ∙ at-set-other (set numbers LIMIT limit) ROOM room i (λ e. omega arith) ∙ at-set-other numbers LIMIT limit i (λ e. omega arith)
 
       at-limit : at bounded LIMIT ≡ limit
-      at-limit = ap (λ (l : List ℕ). at l LIMIT) put ∙ at-set-other (set numbers LIMIT limit) ROOM room LIMIT (λ e. omega arith) ∙ at-set numbers LIMIT limit (omega arith)
+      at-limit = ap (λ (l : List ℕ). at l LIMIT) put ∙ at-set-other (set numbers LIMIT limit) ROOM room LIMIT (λ e. omega arith) ∙ at-set numbers LIMIT limit (let e = long in omega arith)
 
       at-room : at bounded ROOM ≡ room
-      at-room = ap (λ (l : List ℕ). at l ROOM) put ∙ at-set (set numbers LIMIT limit) ROOM room (let l = length-set numbers LIMIT limit in omega arith)
+      at-room = ap (λ (l : List ℕ). at l ROOM) put ∙ at-set (set numbers LIMIT limit) ROOM room (let l = length-set numbers LIMIT limit in let e = long in omega arith)
 
       pub compact : (tables : List ℕ) → length tables ≡ 55296 → Compact p bounded supports images tables
       compact tables lt = record {
@@ -150,18 +151,18 @@ module _ (b : List ℕ) (accepts : verdictOf b ≡ accepted) where
         tables-length = lt;
       }
 
-      module _ (tables indexed tables′ : List ℕ) (made : Made p bounded supports tables indexed tables′) (order : List ℕ) (long-order : length order ≡ 16) (order-is : take (p .variables) order ≡ below (p .variables)) (numbers′ : List ℕ) (orders : numbers′ ≡ ordered order 12 indexed) where
+      module _ (tables indexed tables′ : List ℕ) (made : Made p bounded supports tables indexed tables′) (numbers′ : List ℕ) (orders : numbers′ ≡ ordered bytes 12 indexed) where
         low : (i : ℕ) → i < ORDER → at numbers′ i ≡ at indexed i
-        low i l = ap (λ (m : List ℕ). at m i) orders ∙ ordered-other order 12 i indexed (λ j m e. omega arith)
+        low i l = ap (λ (m : List ℕ). at m i) orders ∙ ordered-other bytes 12 i indexed (λ j m e. omega arith)
 
         high : (i : ℕ) → LANES ≤ i → at numbers′ i ≡ at indexed i
-        high i l = ap (λ (m : List ℕ). at m i) orders ∙ ordered-other order 12 i indexed (λ j m e. omega arith)
+        high i l = ap (λ (m : List ℕ). at m i) orders ∙ ordered-other bytes 12 i indexed (λ j m e. omega arith)
 
         indexed-length : length indexed ≡ 384
         indexed-length = made .numbers-length ∙ ap length put ∙ length-set (set numbers LIMIT limit) ROOM room ∙ length-set numbers LIMIT limit ∙ long
 
-        order-put : orderIn numbers′ (p .variables) ≡ below (p .variables)
-        order-put = order-taken numbers′ order (p .variables) (let f = fits .wellFormed .few in omega arith) (λ k l. ap (λ (m : List ℕ). at m (ORDER + k)) orders ∙ ordered-at order 12 k indexed (let e = indexed-length in omega arith) (let f = fits .wellFormed .few in omega arith)) ∙ order-is
+        order-put : orderIn numbers′ (p .variables) ≡ order
+        order-put = order-taken numbers′ bytes (p .variables) (let f = fits .wellFormed .few in let e = left .order-length in omega arith) (λ k l. ap (λ (m : List ℕ). at m (ORDER + k)) orders ∙ ordered-at bytes 12 k indexed (let e = indexed-length in omega arith) (let f = fits .wellFormed .few in omega arith)) ∙ left .order-is is
 
         pub ready : (stack work : List ℕ) → length stack ≡ 208 → length work ≡ 256 → Ready p stack work supports tables′ numbers′
         ready stack work ls lw = record {
@@ -198,11 +199,11 @@ module _ (b : List ℕ) (accepts : verdictOf b ≡ accepted) where
             limited = subst (λ (k : ℕ). k < 2 ^ 32) (sym limited) small;
             allowed = omega arith;
             summed = none-summed;
-            order = subst (Ordering (p .variables)) (sym order-put) (ordering-below (p .variables));
+            order = subst (Ordering (p .variables)) (sym order-put) (left .ordering is);
             room = subst (ListRoom (p .variables) (at numbers′ ROOM) list) (sym plans-none) (subst (λ (k : ℕ). ListRoom (p .variables) k list 0) (sym (low ROOM (omega arith) ∙ made .kept ROOM (omega arith) ∙ at-room)) (empty-room list same));
           }
 
-          pub prepared-dead : dead ≡ true → Prepared b limit size stack′ work′ supports tables′ numbers′ ALL
+          pub prepared-dead : dead ≡ true → Prepared b pairs block limit size stack′ work′ supports tables′ numbers′ ALL
           prepared-dead e = record {
             refused = λ z. absurd (omega arith);
             accepted = λ z. accepts;
@@ -214,7 +215,7 @@ module _ (b : List ℕ) (accepts : verdictOf b ≡ accepted) where
             live = λ z. absurd (omega arith);
           }
 
-          pub prepared-live : dead ≡ false → Prepared b limit size stack′ work′ supports tables′ numbers′ DEEPER
+          pub prepared-live : dead ≡ false → Prepared b pairs block limit size stack′ work′ supports tables′ numbers′ DEEPER
           prepared-live e = record {
             refused = λ z. absurd (omega arith);
             accepted = λ z. accepts;
@@ -226,9 +227,9 @@ module _ (b : List ℕ) (accepts : verdictOf b ≡ accepted) where
             live = λ z. start e;
           }
 
-pub prepared-refused : (b : List ℕ) (limit size number item : ℕ) (stack work supports tables numbers : List ℕ) → verdictOf b ≡ refused number item → number < 2 ^ 8 → length work ≡ 256 →
-    Prepared b limit size stack (set (set work NUMBER number) ITEM item) supports tables numbers REFUSED
-prepared-refused b limit size number item stack work supports tables numbers v small long =
+pub prepared-refused : (b pairs block : List ℕ) (limit size number item : ℕ) (stack work supports tables numbers : List ℕ) → verdictLent b pairs block ≡ refused number item → number < 2 ^ 8 → length work ≡ 256 →
+    Prepared b pairs block limit size stack (set (set work NUMBER number) ITEM item) supports tables numbers REFUSED
+prepared-refused b pairs block limit size number item stack work supports tables numbers v small long =
     let l = length-set work NUMBER number in
     let e : at (set (set work NUMBER number) ITEM item) NUMBER ≡ number = at-set-other (set work NUMBER number) ITEM item NUMBER (λ z. omega arith) ∙ at-set work NUMBER number (omega arith) in
     let f : at (set (set work NUMBER number) ITEM item) ITEM ≡ item = at-set (set work NUMBER number) ITEM item (omega arith) in
@@ -247,17 +248,6 @@ prepared-refused b limit size number item stack work supports tables numbers v s
 abbrev zeroth : List ℕ → State
 zeroth list = record { tally = noNodes; plans = 0; stop = ALL; list = list }
 
--- in the order 0, 1, .. the counts are the defined ones
-tally-same : (p : Problem) (k : ℕ) → tallyBy (below (p .variables)) p k ≡ tallyAt p k
-unfolding tallyBy tallyAt
-tally-same p k =
-    ap (λ (l : List ℕ). record { nodes = k; counts = l })
-    (counts-ext (λ t. at (below (p .variables)) (settledBy t)) settledBy (take k (nodes p)) (λ t m. below-at (p .variables) (settledBy t) (settled-few p k t m)))
-
-rows-same : (p : Problem) → WellFormed p → (limit room : ℕ) → map (write (below (p .variables))) (resultOf p limit room .rows) ≡ resultOf p limit room .rows
-unfolding resultBy
-rows-same p w limit room = ap (λ (q : Problem). map (write (below (p .variables))) (resultOf q limit room .rows)) (sym (reordered-below p w)) ∙ same-result p w limit room .1
-
 stop-in : (e : Run.Ending) → stopIn e < DEEPER
 stop-in (finished k u) = omega arith
 stop-in (spent k u) = omega arith
@@ -275,8 +265,8 @@ run-to p order sized limit list work′ list′ tally′ stop h =
       wrote = ap (λ (x : State). x .list) s;
     }
 
-module _ (b : List ℕ) (limit : ℕ) (list stack work supports tables numbers : List ℕ) (step : ℕ) (h : Prepared b limit (length list) stack work supports tables numbers step) where
-  pub explored-refused : (tally : Tally) (stop : ℕ) → step ≡ REFUSED → stop ≡ REFUSED → Explored b limit list tally work list tally stop
+module _ (b pairs block : List ℕ) (limit : ℕ) (list stack work supports tables numbers : List ℕ) (step : ℕ) (h : Prepared b pairs block limit (length list) stack work supports tables numbers step) where
+  pub explored-refused : (tally : Tally) (stop : ℕ) → step ≡ REFUSED → stop ≡ REFUSED → Explored b pairs block limit list tally work list tally stop
   explored-refused tally stop e s = record {
     refused = λ z. (h .refused e, refl, refl);
     accepted = λ z. absurd (z s);
@@ -285,52 +275,55 @@ module _ (b : List ℕ) (limit : ℕ) (list stack work supports tables numbers :
     known = λ z. absurd (z s);
   }
 
-  abbrev order : List ℕ
-  order = below (problemOf b .variables)
+  abbrev tree : Problem
+  tree = problemLent b pairs block
 
-  sized : length order ≡ problemOf b .variables
-  sized = ordering-below (problemOf b .variables) .sized
+  abbrev by : List ℕ
+  by = orderLent b pairs
 
-  pub explored-dead : (tally tally′ : Tally) (stop : ℕ) → step ≡ ALL → stop ≡ ALL → Cleared tally′ → Explored b limit list tally work list tally′ stop
+  sized : (step ≡ REFUSED → ⊥) → length by ≡ tree .variables
+  sized n = ordering-lent b pairs block (passed-all (verdictLent b pairs block) (h .accepted n)) .sized
+
+  pub explored-dead : (tally tally′ : Tally) (stop : ℕ) → step ≡ ALL → stop ≡ ALL → Cleared tally′ → Explored b pairs block limit list tally work list tally′ stop
   unfolding nodes walk
   explored-dead tally tally′ stop e s t = record {
     refused = λ z. absurd (omega arith);
     accepted = λ z. h .accepted (λ f. omega arith);
-    ended = λ z. run-to (problemOf b) order sized limit list work list tally′ stop none;
+    ended = λ z. run-to tree by (sized (λ f. omega arith)) limit list work list tally′ stop none;
     summed = λ z. t .summed;
     known = λ z. omega arith;
   }
     where
-      none : stateOf tally′ work stop list ≡ walk (problemOf b) order limit (nodes (problemOf b)) (zeroth list)
+      none : stateOf tally′ work stop list ≡ walk tree by limit (nodes tree) (zeroth list)
       none =
           ap₂ (λ (a : Tally) (k : ℕ). record { tally = a; plans = k; stop = stop; list = list }) (t .is) (h .begun (λ f. omega arith))
           ∙ ap (λ (k : ℕ). record { tally = noNodes; plans = 0; stop = k; list = list }) s
-          ∙ sym (ap (λ (ts : List (List ℕ)). walk (problemOf b) order limit ts (zeroth list)) (dead-below (problemOf b) (problemOf b .variables) [] (h .dead e)))
+          ∙ sym (ap (λ (ts : List (List ℕ)). walk tree by limit ts (zeroth list)) (dead-below tree (tree .variables) [] (h .dead e)))
 
   module _ (e : step ≡ DEEPER) (count : Tally) (none : Cleared count) (values : ℕ) (all : values ≡ at stack (17 * 0)) where
-    abbrev given : AtPrefix (problemOf b) stack work supports tables numbers list count 0
-    given = subst (λ (t : Tally). AtPrefix (problemOf b) stack work supports tables numbers list t 0) (sym (none .is)) (h .live e list refl)
+    abbrev given : AtPrefix tree stack work supports tables numbers list count 0
+    given = subst (λ (t : Tally). AtPrefix tree stack work supports tables numbers list t 0) (sym (none .is)) (h .live e list refl)
 
-    pub start-asks : AtValues (problemOf b) stack work supports tables numbers list count 0 values
-    start-asks = subst (AtValues (problemOf b) stack work supports tables numbers list count 0) (sym all) (values-ask (problemOf b) stack work supports tables numbers list count 0 given)
+    pub start-asks : AtValues tree stack work supports tables numbers list count 0 values
+    start-asks = subst (AtValues tree stack work supports tables numbers list count 0) (sym all) (values-ask tree stack work supports tables numbers list count 0 given)
 
-    module _ (tally : Tally) (stack′ work′ list′ : List ℕ) (tally′ : Tally) (stop : ℕ) (w : Walked (problemOf b) (tried (problemOf b) work 0 values) stack work numbers list count 0 stack′ work′ list′ tally′ stop) where
-      whole : stateOf tally′ work′ stop list′ ≡ walk (problemOf b) order limit (nodes (problemOf b)) (zeroth list)
+    module _ (tally : Tally) (stack′ work′ list′ : List ℕ) (tally′ : Tally) (stop : ℕ) (w : Walked tree (tried tree work 0 values) stack work numbers list count 0 stack′ work′ list′ tally′ stop) where
+      whole : stateOf tally′ work′ stop list′ ≡ walk tree by limit (nodes tree) (zeroth list)
       unfolding nodes
       whole =
           w .state
-          ∙ ap₂ (λ (k : ℕ) (ts : List (List ℕ)). walk (problemOf b) (orderIn numbers (problemOf b .variables)) k ts (stateOf count work ALL list)) (h .bounded e)
-          (ap (tried (problemOf b) work 0) all ∙ tried-all (problemOf b) stack work supports tables numbers list count 0 given ∙ ap₂ (nodesBelow (problemOf b)) (sub-zero (problemOf b .variables)) (prefix-zero work))
-          ∙ ap₂ (λ (a : Tally) (k : ℕ). walk (problemOf b) (orderIn numbers (problemOf b .variables)) limit (nodesBelow (problemOf b) (problemOf b .variables) []) (record { tally = a; plans = k; stop = ALL; list = list })) (none .is) (h .begun (λ f. omega arith))
-          ∙ ap (λ (o : List ℕ). walk (problemOf b) o limit (nodesBelow (problemOf b) (problemOf b .variables) []) (zeroth list)) (h .order e)
+          ∙ ap₂ (λ (k : ℕ) (ts : List (List ℕ)). walk tree (orderIn numbers (tree .variables)) k ts (stateOf count work ALL list)) (h .bounded e)
+          (ap (tried tree work 0) all ∙ tried-all tree stack work supports tables numbers list count 0 given ∙ ap₂ (nodesBelow tree) (sub-zero (tree .variables)) (prefix-zero work))
+          ∙ ap₂ (λ (a : Tally) (k : ℕ). walk tree (orderIn numbers (tree .variables)) limit (nodesBelow tree (tree .variables) []) (record { tally = a; plans = k; stop = ALL; list = list })) (none .is) (h .begun (λ f. omega arith))
+          ∙ ap (λ (o : List ℕ). walk tree o limit (nodesBelow tree (tree .variables) []) (zeroth list)) (h .order e)
 
-      abbrev ended-so : RunTo (problemOf b) order (resultOf (problemOf b) limit (length list)) list work′ list′ tally′ stop
-      ended-so = run-to (problemOf b) order sized limit list work′ list′ tally′ stop whole
+      abbrev ended-so : RunTo tree by (resultOf tree limit (length list)) list work′ list′ tally′ stop
+      ended-so = run-to tree by (sized (λ f. omega arith)) limit list work′ list′ tally′ stop whole
 
       stop-known : stop < DEEPER
-      stop-known = let s = stop-in (resultOf (problemOf b) limit (length list) .ending) in let q = ended-so .stopped in omega arith
+      stop-known = let s = stop-in (resultOf tree limit (length list) .ending) in let q = ended-so .stopped in omega arith
 
-      pub explored : Explored b limit list tally work′ list′ tally′ stop
+      pub explored : Explored b pairs block limit list tally work′ list′ tally′ stop
       explored = record {
         refused = λ z. absurd (let k = stop-known in omega arith);
         accepted = λ z. h .accepted (λ f. omega arith);
@@ -340,8 +333,8 @@ module _ (b : List ℕ) (limit : ℕ) (list stack work supports tables numbers :
       }
 
 -- ---- the answer
-pub stopped : (b : List ℕ) (limit : ℕ) (list : List ℕ) (tally : Tally) (work′ list′ : List ℕ) (tally′ : Tally) (stop : ℕ) → Explored b limit list tally work′ list′ tally′ stop → Stopped work′ stop
-stopped b limit list tally work′ list′ tally′ stop h = record { number = λ z. h .refused z .0 .number; known = h .known }
+pub stopped : (b pairs block : List ℕ) (limit : ℕ) (list : List ℕ) (tally : Tally) (work′ list′ : List ℕ) (tally′ : Tally) (stop : ℕ) → Explored b pairs block limit list tally work′ list′ tally′ stop → Stopped work′ stop
+stopped b pairs block limit list tally work′ list′ tally′ stop h = record { number = λ z. h .refused z .0 .number; known = h .known }
 
 -- an ending is known by its figures and how it stopped
 abbrev endingBy : ℕ → ℕ → ℕ → Run.Ending
@@ -353,44 +346,39 @@ ending-by (spent k u) = refl
 ending-by (full k u) = refl
 
 -- what the contract of a run says
-pub record Said (b : List ℕ) (limit : ℕ) (list : List ℕ) (tally : Tally) (list′ : List ℕ) (tally′ : Tally) (r : Answer) : Type 0 where
-  pub answer : means r ≡ answerOf b limit list
-  pub lists : list′ ≡ listOf b limit list
-  pub counts : tally′ ≡ tallyOf b limit list tally
+pub record Said (b pairs block : List ℕ) (limit : ℕ) (list : List ℕ) (tally : Tally) (list′ : List ℕ) (tally′ : Tally) (r : Answer) : Type 0 where
+  pub answer : means r ≡ answerLent b pairs block limit list
+  pub lists : list′ ≡ listLent b pairs block limit list
+  pub counts : tally′ ≡ tallyLent b pairs block limit list tally
 
-module _ (b : List ℕ) (limit : ℕ) (list : List ℕ) (tally : Tally) (work′ list′ : List ℕ) (tally′ : Tally) (stop : ℕ) (h : Explored b limit list tally work′ list′ tally′ stop) (made : ℕ) (is : made ≡ tally′ .nodes) (r : Answer) (a : Answered work′ made stop r) where
-  said-refused : stop ≡ REFUSED → Said b limit list tally list′ tally′ r
-  unfolding tallyOf
+module _ (b pairs block : List ℕ) (limit : ℕ) (list : List ℕ) (tally : Tally) (work′ list′ : List ℕ) (tally′ : Tally) (stop : ℕ) (h : Explored b pairs block limit list tally work′ list′ tally′ stop) (made : ℕ) (is : made ≡ tally′ .nodes) (r : Answer) (a : Answered work′ made stop r) where
+  said-refused : stop ≡ REFUSED → Said b pairs block limit list tally list′ tally′ r
   said-refused e =
       let f = h .refused e in
-      let q = answer-refused b (at work′ NUMBER) (at work′ ITEM) (f .0 .verdict) limit list in
-      record {
-        answer = a .refused e ∙ q;
-        lists = f .1 ∙ list-refused b (at work′ NUMBER) (at work′ ITEM) (f .0 .verdict) limit list;
-        counts = f .2 ∙ ap (λ (u : Run.Answer). tallyFor u (problemOf b) tally) q;
-      }
+      let q = refused-lent b pairs block limit list tally (at work′ NUMBER) (at work′ ITEM) (f .0 .verdict) in
+      record { answer = a .refused e ∙ sym (q .0); lists = f .1 ∙ sym (q .1); counts = f .2 ∙ sym (q .2) }
 
-  said-ended : (stop ≡ REFUSED → ⊥) → Said b limit list tally list′ tally′ r
-  unfolding answerOf answerFor listOf listFor tallyOf
+  said-ended : (stop ≡ REFUSED → ⊥) → Said b pairs block limit list tally list′ tally′ r
+  unfolding answerLent answerLentFor listLent listLentFor tallyLent resultBy placeCounts tallyBy
   said-ended n =
-      let x = resultOf (problemOf b) limit (length list) in
+      let x = resultOf (problemLent b pairs block) limit (length list) in
       let f = a .ended n in
       let o = h .ended n in
       let v = h .accepted n in
-      let m : nodesIn (f .0) ≡ nodesIn (x .ending) = f .3 ∙ is ∙ ap (λ (t : Tally). t .nodes) (o .tally ∙ tally-same (problemOf b) (nodesIn (x .ending))) ∙ tally-nodes (problemOf b) (nodesIn (x .ending)) in
+      let m : nodesIn (f .0) ≡ nodesIn (x .ending) = f .3 ∙ is ∙ ap (λ (t : Tally). t .nodes) (o .tally) in
       let s : endingBy (plansIn (f .0)) (nodesIn (f .0)) (stopIn (f .0)) ≡ endingBy (plansIn (x .ending)) (nodesIn (x .ending)) (stopIn (x .ending)) =
       ap₂ (λ (i j : ℕ). endingBy i j (stopIn (f .0))) (f .2 ∙ o .plans) m ∙ ap (endingBy (plansIn (x .ending)) (nodesIn (x .ending))) (f .4 ∙ o .stopped) in
       let e : f .0 ≡ x .ending = sym (ending-by (f .0)) ∙ s ∙ ending-by (x .ending) in
-      let q : ended (x .ending) ≡ answerOf b limit list = ap (λ (u : Verdict). answerFor u b limit (length list)) (sym v) in
+      let q : ended (x .ending) ≡ answerLent b pairs block limit list = ap (λ (u : Verdict). answerLentFor u b pairs block limit (length list)) (sym v) in
       record {
         answer = f .1 ∙ ap ended e ∙ q;
-        lists = o .wrote ∙ ap (λ (r : List (List ℕ)). written r list) (rows-same (problemOf b) (within-limits b v .wellFormed) limit (length list)) ∙ ap (λ (u : Verdict). listFor u b limit list) (sym v);
-        counts = o .tally ∙ tally-same (problemOf b) (nodesIn (x .ending)) ∙ ap (λ (u : Run.Answer). tallyFor u (problemOf b) tally) q;
+        lists = o .wrote ∙ ap (λ (u : Verdict). listLentFor u b pairs block limit list) (sym v);
+        counts = o .tally ∙ ap (λ (u : Run.Answer). tallyLentFor u b pairs block tally) q;
       }
 
-  pub said : Said b limit list tally list′ tally′ r
+  pub said : Said b pairs block limit list tally list′ tally′ r
   said = go (eqb stop REFUSED) refl
     where
-      go : (c : Bool) → eqb stop REFUSED ≡ c → Said b limit list tally list′ tally′ r
+      go : (c : Bool) → eqb stop REFUSED ≡ c → Said b pairs block limit list tally list′ tally′ r
       go true e = said-refused (eqb-true stop REFUSED e)
       go false e = said-ended (eqb-false stop REFUSED e)

@@ -22,6 +22,7 @@ ghost use Rattle.model.specs.Run.{answerOf, listOf, tallyOf};
 ghost use Rattle.model.specs.Run as Run;
 ghost use Rattle.order.specs.Order.{Ordering};
 ghost use Rattle.order.specs.Reordered.{write};
+ghost use Rattle.lent.specs.Lent.{answerLent, listLent, tallyLent};
 ghost use Rattle.layout.specs.Places.{VARIABLES, LIMIT, ROOM, ORDER, PLANS};
 ghost use Rattle.search.specs.Walk.{noNodes, overwritten};
 ghost use Rattle.search.specs.Pair.{prefixOf, settling, orderIn, Countable, Counted, Cleared, ListRoom, Listed, AtValues, AtValue, Walked, Entered, tried, lowestTried};
@@ -289,7 +290,7 @@ fn put_order(numbers: &mut [u64], order: &[u8; 16])
     }
 }
 
-// Puts the questions to the sheet, and makes of it all that the search reads: REFUSED where it is, and its number and item then stand in `work`;
+// Puts the questions to what is lent, and makes of it all that the search reads: REFUSED where it is, and its number and item then stand in `work`;
 // ALL where the empty prefix is dead, else DEEPER.
 fn prepare(
     stack: &mut [u16; 208],
@@ -298,21 +299,31 @@ fn prepare(
     tables: &mut [u16; 55296],
     numbers: &mut [u64; 384],
     sheet: &[u8],
+    pairs: &[u8],
+    block: &[u8],
     limit: u32,
     size: usize,
 ) -> u8
     requires { ⌜ Blank (now stack) (now work) (now supports) (now tables) (now numbers) ⌝ }
-    ensures { λ r. ⌜ Prepared (now (sheet .entry)) limit size (now (stack .exit)) (now (work .exit)) (now (supports .exit)) (now (tables .exit)) (now (numbers .exit)) r ⌝ }
+    ensures { λ r. ⌜ Prepared (now (sheet .entry)) (now (pairs .entry)) (now (block .entry)) limit size (now (stack .exit)) (now (work .exit)) (now (supports .exit)) (now (tables .exit)) (now (numbers .exit)) r ⌝ }
 {
     let mut images = [0u8; 26112];
-    let verdict = sheet::compile(sheet, numbers, supports, &mut images);
+    let mut order = [0u8; 16];
+    let verdict = lent::compile(
+        sheet,
+        pairs,
+        block,
+        numbers,
+        supports,
+        &mut images,
+        &mut order,
+    );
     match verdict {
         sheet::Answer::Accepted => {
             let n = numbers[VARIABLES] as usize;
             let room = size / n;
             put_bounds(numbers, limit as u64, room as u64);
             index::index(numbers, supports, &images, tables);
-            let order = [0u8, 1, 2, 3, 4, 5, 6, 7, 8, 9, 10, 11, 12, 13, 14, 15];
             put_order(numbers, &order);
             if prune::root(stack, work, supports, tables, numbers) {
                 ALL
@@ -350,7 +361,7 @@ fn answered(work: &[u64; 256], made: u32, stop: u8) -> Answer
     Answer::Ended(Ending::Full(plans, nodes))
 }
 
-// The run on arrays that are lent: the questions, then the search. REFUSED where the sheet is, else how the search stopped.
+// The run on arrays that are lent: the questions, then the search. REFUSED where a question is answered "no", else how the search stopped.
 fn explore(
     stack: &mut [u16; 208],
     work: &mut [u64; 256],
@@ -358,12 +369,14 @@ fn explore(
     tables: &mut [u16; 55296],
     numbers: &mut [u64; 384],
     sheet: &[u8],
+    pairs: &[u8],
+    block: &[u8],
     limit: u32,
     list: &mut [u8],
     tally: &mut Tally,
 ) -> u8
     requires { ⌜ Blank (now stack) (now work) (now supports) (now tables) (now numbers) ⌝ }
-    ensures { λ r. ⌜ Explored (now (sheet .entry)) limit (now (list .entry)) (tallyIn (now (tally .entry))) (now (work .exit)) (now (list .exit)) (tallyIn (now (tally .exit))) r ⌝ }
+    ensures { λ r. ⌜ Explored (now (sheet .entry)) (now (pairs .entry)) (now (block .entry)) limit (now (list .entry)) (tallyIn (now (tally .entry))) (now (work .exit)) (now (list .exit)) (tallyIn (now (tally .exit))) r ⌝ }
 {
     let step = prepare(
         stack,
@@ -372,6 +385,8 @@ fn explore(
         tables,
         numbers,
         sheet,
+        pairs,
+        block,
         limit,
         list.len(),
     );
@@ -386,10 +401,18 @@ fn explore(
     settle(stack, work, supports, tables, numbers, list, tally, 0, m)
 }
 
-// A run (paper 01) that counts its nodes in a tally that is lent: the questions first, then the search, with a node limit (the paper's allowance)
-// and a list for the plans. The tally is set to nothing once the questions are passed; a refusal leaves it as it came.
-pub fn run_with(sheet: &[u8], limit: u32, list: &mut [u8], tally: &mut Tally) -> Answer
-    ensures { λ r. ⌜ (means r ≡ answerOf (now (sheet .entry)) limit (now (list .entry))) × (now (list .exit) ≡ listOf (now (sheet .entry)) limit (now (list .entry))) × (tallyIn (now (tally .exit)) ≡ tallyOf (now (sheet .entry)) limit (now (list .entry)) (tallyIn (now (tally .entry)))) ⌝ }
+// A run that is lent a sheet, pairs and a block (paper 02, #108 and #111) and counts its nodes in a tally that is lent: the questions first, then the
+// search, with a node limit (the paper's allowance) and a list for the plans. The tally is set to nothing once the questions are passed; a refusal
+// leaves it as it came.
+pub fn run_lent(
+    sheet: &[u8],
+    pairs: &[u8],
+    block: &[u8],
+    limit: u32,
+    list: &mut [u8],
+    tally: &mut Tally,
+) -> Answer
+    ensures { λ r. ⌜ (means r ≡ answerLent (now (sheet .entry)) (now (pairs .entry)) (now (block .entry)) limit (now (list .entry))) × (now (list .exit) ≡ listLent (now (sheet .entry)) (now (pairs .entry)) (now (block .entry)) limit (now (list .entry))) × (tallyIn (now (tally .exit)) ≡ tallyLent (now (sheet .entry)) (now (pairs .entry)) (now (block .entry)) limit (now (list .entry)) (tallyIn (now (tally .entry)))) ⌝ }
 {
     let mut stack = [0u16; 208];
     let mut work = [0u64; 256];
@@ -403,6 +426,8 @@ pub fn run_with(sheet: &[u8], limit: u32, list: &mut [u8], tally: &mut Tally) ->
         &mut tables,
         &mut numbers,
         sheet,
+        pairs,
+        block,
         limit,
         list,
         tally,
@@ -410,24 +435,39 @@ pub fn run_with(sheet: &[u8], limit: u32, list: &mut [u8], tally: &mut Tally) ->
     answered(&work, nodes_made(tally), stop)
 }
 
+// A run of paper 01, which is lent neither pairs nor a block.
+pub fn run_with(sheet: &[u8], limit: u32, list: &mut [u8], tally: &mut Tally) -> Answer
+    ensures { λ r. ⌜ (means r ≡ answerOf (now (sheet .entry)) limit (now (list .entry))) × (now (list .exit) ≡ listOf (now (sheet .entry)) limit (now (list .entry))) × (tallyIn (now (tally .exit)) ≡ tallyOf (now (sheet .entry)) limit (now (list .entry)) (tallyIn (now (tally .entry)))) ⌝ }
+{
+    let none = [0u8; 0];
+    run_lent(sheet, &none, &none, limit, list, tally)
+}
+
 // A run with a tally of its own, which begins at nothing and is handed out with the answer.
-pub fn run_counted(sheet: &[u8], limit: u32, list: &mut [u8]) -> CountedRun
-    ensures { λ r. ⌜ (means (r .answer) ≡ answerOf (now (sheet .entry)) limit (now (list .entry))) × (now (list .exit) ≡ listOf (now (sheet .entry)) limit (now (list .entry))) × (tallyIn (r .tally) ≡ tallyOf (now (sheet .entry)) limit (now (list .entry)) noNodes) ⌝ }
+pub fn run_counted(
+    sheet: &[u8],
+    pairs: &[u8],
+    block: &[u8],
+    limit: u32,
+    list: &mut [u8],
+) -> CountedRun
+    ensures { λ r. ⌜ (means (r .answer) ≡ answerLent (now (sheet .entry)) (now (pairs .entry)) (now (block .entry)) limit (now (list .entry))) × (now (list .exit) ≡ listLent (now (sheet .entry)) (now (pairs .entry)) (now (block .entry)) limit (now (list .entry))) × (tallyIn (r .tally) ≡ tallyLent (now (sheet .entry)) (now (pairs .entry)) (now (block .entry)) limit (now (list .entry)) noNodes) ⌝ }
 {
     let mut tally = no_nodes();
-    let answer = run_with(sheet, limit, list, &mut tally);
+    let answer = run_lent(sheet, pairs, block, limit, list, &mut tally);
     CountedRun {
         answer: answer,
         tally: tally,
     }
 }
 
-// A run whose tally is not asked for.
+// A run of paper 01 whose tally is not asked for.
 pub fn run(sheet: &[u8], limit: u32, list: &mut [u8]) -> Answer
     ensures { λ r. ⌜ means r ≡ answerOf (now (sheet .entry)) limit (now (list .entry)) ⌝ }
     ensures { λ _. ⌜ now (list .exit) ≡ listOf (now (sheet .entry)) limit (now (list .entry)) ⌝ }
 {
-    let r = run_counted(sheet, limit, list);
+    let none = [0u8; 0];
+    let r = run_counted(sheet, &none, &none, limit, list);
     let answer = r.answer;
     answer
 }

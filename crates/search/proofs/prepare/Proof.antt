@@ -3,9 +3,9 @@ use mathlib.Core.Path.{refl, sym, ap, _∙_}
 use native.Mathlib.Omega.{arith}
 use denote.Ref.{now}
 use Rattle.model.specs.Lists.{at}
-use Rattle.model.specs.Sheet.{problemOf}
 use Rattle.sheet.specs.Meaning.{means}
-use Rattle.search.proofs.Whole.{identity, few-variables, some-variables, compact, ready, prepared-dead, prepared-live, prepared-refused}
+use Rattle.lent.specs.Lent.{problemLent}
+use Rattle.search.proofs.Whole.{some-variables, compact, ready, prepared-dead, prepared-live, prepared-refused}
 use borrow.Author.Needs.{needs}
 use Rattle.search.proofs.prepare.Statement.{statement}
 use Rattle.search.proofs.prepare.Tie as tie
@@ -21,9 +21,7 @@ element-copy-out-n c = search needs
 
 div-room : tie.Need-div-room
 unfolding at
-div-room c =
-    let q = c .before .enum-told .given .1 in
-    some-variables (now (c .before .before .before .before .before .before .before .before .args .sheet)) (sym (c .before .before .before .compile .ensures .answers) ∙ ap means q) _ _ _ (c .before .before .before .compile .ensures .compiled q)
+div-room c = some-variables _ _ _ _ _ _ _ _ (c .before .before .before .compile .ensures) (c .before .enum-told .given .1)
 
 put-bounds-requires : tie.Need-put-bounds-requires
 put-bounds-requires c κs = search needs
@@ -31,15 +29,14 @@ put-bounds-requires c κs = search needs
 index-requires : tie.Need-index-requires
 unfolding at
 index-requires c κs =
-    let a = c .before .before .before .before .before .before .before .before .before .before .before .before .before .before in
-    let b = now (a .args .sheet) in
+    let a = c .before .before .before .before .before .before .before .before .before .before .before .before .before .before .before .before .before in
+    let h = c .before .before .before .before .before .before .before .before .before .compile .ensures in
     let q = c .before .before .before .before .before .before .before .enum-told .given .1 in
-    let v = sym (c .before .before .before .before .before .before .before .before .before .compile .ensures .answers) ∙ ap means q in
-    let h = c .before .before .before .before .before .before .before .before .before .compile .ensures .compiled q in
     let w = a .fits .limit .fits in
-    let l = c .before .before .before .before .before .put-bounds-arg .given .0 .1 in
     let s = c .before .before .before .before .put-bounds .ensures in
-    (problemOf b, compact b v _ _ _ h (a .args .limit) w (a .args .size) _ refl l _ s _ (a .pre .tables-length))
+    let x = compact _ _ _ _ _ _ _ _ h q (a .args .limit) w (a .args .size) _ refl _ s _ (a .pre .tables-length) in
+    let t = problemLent (now (a .args .sheet)) (now (a .args .pairs)) (now (a .args .block)) in
+    (t, x)
 
 put-order-requires : tie.Need-put-order-requires
 put-order-requires c κs = search needs
@@ -47,17 +44,17 @@ put-order-requires c κs = search needs
 root-requires : tie.Need-root-requires
 unfolding at
 root-requires c κs =
-    let a = c .before .before .before .before .before .before .before .before .before .before .before .before .before .before .before .before .before .before .before .before .before .before .before in
-    let b = now (a .args .sheet) in
+    let a = c .before .before .before .before .before .before .before .before .before .before .before .before .before .before .before .before .before .before .before .before .before .before .before .before .before .before in
+    let h = c .before .before .before .before .before .before .before .before .before .before .before .before .before .before .before .before .before .before .compile .ensures in
     let q = c .before .before .before .before .before .before .before .before .before .before .before .before .before .before .before .before .enum-told .given .1 in
-    let v = sym (c .before .before .before .before .before .before .before .before .before .before .before .before .before .before .before .before .before .before .compile .ensures .answers) ∙ ap means q in
-    let h = c .before .before .before .before .before .before .before .before .before .before .before .before .before .before .before .before .before .before .compile .ensures .compiled q in
     let w = a .fits .limit .fits in
-    let l = c .before .before .before .before .before .before .before .before .before .before .before .before .before .before .put-bounds-arg .given .0 .1 in
     let s = c .before .before .before .before .before .before .before .before .before .before .before .before .before .put-bounds .ensures in
-    let m = c .before .before .before .before .before .before .before .before .index .ensures (problemOf b) (compact b v _ _ _ h (a .args .limit) w (a .args .size) _ refl l _ s _ (a .pre .tables-length)) in
+    let x = compact _ _ _ _ _ _ _ _ h q (a .args .limit) w (a .args .size) _ refl _ s _ (a .pre .tables-length) in
+    let t = problemLent (now (a .args .sheet)) (now (a .args .pairs)) (now (a .args .block)) in
+    let m = c .before .before .before .before .before .before .before .before .index .ensures t x in
     let o = c .before .before .before .before .before .put-order .ensures in
-    (problemOf b, ready b v _ _ _ h (a .args .limit) w (a .args .size) _ refl l _ s _ _ _ m _ refl (identity _ (few-variables b v _ _ _ h)) _ o _ _ (a .pre .stack-length) (a .pre .work-blank .sized))
+    let y = ready _ _ _ _ _ _ _ _ h q (a .args .limit) w (a .args .size) _ refl _ s _ _ _ m _ o _ _ (a .pre .stack-length) (a .pre .work-blank .sized) in
+    (t, y)
 
 enum-known-verdict : tie.Need-enum-known-verdict
 enum-known-verdict c = search needs
@@ -74,41 +71,41 @@ element-write-work-2 c = search needs
 returns : tie.Need-returns
 unfolding at
 returns c =
-    let a = c .before .before .before .before .before .before .before .before .before .before .before .before .before .before .before .before .before .before .before .before .before .before .before .before .before in
-    let b = now (a .args .sheet) in
+    let a = c .before .before .before .before .before .before .before .before .before .before .before .before .before .before .before .before .before .before .before .before .before .before .before .before .before .before .before .before in
+    let h = c .before .before .before .before .before .before .before .before .before .before .before .before .before .before .before .before .before .before .before .before .compile .ensures in
     let q = c .before .before .before .before .before .before .before .before .before .before .before .before .before .before .before .before .before .before .enum-told .given .1 in
-    let v = sym (c .before .before .before .before .before .before .before .before .before .before .before .before .before .before .before .before .before .before .before .before .compile .ensures .answers) ∙ ap means q in
-    let h = c .before .before .before .before .before .before .before .before .before .before .before .before .before .before .before .before .before .before .before .before .compile .ensures .compiled q in
     let w = a .fits .limit .fits in
-    let l = c .before .before .before .before .before .before .before .before .before .before .before .before .before .before .before .before .put-bounds-arg .given .0 .1 in
     let s = c .before .before .before .before .before .before .before .before .before .before .before .before .before .before .before .put-bounds .ensures in
-    let m = c .before .before .before .before .before .before .before .before .before .before .index .ensures (problemOf b) (compact b v _ _ _ h (a .args .limit) w (a .args .size) _ refl l _ s _ (a .pre .tables-length)) in
+    let x = compact _ _ _ _ _ _ _ _ h q (a .args .limit) w (a .args .size) _ refl _ s _ (a .pre .tables-length) in
+    let t = problemLent (now (a .args .sheet)) (now (a .args .pairs)) (now (a .args .block)) in
+    let m = c .before .before .before .before .before .before .before .before .before .before .index .ensures t x in
     let o = c .before .before .before .before .before .before .before .put-order .ensures in
-    let r = c .before .root .ensures (problemOf b) (ready b v _ _ _ h (a .args .limit) w (a .args .size) _ refl l _ s _ _ _ m _ refl (identity _ (few-variables b v _ _ _ h)) _ o _ _ (a .pre .stack-length) (a .pre .work-blank .sized)) in
-    prepared-dead b v _ _ _ h (a .args .limit) w (a .args .size) _ refl l _ s _ _ _ m _ refl (identity _ (few-variables b v _ _ _ h)) _ o _ _ _ _ _ (a .pre .stack-length) (a .pre .work-blank) r (c .if1 .taken)
+    let y = ready _ _ _ _ _ _ _ _ h q (a .args .limit) w (a .args .size) _ refl _ s _ _ _ m _ o _ _ (a .pre .stack-length) (a .pre .work-blank .sized) in
+    let r = c .before .root .ensures t y in
+    prepared-dead _ _ _ _ _ _ _ _ h q (a .args .limit) w (a .args .size) _ refl _ s _ _ _ m _ o _ _ _ _ _ (a .pre .stack-length) (a .pre .work-blank) r (c .if1 .taken)
 
 returns-2 : tie.Need-returns-2
 unfolding at
 returns-2 c =
-    let a = c .before .before .before .before .before .before .before .before .before .before .before .before .before .before .before .before .before .before .before .before .before .before .before .before .before in
-    let b = now (a .args .sheet) in
+    let a = c .before .before .before .before .before .before .before .before .before .before .before .before .before .before .before .before .before .before .before .before .before .before .before .before .before .before .before .before in
+    let h = c .before .before .before .before .before .before .before .before .before .before .before .before .before .before .before .before .before .before .before .before .compile .ensures in
     let q = c .before .before .before .before .before .before .before .before .before .before .before .before .before .before .before .before .before .before .enum-told .given .1 in
-    let v = sym (c .before .before .before .before .before .before .before .before .before .before .before .before .before .before .before .before .before .before .before .before .compile .ensures .answers) ∙ ap means q in
-    let h = c .before .before .before .before .before .before .before .before .before .before .before .before .before .before .before .before .before .before .before .before .compile .ensures .compiled q in
     let w = a .fits .limit .fits in
-    let l = c .before .before .before .before .before .before .before .before .before .before .before .before .before .before .before .before .put-bounds-arg .given .0 .1 in
     let s = c .before .before .before .before .before .before .before .before .before .before .before .before .before .before .before .put-bounds .ensures in
-    let m = c .before .before .before .before .before .before .before .before .before .before .index .ensures (problemOf b) (compact b v _ _ _ h (a .args .limit) w (a .args .size) _ refl l _ s _ (a .pre .tables-length)) in
+    let x = compact _ _ _ _ _ _ _ _ h q (a .args .limit) w (a .args .size) _ refl _ s _ (a .pre .tables-length) in
+    let t = problemLent (now (a .args .sheet)) (now (a .args .pairs)) (now (a .args .block)) in
+    let m = c .before .before .before .before .before .before .before .before .before .before .index .ensures t x in
     let o = c .before .before .before .before .before .before .before .put-order .ensures in
-    let r = c .before .root .ensures (problemOf b) (ready b v _ _ _ h (a .args .limit) w (a .args .size) _ refl l _ s _ _ _ m _ refl (identity _ (few-variables b v _ _ _ h)) _ o _ _ (a .pre .stack-length) (a .pre .work-blank .sized)) in
-    prepared-live b v _ _ _ h (a .args .limit) w (a .args .size) _ refl l _ s _ _ _ m _ refl (identity _ (few-variables b v _ _ _ h)) _ o _ _ _ _ _ (a .pre .stack-length) (a .pre .work-blank) r (c .if1 .left)
+    let y = ready _ _ _ _ _ _ _ _ h q (a .args .limit) w (a .args .size) _ refl _ s _ _ _ m _ o _ _ (a .pre .stack-length) (a .pre .work-blank .sized) in
+    let r = c .before .root .ensures t y in
+    prepared-live _ _ _ _ _ _ _ _ h q (a .args .limit) w (a .args .size) _ refl _ s _ _ _ m _ o _ _ _ _ _ (a .pre .stack-length) (a .pre .work-blank) r (c .if1 .left)
 
 returns-3 : tie.Need-returns-3
 returns-3 c =
-    let a = c .before .before .before .before .before .before .before .before in
+    let a = c .before .before .before .before .before .before .before .before .before .before .before in
     let g = c .before .verdict .given in
     let v = sym (c .before .before .before .compile .ensures .answers) ∙ ap means (g .1) in
-    prepared-refused (now (a .args .sheet)) (a .args .limit) (a .args .size) (g .0 .0) (g .0 .1 .0) _ (now (a .args .work)) _ _ _ v (omega arith) (a .pre .work-blank .sized)
+    prepared-refused (now (a .args .sheet)) (now (a .args .pairs)) (now (a .args .block)) (a .args .limit) (a .args .size) (g .0 .0) (g .0 .1 .0) _ (now (a .args .work)) _ _ _ v (omega arith) (a .pre .work-blank .sized)
 
 pub prepare-spec : {M : Type 1} → statement M
 prepare-spec =
