@@ -1,4 +1,5 @@
-/* Lists the paper's sheet A by planner_run and prints its plans. */
+/* Lists the paper's sheet A by planner_run and prints its plans; then with the second window settled first, and with
+ * pairs that go round. */
 #include <stdio.h>
 
 #include "planner.h"
@@ -16,8 +17,9 @@ static uint32_t number(const uint8_t *bytes) {
     return bytes[0] | (uint32_t)bytes[1] << 8 | (uint32_t)bytes[2] << 16 | (uint32_t)bytes[3] << 24;
 }
 
+static const char *const kinds[] = {"", "finished", "spent", "full"};
+
 static void list_plans(uint32_t node_limit) {
-    static const char *const kinds[] = {"", "finished", "spent", "full"};
     uint8_t list[16], answer[PLANNER_ANSWER_BYTES];
     uint32_t status = planner_run(sheet_a, sizeof sheet_a, node_limit, list, sizeof list, answer, sizeof answer);
     if (status != 0) {
@@ -30,16 +32,27 @@ static void list_plans(uint32_t node_limit) {
     printf("%s %u %u\n", kinds[kind], plans, trials);
 }
 
-static void show_counts(void) {
-    uint8_t list[16], answer[PLANNER_COUNTS_BYTES];
-    planner_run_counts(sheet_a, sizeof sheet_a, 1000000, list, sizeof list, answer, sizeof answer);
-    printf("trials by window: %u %u\n", number(answer + 12), number(answer + 16));
+/* With pairs, "this window before that window", and no block. */
+static void list_in_order(const uint8_t *pairs, size_t pairs_len) {
+    static const uint8_t none[1];
+    uint8_t list[16], answer[PLANNER_LENT_ANSWER_BYTES];
+    uint32_t status = planner_run_lent(sheet_a, sizeof sheet_a, pairs, pairs_len, none, 0, 1000000, list, sizeof list,
+                                       answer, sizeof answer);
+    if (status != 0) {
+        printf("refused %u %u\n", PLANNER_NUMBER(status), PLANNER_ITEM(status));
+        return;
+    }
+    uint32_t kind = number(answer), plans = number(answer + 4), trials = number(answer + 8);
+    for (uint32_t i = 0; i < plans; i++)
+        printf("plan %d %d\n", list[2 * i], list[2 * i + 1]);
+    printf("%s %u %u, trials by window %u %u\n", kinds[kind], plans, trials, number(answer + 12), number(answer + 16));
 }
 
 int main(void) {
     list_plans(1000000);
     list_plans(2);
-    show_counts();
+    list_in_order((const uint8_t[]){1, 0}, 2);
+    list_in_order((const uint8_t[]){1, 0, 0, 1}, 4);
     uint32_t code = planner_question(sheet_a, 63);
     printf("a byte short: refused %u %u\n", PLANNER_NUMBER(code), PLANNER_ITEM(code));
     return 0;

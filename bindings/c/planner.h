@@ -11,7 +11,7 @@
  *
  * Stack. The most that a call takes below the caller, on the sheet that goes deepest (12 windows of 16 duties,
  * each duty tried one below the other):
- *   planner_question 21 KB, planner_filter 4 KB, planner_run and planner_run_counts 200 KB, planner_report 249 KB
+ *   planner_question 21 KB, planner_filter 4 KB, planner_run and planner_run_lent 200 KB, planner_report 249 KB
  *   (KB: 1,000 bytes).
  * With less the process ends by a fault at the guard page. A thread of PLANNER_STACK_BYTES is enough for
  * each; some systems give a thread less unless asked (musl: 128 KB). */
@@ -38,7 +38,7 @@ extern "C" {
 
 /* planner_filter: the sets' length is odd. */
 #define PLANNER_HALF_SET (255u * 256u)
-/* planner_run: the answer's length isn't PLANNER_ANSWER_BYTES. */
+/* planner_run: the answer's length isn't PLANNER_ANSWER_BYTES; planner_run_lent: it isn't PLANNER_LENT_ANSWER_BYTES. */
 #define PLANNER_ANSWER_ROOM (255u * 256u)
 
 /* The answer of planner_run: three 32-bit numbers, low byte first: the kind, the plans listed and the trials made. */
@@ -72,12 +72,27 @@ uint32_t planner_filter(uint8_t *sets, size_t sets_len, const uint8_t *index, si
 uint32_t planner_run(const uint8_t *sheet, size_t sheet_len, uint32_t node_limit, uint8_t *list,
                      size_t list_len, uint8_t *answer, size_t answer_len);
 
-/* ---- Trials by window (#107). As planner_run, and the answer has PLANNER_COUNTS_BYTES bytes: kind, plans, trials,
- * then twelve 32-bit numbers, low byte first: the trials by place. They add up to the trials; windows that the
- * sheet hasn't have 0. PLANNER_ANSWER_ROOM, asked first, where the answer has another length. */
-#define PLANNER_COUNTS_BYTES 60
-uint32_t planner_run_counts(const uint8_t *sheet, size_t sheet_len, uint32_t node_limit, uint8_t *list,
-                            size_t list_len, uint8_t *answer, size_t answer_len);
+/* ---- Windows that open after others (#108), and trials by window (#107). Beside the sheet a run is lent:
+ *   pairs, two bytes each, "this window before that window", at most 64; repeats are harmless, and no bytes are no
+ *     pairs. The settling order always takes the lowest-numbered window whose forerunners are all settled;
+ *   a block (#111): no block is known yet, so no bytes are lent, and any bytes are refused with 36. */
+
+/* Puts all questions that such a run puts: 0, or number * 256 + item. 1 to 16 to the sheet; then, with item 0, to the
+ * pairs 28 (at most 64, and no half pair), 29 (their windows are below n) and 30 (they don't go round in a circle; a
+ * window before itself is one), and to the block 36. */
+uint32_t planner_question_lent(const uint8_t *sheet, size_t sheet_len, const uint8_t *pairs, size_t pairs_len,
+                               const uint8_t *block, size_t block_len);
+
+/* As planner_run, with the windows settled in the order of the pairs: the trials follow it, and so does the order in
+ * which plans read and are listed; each plan is written by window number. Without pairs the list and the ending are
+ * those of planner_run. The answer has PLANNER_LENT_ANSWER_BYTES bytes: kind, plans, trials, then twelve 32-bit
+ * numbers, low byte first, the trials that settle each window, by its number: they add up to the trials, and windows
+ * that the sheet hasn't have 0. Refusals as planner_question_lent gives them or, asked first, PLANNER_ANSWER_ROOM;
+ * list and answer are then as they came. */
+#define PLANNER_LENT_ANSWER_BYTES 60
+uint32_t planner_run_lent(const uint8_t *sheet, size_t sheet_len, const uint8_t *pairs, size_t pairs_len,
+                          const uint8_t *block, size_t block_len, uint32_t node_limit, uint8_t *list,
+                          size_t list_len, uint8_t *answer, size_t answer_len);
 
 /* Writes what the lister prints for this standard input (node limit 1,000,000, room for 4,096 plans) to
  * the front of out and returns its length; the bytes after it are unchanged. With less room than

@@ -1,6 +1,7 @@
-//! The paper's sheet A, its worked filter and the small sheets, through the safe functions.
+//! The paper's sheet A, also with its second window settled first, its worked filter and the small sheets, through the
+//! safe functions.
 
-use planner::{filter, question, report, run, run_counts, small_sheet, small_sheets, ABSENT};
+use planner::{filter, question, question_lent, report, run, run_lent, small_sheet, small_sheets, ABSENT};
 
 /// Two windows, three duties, one rule (the windows differ), one exchange (the windows change places).
 const SHEET_A: [u16; 32] = [
@@ -20,8 +21,16 @@ fn main() {
     let answer = run(&sheet, 1_000_000, &mut list).expect("an accepted sheet");
     println!("{:?} {} {}: {:?}", answer.ending, answer.plans, answer.nodes, list);
 
-    let counted = run_counts(&sheet, 1_000_000, &mut [0; 6]).expect("an accepted sheet");
-    println!("{:?}: {:?}", counted.answer.ending, &counted.counts[..2]);
+    for pairs in [&[][..], &[1, 0]] {
+        let mut list = [0; 6];
+        let lent = run_lent(&sheet, pairs, &[], 1_000_000, &mut list).expect("an accepted sheet");
+        println!("{:?} {:?}: {:?}", lent.answer.ending, &lent.counts[..2], list);
+    }
+    for (pairs, block) in
+        [(&[1, 0, 1][..], &[][..]), (&[1, 2], &[]), (&[1, 0, 0, 1], &[]), (&[1, 0], &[0, 3])]
+    {
+        println!("{:?}", question_lent(&sheet, pairs, block));
+    }
 
     let mut sets = [6, 6, 6, 2, 2, 6];
     let index = [0, 1, 2, 3, 4, 2, 5, 0];

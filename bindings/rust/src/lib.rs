@@ -6,13 +6,13 @@
 use std::{fmt, io, panic, thread};
 
 mod columns;
-mod counts;
+mod lent;
 mod merge;
 mod small;
 mod store;
 
 pub use columns::{columns, rows};
-pub use counts::{run_counts, CountedAnswer};
+pub use lent::{question_lent, run_lent, LentAnswer};
 pub use merge::merge;
 pub use small::{small_sheet, small_sheets};
 pub use store::{Store, STORE_BYTES, TABLE_BYTES};

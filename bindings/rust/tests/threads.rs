@@ -1,6 +1,6 @@
 //! The stack that a call takes at most, calls on a thread of their own, and calls from several threads at once.
 
-use planner::{report, run, with_stack, Ending, STACK_BYTES};
+use planner::{report, run, run_lent, with_stack, Ending, STACK_BYTES};
 use std::thread;
 
 /// The sheet that goes deepest: 12 windows of 16 duties. Of two neighbours, a duty below 15 of the first has rows
@@ -32,6 +32,11 @@ fn the_stack_is_enough() {
         let answer = run(&sheet, 1_000_000, &mut list).unwrap();
         assert_eq!((answer.ending, answer.plans, answer.nodes), (Ending::Finished, 16, 192));
         assert!(report(&sheet).ends_with("finished 16 192 16\n"));
+        let lent = run_lent(&sheet, &[], &[], 1_000_000, &mut list).unwrap();
+        assert_eq!((lent.answer, lent.counts), (answer, [16; 12]));
+        let reverse: Vec<u8> = (1..12).rev().flat_map(|window| [window, window - 1]).collect();
+        let answer = run_lent(&sheet, &reverse, &[], 1_000_000, &mut list).unwrap().answer;
+        assert_eq!((answer.ending, answer.plans), (Ending::Finished, 16));
     };
     thread::Builder::new().stack_size(STACK_BYTES).spawn(calls).unwrap().join().unwrap();
 }

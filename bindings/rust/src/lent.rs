@@ -1,0 +1,85 @@
+//! The questions and the run that are lent pairs and a block beside the sheet (paper 02, #107, #108, #111).
+//!
+//! Pairs are two bytes each, "this window before that window", at most 64, repeats included; no bytes are no pairs.
+//! The settling order always takes the lowest-numbered window whose forerunners are all settled. No block is known
+//! yet: any bytes of one are refused with 36.
+
+use crate::{number, Answer, Ending, Refusal};
+
+mod exported {
+    extern "C" {
+        pub fn planner_question_lent(
+            sheet: *const u8,
+            sheet_len: usize,
+            pairs: *const u8,
+            pairs_len: usize,
+            block: *const u8,
+            block_len: usize,
+        ) -> u32;
+        pub fn planner_run_lent(
+            sheet: *const u8,
+            sheet_len: usize,
+            pairs: *const u8,
+            pairs_len: usize,
+            block: *const u8,
+            block_len: usize,
+            node_limit: u32,
+            list: *mut u8,
+            list_len: usize,
+            answer: *mut u8,
+            answer_len: usize,
+        ) -> u32;
+    }
+}
+
+/// What a run answers, and its trials by the window that each settles, under the window's number: they add up to the
+/// trials made, and windows that the sheet hasn't have 0.
+#[derive(Clone, Copy, Debug, PartialEq, Eq)]
+pub struct LentAnswer {
+    pub answer: Answer,
+    pub counts: [u32; 12],
+}
+
+/// Puts all questions that a run puts: 1 to 16 to the sheet, then 28 to 30 to the pairs, then 36 to the block.
+pub fn question_lent(sheet: &[u8], pairs: &[u8], block: &[u8]) -> Result<(), Refusal> {
+    Refusal::from_code(unsafe {
+        exported::planner_question_lent(
+            sheet.as_ptr(),
+            sheet.len(),
+            pairs.as_ptr(),
+            pairs.len(),
+            block.as_ptr(),
+            block.len(),
+        )
+    })
+}
+
+/// As [`crate::run`], with the windows settled in the order of the pairs: the trials follow it, and so does the order
+/// in which plans read and are listed; each plan is written by window number. After a refusal the list is as it came.
+pub fn run_lent(
+    sheet: &[u8],
+    pairs: &[u8],
+    block: &[u8],
+    node_limit: u32,
+    list: &mut [u8],
+) -> Result<LentAnswer, Refusal> {
+    let mut answer = [0; 60];
+    Refusal::from_code(unsafe {
+        exported::planner_run_lent(
+            sheet.as_ptr(),
+            sheet.len(),
+            pairs.as_ptr(),
+            pairs.len(),
+            block.as_ptr(),
+            block.len(),
+            node_limit,
+            list.as_mut_ptr(),
+            list.len(),
+            answer.as_mut_ptr(),
+            answer.len(),
+        )
+    })?;
+    let [kind, plans, nodes] = [0, 1, 2].map(|i| number(&answer, i));
+    let counts = std::array::from_fn(|window| number(&answer, 3 + window));
+    Ok(LentAnswer { answer: Answer { ending: Ending::from_kind(kind), plans, nodes }, counts })
+}
