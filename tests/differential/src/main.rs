@@ -1,11 +1,11 @@
 //! The proved planner beside the oracle: `differential [PART ..]`, with no word all parts. SEED and CASES
 //! are read from the environment, and SHARED_BENCH for another folder of sheets with reports than
 //! ../shared/bench beside the repository. Case i of a part draws from SEED + i, so that a difference comes
-//! back with that seed and one case. Every refusal number must be reached.
+//! back with that seed and one case. Every refusal number must be reached by its part.
 
 mod columns;
-mod counts;
 mod filter;
+mod lent;
 mod merge;
 mod planner;
 mod question;
@@ -16,16 +16,20 @@ mod store;
 mod tally;
 
 use sheets::Rng;
+use std::collections::BTreeMap;
+use std::ops::RangeInclusive;
 use std::path::{Path, PathBuf};
 use std::time::Instant;
-use tally::Tally;
+use tally::{Tally, WRONG_SIZE};
 
-const PARTS: &[&str] =
-    &["question", "filter", "run", "counts", "report", "columns", "merge", "store", "small"];
+const PARTS: &[&str] = &["question", "filter", "run", "lent", "report", "columns", "merge", "store", "small"];
 /// The refusal numbers that a part must reach.
-const REFUSALS: &[(&str, std::ops::RangeInclusive<u32>)] = &[
+const REFUSALS: &[(&str, RangeInclusive<u32>)] = &[
     ("question", 1..=16),
     ("filter", 17..=19),
+    ("lent", 28..=30),
+    ("lent", 36..=36),
+    ("lent", WRONG_SIZE..=WRONG_SIZE),
     ("columns", 20..=23),
     ("merge", 24..=30),
     ("store", 31..=35),
@@ -53,9 +57,10 @@ fn main() {
     println!("differential: SEED={seed} CASES={cases}");
     let mut tally = Tally::default();
     for part in &parts {
+        (tally.accepted, tally.refused) = (0, BTreeMap::new());
         test(part, seed, cases, &mut tally);
+        reached(part, cases, &mut tally);
     }
-    reached(&parts, cases, &mut tally);
     println!("differential: {} passed, {} failed", tally.passed, tally.failed);
     std::process::exit(if tally.failed == 0 { 0 } else { 1 });
 }
@@ -70,13 +75,16 @@ fn test(part: &str, seed: usize, cases: usize, tally: &mut Tally) {
             "question" => question::case(seed + number, &mut rng, tally),
             "filter" => filter::case(&mut rng, tally),
             "run" => run::case(&mut rng, tally),
-            "counts" => counts::case(&mut rng, tally),
+            "lent" => lent::case(&mut rng, tally),
             "columns" => columns::case(&mut rng, tally),
             "merge" => merge::case(&mut rng, tally),
             "store" => store::case(&mut rng, tally),
             "small" => small::case(&mut rng, tally),
             _ => report::case(seed + number, &mut rng, tally),
         }
+    }
+    if part == "lent" {
+        lent::examples(tally);
     }
     if part == "columns" {
         columns::all_shapes(tally);
@@ -95,18 +103,17 @@ fn test(part: &str, seed: usize, cases: usize, tally: &mut Tally) {
     println!("{part}: {comparisons} comparisons, {:.1} s", start.elapsed().as_secs_f64());
 }
 
-/// How many cases got each number, and a failure for each number that none got.
-fn reached(parts: &[String], cases: usize, tally: &mut Tally) {
-    println!("accepted {}", tally.accepted);
-    for (part, numbers) in REFUSALS {
-        let tested = parts.iter().any(|word| word == part);
-        for number in numbers.clone() {
-            let count = tally.refused.get(&number).copied().unwrap_or(0);
-            println!("refused {number}: {count}");
-            if count == 0 && tested && cases >= ENOUGH_CASES {
-                println!("refusal {number} was never reached");
-                tally.failed += 1;
-            }
-        }
+/// How many of a part's cases got each number, and a failure for each of its numbers that none got.
+fn reached(part: &str, cases: usize, tally: &mut Tally) {
+    let counts: Vec<String> =
+        tally.refused.iter().map(|(number, count)| format!("{number}: {count}")).collect();
+    if tally.accepted > 0 || !counts.is_empty() {
+        println!("  accepted {}, refused {}", tally.accepted, counts.join(", "));
+    }
+    let numbers =
+        REFUSALS.iter().filter(|(other, _)| *other == part).flat_map(|(_, numbers)| numbers.clone());
+    for number in numbers.filter(|number| !tally.refused.contains_key(number)) {
+        println!("refusal {number} was never reached");
+        tally.failed += usize::from(cases >= ENOUGH_CASES);
     }
 }

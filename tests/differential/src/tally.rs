@@ -1,4 +1,4 @@
-//! What passed, what failed, and how many cases got each refusal number.
+//! What passed, what failed, and how many of a part's cases got each refusal number.
 
 use oracle::Refusal;
 use std::collections::BTreeMap;
@@ -6,10 +6,14 @@ use std::collections::BTreeMap;
 /// How many differences are printed in full.
 const SHOWN: usize = 10;
 
+/// The number that stands for a lent buffer of another size than the fixed one.
+pub const WRONG_SIZE: u32 = 255;
+
 #[derive(Default)]
 pub struct Tally {
     pub passed: usize,
     pub failed: usize,
+    /// The part's cases that were accepted, and those that got each number.
     pub accepted: usize,
     pub refused: BTreeMap<u32, usize>,
     /// What is tested now, printed with a difference.
@@ -36,8 +40,13 @@ impl Tally {
     pub fn answer<T>(&mut self, answer: &Result<T, Refusal>) {
         match answer {
             Ok(_) => self.accepted += 1,
-            Err(refusal) => *self.refused.entry(refusal.number).or_default() += 1,
+            Err(refusal) => self.count(refusal.number),
         }
+    }
+
+    /// Counts a refusal.
+    pub fn count(&mut self, number: u32) {
+        *self.refused.entry(number).or_default() += 1;
     }
 }
 

@@ -1,5 +1,5 @@
-//! A run that is lent pairs (paper 02, #108): prefixes, trials and the list follow the settling order, and rows
-//! are written by place number. Its tally has the trials by place (#107).
+//! A run that is lent pairs (paper 02, #108) and a block (#111): prefixes, trials and the list follow the settling
+//! order, and rows are written by place number. Its tally has the trials by place (#107). No block is known yet.
 
 use crate::nogood::{filtered_by_products, Entry};
 use crate::order::settling_order;
@@ -12,22 +12,26 @@ pub struct Tallied {
     pub counts: [u32; 12],
 }
 
-/// All questions that a run puts: the sheet's, then the pairs'. What the sheet states, and the order.
-pub fn question_lent(sheet: &[u8], pairs: &[u8]) -> Result<(Problem, Vec<usize>), Refusal> {
+/// All questions that a run puts: the sheet's, then the pairs', then the block's. What the sheet states, and the order.
+pub fn question_lent(sheet: &[u8], pairs: &[u8], block: &[u8]) -> Result<(Problem, Vec<usize>), Refusal> {
     let problem = question(sheet)?;
     let order = settling_order(problem.variables, pairs)?;
+    if !block.is_empty() {
+        return Err(Refusal { number: 36, item: 0 });
+    }
     Ok((problem, order))
 }
 
 /// A run: the questions, then the search.
-pub fn run_lent(sheet: &[u8], pairs: &[u8], node_limit: u32, list: &mut [u8]) -> Result<Tallied, Refusal> {
-    let (problem, order) = question_lent(sheet, pairs)?;
+pub fn run_lent(
+    sheet: &[u8],
+    pairs: &[u8],
+    block: &[u8],
+    node_limit: u32,
+    list: &mut [u8],
+) -> Result<Tallied, Refusal> {
+    let (problem, order) = question_lent(sheet, pairs, block)?;
     Ok(search_in(&problem, &order, node_limit, list))
-}
-
-/// A run without pairs: the places in their order.
-pub fn run_counts(sheet: &[u8], node_limit: u32, list: &mut [u8]) -> Result<Tallied, Refusal> {
-    run_lent(sheet, &[], node_limit, list)
 }
 
 /// The search that settles the places in the order.

@@ -1,6 +1,6 @@
 //! The paper's checked examples, tried on the oracle.
 
-use oracle::lent::run_counts;
+use oracle::lent::run_lent;
 use oracle::sheet::Constraint;
 use oracle::{filter, question, report, run, Ending, Outcome, Problem, Refusal};
 
@@ -33,7 +33,7 @@ fn sheet_a_has_three_plans() {
 
 #[test]
 fn sheet_a_has_three_trials_of_each_place() {
-    let counts = |limit| run_counts(&a(), limit, &mut [0; 6]).unwrap().counts;
+    let counts = |limit| run_lent(&a(), &[], &[], limit, &mut [0; 6]).unwrap().counts;
     assert_eq!(counts(1_000_000)[..3], [3, 3, 0]);
     assert_eq!(counts(2)[..3], [1, 1, 0]);
 }

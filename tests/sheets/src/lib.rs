@@ -12,7 +12,7 @@ pub mod typed;
 pub use damage::damaged;
 pub use encode::encode;
 pub use lists::{lists, right_lists, Lists};
-pub use pairs::{pairs, right_pairs};
+pub use pairs::{block, pairs, right_pairs};
 pub use random::{large_problem, problem};
 pub use rng::Rng;
 pub use typed::typed_in;

@@ -30,7 +30,7 @@ fn random(folder: &str, count: &str, seed: &str) -> std::io::Result<()> {
 }
 
 fn typed(sheet: &str, pairs: &str) -> std::io::Result<()> {
-    match question_lent(&std::fs::read(sheet)?, &std::fs::read(pairs)?) {
+    match question_lent(&std::fs::read(sheet)?, &std::fs::read(pairs)?, &[]) {
         Ok((problem, order)) => std::io::stdout().write_all(&encode(&typed_in(&problem, &order))),
         Err(refusal) => {
             eprintln!("refused {} {}", refusal.number, refusal.item);

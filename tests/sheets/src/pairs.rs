@@ -1,4 +1,4 @@
-//! Random pairs, "this place before that place": none, in agreement with an order, or with faults.
+//! Random pairs, "this place before that place": none, in agreement with an order, or with faults. Random blocks.
 
 use crate::Rng;
 
@@ -66,4 +66,10 @@ fn circle(rng: &mut Rng, places: usize, pairs: &mut Vec<u8>) {
     for i in 0..round.len() {
         pairs.extend([round[i], round[(i + 1) % round.len()]]);
     }
+}
+
+/// A block: mostly none, else some bytes.
+pub fn block(rng: &mut Rng) -> Vec<u8> {
+    let length = if rng.chance(90) { 0 } else { rng.pick(&[1, 2, 2, 2, 3, 12]) };
+    (0..length).map(|_| rng.below(6) as u8).collect()
 }

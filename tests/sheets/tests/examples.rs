@@ -33,7 +33,7 @@ fn rotation() -> Vec<u8> {
 /// The plans that a run lists, its trials and the first of its counts.
 fn listed(sheet: &[u8], pairs: &[u8], n: usize) -> (Vec<Vec<u8>>, u32, Vec<u32>) {
     let mut list = [9; 100];
-    let Tallied { outcome, counts } = run_lent(sheet, pairs, 1_000_000, &mut list).unwrap();
+    let Tallied { outcome, counts } = run_lent(sheet, pairs, &[], 1_000_000, &mut list).unwrap();
     assert_eq!((outcome.ending, &counts[n..]), (Ending::Finished, &vec![0; 12 - n][..]));
     let plans = list.chunks(n).take(outcome.plans as usize).map(<[u8]>::to_vec).collect();
     (plans, outcome.nodes, counts[..n].to_vec())
@@ -48,11 +48,11 @@ fn sheet_a_with_the_second_window_first() {
     let mut list = [9; 3];
     let outcome = Outcome { ending: Ending::Full, plans: 1, nodes: 3 };
     let counts = [2, 1, 0, 0, 0, 0, 0, 0, 0, 0, 0, 0];
-    assert_eq!(run_lent(&a(), &[1, 0], 100, &mut list), Ok(Tallied { outcome, counts }));
+    assert_eq!(run_lent(&a(), &[1, 0], &[], 100, &mut list), Ok(Tallied { outcome, counts }));
     assert_eq!(list, [1, 0, 9]);
     let outcome = Outcome { ending: Ending::Spent, plans: 0, nodes: 1 };
     let counts = [0, 1, 0, 0, 0, 0, 0, 0, 0, 0, 0, 0];
-    assert_eq!(run_lent(&a(), &[1, 0], 1, &mut list), Ok(Tallied { outcome, counts }));
+    assert_eq!(run_lent(&a(), &[1, 0], &[], 1, &mut list), Ok(Tallied { outcome, counts }));
 }
 
 /// Left out is a plan that is another carried along, one that reads earlier in the order.
@@ -96,7 +96,7 @@ fn circles() {
         assert!(settling_order(12, &round(count)[2..]).is_ok());
     }
     assert_eq!(settling_order(3, &[0, 1, 0, 1, 0, 1]), Ok(vec![0, 1, 2]));
-    assert_eq!(question_lent(&a(), &[1, 1]), refused(30));
+    assert_eq!(question_lent(&a(), &[1, 1], &[]), refused(30));
 }
 
 #[test]
@@ -107,8 +107,10 @@ fn too_many_pairs_or_half_a_pair() {
     assert_eq!(settling_order(2, &[9; 129]), refused(28));
     assert_eq!(settling_order(2, &[0, 2, 0, 0]), refused(29));
     assert_eq!(settling_order(2, &[255, 0]), refused(29));
-    assert_eq!(question_lent(&a(), &[2, 0]), refused(29));
-    assert_eq!(question_lent(&a()[1..], &[2]), refused(2));
+    assert_eq!(question_lent(&a(), &[2, 0], &[]), refused(29));
+    assert_eq!(question_lent(&a(), &[2, 0], &[0]), refused(29));
+    assert_eq!(question_lent(&a(), &[1, 0], &[0]), refused(36));
+    assert_eq!(question_lent(&a()[1..], &[2], &[7]), refused(2));
 }
 
 /// Sheet A's plans, and the plans of another sheet.

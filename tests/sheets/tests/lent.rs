@@ -4,13 +4,13 @@ use oracle::lent::{question_lent, run_lent, search_in, sets_at, Tallied};
 use oracle::listing::{image, solutions};
 use oracle::order::reading;
 use oracle::{members, Ending, Problem};
-use sheets::{damaged, encode, pairs, problem, right_pairs, typed_in, Rng};
+use sheets::{block, damaged, encode, pairs, problem, right_pairs, typed_in, Rng};
 
 /// A problem with pairs, and the order that comes of them.
 fn lent(rng: &mut Rng) -> (Problem, Vec<u8>, Vec<usize>) {
     let problem = problem(rng);
     let pairs = right_pairs(rng, problem.variables);
-    let (read, order) = question_lent(&encode(&problem), &pairs).unwrap();
+    let (read, order) = question_lent(&encode(&problem), &pairs, &[]).unwrap();
     assert_eq!(read, problem);
     (problem, pairs, order)
 }
@@ -36,31 +36,33 @@ fn an_empty_lending_changes_nothing() {
             lists[1] = lists[0].clone();
             let [one, other] = &mut lists;
             let plain = oracle::run(&sheet, limit, one);
-            let tallied = run_lent(&sheet, &[], limit, other);
+            let tallied = run_lent(&sheet, &[], &[], limit, other);
             assert_eq!(tallied.map(|tallied| tallied.outcome), plain);
             assert_eq!(lists[0], lists[1]);
         }
     }
 }
 
-/// The pairs' questions come after the sheet's, and a refusal writes nothing.
+/// The pairs' questions come after the sheet's, the block's after the pairs', and a refusal writes nothing.
 #[test]
 fn refusals() {
     let mut rng = Rng::new(1);
-    let mut seen = [0; 31];
+    let mut seen = [0; 37];
     for _ in 0..1000 {
         let problem = problem(&mut rng);
         let pairs = pairs(&mut rng, problem.variables);
         let sheet = if rng.chance(30) { damaged(&mut rng, &problem) } else { encode(&problem) };
+        let block = block(&mut rng);
         let mut list = vec![77; 30];
-        if let Err(refusal) = run_lent(&sheet, &pairs, 1000, &mut list) {
+        if let Err(refusal) = run_lent(&sheet, &pairs, &block, 1000, &mut list) {
             assert_eq!(oracle::question(&sheet).err().unwrap_or(refusal), refusal);
-            assert_eq!(question_lent(&sheet, &pairs), Err(refusal));
+            assert_eq!(question_lent(&sheet, &pairs, &[]).err().unwrap_or(refusal), refusal);
+            assert_eq!(question_lent(&sheet, &pairs, &block), Err(refusal));
             assert_eq!(list, [77; 30]);
             seen[refusal.number as usize] += 1;
         }
     }
-    assert!(seen[28..].iter().all(|&count| count > 20), "{seen:?}");
+    assert!([28, 29, 30, 36].iter().all(|&number| seen[number] > 20), "{seen:?}");
 }
 
 /// A finished run lists the solutions onto which no exchange brings one that reads earlier in the order, as they
@@ -136,7 +138,7 @@ fn stopped_runs() {
         let room = rng.below(n * plans.len() + 4);
         let limit = rng.below(whole.outcome.nodes as usize + 2) as u32;
         let mut list = vec![77; room];
-        let Tallied { outcome, counts } = run_lent(&encode(&problem), &pairs, limit, &mut list).unwrap();
+        let Tallied { outcome, counts } = run_lent(&encode(&problem), &pairs, &[], limit, &mut list).unwrap();
         let listed: Vec<u8> =
             plans[..outcome.plans as usize].concat().iter().map(|&value| value as u8).collect();
         assert_eq!(list, [&listed[..], &vec![77; room - listed.len()]].concat());
@@ -160,7 +162,7 @@ fn as_the_hall_typed_in_the_order() {
         let typed = encode(&typed_in(&problem, &order));
         let mut lists = [vec![77; 12 * 4096], vec![77; 12 * 4096]];
         let limit = rng.pick(&[3, 20, u32::MAX]);
-        let tallied = run_lent(&encode(&problem), &pairs, limit, &mut lists[0]).unwrap();
+        let tallied = run_lent(&encode(&problem), &pairs, &[], limit, &mut lists[0]).unwrap();
         assert_eq!(Ok(tallied.outcome), oracle::run(&typed, limit, &mut lists[1]));
         let [rows, typed_rows] = lists.each_ref().map(|list| list.chunks(order.len()));
         for (row, typed) in rows.zip(typed_rows).take(tallied.outcome.plans as usize) {
