@@ -145,6 +145,11 @@ impl Source {
         read.map_err(|error| self.failed(error))
     }
 
+    /// Writes a file that isn't standard output.
+    pub fn write(&self, bytes: &[u8]) -> Result<(), Stop> {
+        std::fs::write(&self.0, bytes).map_err(|error| self.failed(error))
+    }
+
     fn failed(&self, error: std::io::Error) -> Stop {
         Stop { status: Status::Failed, text: format!("{}: {error}", self.name()) }
     }

@@ -106,7 +106,7 @@ pub fn as_written(text: &Text, problem: &Problem) -> Vec<Ruled> {
     let mut rules: Vec<Ruled> = Vec::new();
     for stated in &text.statements {
         let new = match &stated.statement {
-            Statement::May(..) | Statement::Exchange(_) => Vec::new(),
+            Statement::May(..) | Statement::Exchange(_) | Statement::Before(..) => Vec::new(),
             Statement::Different(scope) => different(scope, problem.values.len()),
             Statement::Forbid(rows) => forbidden(problem, rows),
             statement => vec![alone(problem, statement)],

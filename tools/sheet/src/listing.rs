@@ -64,8 +64,8 @@ pub struct Listing {
     pub limits: Limits,
 }
 
-/// Lists the plans of a sheet. A watched run, and one for the first plan, raises its allowance in steps, each
-/// twice the one before; `watch` is told of each step.
+/// Lists the plans of a sheet, in the order of its pairs. A watched run, and one for the first plan, raises its
+/// allowance in steps, each twice the one before; `watch` is told of each step.
 pub fn list(
     made: &Made,
     limits: Limits,
@@ -78,19 +78,19 @@ pub fn list(
         Some(_) => WATCHED.min(limits.trials),
         None => limits.trials,
     };
-    let counted = loop {
-        let counted = planner::run_counts(&made.sheet, allowance, &mut room)?;
-        let answer = counted.answer;
+    let lent = loop {
+        let lent = planner::run_lent(&made.sheet, &made.pairs, &[], allowance, &mut room)?;
+        let answer = lent.answer;
         let enough = limits.first && answer.plans > 0;
         if answer.ending != Ending::Spent || allowance == limits.trials || enough {
-            break counted;
+            break lent;
         }
         if let Some(watch) = &mut watch {
             watch(answer);
         }
         allowance = allowance.saturating_mul(2).min(limits.trials);
     };
-    let (answer, counts) = (counted.answer, counted.counts);
+    let (answer, counts) = (lent.answer, lent.counts);
     let plans = room.chunks(n).take(answer.plans as usize).map(<[u8]>::to_vec).collect();
     Ok(Listing { ending: answer.ending, plans, trials: answer.nodes, counts, limits })
 }

@@ -1,9 +1,10 @@
 //! From a text to its sheet, if the planner accepts it.
 
-use crate::command::{Command, Outcome, Status};
+use crate::command::{refuse, Arguments, Choice, Command, Outcome, Status, Stop};
 use crate::compose::{as_written, compose, Composed};
 use crate::explain::{broken_set, reason};
 use crate::input::Input;
+use crate::pairs;
 use crate::parse::parse;
 use crate::problem::{Place, Problem};
 use crate::text::{fault, Parsed, Stated, Statement, Text};
@@ -14,18 +15,36 @@ pub const COMMAND: Command = Command {
     usage: "TEXT > SHEET",
     about: "makes the sheet; a fault is said with its line, and nothing is written",
     files: 1..=1,
-    options: &[],
-    run: |arguments| {
-        let sheet = Input::read(&arguments.sources[0])?.made.sheet;
-        Ok(Outcome { output: sheet, note: String::new(), status: Status::Finished })
-    },
+    options: &[Choice {
+        name: "--pairs",
+        value: Some("FILE"),
+        about: "writes the pairs of the `before` lines to a file, two bytes each",
+    }],
+    run,
 };
 
-/// An accepted sheet, and what it states.
+/// What a sheet leaves out.
+const NO_PAIRS: &str = "the sheet doesn't hold the `before` lines; --pairs FILE writes them beside it";
+
+fn run(arguments: &Arguments) -> Result<Outcome, Stop> {
+    let file = arguments.file("--pairs");
+    if file.as_ref().is_some_and(|file| file.0 == "-") {
+        return refuse("make writes the pairs to a file, not to standard output");
+    }
+    let made = Input::read(&arguments.sources[0])?.made;
+    let note = if file.is_none() && !made.pairs.is_empty() { NO_PAIRS } else { "" };
+    if let Some(file) = file {
+        file.write(&made.pairs)?;
+    }
+    Ok(Outcome { output: made.sheet, note: note.to_string(), status: Status::Finished })
+}
+
+/// An accepted sheet, what it states, and the pairs lent beside it.
 #[derive(Debug)]
 pub struct Made {
     pub problem: Problem,
     pub sheet: Vec<u8>,
+    pub pairs: Vec<u8>,
 }
 
 /// The sheet that a text describes.
@@ -35,9 +54,10 @@ pub fn make(text: &str) -> Parsed<Made> {
 
 pub fn make_stated(text: &Text) -> Parsed<Made> {
     let composed = compose(text)?;
-    let sheet = composed.problem.encode();
-    match planner::question(&sheet) {
-        Ok(()) => Ok(Made { problem: composed.problem, sheet }),
+    let (sheet, pairs) = (composed.problem.encode(), pairs::stated(text));
+    match planner::question_lent(&sheet, &pairs, &[]) {
+        Ok(()) => Ok(Made { problem: composed.problem, sheet, pairs }),
+        Err(refusal) if refusal.number >= 28 => pairs::check(text).and(fault(1, refusal.to_string())),
         Err(refusal) => refused(text, &composed, &sheet, refusal),
     }
 }

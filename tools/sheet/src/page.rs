@@ -2,8 +2,9 @@
 
 use crate::command::{Arguments, Command, Outcome, Stop};
 use crate::counts::share;
-use crate::input::Input;
+use crate::input::{Input, PAIRS_OPTION};
 use crate::listing::{Limits, Listing, PLANS_OPTION, TRIALS_OPTION};
+use crate::pairs::settled;
 use crate::problem::Problem;
 use crate::text::{Stated, Statement};
 use crate::why::narrow;
@@ -15,7 +16,7 @@ pub const COMMAND: Command = Command {
     usage: "TEXT > hall.html",
     about: "writes the hall and its plans as a page",
     files: 1..=1,
-    options: &[TRIALS_OPTION, PLANS_OPTION],
+    options: &[TRIALS_OPTION, PLANS_OPTION, PAIRS_OPTION],
     run,
 };
 
@@ -29,7 +30,7 @@ const PROOF: &str = "The plans were listed by a program that is proved, for ever
 fn run(arguments: &Arguments) -> Result<Outcome, Stop> {
     let limits = Limits::of(arguments)?;
     let source = &arguments.sources[0];
-    let input = Input::read(source)?;
+    let input = Input::read(source)?.lent(arguments)?;
     let listing = input.list(limits)?;
     let title = match source.0.as_str() {
         "-" => "Hall".to_string(),
@@ -132,15 +133,18 @@ impl Page<'_> {
         )
     }
 
-    /// Rules and exchanges, as the text has them.
+    /// Rules, exchanges and the order, as the text has them.
     fn lines(&self) -> String {
         let of = |wanted: fn(&Statement) -> bool| {
             let stated = self.input.text.statements.iter().filter(|stated| wanted(&stated.statement));
             stated.map(|stated| self.line(stated)).collect::<String>()
         };
         let rules = of(|statement| statement.narrows() && !matches!(statement, Statement::May(..)));
-        let exchanges = of(|statement| !statement.narrows());
-        section("h3", "Rules", rules) + &section("h3", "Exchanges", exchanges)
+        let exchanges = of(|statement| matches!(statement, Statement::Exchange(_)));
+        let order = of(|statement| matches!(statement, Statement::Before(..)));
+        section("h3", "Rules", rules)
+            + &section("h3", "Exchanges", exchanges)
+            + &section("h3", "Order", order)
     }
 
     fn line(&self, stated: &Stated) -> String {
@@ -164,6 +168,10 @@ impl Page<'_> {
             true => "",
             false => "A plan that an exchange makes of an earlier one is left out.",
         };
+        let order = match settled(self.problem(), &self.input.made.pairs) {
+            windows if windows.is_empty() => String::new(),
+            windows => format!("Read in the order in which windows are settled: {}.", windows.join(", ")),
+        };
         let windows: String = self
             .problem()
             .variables
@@ -173,9 +181,10 @@ impl Page<'_> {
         let rows: String =
             self.listing.plans.iter().enumerate().map(|(number, plan)| self.plan(number, plan)).collect();
         format!(
-            "<h2>The plans</h2>\n{}<div class=\"wide\" tabindex=\"0\"><table class=\"plans\">\n\
+            "<h2>The plans</h2>\n{}{}<div class=\"wide\" tabindex=\"0\"><table class=\"plans\">\n\
              <thead><tr><td></td>{windows}</tr></thead>\n<tbody>\n{rows}</tbody>\n</table></div>\n",
-            paragraph(left)
+            paragraph(left),
+            paragraph(&order)
         )
     }
 

@@ -1,6 +1,8 @@
-//! Pairs, "this window before that window" (paper 02, #108): a file with two bytes for each; the order in which they
-//! settle the windows; and what is wrong with them.
+//! Pairs, "this window before that window" (paper 02, #108): the `before` lines of a text, or a file with two bytes
+//! for each; the order in which they settle the windows; and what is wrong with them.
 
+use crate::problem::Problem;
+use crate::text::{fault, Parsed, Statement, Text};
 use crate::words::{counted, listed};
 use planner::Refusal;
 
@@ -13,6 +15,28 @@ pub struct Wrong {
     pub refusal: Refusal,
     pub pair: usize,
     pub words: String,
+}
+
+/// The pairs of a text, two bytes for each `before` line.
+pub fn stated(text: &Text) -> Vec<u8> {
+    lines(text).flat_map(|(pair, _)| pair).collect()
+}
+
+/// Each pair of a text with its line.
+fn lines(text: &Text) -> impl Iterator<Item = ([u8; 2], usize)> + '_ {
+    text.statements.iter().filter_map(|stated| match stated.statement {
+        Statement::Before(first, second) => Some(([first as u8, second as u8], stated.first)),
+        _ => None,
+    })
+}
+
+/// Says what is wrong with the pairs of a text, if anything is.
+pub fn check(text: &Text) -> Parsed<()> {
+    let line: Vec<usize> = lines(text).map(|(_, line)| line).collect();
+    match wrong(&stated(text), &text.variables, |pair| format!("line {}", line[pair])) {
+        Some(wrong) => fault(line[wrong.pair], format!("{} ({})", wrong.words, wrong.refusal)),
+        None => Ok(()),
+    }
 }
 
 /// What is wrong with pairs of named windows, if anything is; `stands` says where a pair stands.
@@ -80,4 +104,12 @@ pub fn order(windows: usize, pairs: &[u8]) -> Vec<usize> {
         order.push(window);
     }
     order
+}
+
+/// The names of the windows in the order that pairs give; none without pairs.
+pub fn settled(problem: &Problem, pairs: &[u8]) -> Vec<String> {
+    match pairs {
+        [] => Vec::new(),
+        _ => order(problem.variables.len(), pairs).iter().map(|&i| problem.variables[i].clone()).collect(),
+    }
 }

@@ -5,7 +5,7 @@ use crate::text::{fault, Exchange, Parsed, Stated, Statement, Text};
 use crate::words::{nearest, words};
 
 /// The words that start a line.
-const STARTS: [&str; 13] = [
+const STARTS: [&str; 14] = [
     "windows",
     "duties",
     "may",
@@ -19,6 +19,7 @@ const STARTS: [&str; 13] = [
     "at least",
     "at most",
     "exchange",
+    "before",
 ];
 
 /// The most windows and the most duties.
@@ -108,6 +109,10 @@ impl Parser {
             ("exactly", rest) => self.count(start, rest),
             ("at", [word @ ("least" | "most"), rest @ ..]) => self.count(word, rest),
             ("at", _) => self.fault("write `at least` or `at most`, a number, a duty and windows"),
+            ("before", [first, second]) => Ok(Statement::Before(self.window(first)?, self.window(second)?)),
+            ("before", _) => {
+                self.fault("write `before WINDOW WINDOW`: the first is settled before the second")
+            }
             (_, what) => self.exchange(what),
         }
     }

@@ -2,8 +2,9 @@
 
 use crate::command::{refuse, Arguments, Choice, Command, Outcome, Stop};
 use crate::counts::drawn;
-use crate::input::Input;
+use crate::input::{Input, PAIRS_OPTION};
 use crate::listing::{Limits, PLANS_OPTION, TRIALS_OPTION};
+use crate::pairs::settled;
 use crate::table::{csv, json, table};
 
 pub const COMMAND: Command = Command {
@@ -27,6 +28,7 @@ pub const COMMAND: Command = Command {
         },
         TRIALS_OPTION,
         PLANS_OPTION,
+        PAIRS_OPTION,
     ],
     run,
 };
@@ -45,7 +47,7 @@ fn run(arguments: &Arguments) -> Result<Outcome, Stop> {
         return refuse("--by-window goes with the table alone");
     }
     let limits = Limits::of(arguments)?;
-    let input = Input::read(&arguments.sources[0])?;
+    let input = Input::read(&arguments.sources[0])?.lent(arguments)?;
     let (problem, listing) = (&input.made.problem, input.list(limits)?);
     let status = listing.status();
     let ending = listing.ending() + listing.hint() + "\n";
@@ -60,8 +62,16 @@ fn run(arguments: &Arguments) -> Result<Outcome, Stop> {
         let left = if problem.symmetries.is_empty() { "" } else { LEFT_OUT };
         let by_window =
             if arguments.has(BY_WINDOW) { drawn(&problem.variables, &listing.counts) } else { String::new() };
-        let text = table(problem, &listing) + gap + &ending + left + &by_window;
+        let text = table(problem, &listing) + gap + &ending + left + &in_order(&input) + &by_window;
         (text.into_bytes(), String::new())
     };
     Ok(Outcome { output, note, status })
+}
+
+/// The order in which pairs settle the windows.
+fn in_order(input: &Input) -> String {
+    match settled(&input.made.problem, &input.made.pairs) {
+        windows if windows.is_empty() => String::new(),
+        windows => format!("(windows settled in the order {})\n", windows.join(" ")),
+    }
 }

@@ -53,6 +53,8 @@ pub enum Statement {
         scope: Vec<usize>,
     },
     Exchange(Exchange),
+    /// `before`: the first window is settled before the second.
+    Before(usize, usize),
 }
 
 #[derive(Clone, Debug)]
@@ -65,8 +67,8 @@ pub enum Exchange {
 }
 
 impl Statement {
-    /// Does the statement narrow the plans (and isn't an exchange)?
+    /// Does the statement say which plans there are (and is no exchange or order)?
     pub fn narrows(&self) -> bool {
-        !matches!(self, Statement::Exchange(_))
+        !matches!(self, Statement::Exchange(_) | Statement::Before(..))
     }
 }

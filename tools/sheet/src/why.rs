@@ -1,7 +1,7 @@
 //! `sheet why`: where there is no plan, lines of the text that already have none, none of which can be left out.
 
 use crate::command::{Arguments, Command, Outcome, Stop};
-use crate::input::Input;
+use crate::input::{Input, PAIRS_OPTION};
 use crate::listing::{list_on_terminal, Limits, Listing, TRIALS_OPTION};
 use crate::make::make_stated;
 use crate::problem::Problem;
@@ -15,7 +15,7 @@ pub const COMMAND: Command = Command {
     usage: "TEXT",
     about: "shows a plan, or lines of the text that already have none",
     files: 1..=1,
-    options: &[TRIALS_OPTION],
+    options: &[TRIALS_OPTION, PAIRS_OPTION],
     run,
 };
 
@@ -29,7 +29,7 @@ enum Known {
 
 fn run(arguments: &Arguments) -> Result<Outcome, Stop> {
     let limits = Limits::of(arguments)?.first();
-    let input = Input::read(&arguments.sources[0])?;
+    let input = Input::read(&arguments.sources[0])?.lent(arguments)?;
     let listing = input.list(limits)?;
     let output = match listing.ending {
         _ if !listing.plans.is_empty() => a_plan(&input.made.problem, &listing),

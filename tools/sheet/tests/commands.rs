@@ -62,6 +62,8 @@ fn golden_files() {
     golden("broken.html", output("page tools/sheet/tests/golden/broken.txt"), 0);
     golden("broken.why", output("why tools/sheet/tests/golden/broken.txt"), 0);
     golden("hall.why", output("why examples/hall.txt"), 0);
+    golden("order.table", output("plans tools/sheet/tests/golden/order.txt"), 0);
+    golden("order.html", output("page tools/sheet/tests/golden/order.txt"), 0);
     golden("help", output("--help"), 0);
     golden("help.plans", output("plans --help"), 0);
 }
@@ -149,6 +151,9 @@ fn wrong_words() {
         ("plans --csv --json examples/a.txt", "plans takes one of --csv, --json and --rows\n"),
         ("plans --rows --json examples/a.txt", "plans takes one of --csv, --json and --rows\n"),
         ("plans --csv --by-window examples/a.txt", "--by-window goes with the table alone\n"),
+        ("plans examples/a.txt --pairs", "--pairs takes a file\n"),
+        ("plans --pairs - -", "standard input can stand for one file only\n"),
+        ("make --pairs - examples/a.txt", "make writes the pairs to a file, not to standard output\n"),
     ] {
         is(output(words), 1, "", said);
     }

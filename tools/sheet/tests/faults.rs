@@ -129,6 +129,47 @@ fn exchanges() {
     );
 }
 
+#[test]
+fn pairs() {
+    let takes = "4: write `before WINDOW WINDOW`: the first is settled before the second";
+    assert_eq!(after("before a"), takes);
+    assert_eq!(after("before a b c"), takes);
+    assert_eq!(after("before a, b"), takes);
+    assert_eq!(after("before a till"), "4: no window is called `till`");
+    assert_eq!(after("before b b"), "4: `b` can't come before itself (refused 30 0)");
+    assert_eq!(
+        after("before a b\n\n# round\nbefore b a\nbefore c c"),
+        "7: a circle: `b` before `a` in line 7 and `a` before `b` in line 4 (refused 30 0)"
+    );
+    assert_eq!(
+        after("before a b\nbefore a c\nbefore b c\nbefore a b\nbefore c a"),
+        "8: a circle: `c` before `a` in line 8 and `a` before `c` in line 5 (refused 30 0)"
+    );
+    assert_eq!(
+        after("before c a\nbefore a b\nbefore b c"),
+        "6: a circle: `b` before `c` in line 6, `c` before `a` in line 4 and `a` before `b` in line 5 (refused 30 0)"
+    );
+    let windows: Vec<String> = (0..12).map(|window| format!("w{window}")).collect();
+    let round = |window: usize| [windows[window].clone(), windows[(window + 1) % 12].clone()];
+    let lines: String =
+        (0..12).map(round).map(|[first, second]| format!("before {first} {second}\n")).collect();
+    let steps: Vec<String> = (0..12)
+        .map(|step| ((step + 11) % 12, round((step + 11) % 12)))
+        .map(|(window, [first, second])| format!("`{first}` before `{second}` in line {}", window + 3))
+        .collect();
+    assert_eq!(
+        whole(&format!("windows {}\nduties x\n{lines}", windows.join(" "))),
+        format!("14: a circle: {} and {} (refused 30 0)", steps[..11].join(", "), steps[11])
+    );
+    let many = "before a b\n".repeat(65);
+    assert_eq!(after(&many), "68: 65 pairs, and at most 64 are allowed (refused 28 0)");
+    assert_eq!(
+        after(&format!("before b b\n{many}")),
+        "68: 66 pairs, and at most 64 are allowed (refused 28 0)"
+    );
+    assert_eq!(after("before b b\nmay c"), "5: `c` may have no duty (refused 8 2)");
+}
+
 /// Sixteen duties, three windows, and a rule that allows all rows but one.
 const LARGE: &str = "windows a b c d\nduties 0 1 2 3 4 5 6 7 8 9 10 11 12 13 14 15\n";
 

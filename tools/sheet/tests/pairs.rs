@@ -1,8 +1,33 @@
-//! Pairs: the order that they give, and circles.
+//! Pairs: of texts, in files, the order that they give, and circles.
 
 use oracle::order::settling_order;
-use sheet::pairs::{order, wrong};
+use planner::Ending;
+use sheet::listing::{list, Limits};
+use sheet::make;
+use sheet::pairs::{order, settled, wrong};
+use sheet::parse::parse;
 use sheets::Rng;
+use std::path::PathBuf;
+use std::process::{Command, Output};
+
+mod common;
+use common::enumerated;
+
+const TEXT: &str =
+    "windows a b c\nduties x y\ndifferent a c\nbefore c a\nexchange windows a c\nbefore b a\nbefore c a\n";
+
+/// The sheet is that of the other lines.
+#[test]
+fn beside_the_sheet() {
+    let made = make(TEXT).unwrap();
+    let others: String =
+        TEXT.lines().filter(|line| !line.starts_with("before")).map(|line| format!("{line}\n")).collect();
+    assert_eq!(made.sheet, make(&others).unwrap().sheet);
+    assert_eq!(made.pairs, [2, 0, 1, 0, 2, 0]);
+    assert_eq!(settled(&made.problem, &made.pairs), ["b", "c", "a"]);
+    assert!(settled(&made.problem, &[]).is_empty());
+    assert!(make(&format!("{others}{}", "before a c\n".repeat(64))).is_ok());
+}
 
 /// The steps of a circle in words, as the numbers of its windows and of the pair.
 fn steps(words: &str) -> Vec<[usize; 3]> {
@@ -43,4 +68,125 @@ fn orders_and_circles() {
         }
     }
     assert!(rounds > 200, "{rounds}");
+}
+
+fn sheet(words: &[&str]) -> Output {
+    Command::new(env!("CARGO_BIN_EXE_sheet")).args(words).output().unwrap()
+}
+
+fn said(output: &Output) -> (Option<i32>, &str) {
+    (output.status.code(), std::str::from_utf8(&output.stderr).unwrap())
+}
+
+/// A folder of its own for a test's files.
+fn folder(name: &str) -> PathBuf {
+    let folder = PathBuf::from(env!("CARGO_TARGET_TMPDIR")).join(name);
+    std::fs::create_dir_all(&folder).unwrap();
+    folder
+}
+
+#[test]
+fn a_file_of_pairs() {
+    let folder = folder("file");
+    let [text, pairs] =
+        ["hall.txt", "hall.pairs"].map(|name| folder.join(name).to_str().unwrap().to_string());
+    std::fs::write(&text, TEXT).unwrap();
+    let made = sheet(&["make", &text, "--pairs", &pairs]);
+    assert_eq!((said(&made), &made.stdout), ((Some(0), ""), &make(TEXT).unwrap().sheet));
+    assert_eq!(std::fs::read(&pairs).unwrap(), [2, 0, 1, 0, 2, 0]);
+    let without = sheet(&["make", &text]);
+    let note = "the sheet doesn't hold the `before` lines; --pairs FILE writes them beside it\n";
+    assert_eq!((said(&without), without.stdout.clone()), ((Some(0), note), made.stdout));
+    let none = sheet(&["make", &text, "--pairs=/none/hall.pairs"]);
+    let error = "/none/hall.pairs: No such file or directory (os error 2)\n";
+    assert_eq!((said(&none), none.stdout.len()), ((Some(3), error), 0));
+    std::fs::write(&text, "windows a b\nduties x y\n").unwrap();
+    assert_eq!(said(&sheet(&["make", &text, "--pairs", &pairs])), (Some(0), ""));
+    assert!(std::fs::read(&pairs).unwrap().is_empty());
+}
+
+/// What is wrong with a file of pairs is said with its name.
+#[test]
+fn files_refused() {
+    let folder = folder("refused");
+    let [text, pairs] =
+        ["hall.txt", "hall.pairs"].map(|name| folder.join(name).to_str().unwrap().to_string());
+    std::fs::write(&text, "windows a b c\nduties x y\n").unwrap();
+    for (bytes, words) in [
+        (&[0, 1, 2][..], "refused 28 0: 3 bytes, and a pair takes two"),
+        (&[0, 1].repeat(65), "refused 28 0: 65 pairs, and at most 64 are allowed"),
+        (&[0, 1, 1, 3], "refused 29 0: pair 1 has the number 3, and the last is 2"),
+        (&[0, 1, 2, 2], "refused 30 0: `c` can't come before itself"),
+        (&[0, 1, 1, 0], "refused 30 0: a circle: `b` before `a` in pair 1 and `a` before `b` in pair 0"),
+    ] {
+        std::fs::write(&pairs, bytes).unwrap();
+        for command in ["plans", "why", "page"] {
+            let output = sheet(&[command, &text, "--pairs", &pairs]);
+            assert_eq!(said(&output), (Some(1), &format!("{pairs}: {words}\n")[..]));
+        }
+    }
+    let output = sheet(&["plans", &text, "--pairs", "none.pairs"]);
+    assert_eq!(said(&output), (Some(3), "none.pairs: No such file or directory (os error 2)\n"));
+    std::fs::write(&text, TEXT).unwrap();
+    let output = sheet(&["plans", &text, "--pairs", &pairs]);
+    assert_eq!(
+        said(&output),
+        (Some(1), &format!("{text} has `before` lines, and so takes no --pairs\n")[..])
+    );
+}
+
+/// The plans of a text are those of its other lines, read in the order, and a run by steps lists them too.
+#[test]
+fn plans_in_the_order() {
+    let mut rng = Rng::new(1);
+    let lines =
+        "windows a b c d\nduties x y z\nmay c y z\ndifferent a b\nat least 1 x a c d\nforbid b z d y\n";
+    let names = ["a", "b", "c", "d"];
+    let mut moved = 0;
+    for _ in 0..200 {
+        let pairs = sheets::right_pairs(&mut rng, 4);
+        let before =
+            |pair: &[u8]| format!("before {} {}\n", names[pair[0] as usize], names[pair[1] as usize]);
+        let text = lines.to_string() + &pairs.chunks(2).map(before).collect::<String>();
+        let made = make(&text).unwrap();
+        let order = order(4, &made.pairs);
+        let mut plans = enumerated(&parse(&text).unwrap());
+        plans.sort_by_key(|plan| order.iter().map(|&window| plan[window]).collect::<Vec<_>>());
+        let all = Limits { trials: u32::MAX, plans: 1000, first: false };
+        let listing = list(&made, all, None).unwrap();
+        assert_eq!(listing.ending, Ending::Finished);
+        let listed: Vec<Vec<usize>> =
+            listing.plans.iter().map(|plan| plan.iter().map(|&duty| duty as usize).collect()).collect();
+        assert_eq!(listed, plans, "{pairs:?}");
+        assert_eq!(list(&made, all, Some(&mut |_| {})).unwrap(), listing);
+        let first = list(&made, all.first(), None).unwrap();
+        assert_eq!(first.plans, listing.plans[..1]);
+        moved += usize::from(listed.windows(2).any(|two| two[0] > two[1]));
+    }
+    assert!(moved > 50, "{moved}");
+}
+
+/// A sheet with its file of pairs is the text that they were made of.
+#[test]
+fn a_sheet_with_its_pairs() {
+    let folder = folder("lent");
+    let name = |name: &str| folder.join(name).to_str().unwrap().to_string();
+    let [text, hall, pairs] = ["hall.txt", "hall.sheet", "hall.pairs"].map(name);
+    std::fs::write(&text, TEXT).unwrap();
+    std::fs::write(&hall, sheet(&["make", &text, "--pairs", &pairs]).stdout).unwrap();
+    let [of_text, of_sheet] =
+        [sheet(&["plans", "--rows", &text]), sheet(&["plans", "--rows", &hall, "--pairs", &pairs])];
+    assert_eq!((said(&of_text), &of_text.stdout), (said(&of_sheet), &of_sheet.stdout));
+    let without = sheet(&["plans", "--rows", &hall]);
+    assert!(of_text.stdout != without.stdout);
+    let table = sheet(&["plans", &hall, "--pairs", &pairs]);
+    assert!(said_out(&table).ends_with("(windows settled in the order w1 w2 w0)\n"));
+    let why = sheet(&["why", &hall, "--pairs", &pairs]);
+    assert!(said_out(&why).starts_with("there is a plan:\n\nw0  w1  w2\n"));
+    let page = sheet(&["page", &hall, "--pairs", &pairs]);
+    assert!(said_out(&page).contains("Read in the order in which windows are settled: w1, w2, w0."));
+}
+
+fn said_out(output: &Output) -> &str {
+    std::str::from_utf8(&output.stdout).unwrap()
 }
