@@ -11,7 +11,7 @@ use Rattle.model.specs.Lists.{flat, below, at, rowsAscend}
 use Rattle.model.specs.Room.{rowsIn}
 use Rattle.model.specs.Sheet.{verdictOf, problemOf}
 use Rattle.model.specs.Verdict.{Verdict, accepted, isAccepted}
-use Rattle.model.proofs.Lists.{T-of, of-T, at-ext, at-below, length-below, Sorted, sorted-ext}
+use Rattle.model.proofs.Lists.{T-of, of-T, at-ext, at-below, length-below, Sorted, sorted-ext, earlier-asym}
 use Rattle.model.proofs.Accepted.{asked}
 use Rattle.model.proofs.Room.{Wide, wide-tail, rows-wide, rows-none, rows-back, flat-cut}
 use Rattle.model.specs.Run.{finished}
@@ -25,7 +25,7 @@ use Rattle.model.proofs.Demands.{of-accepted}
 use Rattle.merge.specs.Inner.{Places}
 use Rattle.merge.specs.Merge.{ascends, union, mergedBy, merged, wholeLists, orderedVerdict, mergeVerdict}
 use Rattle.merge.specs.Claims.{Holds, Ascends, Itself, Empty, Swapped, Nothing-lent, plansOf, Plans-of-either}
-use Rattle.merge.proofs.Reading.{Earlier, earlier-asym, ascends-none, sorted-of, ascends-of}
+use Rattle.merge.proofs.Reading.{Earlier, ascends-none, sorted-of, ascends-of}
 use Rattle.merge.proofs.Union.{union-e, union-i, union-wide, union-sorted}
 use Rattle.merge.proofs.Asking.{Whole, whole-e}
 

@@ -17,18 +17,6 @@ use Rattle.merge.specs.Inner.{Places}
 use Rattle.order.specs.Reordered.{read, earlierBy}
 
 -- ---- rows as they are
-pub earlier-asym : (l m : List ℕ) → T (earlier l m) → T (earlier m l) → ⊥
-unfolding earlier
-earlier-asym [] m t u = t
-earlier-asym (x ∷ l) [] t u = t
-earlier-asym (x ∷ l) (y ∷ m) t u = go (earlier-asym l m) (earlier-e x y l m t) (earlier-e y x m l u)
-  where
-    go : (T (earlier l m) → T (earlier m l) → ⊥) → (x < y) ⊎ ((x ≡ y) × T (earlier l m)) → (y < x) ⊎ ((y ≡ x) × T (earlier m l)) → ⊥
-    go ih (inl h) (inl k) = omega arith
-    go ih (inl h) (inr k) = omega (arith, k .0)
-    go ih (inr h) (inl k) = omega (arith, h .0)
-    go ih (inr h) (inr k) = ih (h .1) (k .1)
-
 pub earlier-trans : (l m r : List ℕ) → T (earlier l m) → T (earlier m r) → T (earlier l r)
 unfolding earlier
 earlier-trans [] m r t u = absurd t

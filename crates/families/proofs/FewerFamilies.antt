@@ -1,0 +1,111 @@
+-- Families and other symmetries: more symmetries never make more families, their order and repeats don't matter, and without any each solution is a family. Assumes nothing.
+use mathlib.Core.Path.{_≡_, refl, sym, ap, _∙_, subst}
+use mathlib.Core.Bool.{not}
+use mathlib.Core.List.{List, [], List·Memᴰ, List·Memᴰ·not-nil}
+use Prim.Native.Nat.{ℕ, _≤_}
+use native.Mathlib.Omega.{arith}
+use lib.Dec.{T}
+use lib.ListN.{length}
+use Rattle.model.specs.Lists.{both, any, keep, earlier}
+use Rattle.model.specs.Problem.{Problem, pair, isPair, pairsOf, takes, isSolution, assignments}
+use Rattle.model.specs.Verdict.{isAccepted, accepted, Verdict}
+use Rattle.model.specs.Sheet.{problemOf, verdictOf, permutesPairs}
+use Rattle.model.specs.Claims.{isLeader, leaders, OneMore}
+use Rattle.families.specs.Families.{Joined, alone, further, solutionsOf, isEarliest, earliestOf, familiesOf}
+use Rattle.model.specs.WellFormed.{WellFormed, Respected, GoodSymmetry}
+use Rattle.model.proofs.Lists.{earlier-asym, keep-all, keep-ext}
+use Rattle.model.proofs.Members.{both-yes}
+use Rattle.model.proofs.More.{withSymmetries}
+use Rattle.model.proofs.OneMore.{one-more}
+use Rattle.model.proofs.Demands.{of-accepted}
+use Rattle.families.proofs.FamilyCount.{in-solution, earliest-i, earliest-e, keep-fewer}
+
+module _ (p : Problem) (gs : List (List ℕ)) where
+  abbrev q : Problem
+  q = withSymmetries p gs
+
+  -- solutions and what a symmetry takes them to are those of p
+  solution-same : (s : List ℕ) → isSolution (withSymmetries p gs) s ≡ isSolution p s
+  unfolding isSolution
+  solution-same s = refl
+
+  takes-same : (g a b : List ℕ) → takes (withSymmetries p gs) g a b ≡ takes p g a b
+  unfolding takes pairsOf pair
+  takes-same g a b = refl
+
+  pub solutions-same : solutionsOf (withSymmetries p gs) ≡ solutionsOf p
+  unfolding solutionsOf
+  solutions-same = keep-ext (isSolution q) (isSolution p) (assignments (p .initial)) (λ s m. solution-same s)
+
+  -- a problem stays well-formed with other symmetries of its pairs
+  pub well-formed-with : WellFormed p → ((g : List ℕ) → List·Memᴰ g gs → GoodSymmetry p g) → WellFormed (withSymmetries p gs)
+  unfolding permutesPairs isPair
+  well-formed-with w h = record {
+    some = w .some;
+    few = w .few;
+    one = w .one;
+    sixteen = w .sixteen;
+    sized = w .sized;
+    nonempty = w .nonempty;
+    narrow = w .narrow;
+    constrained = λ c m. let k = w .constrained c m in record { some = k .some; few = k .few; inside = k .inside; ordered = k .ordered; sized = k .sized; valued = k .valued };
+    symmetric = λ g m. let k = h g m in record { sized = k .sized; permutes = k .permutes };
+  }
+
+  -- what is joined stays joined
+  pub joined-more : ((g : List ℕ) → List·Memᴰ g (p .symmetries) → List·Memᴰ g gs) → (a b : List ℕ) → Joined p a b → Joined (withSymmetries p gs) a b
+  joined-more h a b (alone s) = alone (subst T (sym (solution-same a)) s)
+  joined-more h a b (further c e g j m t s) = further c e g (joined-more h a c j) (h g m) (subst T (sym (takes-same g c e)) t) (subst T (sym (solution-same e)) s)
+
+  pub joined-fewer : ((g : List ℕ) → List·Memᴰ g gs → List·Memᴰ g (p .symmetries)) → (a b : List ℕ) → Joined (withSymmetries p gs) a b → Joined p a b
+  joined-fewer h a b (alone s) = alone (subst T (solution-same a) s)
+  joined-fewer h a b (further c e g j m t s) = further c e g (joined-fewer h a c j) (h g m) (subst T (takes-same g c e) t) (subst T (solution-same e) s)
+
+  module _ (w : WellFormed p) (respected : Respected p) (v : WellFormed (withSymmetries p gs)) (rq : Respected (withSymmetries p gs)) where
+    -- more symmetries: no more families
+    pub families-more : ((g : List ℕ) → List·Memᴰ g (p .symmetries) → List·Memᴰ g gs) → familiesOf (withSymmetries p gs) ≤ familiesOf p
+    unfolding familiesOf earliestOf
+    families-more h =
+        subst (λ (l : List (List ℕ)). length (keep (isEarliest q) l) ≤ length (keep (isEarliest p) (solutionsOf p))) (sym solutions-same)
+        (keep-fewer (isEarliest q) (isEarliest p) (solutionsOf p) (λ s m t. let sol = in-solution p w respected s m in
+        earliest-i p w respected s sol (λ u j e. earliest-e q v rq s (subst T (sym (solution-same s)) sol) t u (joined-more h s u j) e)))
+
+    pub families-fewer : ((g : List ℕ) → List·Memᴰ g gs → List·Memᴰ g (p .symmetries)) → familiesOf p ≤ familiesOf (withSymmetries p gs)
+    unfolding familiesOf earliestOf
+    families-fewer h =
+        subst (λ (l : List (List ℕ)). length (keep (isEarliest p) (solutionsOf p)) ≤ length (keep (isEarliest q) l)) (sym solutions-same)
+        (keep-fewer (isEarliest p) (isEarliest q) (solutionsOf p) (λ s m t. let sol = in-solution p w respected s m in
+        earliest-i q v rq s (subst T (sym (solution-same s)) sol) (λ u j e. earliest-e p w respected s sol t u (joined-fewer h s u j) e)))
+
+-- the same symmetries in another order, or some repeated: as many families
+pub families-same : (p : Problem) (gs : List (List ℕ)) → WellFormed p → Respected p → Respected (withSymmetries p gs) → ((g : List ℕ) → List·Memᴰ g (p .symmetries) → List·Memᴰ g gs) → ((g : List ℕ) → List·Memᴰ g gs → List·Memᴰ g (p .symmetries)) →
+    familiesOf (withSymmetries p gs) ≡ familiesOf p
+families-same p gs w respected rq h k =
+    let v = well-formed-with p gs w (λ g m. w .symmetric g (k g m)) in
+    let a = families-more p gs w respected v rq h in
+    let b = families-fewer p gs w respected v rq k in
+    omega arith
+
+-- without symmetries each solution is a family
+pub families-none : (p : Problem) → WellFormed p → Respected p → p .symmetries ≡ [] → familiesOf p ≡ length (solutionsOf p)
+unfolding familiesOf earliestOf
+families-none p w respected e =
+    ap length (keep-all (isEarliest p) (solutionsOf p) (λ s m. earliest-i p w respected s (in-solution p w respected s m) (λ t j b. let z : T (earlier s s) = subst (λ (u : List ℕ). T (earlier u s)) (sym (only s t j)) b in earlier-asym s s z z)))
+  where
+    only : (s t : List ℕ) → Joined p s t → s ≡ t
+    only s t (alone h) = refl
+    only s t (further c d g j m k h) = absurd (List·Memᴰ·not-nil (subst (List·Memᴰ g) e m))
+
+-- and a finished run without them lists all solutions
+pub leaders-none : (p : Problem) → p .symmetries ≡ [] → leaders p ≡ solutionsOf p
+unfolding solutionsOf any
+leaders-none p e = keep-ext (isLeader p) (isSolution p) (assignments (p .initial)) (λ s m. ap (λ (gs : List (List ℕ)). both (isSolution p s) (not (any (λ g. any (λ t. both (isSolution p t) (both (earlier t s) (takes p g t s))) (assignments (p .initial))) gs))) e ∙ both-yes (isSolution p s))
+
+pub leaders-without : (p : Problem) → leaders (withSymmetries p []) ≡ solutionsOf p
+leaders-without p = leaders-none (withSymmetries p []) refl ∙ solutions-same p []
+
+-- one exchange more never raises the number of families
+pub one-more-families : (b c t : List ℕ) (k : ℕ) → OneMore b c k t → verdictOf b ≡ accepted → verdictOf c ≡ accepted → familiesOf (problemOf c) ≤ familiesOf (problemOf b)
+one-more-families b c t k more ab ac =
+    let r = one-more b c t k more (subst (λ (v : Verdict). T (isAccepted v)) (sym ab) tt) in
+    subst (λ (q : Problem). familiesOf q ≤ familiesOf (problemOf b)) (sym (r .2)) (families-more (problemOf b) (r .0) (of-accepted b ab .well) (of-accepted b ab .respected) (subst WellFormed (r .2) (of-accepted c ac .well)) (subst Respected (r .2) (of-accepted c ac .respected)) (r .1))
