@@ -1,5 +1,6 @@
 -- The rows' keys, the key of an image made pair by pair, and a key found. Assumes nothing.
 use mathlib.Core.Path.{_≡_, refl, sym, ap, ap₂, _∙_, subst}
+use mathlib.Core.Logic.{_⊎_, inl, inr}
 use mathlib.Core.List.{List, _++_}
 use Prim.Native.Nat.{ℕ, suc, _+_, _-_, _*_, _/_, _%_, _^_, _≤_, _<_}
 use native.Mathlib.Nat.{mul-le-mul-right}
@@ -249,6 +250,15 @@ module _ {p : Problem} {s keys : List ℕ} {key solutions : ℕ} (f : Finding p 
       keyed : at keys mid ≡ keyOf (p .variables) (at (solutionAt p mid))
       keyed = f .keyed mid (let e = f .every in let d = number-lt in omega arith)
 
+      pub finding-short : (at keys mid < 281474976710656) × (key < 281474976710656)
+      finding-short =
+          let c = f .good .few in
+          let d = key-small (p .variables) (at (solutionAt p mid)) c (digits (solutionAt p mid) middle) in
+          let e = key-small (p .variables) (at s) c (digits s (f .solves)) in
+          let g = f .sought in
+          let k = keyed in
+          (omega arith, omega arith)
+
       long : (t : List ℕ) → T (isSolution p t) → (x : ℕ) → x < p .variables → x < length t
       long t st x lx = subst (λ (z : ℕ). x < z) (sym (solution-e p t st .sized)) lx
 
@@ -286,6 +296,14 @@ module _ {p : Problem} {s keys : List ℕ} {key solutions : ℕ} (f : Finding p 
           let j = key-less (p .variables) (at s) (at (solutionAt p mid)) (digits s (f .solves)) (digits (solutionAt p mid) middle) (omega arith) in
           between-lower p (f .good) (f .respected) s low (high) b mid l h
           (first-i s (solutionAt p mid) (j .0) (long s (f .solves) (j .0) (j .1), long (solutionAt p mid) middle (j .0) (j .1), j .2, j .3))
+
+-- by how much the code moves on
+pub moved : (a b half r : ℕ) → (a ≤ b → r ≡ 1) × (b < a → r ≡ 0) → ((a ≤ b) × (half * r ≡ half)) ⊎ ((b < a) × (half * r ≡ 0))
+moved a b half r h = go (decLt b a)
+  where
+    go : Dec (b < a) → ((a ≤ b) × (half * r ≡ half)) ⊎ ((b < a) × (half * r ≡ 0))
+    go (yes l) = inr (l, ap (λ (z : ℕ). half * z) (h .1 l) ∙ (let z : half * 0 ≡ 0 = omega arith in z))
+    go (no n) = let l : a ≤ b = omega arith in inl (l, ap (λ (z : ℕ). half * z) (h .0 l) ∙ (let z : half * 1 ≡ half = omega arith in z))
 
 -- a search that goes on
 pub between-as : {p : Problem} {s : List ℕ} {low high low′ high′ : ℕ} → Between p s low high → low′ ≤ low → high ≤ high′ → high′ ≤ length (solutionsOf p) → Between p s low′ high′

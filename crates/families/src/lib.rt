@@ -53,6 +53,14 @@ fn carry(rows: &[u8], images: &[u8; 26112], variables: usize, i: usize, k: usize
     r
 }
 
+// 1 where a is at most b, else 0. There is no branch in it: the answer could not be foretold.
+fn reached(a: u64, b: u64) -> usize
+    requires { ⌜ (a < 9223372036854775808) × (b < 9223372036854775808) ⌝ }
+    ensures { λ r. ⌜ (a ≤ b → r ≡ 1) × (b < a → r ≡ 0) ⌝ }
+{
+    ((9223372036854775808 + b - a) / 9223372036854775808) as usize
+}
+
 // The number of a solution, by binary search for its key.
 fn find(keys: &[u64; 4096], key: u64, solutions: usize) -> usize
     requires { ⌜ ((p : Problem) × (s : List ℕ) × Finding p s (now keys) key solutions) ⌝ }
@@ -62,9 +70,7 @@ fn find(keys: &[u64; 4096], key: u64, solutions: usize) -> usize
     let mut size = solutions;
     while size > 1 {
         let half = size / 2;
-        if keys[low + half] <= key {
-            low += half;
-        }
+        low += half * reached(keys[low + half], key);
         size -= half;
     }
     low
