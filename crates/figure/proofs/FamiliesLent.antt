@@ -1,0 +1,139 @@
+-- The figure of a run that is lent a sheet, pairs and a block, and one of each family (specs/FigureClaims). Assumes nothing.
+use mathlib.Core.Path.{_≡_, refl, sym, ap, ap₂, _∙_, subst}
+use mathlib.Core.Logic.{_↔_, _⊎_, ⊎-elim}
+use mathlib.Core.List.{List, [], List·Memᴰ, List·Memᴰ·not-nil}
+use Prim.Native.Nat.{ℕ}
+use lib.Dec.{T}
+use lib.ListN.{length}
+use Rattle.model.specs.Problem.{Problem, isSolution}
+use Rattle.model.specs.Verdict.{Verdict, accepted, isAccepted}
+use Rattle.model.specs.Sheet.{problemOf}
+use Rattle.model.specs.WellFormed.{WellFormed, Respected}
+use Rattle.model.specs.Run.{Ending, finished, spent, full, plansIn, ended, written}
+use Rattle.model.proofs.More.{withSymmetries}
+use Rattle.order.specs.Order.{Ordering, settlingOrder, orderVerdict}
+use Rattle.order.specs.Reordered.{LeaderBy}
+use Rattle.order.specs.RunBy.{resultBy, leadersBy}
+use Rattle.order.proofs.Order.{no-circle-passes}
+use Rattle.order.proofs.RunBy.{leadersBy-hold, finished-lists, rows-counted-by, fewer-by}
+use Rattle.sheet.specs.Meaning.{andThen}
+use Rattle.lent.specs.Lent.{blockLent, verdictLent, problemWith, orderLent, answerLentFor, answerLent, listLentFor, listLent}
+use Rattle.lent.proofs.Lent.{passed-all, lent-passed, well-lent, respected-lent, ordering-lent, lent-good, ran-lent, lists-leaders-lent}
+use Rattle.families.specs.Families.{familiesOf}
+use Rattle.families.proofs.FamilyCount.{families}
+use Rattle.families.proofs.FewerFamilies.{well-formed-with}
+use Rattle.families.proofs.JoinedBy.{leader-earliest-by, earliest-leader-by, each-by, leaders-each-by}
+use Rattle.figure.specs.Figure.{problemBare, bareSheet, number, dash, figureFor, familiesLent}
+use Rattle.figure.specs.FigureClaims.{ranWith, ranBare, Finished, Families-lent, Bare-run, OneListedEach, One-of-each-lent}
+use Rattle.figure.proofs.BareSheet.{bare-passed}
+
+-- ---- the figure
+number-of : (e f : Ending) (k : ℕ) → Finished e → Finished f → figureFor e f k ≡ number k
+number-of e f k (plans, made, h) (plans′, made′, h′) = ap₂ (λ (x y : Ending). figureFor x y k) h h′
+
+dash-of : (e f : Ending) (k : ℕ) → ((Finished e → ⊥) ⊎ (Finished f → ⊥)) → figureFor e f k ≡ dash
+dash-of (finished plans made) (finished plans′ made′) k h = absurd (⊎-elim {C = ⊥} (λ n. n (plans, made, refl)) (λ n. n (plans′, made′, refl)) h)
+dash-of (finished plans made) (spent plans′ made′) k h = refl
+dash-of (finished plans made) (full plans′ made′) k h = refl
+dash-of (spent plans made) f k h = refl
+dash-of (full plans made) f k h = refl
+
+module _ (b pairs block : List ℕ) (good : T (isAccepted (verdictLent b pairs block))) where
+  pub well-bare : WellFormed (problemBare b)
+  well-bare = well-formed-with (problemOf b) [] (lent-passed b pairs block good .sheet .well) (λ g m. absurd (List·Memᴰ·not-nil m))
+
+  pub respected-bare : Respected (problemBare b)
+  respected-bare = record { respectful = λ g m. absurd (List·Memᴰ·not-nil m) }
+
+pub families-lent : Families-lent
+unfolding familiesLent resultBy isSolution
+families-lent b pairs block limit room h = record {
+  count = families p w rp;
+  counted = number-of (ranWith b pairs block limit room) (ranBare b pairs limit room) (familiesOf p);
+  dashed = dash-of (ranWith b pairs block limit room) (ranBare b pairs limit room) (familiesOf p);
+  bare-enough = λ f. fewer-by bare order (p .symmetries) wb o (λ g m. absurd (List·Memᴰ·not-nil m)) limit room (f .0) (f .1) (f .2) .1;
+  bare-lists = λ f s. (let r = finished-lists bare wb rb order o limit room (f .0) (f .1) (f .2) in (
+    λ m. leadersBy-hold bare wb rb order o s .0 (subst (List·Memᴰ s) r m) .solves,
+    λ t. subst (List·Memᴰ s) (sym r) (leadersBy-hold bare wb rb order o s .1 (record { solves = t; unbeaten = λ g u m su e tk. List·Memᴰ·not-nil m })),
+  ));
+  none = λ e. ap (λ (gs : List (List ℕ)). resultBy order (withSymmetries (problemOf b) gs) limit room .ending) e;
+}
+  where
+    p : Problem
+    p = problemWith b block
+
+    bare : Problem
+    bare = problemBare b
+
+    order : List ℕ
+    order = orderLent b pairs
+
+    good : T (isAccepted (verdictLent b pairs block))
+    good = passed-all (verdictLent b pairs block) h
+
+    w : WellFormed (problemWith b block)
+    w = well-lent b pairs block good
+
+    rp : Respected (problemWith b block)
+    rp = respected-lent b pairs block good
+
+    wb : WellFormed (problemBare b)
+    wb = well-bare b pairs block good
+
+    rb : Respected (problemBare b)
+    rb = respected-bare b pairs block good
+
+    o : Ordering (problemOf b .variables) (orderLent b pairs)
+    o = ordering-lent b pairs block good
+
+-- the run without exchanges and block is that of the sheet without exchanges
+pub bare-run : Bare-run
+unfolding answerLent answerLentFor listLent listLentFor verdictLent blockLent
+bare-run b pairs block limit out h =
+    let x = lent-passed b pairs block (passed-all (verdictLent b pairs block) h) in
+    let c = bareSheet b in
+    let e = bare-passed b (x .sheet) in
+    let k = x .ordered in
+    let v : verdictLent c pairs [] ≡ accepted = ap₂ andThen (e .0) (ap (λ (q : Problem). orderVerdict (q .variables) pairs accepted) (e .1) ∙ no-circle-passes (problemOf b .variables) pairs (k .few) (k .whole) (k .inside) accepted (k .acyclic)) in (
+      ap (λ (u : Verdict). answerLentFor u c pairs [] limit (length out)) v ∙ ap (λ (q : Problem). ended (resultBy (settlingOrder (q .variables) pairs) q limit (length out) .ending)) (e .1),
+      ap (λ (u : Verdict). listLentFor u c pairs [] limit out) v ∙ ap (λ (q : Problem). written (resultBy (settlingOrder (q .variables) pairs) q limit (length out) .rows) out) (e .1),
+    )
+
+-- ---- closed exchanges
+pub one-of-each-lent : One-of-each-lent
+unfolding isSolution
+one-of-each-lent b pairs block limit out plans made closed h = subst (OneListedEach b pairs block plans) (sym (lists-leaders-lent b pairs block limit out plans made h)) (record {
+  earliest = λ s. (
+    λ m. let l = hold s .0 m in (l .solves, leader-earliest-by p w rp order o closed s l),
+    λ r. hold s .1 (earliest-leader-by p w rp order o s (r .0) (r .1)),
+  );
+  each = λ s t. (let r = each-by p w rp order o closed s t in (r .0, hold (r .0) .1 (r .1), r .2, λ m i j. r .3 m (hold m .0 i) j));
+  once = leaders-each-by p w rp order o closed;
+  count = listed ∙ families p w rp .1 (leadersBy order p) (leaders-each-by p w rp order o closed);
+})
+  where
+    p : Problem
+    p = problemWith b block
+
+    order : List ℕ
+    order = orderLent b pairs
+
+    good : T (isAccepted (verdictLent b pairs block))
+    good = lent-good b pairs block limit out (finished plans made) h
+
+    w : WellFormed (problemWith b block)
+    w = well-lent b pairs block good
+
+    rp : Respected (problemWith b block)
+    rp = respected-lent b pairs block good
+
+    o : Ordering (problemOf b .variables) (orderLent b pairs)
+    o = ordering-lent b pairs block good
+
+    hold : (s : List ℕ) → List·Memᴰ s (leadersBy (orderLent b pairs) (problemWith b block)) ↔ LeaderBy (orderLent b pairs) (problemWith b block) s
+    hold = leadersBy-hold (problemWith b block) w rp (orderLent b pairs) o
+
+    listed : plans ≡ length (leadersBy (orderLent b pairs) (problemWith b block))
+    listed =
+        let r = ran-lent b pairs block limit out (finished plans made) h in
+        sym (ap plansIn (r .so)) ∙ rows-counted-by p w rp order o limit (length out) ∙ ap length (finished-lists p w rp order o limit (length out) plans made (r .so))

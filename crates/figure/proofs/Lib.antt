@@ -1,0 +1,4 @@
+-- The sheet without its exchanges, the figure, and the examples.
+pub mod BareSheet
+pub mod FamiliesLent
+pub mod FigureExamples
