@@ -1,0 +1,122 @@
+-- How the figure is got: a bare run on the arrays of the run, which are in the settling order, and the count over its rows. Assumes nothing.
+use mathlib.Core.Path.{_≡_, refl, sym, ap, _∙_, subst}
+use mathlib.Core.Logic.{inr}
+use mathlib.Core.List.{List, [], _++_, List·Memᴰ·not-nil}
+use Prim.Native.Nat.{ℕ, suc, _+_, _*_, _/_, _%_, _^_, _≤_, _<_}
+use native.Mathlib.Nat.{le-of-mul-le-mul-right}
+use native.Mathlib.Omega.{arith}
+use lib.Dec.{eqb}
+use lib.ListN.{length}
+use Rattle.model.specs.Lists.{any, flat, at}
+use Rattle.model.specs.ValueSets.{has}
+use Rattle.model.specs.Problem.{Problem}
+use Rattle.model.specs.Verdict.{accepted}
+use Rattle.model.specs.WellFormed.{WellFormed, Respected}
+use Rattle.model.specs.Run.{finished, resultOf}
+use Rattle.model.proofs.Tree.{plans-of-tree}
+use Rattle.model.proofs.Runs.{finished-rows, finished-fits}
+use Rattle.model.proofs.More.{withSymmetries}
+use Rattle.model.proofs.Demands.{same-test}
+use Rattle.layout.specs.Places.{INITIAL, SCOPES, VARIABLES, VALUES, CONSTRAINTS, SYMMETRIES}
+use Rattle.layout.specs.Layout.{constraintAt, Images, Compiled}
+use Rattle.order.specs.RunBy.{resultBy}
+use Rattle.order.proofs.Reordered.{well-reordered, respected-reordered}
+use Rattle.lent.specs.Lent.{verdictLent, problemWith, orderLent, problemLent}
+use Rattle.lent.proofs.Lent.{passed-all, well-lent, respected-lent, ordering-lent}
+use Rattle.families.specs.Families.{solutionsOf, familiesOf}
+use Rattle.families.specs.Numbered.{Listed, Counted}
+use Rattle.families.proofs.FewerFamilies.{well-formed-with, leaders-without}
+use Rattle.families.proofs.JoinedBy.{families-reordered}
+use Rattle.families.proofs.Rows.{listed-solutions}
+use Rattle.figure.specs.Figure.{problemBare, number, dash, familiesLent}
+use Rattle.figure.specs.FigureClaims.{Finished}
+use Rattle.figure.proofs.FamiliesLent.{families-lent}
+
+-- ---- the arrays
+-- with the number of symmetries set to 0 they hold the problem without symmetries
+pub compiled-bare : (p : Problem) (numbers numbers′ supports images : List ℕ) → WellFormed p → Compiled p numbers supports images → length (p .constraints) ≤ 32 →
+    ((i : ℕ) → (i ≡ SYMMETRIES → ⊥) → at numbers′ i ≡ at numbers i) → at numbers′ SYMMETRIES ≡ 0 → Compiled (withSymmetries p []) numbers′ supports images
+compiled-bare p numbers numbers′ supports images w c few same none = record {
+  numbered = record {
+    touching = λ x k l h. subst (λ (s : ℕ). has s k ≡ any (eqb x) (constraintAt p k .scope)) (sym (same x (λ e. omega arith))) (c .numbered .touching x k l h);
+    touching-few = λ x l. subst (λ (s : ℕ). s < 2 ^ length (p .constraints)) (sym (same x (λ e. omega arith))) (c .numbered .touching-few x l);
+    initial = λ x l. same (INITIAL + x) (λ e. omega (arith, w .few)) ∙ c .numbered .initial x l;
+    unused = λ x l h. same (INITIAL + x) (λ e. omega arith) ∙ c .numbered .unused x l h;
+    arity = λ k l. ap (λ (s : ℕ). s % 256) (same (SCOPES + k) (λ e. omega arith)) ∙ c .numbered .arity k l;
+    scope = λ k i l h. ap (λ (s : ℕ). s / 256 ^ suc i % 256) (same (SCOPES + k) (λ e. omega arith)) ∙ c .numbered .scope k i l h;
+    variables = same VARIABLES (λ e. omega arith) ∙ c .numbered .variables;
+    values = same VALUES (λ e. omega arith) ∙ c .numbered .values;
+    constraints = same CONSTRAINTS (λ e. omega arith) ∙ c .numbered .constraints;
+    symmetries = none;
+  };
+  supported = c .supported;
+  imaged = λ e x v l. absurd (omega arith);
+}
+
+-- ---- the bare run
+-- the problem that it walks
+abbrev pub bareLent : List ℕ → List ℕ → List ℕ → Problem
+bareLent b pairs block = withSymmetries (problemLent b pairs block) []
+
+module _ (b pairs block : List ℕ) (limit room : ℕ) (h : verdictLent b pairs block ≡ accepted) where
+  abbrev p : Problem
+  p = problemLent b pairs block
+
+  abbrev q : Problem
+  q = bareLent b pairs block
+
+  w : WellFormed (problemLent b pairs block)
+  w = let good = passed-all (verdictLent b pairs block) h in well-reordered (problemWith b block) (orderLent b pairs) (ordering-lent b pairs block good) (well-lent b pairs block good)
+
+  r : Respected (problemLent b pairs block)
+  r =
+      let good = passed-all (verdictLent b pairs block) h in
+      respected-reordered (problemWith b block) (orderLent b pairs) (ordering-lent b pairs block good) (well-lent b pairs block good) (respected-lent b pairs block good)
+
+  wq : WellFormed (bareLent b pairs block)
+  wq = well-formed-with p [] w (λ g m. absurd (List·Memᴰ·not-nil m))
+
+  rq : Respected (bareLent b pairs block)
+  rq = record { respectful = λ g m. absurd (List·Memᴰ·not-nil m) }
+
+  -- a finished one lists the solutions of the problem in the order, ascending
+  module _ (plans made : ℕ) (e : resultOf (bareLent b pairs block) limit room .ending ≡ finished plans made) where
+    pub bare-rows : resultOf (bareLent b pairs block) limit room .rows ≡ solutionsOf (problemLent b pairs block)
+    bare-rows = finished-rows q limit room plans made e .0 ∙ plans-of-tree q wq ∙ same-test q wq rq ∙ leaders-without p
+
+    pub bare-plans : plans ≡ length (solutionsOf (problemLent b pairs block))
+    bare-plans = finished-rows q limit room plans made e .1 ∙ ap length bare-rows
+
+    few : room ≤ 4096 * p .variables → length (solutionsOf (problemLent b pairs block)) ≤ 4096
+    few l =
+        let a = finished-fits q limit room plans made e .1 in
+        let c : length (solutionsOf p) * p .variables ≤ room = subst (λ (rows : List (List ℕ)). length rows * p .variables ≤ room) (plans-of-tree q wq ∙ same-test q wq rq ∙ leaders-without p) a in
+        le-of-mul-le-mul-right (let z : length (solutionsOf p) * p .variables ≤ 4096 * p .variables = omega arith in z) (w .some)
+
+    -- so what `families::families` is lent is right
+    pub figure-counted : (images rest : List ℕ) → room ≤ 4096 * problemLent b pairs block .variables → Images (problemLent b pairs block) images → length (problemLent b pairs block .symmetries) ≤ 136 →
+        Counted (problemLent b pairs block) (flat (resultOf (bareLent b pairs block) limit room .rows) ++ rest) images (problemLent b pairs block .variables) (length (problemLent b pairs block .symmetries)) plans
+    figure-counted images rest l i some = record {
+      lent = record {
+        listed = subst (λ (rows : List (List ℕ)). Listed p (flat rows ++ rest) (p .variables)) (sym bare-rows) (listed-solutions p w r (few l) rest);
+        some = some;
+        imaged = i;
+      };
+      every = bare-plans;
+      each = refl;
+    }
+
+    -- and what it answers is the figure
+    pub figure-number : (k : ℕ) → k ≡ familiesOf (problemLent b pairs block) → familiesLent b pairs block limit room ≡ number k
+    unfolding resultBy
+    figure-number k a =
+        let good = passed-all (verdictLent b pairs block) h in
+        let f = families-lent b pairs block limit room h in
+        let bare : Finished (resultBy (orderLent b pairs) (problemBare b) limit room .ending) = (plans, made, e) in
+        f .counted (f .bare-enough bare) bare
+        ∙ ap number (sym (families-reordered (problemWith b block) (well-lent b pairs block good) (respected-lent b pairs block good) (orderLent b pairs) (ordering-lent b pairs block good)) ∙ sym a)
+
+  -- a dash where it isn't finished
+  pub figure-dash : (Finished (resultOf (bareLent b pairs block) limit room .ending) → ⊥) → familiesLent b pairs block limit room ≡ dash
+  unfolding resultBy
+  figure-dash n = families-lent b pairs block limit room h .dashed (inr n)
