@@ -1,4 +1,4 @@
--- Families and other symmetries: more symmetries never make more families, their order and repeats don't matter, and without any each solution is a family. Assumes nothing.
+-- Families and other symmetries: more symmetries never make more families, those that join nothing new don't matter, nor does their order, and without any each solution is a family. Assumes nothing.
 use mathlib.Core.Path.{_≡_, refl, sym, ap, _∙_, subst}
 use mathlib.Core.Bool.{not}
 use mathlib.Core.List.{List, [], List·Memᴰ, List·Memᴰ·not-nil}
@@ -18,6 +18,7 @@ use Rattle.model.proofs.Members.{both-yes}
 use Rattle.model.proofs.More.{withSymmetries}
 use Rattle.model.proofs.OneMore.{one-more}
 use Rattle.model.proofs.Demands.{of-accepted}
+use Rattle.families.proofs.Joined.{joined-to, joined-trans, joined-one}
 use Rattle.families.proofs.FamilyCount.{in-solution, earliest-i, earliest-e, keep-fewer}
 
 module _ (p : Problem) (gs : List (List ℕ)) where
@@ -57,9 +58,15 @@ module _ (p : Problem) (gs : List (List ℕ)) where
   joined-more h a b (alone s) = alone (subst T (sym (solution-same a)) s)
   joined-more h a b (further c e g j m t s) = further c e g (joined-more h a c j) (h g m) (subst T (sym (takes-same g c e)) t) (subst T (sym (solution-same e)) s)
 
-  pub joined-fewer : ((g : List ℕ) → List·Memᴰ g gs → List·Memᴰ g (p .symmetries)) → (a b : List ℕ) → Joined (withSymmetries p gs) a b → Joined p a b
+  -- symmetries that join nothing new
+  abbrev Generated : Type 0
+  Generated = (g a b : List ℕ) → List·Memᴰ g gs → T (isSolution p a) → T (takes p g a b) → T (isSolution p b) → Joined p a b
+
+  pub joined-fewer : Generated → (a b : List ℕ) → Joined (withSymmetries p gs) a b → Joined p a b
   joined-fewer h a b (alone s) = alone (subst T (solution-same a) s)
-  joined-fewer h a b (further c e g j m t s) = further c e g (joined-fewer h a c j) (h g m) (subst T (takes-same g c e) t) (subst T (solution-same e) s)
+  joined-fewer h a b (further c e g j m t s) =
+      let k = joined-fewer h a c j in
+      joined-trans p a c e k (h g c e m (joined-to p a c k) (subst T (takes-same g c e) t) (subst T (solution-same e) s))
 
   module _ (w : WellFormed p) (respected : Respected p) (v : WellFormed (withSymmetries p gs)) (rq : Respected (withSymmetries p gs)) where
     -- more symmetries: no more families
@@ -70,21 +77,27 @@ module _ (p : Problem) (gs : List (List ℕ)) where
         (keep-fewer (isEarliest q) (isEarliest p) (solutionsOf p) (λ s m t. let sol = in-solution p w respected s m in
         earliest-i p w respected s sol (λ u j e. earliest-e q v rq s (subst T (sym (solution-same s)) sol) t u (joined-more h s u j) e)))
 
-    pub families-fewer : ((g : List ℕ) → List·Memᴰ g gs → List·Memᴰ g (p .symmetries)) → familiesOf p ≤ familiesOf (withSymmetries p gs)
+    -- nothing new joined: no fewer families
+    pub families-fewer : Generated → familiesOf p ≤ familiesOf (withSymmetries p gs)
     unfolding familiesOf earliestOf
     families-fewer h =
         subst (λ (l : List (List ℕ)). length (keep (isEarliest p) (solutionsOf p)) ≤ length (keep (isEarliest q) l)) (sym solutions-same)
         (keep-fewer (isEarliest p) (isEarliest q) (solutionsOf p) (λ s m t. let sol = in-solution p w respected s m in
         earliest-i q v rq s (subst T (sym (solution-same s)) sol) (λ u j e. earliest-e p w respected s sol t u (joined-fewer h s u j) e)))
 
--- the same symmetries in another order, or some repeated: as many families
-pub families-same : (p : Problem) (gs : List (List ℕ)) → WellFormed p → Respected p → Respected (withSymmetries p gs) → ((g : List ℕ) → List·Memᴰ g (p .symmetries) → List·Memᴰ g gs) → ((g : List ℕ) → List·Memᴰ g gs → List·Memᴰ g (p .symmetries)) →
+-- further symmetries that join only what is joined already, as those that two others make one after the other, change nothing
+pub families-generated : (p : Problem) (gs : List (List ℕ)) → WellFormed p → Respected p → WellFormed (withSymmetries p gs) → Respected (withSymmetries p gs) →
+    ((g : List ℕ) → List·Memᴰ g (p .symmetries) → List·Memᴰ g gs) → ((g a b : List ℕ) → List·Memᴰ g gs → T (isSolution p a) → T (takes p g a b) → T (isSolution p b) → Joined p a b) →
     familiesOf (withSymmetries p gs) ≡ familiesOf p
-families-same p gs w respected rq h k =
-    let v = well-formed-with p gs w (λ g m. w .symmetric g (k g m)) in
+families-generated p gs w respected v rq h k =
     let a = families-more p gs w respected v rq h in
     let b = families-fewer p gs w respected v rq k in
     omega arith
+
+-- nor does another order of them, or repeats
+pub families-same : (p : Problem) (gs : List (List ℕ)) → WellFormed p → Respected p → Respected (withSymmetries p gs) → ((g : List ℕ) → List·Memᴰ g (p .symmetries) → List·Memᴰ g gs) → ((g : List ℕ) → List·Memᴰ g gs → List·Memᴰ g (p .symmetries)) →
+    familiesOf (withSymmetries p gs) ≡ familiesOf p
+families-same p gs w respected rq h k = families-generated p gs w respected (well-formed-with p gs w (λ g m. w .symmetric g (k g m))) rq h (λ g a b m sa t sb. joined-one p a b g sa (k g m) t sb)
 
 -- without symmetries each solution is a family
 pub families-none : (p : Problem) → WellFormed p → Respected p → p .symmetries ≡ [] → familiesOf p ≡ length (solutionsOf p)
