@@ -11,7 +11,7 @@ use Rattle.model.specs.Lists.{flat, below, at, rowsAscend}
 use Rattle.model.specs.Room.{rowsIn}
 use Rattle.model.specs.Sheet.{verdictOf, problemOf}
 use Rattle.model.specs.Verdict.{Verdict, accepted, isAccepted}
-use Rattle.model.proofs.Lists.{T-of, of-T, at-ext, at-below, length-below, Sorted, sorted-ext, earlier-asym}
+use Rattle.model.proofs.Lists.{T-of, of-T, at-ext, at-below, length-below, earlier-asym, Sorted, sorted-ext}
 use Rattle.model.proofs.Accepted.{asked}
 use Rattle.model.proofs.Room.{Wide, wide-tail, rows-wide, rows-none, rows-back, flat-cut}
 use Rattle.model.specs.Run.{finished}

@@ -1,7 +1,7 @@
 -- The reading order of rows, in any order of their places. Assumes nothing.
 use mathlib.Core.Path.{_≡_, refl, sym, ap, ap₂, _∙_, subst}
 use mathlib.Core.Bool.{Bool, true, false}
-use mathlib.Core.Logic.{_⊎_, inl, inr, ⊎-elim}
+use mathlib.Core.Logic.{⊎-elim}
 use mathlib.Core.List.{List, [], _∷_, map, List·Memᴰ, List·Memᴰ·head, List·Memᴰ·tail, List·Memᴰ·not-nil}
 use Prim.Native.Nat.{ℕ, suc, _+_, _≤_, _<_}
 use native.Mathlib.Numerals.{add-one}
@@ -11,25 +11,12 @@ use lib.ListN.{length, drop, getD, drop-of-length-le}
 use lib.Seq.{drop-cons}
 use borrow.Author.Tests.{ltb-true, ltb-false, eq-eqb}
 use Rattle.model.specs.Lists.{at, earlier, rowsAscend}
-use Rattle.model.proofs.Lists.{T-of, of-T, not-of, earlier-lt, earlier-eq, earlier-e, at-map, at-mem, at-ext, Sorted}
+use Rattle.model.proofs.Lists.{T-of, of-T, not-of, earlier-lt, earlier-e, earlier-trans, at-map, at-mem, at-ext, Sorted}
 use Rattle.merge.specs.Merge.{ascends}
 use Rattle.merge.specs.Inner.{Places}
 use Rattle.order.specs.Reordered.{read, earlierBy}
 
 -- ---- rows as they are
-pub earlier-trans : (l m r : List ℕ) → T (earlier l m) → T (earlier m r) → T (earlier l r)
-unfolding earlier
-earlier-trans [] m r t u = absurd t
-earlier-trans (x ∷ l) [] r t u = absurd t
-earlier-trans (x ∷ l) (y ∷ m) [] t u = absurd u
-earlier-trans (x ∷ l) (y ∷ m) (z ∷ r) t u = go (earlier-trans l m r) (earlier-e x y l m t) (earlier-e y z m r u)
-  where
-    go : (T (earlier l m) → T (earlier m r) → T (earlier l r)) → (x < y) ⊎ ((x ≡ y) × T (earlier l m)) → (y < z) ⊎ ((y ≡ z) × T (earlier m r)) → T (earlier (x ∷ l) (z ∷ r))
-    go ih (inl h) (inl k) = earlier-lt x z l r (omega arith)
-    go ih (inl h) (inr k) = earlier-lt x z l r (omega (arith, k .0))
-    go ih (inr h) (inl k) = earlier-lt x z l r (omega (arith, h .0))
-    go ih (inr h) (inr k) = subst (λ (w : ℕ). T (earlier (x ∷ l) (w ∷ r))) (h .0 ∙ k .0) (earlier-eq x l r (ih (h .1) (k .1)))
-
 pub earlier-gt : (x y : ℕ) (l m : List ℕ) → y < x → earlier (x ∷ l) (y ∷ m) ≡ false
 earlier-gt x y l m h = not-of (earlier (x ∷ l) (y ∷ m)) (λ t. ⊎-elim {C = ⊥} (λ k. omega arith) (λ k. omega (arith, k .0)) (earlier-e x y l m t))
 

@@ -12,13 +12,13 @@ use lib.Seq.{length-take-le, take-nil}
 use borrow.Author.Tests.{eqb-true, eqb-false, eq-eqb, ne-eqb, leb-true, leb-false}
 use Rattle.model.specs.Lists.{choose, both, either, flat, same}
 use Rattle.model.specs.Room.{rowsIn}
-use Rattle.model.proofs.Lists.{T-of, of-T, not-of, of-not, same-eq, same-refl, Sorted, earlier-asym}
+use Rattle.model.proofs.Lists.{T-of, of-T, not-of, of-not, same-eq, same-refl, earlier-asym, earlier-trans, Sorted}
 use Rattle.model.proofs.Room.{Wide, wide-tail, rows-wide, rows-none, rows-cons}
 use Rattle.merge.specs.Merge.{ascends, union, mergedBy}
 use Rattle.merge.specs.Inner.{Places, wayOf, Rests, Sorts, fromFirst, nextRow, taken}
 use Rattle.order.specs.Reordered.{read, earlierBy}
 use Rattle.merge.specs.declared.Way.the-variants.{Before, Same, After}
-use Rattle.merge.proofs.Reading.{earlier-trans, rows-equal, Earlier, sorted-of, ascends-of}
+use Rattle.merge.proofs.Reading.{rows-equal, Earlier, sorted-of, ascends-of}
 use Rattle.merge.proofs.Union.{union-step}
 
 -- ---- ways

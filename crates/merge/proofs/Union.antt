@@ -7,12 +7,12 @@ use Prim.Native.Nat.{ℕ}
 use lib.Dec.{T}
 use lib.ListN.{length}
 use Rattle.model.specs.Lists.{same, earlier}
-use Rattle.model.proofs.Lists.{T-of, of-not, same-eq, same-refl, Sorted, sorted-ext, earlier-asym}
+use Rattle.model.proofs.Lists.{T-of, of-not, same-eq, same-refl, earlier-asym, earlier-trans, Sorted, sorted-ext}
 use Rattle.model.proofs.Room.{Wide, wide-tail}
 use Rattle.merge.specs.Merge.{insert, union}
 use Rattle.merge.specs.Inner.{Places}
 use Rattle.order.specs.Reordered.{read, earlierBy}
-use Rattle.merge.proofs.Reading.{earlier-trans, rows-equal, Earlier}
+use Rattle.merge.proofs.Reading.{rows-equal, Earlier}
 
 -- ---- members
 pub insert-e : (order r : List ℕ) (rows : List (List ℕ)) (z : List ℕ) → List·Memᴰ z (insert order r rows) → (z ≡ r) ⊎ List·Memᴰ z rows

@@ -22,11 +22,11 @@ abbrev pub withSymmetries : Problem → List (List ℕ) → Problem
 withSymmetries p gs = record { variables = p .variables; values = p .values; initial = p .initial; constraints = p .constraints; symmetries = gs }
 
 module _ (p : Problem) (gs : List (List ℕ)) (s : Sized p) (h : (g : List ℕ) → List·Memᴰ g (p .symmetries) → List·Memᴰ g gs) where
-  nogoods-same : (g prefix : List ℕ) → nogoodsOf (withSymmetries p gs) g prefix ≡ nogoodsOf p g prefix
+  pub nogoods-same : (g prefix : List ℕ) → nogoodsOf (withSymmetries p gs) g prefix ≡ nogoodsOf p g prefix
   unfolding nogoodsOf entriesAt pair
   nogoods-same g prefix = refl
 
-  kept-less : (prefix ds : List ℕ) (x v : ℕ) → Kept (withSymmetries p gs) prefix ds x v → Kept p prefix ds x v
+  pub kept-less : (prefix ds : List ℕ) (x v : ℕ) → Kept (withSymmetries p gs) prefix ds x v → Kept p prefix ds x v
   kept-less prefix ds x v k = record {
     member = k .member;
     rows = k .rows;

@@ -69,7 +69,7 @@ module _ (p : Problem) where
     pub injective : (i j : ℕ) → i < size → j < size → at g i ≡ at g j → i ≡ j
     injective i j h k e = distinct-at g (permuted .1) i j (subst (λ (n : ℕ). i < n) (sym (good .sized)) h) (subst (λ (n : ℕ). j < n) (sym (good .sized)) k) e
 
-    image-lt : (q : ℕ) → q < size → at g q < size
+    pub image-lt : (q : ℕ) → q < size → at g q < size
     image-lt q h = go (T-dec (isPair p q))
       where
         go : T (isPair p q) ⊎ (T (isPair p q) → ⊥) → at g q < size
@@ -98,7 +98,7 @@ module _ (p : Problem) where
         l = P.isPair-lt p w q t
 
     module _ (respectful : T (respects p g)) where
-      respected : (f : List ℕ) → List·Memᴰ f (forbidden p) → (h : List ℕ) × List·Memᴰ h (forbidden p) × ((q : ℕ) → List·Memᴰ q h → List·Memᴰ q (map (at g) f))
+      pub respected : (f : List ℕ) → List·Memᴰ f (forbidden p) → (h : List ℕ) × List·Memᴰ h (forbidden p) × ((q : ℕ) → List·Memᴰ q h → List·Memᴰ q (map (at g) f))
       unfolding respects
       respected f m =
           let r = any-e (λ h. within h (map (at g) f)) (forbidden p) (all-e (λ f. any (λ h. within h (map (at g) f)) (forbidden p)) (forbidden p) respectful f m) in

@@ -47,7 +47,7 @@ position-at l a i h =
     least-at (length l) (λ j. eqb (at l j) (at l i)) i h
     (λ j k. ne-eqb (at l j) (at l i) (λ e. let q : j ≡ i = a j i (omega arith) h e in omega arith)) (eq-eqb (at l i) (at l i) refl)
 
-apart-distinct : (l : List ℕ) → Apart l → T (distinct l)
+pub apart-distinct : (l : List ℕ) → Apart l → T (distinct l)
 apart-distinct l a =
     subst (λ (m : List ℕ). T (distinct m)) (at-ext (map (at l) (below (length l))) l (length-below (at l) (length l)) (λ i h. at-below (at l) (length l) i (omega (arith, length-below (at l) (length l)))))
     (distinct-below (at l) (length l) a)

@@ -1,0 +1,130 @@
+-- A block of a problem whose variables are settled in another order: the reordered problem has a block too, of the positions of the block's variables. Assumes nothing.
+use mathlib.Core.Path.{_≡_, refl, sym, ap, ap₂, _∙_, subst}
+use mathlib.Core.Bool.{Bool, false}
+use mathlib.Core.List.{List, [], _∷_, _++_, map, List·Memᴰ, Memᴰ·map, Memᴰ·of-map}
+use mathlib.Core.Logic.{_⊎_, inl, inr, _↔_}
+use Prim.Native.Nat.{ℕ, _*_, _^_, _<_}
+use lib.Dec.{T}
+use lib.ListN.{length, set}
+use Rattle.model.specs.Lists.{at}
+use Rattle.model.specs.ValueSets.{has, anyEmpty}
+use Rattle.model.specs.Problem.{Problem, pair}
+use Rattle.model.specs.Verdict.{accepted}
+use Rattle.model.specs.Search.{pruned, setsAt}
+use Rattle.model.specs.Claims.{Consistent}
+use Rattle.model.specs.Pruning.{Way, Prunes}
+use Rattle.model.specs.WellFormed.{WellFormed}
+use Rattle.block.specs.Block.{inBlock, blockTables, withBlock, blockVerdict}
+use Rattle.block.specs.BlockSets.{Reorders, Trades, BlockIn, Ascends, cutAfter}
+use Rattle.order.specs.Order.{Ordering}
+use Rattle.order.specs.Reordered.{position, read, renamed, symmetryIn, reordered}
+use Rattle.model.proofs.Lists.{at-below}
+use Rattle.model.proofs.Pairs as P
+use Rattle.model.proofs.More.{withSymmetries}
+use Rattle.order.proofs.Reordered as R
+use Rattle.block.proofs.BlockSets as S
+use Rattle.block.proofs.BlockOrderings.{accepted-block}
+
+module _ (p : Problem) (w : WellFormed p) (order : List ℕ) (o : Ordering (p .variables) order) where
+  -- a set of the reordered problem is the set of the variable that stands there
+  has-in : (i v : ℕ) → i < p .variables → T (has (at (read order (p .initial)) i) v) → T (has (at (p .initial) (at order i)) v)
+  has-in i v l t = subst (λ (s : ℕ). T (has s v)) (R.set-at p order o w i l) t
+
+  -- a symmetry that takes (order[i], v) to (y, v) takes (i, v) to (the position of y, v)
+  pub moved-in : (g : List ℕ) (i y v : ℕ) → i < p .variables → T (has (at (read order (p .initial)) i) v) → at g (pair p (at order i) v) ≡ pair p y v →
+      at (symmetryIn order p g) (pair (reordered order p) i v) ≡ pair (reordered order p) (position order y) v
+  unfolding symmetryIn renamed
+  moved-in g i y v l t e =
+      let small = P.init-lt p w (at order i) v (R.place-lt p order o i l) (has-in i v l t) in
+      ap (at (symmetryIn order p g)) (R.pair-same p order o w i v) ∙ at-below (λ q. renamed p (position order) (at g (renamed p (at order) q))) (p .variables * p .values) (pair p i v) (P.pair-lt p w i v l small)
+      ∙ ap (λ (q : ℕ). renamed p (position order) (at g q)) (R.from-pair p order o w i v small) ∙ ap (renamed p (position order)) e
+      ∙ ap₂ (λ (a b : ℕ). pair p (position order a) b) (P.pair-div p w y v small) (P.pair-mod p w y v small) ∙ sym (R.pair-same p order o w (position order y) v)
+
+  module _ (block : ℕ → Bool) where
+    abbrev pub blockIn : ℕ → Bool
+    blockIn i = block (at order i)
+
+    pub reorders-in : (g : List ℕ) → Reorders p block g → Reorders (reordered order p) blockIn (symmetryIn order p g)
+    reorders-in g r = record {
+      image = λ i. position order (r .image (at order i));
+      moved = λ i v l t. moved-in g i (r .image (at order i)) v l t (r .moved (at order i) v (place i l) (has-in i v l t));
+      variable = λ i l. R.stand-lt p order o (r .image (at order i)) (image i l);
+      injective = λ i j l k e.
+          o .once i j l k (r .injective (at order i) (at order j) (place i l) (place j k)
+          (sym (R.place-stand p order o (r .image (at order i)) (image i l)) ∙ ap (at order) e ∙ R.place-stand p order o (r .image (at order j)) (image j k)));
+      only = λ i l f.
+          let q = r .only (at order i) (place i l) (λ e. f (ap (position order) e ∙ R.stand-place p order o i l)) in
+          (q .0, subst (λ (z : ℕ). T (block z)) (sym (R.place-stand p order o (r .image (at order i)) (image i l))) (q .1));
+    }
+      where
+        place : (i : ℕ) → i < p .variables → at order i < p .variables
+        place i l = R.place-lt p order o i l
+
+        image : (i : ℕ) → i < p .variables → r .image (at order i) < p .variables
+        image i l = r .variable (at order i) (place i l)
+
+    pub trades-in : (g : List ℕ) (i j : ℕ) → i < p .variables → j < p .variables → Trades p (at order i) (at order j) g → Trades (reordered order p) i j (symmetryIn order p g)
+    trades-in g i j l k r = record {
+      there = λ v t. moved-in g i (at order j) v l t (r .there v (has-in i v l t)) ∙ ap (λ (z : ℕ). pair (reordered order p) z v) (R.stand-place p order o j k);
+      rest = λ z v h a b t.
+          moved-in g z (at order z) v h t (r .rest (at order z) v (R.place-lt p order o z h) (λ e. a (o .once z i h l e)) (λ e. b (o .once z j h k e)) (has-in z v h t))
+          ∙ ap (λ (y : ℕ). pair (reordered order p) y v) (R.stand-place p order o z h);
+    }
+
+    -- D: the block's positions are a block of the reordered problem
+    pub block-reordered : (gs : List (List ℕ)) → BlockIn p block gs → BlockIn (reordered order p) blockIn (map (symmetryIn order p) gs)
+    block-reordered gs b = record {
+      equal = λ i j l k s t. R.set-at p order o w i l ∙ b .equal (at order i) (at order j) (R.place-lt p order o i l) (R.place-lt p order o j k) s t ∙ sym (R.set-at p order o w j k);
+      own = λ f m.
+          let r = Memᴰ·of-map (symmetryIn order p) (p .symmetries) m in
+          subst (λ (h : List ℕ). List·Memᴰ h (map (symmetryIn order p) gs)) (r .2) (Memᴰ·map (symmetryIn order p) (b .own (r .0) (r .1)));
+      each = λ f m. let r = Memᴰ·of-map (symmetryIn order p) gs m in subst Own (r .2) (one (r .0) (b .each (r .0) (r .1)));
+      trade = λ i j l k f s t.
+          let r = b .trade (at order i) (at order j) (R.place-lt p order o i l) (R.place-lt p order o j k) (λ e. f (o .once i j l k e)) s t in
+          (symmetryIn order p (r .0), Memᴰ·map (symmetryIn order p) (r .1), trades-in (r .0) i j l k (r .2));
+    }
+      where
+        Own : List ℕ → Type 0
+        Own f = List·Memᴰ f (map (symmetryIn order p) (p .symmetries)) ⊎ Reorders (reordered order p) blockIn f
+
+        one : (g : List ℕ) → List·Memᴰ g (p .symmetries) ⊎ Reorders p block g → Own (symmetryIn order p g)
+        one g (inl m) = inl (Memᴰ·map (symmetryIn order p) m)
+        one g (inr r) = inr (reorders-in g r)
+
+  -- an accepted block of p, in the order
+  pub accepted-reordered : (first m : ℕ) → blockVerdict p first m ≡ accepted → BlockIn (reordered order p) (λ i. inBlock first m (at order i)) (map (symmetryIn order p) (p .symmetries ++ blockTables p first m))
+  accepted-reordered first m e = block-reordered (inBlock first m) (p .symmetries ++ blockTables p first m) (accepted-block p w first m e)
+
+  pub withBlock-reordered : (first m : ℕ) → reordered order (withBlock first m p) ≡ withSymmetries (reordered order p) (map (symmetryIn order p) (p .symmetries ++ blockTables p first m))
+  unfolding symmetryIn renamed pair
+  withBlock-reordered first m = refl
+
+  -- ---- the run with an accepted block, its variables settled in the order: variable i is place order[i]
+  module _ (first m : ℕ) (e : blockVerdict p first m ≡ accepted) (prefix : List ℕ) where
+    abbrev tables : List (List ℕ)
+    tables = map (symmetryIn order p) (p .symmetries ++ blockTables p first m)
+
+    good : WellFormed (reordered order p)
+    good = R.well-reordered p order o w
+
+    pub reordered-consistent : (ds : List ℕ) → anyEmpty ds ≡ false →
+        Consistent (reordered order (withBlock first m p)) prefix ds ↔ (Consistent (reordered order p) prefix ds × Ascends (λ i. inBlock first m (at order i)) prefix ds)
+    unfolding symmetryIn renamed pair
+    reordered-consistent = S.consistent-block (reordered order p) good (λ i. inBlock first m (at order i)) tables (accepted-reordered first m e) prefix
+
+    pub reordered-prunes : (ds es : List ℕ) → Prunes (reordered order p) prefix ds es → Way (reordered order (withBlock first m p)) prefix ds → Way (reordered order (withBlock first m p)) prefix es
+    unfolding symmetryIn renamed pair
+    reordered-prunes = S.way-prunes-own (reordered order p) good (λ i. inBlock first m (at order i)) tables (accepted-reordered first m e) prefix
+
+    pub reordered-ends : (es : List ℕ) → Way (reordered order (withBlock first m p)) prefix es → Ascends (λ i. inBlock first m (at order i)) prefix es →
+        pruned (reordered order p) prefix es ≡ es → anyEmpty es ≡ false → setsAt (reordered order (withBlock first m p)) prefix ≡ es
+    unfolding symmetryIn renamed pair
+    reordered-ends = S.way-ascending (reordered order p) good (λ i. inBlock first m (at order i)) tables (accepted-reordered first m e) prefix
+
+    pub reordered-child : (v : ℕ) → T (has (at (setsAt (reordered order (withBlock first m p)) prefix) (length prefix)) v) →
+        let es = cutAfter (λ i. inBlock first m (at order i)) (length prefix) v (set (setsAt (reordered order (withBlock first m p)) prefix) (length prefix) (2 ^ v)) in
+        Way (reordered order (withBlock first m p)) (prefix ++ (v ∷ [])) es × Ascends (λ i. inBlock first m (at order i)) (prefix ++ (v ∷ [])) es
+    unfolding symmetryIn renamed pair
+    reordered-child v t =
+        let b = accepted-reordered first m e in
+        (S.child-way (reordered order p) good (λ i. inBlock first m (at order i)) tables b prefix v t, S.child-ascends (reordered order p) good (λ i. inBlock first m (at order i)) tables b prefix v t)

@@ -1,0 +1,46 @@
+-- Small blocks: the sets at a prefix, computed from the definitions, are those of the cut. Assumes nothing.
+use mathlib.Core.Path.{_≡_, refl}
+use mathlib.Core.List.{[], _∷_}
+use Prim.Native.Nat.{ℕ}
+use Rattle.model.specs.Lists.{all, any, keep, flat, upFrom, below, at, same, tabulate}
+use Rattle.model.specs.ValueSets.{has, maskBelow, least, members, anyEmpty}
+use Rattle.model.specs.Problem.{Problem, assignments, pair, isPair}
+use Rattle.model.specs.Sheet.{distinct}
+use Rattle.model.specs.Nogood.{obeysFrom, obeying, used, filtered}
+use Rattle.model.specs.Search.{entriesAt, nogoodsOf, rowWith, supported, pruned, narrowed, rounds, setsAt}
+use Rattle.block.specs.Block.{orderings, ordering, factorial, variableTable, inBlock, imageOf, orderingTable, blockTables, withBlock}
+use Rattle.block.specs.BlockSets.{cutAfter}
+use Rattle.order.specs.Reordered.{position, read, valueOf, scopeIn, rowIn, renamed, symmetryIn, reordered}
+
+opened : ℕ
+unfolding all any keep flat upFrom below at same tabulate has maskBelow least members anyEmpty assignments pair isPair distinct obeysFrom obeying used filtered entriesAt nogoodsOf rowWith supported pruned narrowed rounds setsAt orderings ordering factorial variableTable inBlock imageOf orderingTable blockTables cutAfter position read valueOf scopeIn rowIn renamed symmetryIn
+opened = 0
+
+-- four variables of three values, a constraint on the first and the last
+abbrev four : Problem
+four = record { variables = 4; values = 3; initial = 7 ∷ 7 ∷ 7 ∷ 7 ∷ []; constraints = record { scope = 0 ∷ 3 ∷ []; rows = (0 ∷ 1 ∷ []) ∷ (1 ∷ 2 ∷ []) ∷ (2 ∷ 0 ∷ []) ∷ [] } ∷ []; symmetries = [] }
+
+-- a block of variables 1 and 2: with variable 1 at value 1, variable 2 keeps 1 and 2
+pub later-cut : setsAt (withBlock 1 2 four) (0 ∷ 1 ∷ []) ≡ 1 ∷ 2 ∷ 6 ∷ 2 ∷ []
+unfolding opened
+later-cut = refl
+
+-- the cut says the same of the parent's sets
+pub cut-is : cutAfter (inBlock 1 2) 1 1 (1 ∷ 2 ∷ 7 ∷ 2 ∷ []) ≡ 1 ∷ 2 ∷ 6 ∷ 2 ∷ []
+unfolding opened
+cut-is = refl
+
+-- variables outside the block lose nothing by a value of the block
+pub others-stay : setsAt (withBlock 1 2 four) (1 ∷ 2 ∷ []) ≡ 2 ∷ 4 ∷ 4 ∷ 4 ∷ []
+unfolding opened
+others-stay = refl
+
+-- settled in the order 2, 3, 0, 1: the block's positions are 0 and 3
+pub positions-cut : setsAt (reordered (2 ∷ 3 ∷ 0 ∷ 1 ∷ []) (withBlock 1 2 four)) (1 ∷ []) ≡ 2 ∷ 7 ∷ 7 ∷ 6 ∷ []
+unfolding opened
+positions-cut = refl
+
+-- where the later of two places is settled first, the earlier loses the smaller values
+pub order-of-settling : setsAt (reordered (2 ∷ 1 ∷ 0 ∷ 3 ∷ []) (withBlock 1 2 four)) (2 ∷ []) ≡ 4 ∷ 4 ∷ 7 ∷ 7 ∷ []
+unfolding opened
+order-of-settling = refl

@@ -1,0 +1,21 @@
+-- The claims of specs/BlockClaims, from the laws. Assumes nothing.
+use Rattle.block.specs.BlockClaims.{Rows-all, First-rows, Trades-enough, Sets-ascend, Alone-closed}
+use Rattle.block.proofs.Orderings.{count, orderings-ascend, row-ordering, ordering-row}
+use Rattle.block.proofs.Orderings as O
+use Rattle.block.proofs.Block as K
+use Rattle.block.proofs.BlockReordered as R
+
+pub rows-all : Rows-all
+rows-all = (count, orderings-ascend, λ e. (row-ordering e, ordering-row e))
+
+pub first-rows : First-rows
+first-rows m row l h = O.first-rows m row (l, h)
+
+pub trades-enough : Trades-enough
+trades-enough p first m w = K.block-i p w first m
+
+pub sets-ascend : Sets-ascend
+sets-ascend p order first m prefix ds w o e = R.reordered-consistent p w order o first m e prefix ds
+
+pub alone-closed : Alone-closed
+alone-closed p first m w = K.alone-closed p w first m

@@ -1,0 +1,89 @@
+-- The table of orderings: 600 numbers whose rows of five are orderings and ascend are all orderings in order. Assumes nothing.
+use mathlib.Core.Path.{_≡_, refl, sym, ap, ap₂, _∙_}
+use mathlib.Core.Bool.{Bool}
+use mathlib.Core.List.{List, [], _∷_, _++_, List·Memᴰ, List·Memᴰ·head, List·Memᴰ·tail}
+use Prim.Native.Nat.{ℕ, zero, suc, _+_, _*_, _<_}
+use native.Mathlib.Nat.{not-suc-le-zero, le-of-suc-le-suc}
+use native.Mathlib.Omega.{arith}
+use lib.Dec.{T, eqb, ltb, eqb→eq, ltb→lt}
+use lib.ListN.{length, getD, take, drop, length-drop, take-append-drop}
+use lib.Seq.{getD-drop, take-at, drop-at}
+use Rattle.model.specs.Lists.{both, all, flat, at, earlier, rowsAscend}
+use Rattle.model.specs.Sheet.{distinct}
+use Rattle.order.specs.Order.{Ordering}
+use Rattle.block.specs.Block.{orderings, ordering}
+use Rattle.model.proofs.Lists.{both-l, both-r, all-e, earlier-asym, at-take}
+use Rattle.block.proofs.Ascending.{rowsAscend-sorted, sorted-all}
+use Rattle.block.proofs.Orderings.{ordering-of, ordering-row, row-ordering, orderings-sorted, count}
+
+-- ---- rows of five
+unfoldable pub fives : ℕ → List ℕ → List (List ℕ)
+fives zero l = []
+fives (suc k) l = take 5 l ∷ fives k (drop 5 l)
+
+length-fives : (k : ℕ) (l : List ℕ) → length (fives k l) ≡ k
+unfolding fives
+length-fives zero l = refl
+length-fives (suc k) l = ap suc (length-fives k (drop 5 l))
+
+at-fives : (k : ℕ) (l : List ℕ) (row i : ℕ) → row < k → i < 5 → at (getD (fives k l) row []) i ≡ at l (5 * row + i)
+unfolding fives at
+at-fives zero l row i h u = absurd (not-suc-le-zero h)
+at-fives (suc k) l zero i h u = at-take 5 l i u ∙ ap (at l) (omega arith)
+at-fives (suc k) l (suc row) i h u =
+    let e : 5 + (5 * row + i) ≡ 5 * suc row + i = omega arith in
+    at-fives k (drop 5 l) row i (le-of-suc-le-suc h) u ∙ getD-drop 5 l (5 * row + i) 0 ∙ ap (at l) e
+
+flat-fives : (k : ℕ) (l : List ℕ) → length l ≡ 5 * k → flat (fives k l) ≡ l
+unfolding fives flat
+flat-fives zero [] e = refl
+flat-fives zero (x ∷ l) e = absurd (omega arith)
+flat-fives (suc k) l e = ap (λ (r : List ℕ). take 5 l ++ r) (flat-fives k (drop 5 l) (omega (arith, length-drop 5 l))) ∙ take-append-drop 5 l
+
+fives-flat : (ls : List (List ℕ)) → ((l : List ℕ) → List·Memᴰ l ls → length l ≡ 5) → fives (length ls) (flat ls) ≡ ls
+unfolding fives flat
+fives-flat [] h = refl
+fives-flat (l ∷ ls) h =
+    let e = h l (List·Memᴰ·head refl) in
+    ap₂ (λ (r : List ℕ) (rs : List (List ℕ)). r ∷ rs) (take-at l (flat ls) 5 e) (ap (fives (length ls)) (drop-at l (flat ls) 5 e) ∙ fives-flat ls (λ r m. h r (List·Memᴰ·tail m)))
+
+-- ---- the test
+-- five numbers below five, no two of them equal
+unfoldable pub isOrdering : List ℕ → Bool
+isOrdering e = both (eqb (length e) 5) (both (all (λ v. ltb v 5) e) (distinct e))
+
+is-ordering : (e : List ℕ) → T (isOrdering e) → Ordering 5 e
+unfolding isOrdering
+is-ordering e t =
+    let sized = eqb→eq (length e) 5 (both-l (eqb (length e) 5) _ t) in
+    let u = both-r (eqb (length e) 5) _ t in
+    ordering-of 5 e sized (λ x m. ltb→lt x 5 (all-e (λ v. ltb v 5) e (both-l (all (λ v. ltb v 5) e) (distinct e) u) x m)) (both-r (all (λ v. ltb v 5) e) (distinct e) u)
+
+-- each row is an ordering, and the rows ascend
+unfoldable pub isTable : List ℕ → Bool
+isTable l = both (all isOrdering (fives 120 l)) (rowsAscend (fives 120 l))
+
+module _ (l : List ℕ) (t : T (isTable l)) where
+  each-ordering : (e : List ℕ) → List·Memᴰ e (fives 120 l) → Ordering 5 e
+  unfolding isTable
+  each-ordering e m = is-ordering e (all-e isOrdering (fives 120 l) (both-l (all isOrdering (fives 120 l)) (rowsAscend (fives 120 l)) t) e m)
+
+  ascend : T (rowsAscend (fives 120 l))
+  unfolding isTable
+  ascend = both-r (all isOrdering (fives 120 l)) (rowsAscend (fives 120 l)) t
+
+  -- 120 orderings that ascend are all of them
+  rows-all : fives 120 l ≡ orderings
+  rows-all =
+      sorted-all (λ (x y : List ℕ). T (earlier x y)) earlier-asym (fives 120 l) orderings (rowsAscend-sorted (fives 120 l) ascend) orderings-sorted
+      (λ e m. ordering-row e (each-ordering e m)) (omega (arith, count, length-fives 120 l))
+
+  pub table-flat : length l ≡ 600 → l ≡ flat orderings
+  table-flat n = sym (flat-fives 120 l n) ∙ ap flat rows-all
+
+-- number i of a row
+pub table-at : (row i : ℕ) → row < 120 → i < 5 → at (flat orderings) (5 * row + i) ≡ at (ordering row) i
+unfolding ordering
+table-at row i h u =
+    sym (at-fives 120 (flat orderings) row i h u)
+    ∙ ap (λ (ls : List (List ℕ)). at (getD ls row []) i) (ap (λ (k : ℕ). fives k (flat orderings)) (sym count) ∙ fives-flat orderings (λ e m. row-ordering e m .sized))

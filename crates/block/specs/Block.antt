@@ -1,0 +1,70 @@
+-- A block of neighbouring variables that may be put in any order (paper 02, #111): the orderings of five, the symmetries that a block adds, and its questions.
+use mathlib.Core.Bool.{Bool, true, false}
+use mathlib.Core.List.{List, [], _++_, map}
+use Prim.Native.Nat.{ℕ, zero, suc, _+_, _-_, _*_, _/_, _%_}
+use lib.ListN.{length, getD, replicate}
+use lib.Dec.{leb, ltb}
+use Rattle.model.specs.Lists.{keep, below, at, both}
+use Rattle.model.specs.ValueSets.{fullMask}
+use Rattle.model.specs.Problem.{Problem, pair, isPair, assignments}
+use Rattle.model.specs.Verdict.{Verdict, ask}
+use Rattle.model.specs.Sheet.{distinct, symmetriesVerdict}
+
+-- ---- orderings
+-- the orderings of 0 to 4, in reading order: five numbers below five, no two of them equal
+unfoldable pub orderings : List (List ℕ)
+orderings = keep distinct (assignments (replicate 5 (fullMask 5)))
+
+-- row number row: e(0) to e(4)
+unfoldable pub ordering : ℕ → List ℕ
+ordering row = getD orderings row []
+
+unfoldable pub factorial : ℕ → ℕ
+factorial zero = 1
+factorial (suc m) = suc m * factorial m
+
+-- ---- tables
+-- first g, then h, as one table; of orderings too
+unfoldable pub andThen : List ℕ → List ℕ → List ℕ
+andThen g h = map (at h) g
+
+-- the table that takes each pair (x, v) to (f x, v); other numbers stay put
+unfoldable pub variableTable : Problem → (ℕ → ℕ) → List ℕ
+variableTable p f =
+    map (λ q. elim (isPair p q) [ true ↦ pair p (f (q / p .values)) (q % p .values) | false ↦ q ]) (below (p .variables * p .values))
+
+-- x is one of m neighbouring variables, of which first is the first
+unfoldable pub inBlock : ℕ → ℕ → ℕ → Bool
+inBlock first m x = both (leb first x) (ltb x (first + m))
+
+-- where the ordering e takes a variable: first + i, for i below m, to first + e(5 - m + i) - (5 - m); the others stay put
+unfoldable pub imageOf : ℕ → ℕ → List ℕ → ℕ → ℕ
+imageOf first m e x = elim (inBlock first m x) [ true ↦ first + at e (5 - m + (x - first)) - (5 - m) | false ↦ x ]
+
+-- the symmetry of one row
+unfoldable pub orderingTable : Problem → ℕ → ℕ → ℕ → List ℕ
+orderingTable p first m row = variableTable p (imageOf first m (ordering row))
+
+-- a block of m uses the first m! rows
+unfoldable pub blockTables : Problem → ℕ → ℕ → List (List ℕ)
+blockTables p first m = map (orderingTable p first m) (below (factorial m))
+
+-- the problem with the block's symmetries after its own
+abbrev pub withBlock : ℕ → ℕ → Problem → Problem
+withBlock first m p =
+    record {
+      variables = p .variables;
+      values = p .values;
+      initial = p .initial;
+      constraints = p .constraints;
+      symmetries = p .symmetries ++ blockTables p first m;
+    }
+
+-- ---- the questions
+-- the block is 2 to 5 neighbouring variables of the problem
+unfoldable pub isBlock : Problem → ℕ → ℕ → Bool
+isBlock p first m = both (both (leb 2 m) (leb m 5)) (leb (first + m) (p .variables))
+
+-- 36; then 15 and 16 for each row, items counting on from the problem's own symmetries
+unfoldable pub blockVerdict : Problem → ℕ → ℕ → Verdict
+blockVerdict p first m = ask (isBlock p first m) 36 0 (symmetriesVerdict p (length (p .symmetries)) (blockTables p first m))

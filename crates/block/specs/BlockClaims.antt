@@ -1,0 +1,51 @@
+-- What paper 02 asks of a block's orderings (#111), and what #112 needs of them. The proofs are in proofs/Claimed.antt.
+use mathlib.Core.Path.{_≡_}
+use mathlib.Core.Bool.{false}
+use mathlib.Core.Logic.{_↔_}
+use mathlib.Core.List.{List, [], List·Memᴰ}
+use Prim.Native.Nat.{ℕ, _-_, _*_, _≤_, _<_}
+use lib.ListN.{length}
+use lib.Dec.{T}
+use Rattle.model.specs.Lists.{at, rowsAscend}
+use Rattle.model.specs.ValueSets.{anyEmpty}
+use Rattle.model.specs.Problem.{Problem, respects}
+use Rattle.model.specs.Verdict.{accepted}
+use Rattle.model.specs.Sheet.{permutesPairs}
+use Rattle.model.specs.Claims.{Consistent}
+use Rattle.model.specs.WellFormed.{WellFormed}
+use Rattle.order.specs.Order.{Ordering}
+use Rattle.order.specs.Reordered.{reordered}
+use Rattle.block.specs.Block.{orderings, ordering, factorial, inBlock, orderingTable, withBlock, isBlock, blockVerdict}
+use Rattle.block.specs.BlockSets.{Ascends}
+
+-- ---- the table
+-- 120 rows, ascending; each is an ordering, and none is absent
+abbrev pub Rows-all : Type 0
+Rows-all = (length orderings ≡ 120) × T (rowsAscend orderings) × ((e : List ℕ) → List·Memᴰ e orderings ↔ Ordering 5 e)
+
+-- the first m! rows are those that move only the last m entries
+abbrev pub First-rows : Type 0
+First-rows = (m row : ℕ) → 2 ≤ m → m ≤ 5 → row < 120 → (row < factorial m) ↔ ((i : ℕ) → i < 5 - m → at (ordering row) i ≡ i)
+
+-- ---- the questions
+-- where the m - 1 trades of neighbours (of rows 1, 2, 6, 24 the first m - 1) pass 15 and 16, every row does
+abbrev pub Trades-enough : Type 0
+Trades-enough =
+    (p : Problem) (first m : ℕ) → WellFormed p → T (isBlock p first m) →
+    ((k : ℕ) → 1 ≤ k → k < m → T (permutesPairs p (orderingTable p first m (factorial k))) × T (respects p (orderingTable p first m (factorial k)))) →
+    blockVerdict p first m ≡ accepted
+
+-- ---- the sets at a prefix, the variables settled in any order
+-- sets of which none is empty: consistent with the block's orderings is consistent without them, and ascending along the block
+abbrev pub Sets-ascend : Type 0
+Sets-ascend =
+    (p : Problem) (order : List ℕ) (first m : ℕ) (prefix ds : List ℕ) → WellFormed p → Ordering (p .variables) order → blockVerdict p first m ≡ accepted → anyEmpty ds ≡ false →
+    Consistent (reordered order (withBlock first m p)) prefix ds ↔ (Consistent (reordered order p) prefix ds × Ascends (λ i. inBlock first m (at order i)) prefix ds)
+
+-- ---- a block alone (#112)
+-- two of its orderings, one after the other, make one of them
+abbrev pub Alone-closed : Type 0
+Alone-closed =
+    (p : Problem) (first m : ℕ) → WellFormed p → p .symmetries ≡ [] → blockVerdict p first m ≡ accepted →
+    (f g : List ℕ) → List·Memᴰ f (withBlock first m p .symmetries) → List·Memᴰ g (withBlock first m p .symmetries) →
+    (h : List ℕ) × List·Memᴰ h (withBlock first m p .symmetries) × ((q : ℕ) → q < p .variables * p .values → at g (at f q) ≡ at h q)

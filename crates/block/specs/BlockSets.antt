@@ -1,0 +1,45 @@
+-- What the orderings of a block of variables say at a prefix (paper 02, #111): a block variable settled later has no smaller value than one settled earlier.
+-- A block is a test of variables; its symmetries are any that reorder its variables, the trade of any two among them.
+use mathlib.Core.Path.{_≡_}
+use mathlib.Core.Bool.{Bool, not}
+use mathlib.Core.List.{List, List·Memᴰ}
+use mathlib.Core.Logic.{_⊎_}
+use Prim.Native.Nat.{ℕ, _≤_, _<_}
+use lib.Dec.{T, ltb}
+use lib.ListN.{length}
+use Rattle.model.specs.Lists.{both, at, tabulate}
+use Rattle.model.specs.ValueSets.{has, maskOf}
+use Rattle.model.specs.Problem.{Problem, pair}
+
+-- ---- the symmetries of a block
+-- g only renames variables, and none but those of the block
+pub record Reorders (p : Problem) (block : ℕ → Bool) (g : List ℕ) : Type 0 where
+  pub image : ℕ → ℕ
+  pub moved : (x v : ℕ) → x < p .variables → T (has (at (p .initial) x) v) → at g (pair p x v) ≡ pair p (image x) v
+  pub variable : (x : ℕ) → x < p .variables → image x < p .variables
+  pub injective : (x y : ℕ) → x < p .variables → y < p .variables → image x ≡ image y → x ≡ y
+  pub only : (x : ℕ) → x < p .variables → (image x ≡ x → ⊥) → T (block x) × T (block (image x))
+
+-- g takes x to y and leaves all variables but these two alone
+pub record Trades (p : Problem) (x y : ℕ) (g : List ℕ) : Type 0 where
+  pub there : (v : ℕ) → T (has (at (p .initial) x) v) → at g (pair p x v) ≡ pair p y v
+  pub rest : (z v : ℕ) → z < p .variables → (z ≡ x → ⊥) → (z ≡ y → ⊥) → T (has (at (p .initial) z) v) → at g (pair p z v) ≡ pair p z v
+
+-- gs are the problem's own symmetries and reorderings of the block, the trade of any two of its variables among gs
+pub record BlockIn (p : Problem) (block : ℕ → Bool) (gs : List (List ℕ)) : Type 0 where
+  pub equal : (x y : ℕ) → x < p .variables → y < p .variables → T (block x) → T (block y) → at (p .initial) x ≡ at (p .initial) y
+  pub own : (g : List ℕ) → List·Memᴰ g (p .symmetries) → List·Memᴰ g gs
+  pub each : (g : List ℕ) → List·Memᴰ g gs → List·Memᴰ g (p .symmetries) ⊎ Reorders p block g
+  pub trade : (x y : ℕ) → x < p .variables → y < p .variables → (x ≡ y → ⊥) → T (block x) → T (block y) → (g : List ℕ) × List·Memᴰ g gs × Trades p x y g
+
+-- ---- the condition
+-- no block variable has a value below that of a block variable of the prefix that is settled before it
+abbrev pub Ascends : (ℕ → Bool) → List ℕ → List ℕ → Type 0
+Ascends block prefix ds = (x y v : ℕ) → T (block x) → T (block y) → x < y → x < length prefix → T (has (at ds y) v) → at prefix x ≤ v
+
+-- variable x has been settled to v: where it is a block variable, the later block variables lose the values below v
+abbrev pub lostAfter : (ℕ → Bool) → ℕ → ℕ → ℕ → ℕ → Bool
+lostAfter block x v y u = both (both (block x) (block y)) (both (ltb x y) (ltb u v))
+
+unfoldable pub cutAfter : (ℕ → Bool) → ℕ → ℕ → List ℕ → List ℕ
+cutAfter block x v ds = tabulate (length ds) (λ y. maskOf (λ u. both (has (at ds y) u) (not (lostAfter block x v y u))))
