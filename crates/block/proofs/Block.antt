@@ -5,7 +5,7 @@ use mathlib.Core.List.{List, [], _∷_, _++_, map, List·Memᴰ, List·Memᴰ·h
 use mathlib.Core.Logic.{_⊎_, inl, inr, ⊎-elim}
 use Prim.Native.Nat.{ℕ, zero, suc, _+_, _-_, _*_, _≤_, _<_}
 use native.Mathlib.Omega.{arith}
-use native.Mathlib.Decide.{decLt}
+use native.Mathlib.Decide.{ℕ-discrete, decLt}
 use lib.Dec.{T, leb, ltb, leb→le, ltb→lt}
 use lib.ListN.{length}
 use borrow.Author.Tests.{le-leb, lt-ltb}
@@ -15,11 +15,11 @@ use Rattle.model.specs.Problem.{Problem, pair, respects}
 use Rattle.model.specs.Verdict.{Verdict, accepted, refused, ask, isAccepted}
 use Rattle.model.specs.Sheet.{permutesPairs, symmetriesVerdict}
 use Rattle.model.specs.WellFormed.{WellFormed, GoodSymmetry, Respected}
-use Rattle.block.specs.Block.{ordering, factorial, andThen, inBlock, imageOf, orderingTable, blockTables, withBlock, isBlock, blockVerdict}
+use Rattle.block.specs.Block.{ordering, factorial, andThen, inBlock, imageOf, orderingTable, blockTables, withBlock, isBlock, blockVerdict, TradePasses}
 use Rattle.model.proofs.Lists.{both-l, both-r, of-T, not-of, T-ext, map-append, below-i, below-e, upFrom-add, length-below}
 use Rattle.model.proofs.Sets.{mask-ext}
 use Rattle.model.proofs.Accepted.{asked, symmetries-e}
-use Rattle.block.proofs.Orderings.{Few, Moves, moves, moves-small, moves-high, at-andThen, product-row, generated, trade-at, row-zero}
+use Rattle.block.proofs.Orderings.{Few, factorial-up, Moves, moves, moves-small, moves-high, at-andThen, product-row, generated, trade-at, row-zero}
 use Rattle.block.proofs.Tables as B
 
 -- ---- where an ordering takes a variable
@@ -143,30 +143,40 @@ module _ (p : Problem) (w : WellFormed p) (first m : ℕ) (few : Few m) (inside 
   unfolding orderingTable
   zero-passes = B.passes-unmoved p w (imageOf first m (ordering 0)) (λ x l. image-zero first m few x)
 
-  -- what composition keeps and the trades of neighbours have, all m! rows have
-  from-trades : (G : List ℕ → Type 0) → ((g : List ℕ) → G g → T (permutesPairs p g)) → G (table 0) → ((g h : List ℕ) → G g → G h → G (andThen g h)) →
-      ((k : ℕ) → 1 ≤ k → k < m → G (table (factorial k))) → (n row : ℕ) → row < n → row < factorial m → G (table row)
-  from-trades G o z c trades zero row l h = absurd (omega arith)
-  from-trades G o z c trades (suc n) zero l h = z
-  from-trades G o z c trades (suc n) (suc row) l h =
-      let g = generated m (suc row) few (omega arith) h in
-      let k = g .0 in
-      let s = g .1 in
-      let a = trades k (g .2) (g .3) in
-      let low : factorial k ≤ suc row = g .4 in
-      let less : s < suc row = g .5 in
-      let big : s < factorial m = omega arith in
-      subst G (table-andThen (factorial k) s (suc row) (omega arith) big (g .6) (o (table (factorial k)) a))
-      (c (table (factorial k)) (table s) a (from-trades G o z c trades n s (omega arith) big))
-
   good-row : (row : ℕ) → T (permutesPairs p (table row)) → GoodSymmetry p (table row)
   good-row row t = record { sized = length-table row; permutes = t }
 
+  -- a row passes where the trades of neighbours up to it do
+  passes-row : (n row : ℕ) → row < n → row < factorial m → ((k : ℕ) → 1 ≤ k → k < m → factorial k ≤ row → B.Passes p (table (factorial k))) → B.Passes p (table row)
+  passes-row zero row l h trades = absurd (omega arith)
+  passes-row (suc n) zero l h trades = zero-passes
+  passes-row (suc n) (suc row) l h trades =
+      let g = generated m (suc row) few (omega arith) h in
+      let k = g .0 in
+      let s = g .1 in
+      let low : factorial k ≤ suc row = g .4 in
+      let less : s < suc row = g .5 in
+      let big : s < factorial m = omega arith in
+      let a = trades k (g .2) (g .3) low in
+      subst (B.Passes p) (table-andThen (factorial k) s (suc row) (omega arith) big (g .6) (a .good .permutes))
+      (B.passes-andThen p w (table (factorial k)) (table s) a (passes-row n s (omega arith) big (λ j i u v. trades j i u (omega arith))))
+
+  trade-passes : (k : ℕ) → TradePasses p first m k → B.Passes p (table (factorial k))
+  trade-passes k t = record { good = good-row (factorial k) (t .0); respectful = t .1 }
+
   -- where the m - 1 trades of neighbours pass 15 and 16, all m! rows do
-  pub trades-enough : ((k : ℕ) → 1 ≤ k → k < m → T (permutesPairs p (table (factorial k))) × T (respects p (table (factorial k)))) → (row : ℕ) → row < factorial m → B.Passes p (table row)
-  trades-enough t row h =
-      from-trades (B.Passes p) (λ g a. a .good .permutes) zero-passes (B.passes-andThen p w)
-      (λ k l j. record { good = good-row (factorial k) (t k l j .0); respectful = t k l j .1 }) (suc row) row (omega arith) h
+  pub trades-enough : ((k : ℕ) → 1 ≤ k → k < m → TradePasses p first m k) → (row : ℕ) → row < factorial m → B.Passes p (table row)
+  trades-enough t row h = passes-row (suc row) row (omega arith) h (λ k l j u. trade-passes k (t k l j))
+
+  -- where the trades before the k-th do, the rows before row k! do
+  pub trades-before : (k : ℕ) → 1 ≤ k → k < m → ((j : ℕ) → 1 ≤ j → j < k → TradePasses p first m j) → (row : ℕ) → row < factorial k → B.Passes p (table row)
+  trades-before k o h t row l =
+      passes-row (suc row) row (omega arith) (let z = factorial-up k m o h in omega arith) (λ j i u v. trade-passes j (t j i (before j v (decLt j k) (ℕ-discrete k j))))
+    where
+      before : (j : ℕ) → factorial j ≤ row → Dec (j < k) → Dec (k ≡ j) → j < k
+      before j v (yes a) b = a
+      before j v (no a) (yes b) = absurd (let z : factorial k ≡ factorial j = ap factorial b in omega arith)
+      before j v (no a) (no b) = absurd (let z = factorial-up k j o (omega arith) in omega arith)
 
   -- ---- equal initial sets
   module _ (passed : (k : ℕ) → 1 ≤ k → k < m → T (permutesPairs p (table (factorial k)))) where
@@ -268,7 +278,7 @@ module _ (p : Problem) (w : WellFormed p) (first m : ℕ) where
       }
 
   -- a block whose m - 1 trades of neighbours pass 15 and 16 is accepted
-  pub block-i : T (isBlock p first m) → ((k : ℕ) → 1 ≤ k → k < m → T (permutesPairs p (orderingTable p first m (factorial k))) × T (respects p (orderingTable p first m (factorial k)))) → blockVerdict p first m ≡ accepted
+  pub block-i : T (isBlock p first m) → ((k : ℕ) → 1 ≤ k → k < m → TradePasses p first m k) → blockVerdict p first m ≡ accepted
   unfolding blockVerdict blockTables
   block-i is t =
       let b = block-is is in
@@ -305,13 +315,24 @@ module _ (p : Problem) (w : WellFormed p) (first m : ℕ) where
               ∙ ap rest n,
         )
 
-    pub row-refused-15 : permutesPairs p (orderingTable p first m row) ≡ false → blockVerdict p first m ≡ refused 15 (length (p .symmetries) + row)
+    row-refused-15 : permutesPairs p (orderingTable p first m row) ≡ false → blockVerdict p first m ≡ refused 15 (length (p .symmetries) + row)
     row-refused-15 e = verdict-at .1 ∙ ap (λ (b : Bool). ask b 15 (length (p .symmetries) + row) (ask (respects p (orderingTable p first m row)) 16 (length (p .symmetries) + row) (verdict-at .0))) e
 
-    pub row-refused-16 : T (permutesPairs p (orderingTable p first m row)) → respects p (orderingTable p first m row) ≡ false → blockVerdict p first m ≡ refused 16 (length (p .symmetries) + row)
+    row-refused-16 : T (permutesPairs p (orderingTable p first m row)) → respects p (orderingTable p first m row) ≡ false → blockVerdict p first m ≡ refused 16 (length (p .symmetries) + row)
     row-refused-16 t e =
         verdict-at .1
         ∙ ap₂ (λ (b c : Bool). ask b 15 (length (p .symmetries) + row) (ask c 16 (length (p .symmetries) + row) (verdict-at .0))) (of-T (permutesPairs p (orderingTable p first m row)) t) e
+
+  -- the first trade of neighbours that is refused decides: the rows before it pass
+  module _ (is : T (isBlock p first m)) (k : ℕ) (l : 1 ≤ k) (h : k < m) (before : (j : ℕ) → 1 ≤ j → j < k → TradePasses p first m j) where
+    rows-before : (r : ℕ) → r < factorial k → T (permutesPairs p (orderingTable p first m r)) × T (respects p (orderingTable p first m r))
+    rows-before r i = let a = trades-before p w first m (block-is is .0) (block-is is .1) k l h before r i in (a .good .permutes, a .respectful)
+
+    pub trade-refused-15 : permutesPairs p (orderingTable p first m (factorial k)) ≡ false → blockVerdict p first m ≡ refused 15 (length (p .symmetries) + factorial k)
+    trade-refused-15 = row-refused-15 is (factorial k) (factorial-up k m l h) rows-before
+
+    pub trade-refused-16 : T (permutesPairs p (orderingTable p first m (factorial k))) → respects p (orderingTable p first m (factorial k)) ≡ false → blockVerdict p first m ≡ refused 16 (length (p .symmetries) + factorial k)
+    trade-refused-16 = row-refused-16 is (factorial k) (factorial-up k m l h) rows-before
 
   -- the problem with an accepted block is well formed, and its symmetries respect it: every law of the search holds of it
   module _ (e : blockVerdict p first m ≡ accepted) where

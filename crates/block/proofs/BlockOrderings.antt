@@ -3,8 +3,7 @@ use mathlib.Core.Path.{_≡_, refl, sym, ap, _∙_, subst}
 use mathlib.Core.Bool.{true, false}
 use mathlib.Core.List.{List, [], _++_, map, List·Memᴰ, List·Memᴰ·append-cases, Memᴰ·append-left, Memᴰ·append-right, Memᴰ·map, Memᴰ·of-map}
 use mathlib.Core.Logic.{_⊎_, inl, inr, ⊎-elim}
-use Prim.Native.Nat.{ℕ, zero, suc, _+_, _-_, _*_, _≤_, _<_}
-use native.Mathlib.Nat.{not-suc-le-zero, mul-le-mul-right}
+use Prim.Native.Nat.{ℕ, _+_, _-_, _≤_, _<_}
 use native.Mathlib.Decide.{ℕ-discrete}
 use native.Mathlib.Omega.{arith}
 use lib.Dec.{T, eqb, leb, ltb, leb→le, ltb→lt}
@@ -17,7 +16,7 @@ use Rattle.block.specs.Block.{ordering, factorial, inBlock, imageOf, ord
 use Rattle.block.specs.BlockSets.{Reorders, Trades, BlockIn}
 use Rattle.model.proofs.Lists.{T-of, T-dec, not-of, both-i, both-l, both-r, below-i, below-e, at-below, length-below}
 use Rattle.model.proofs.Counting.{distinct-below}
-use Rattle.block.proofs.Orderings.{Few, Moves, ordering-of, moves, moves-row}
+use Rattle.block.proofs.Orderings.{Few, Moves, factorial-up, ordering-of, moves, moves-row}
 use Rattle.block.proofs.Tables as B
 use Rattle.block.proofs.Block.{image-at, image-block, image-injective, image-variable, row-pair, equal-sets, block-e}
 
@@ -164,24 +163,6 @@ module _ (p : Problem) (w : WellFormed p) (first m : ℕ) (few : Few m) (inside 
           subst (λ (z : ℕ). Trades p z y (orderingTable p first m (r .0))) (sym (i .2)) (subst (λ (z : ℕ). Trades p (first + i .0) z (orderingTable p first m (r .0))) (sym (j .2)) (r .2)),
         );
   }
-
--- ---- factorials ascend
-factorial-some : (m : ℕ) → 1 ≤ factorial m
-unfolding factorial
-factorial-some zero = omega arith
-factorial-some (suc m) = let a = factorial-some m in let b : 1 * factorial m ≤ suc m * factorial m = mul-le-mul-right (factorial m) (omega arith) in omega arith
-
-factorial-step : (k : ℕ) → 1 ≤ k → factorial k < factorial (suc k)
-unfolding factorial
-factorial-step k l = let a = factorial-some k in let b : 2 * factorial k ≤ suc k * factorial k = mul-le-mul-right (factorial k) (omega arith) in omega arith
-
-pub factorial-up : (k m : ℕ) → 1 ≤ k → k < m → factorial k < factorial m
-factorial-up k zero l h = absurd (not-suc-le-zero h)
-factorial-up k (suc m) l h = go (ℕ-discrete k m) (factorial-up k m l)
-  where
-    go : Dec (k ≡ m) → (k < m → factorial k < factorial m) → factorial k < factorial (suc m)
-    go (yes e) f = subst (λ (n : ℕ). factorial k < factorial (suc n)) e (factorial-step k l)
-    go (no e) f = let a = f (omega arith) in let b = factorial-step m (omega arith) in omega arith
 
 -- an accepted block is one
 pub accepted-block : (p : Problem) → WellFormed p → (first m : ℕ) → blockVerdict p first m ≡ accepted → BlockIn p (inBlock first m) (p .symmetries ++ blockTables p first m)

@@ -1,21 +1,19 @@
 -- A block of a problem whose variables are settled in another order: the reordered problem has a block too, of the positions of the block's variables. Assumes nothing.
 use mathlib.Core.Path.{_≡_, refl, sym, ap, ap₂, _∙_, subst}
 use mathlib.Core.Bool.{Bool, false}
-use mathlib.Core.List.{List, [], _∷_, _++_, map, List·Memᴰ, Memᴰ·map, Memᴰ·of-map}
+use mathlib.Core.List.{List, [], _++_, map, List·Memᴰ, Memᴰ·map, Memᴰ·of-map}
 use mathlib.Core.Logic.{_⊎_, inl, inr, _↔_}
-use Prim.Native.Nat.{ℕ, _*_, _^_, _<_}
+use Prim.Native.Nat.{ℕ, _*_, _≤_, _<_}
 use lib.Dec.{T}
-use lib.ListN.{length, set}
 use Rattle.model.specs.Lists.{at}
 use Rattle.model.specs.ValueSets.{has, anyEmpty}
 use Rattle.model.specs.Problem.{Problem, pair}
 use Rattle.model.specs.Verdict.{accepted}
-use Rattle.model.specs.Search.{pruned, setsAt}
+use Rattle.model.specs.Search.{isPlan}
 use Rattle.model.specs.Claims.{Consistent}
-use Rattle.model.specs.Pruning.{Way, Prunes}
 use Rattle.model.specs.WellFormed.{WellFormed}
 use Rattle.block.specs.Block.{inBlock, blockTables, withBlock, blockVerdict}
-use Rattle.block.specs.BlockSets.{Reorders, Trades, BlockIn, Ascends, cutAfter}
+use Rattle.block.specs.BlockSets.{Reorders, Trades, BlockIn, Ascends}
 use Rattle.order.specs.Order.{Ordering}
 use Rattle.order.specs.Reordered.{position, read, renamed, symmetryIn, reordered}
 use Rattle.model.proofs.Lists.{at-below}
@@ -99,32 +97,17 @@ module _ (p : Problem) (w : WellFormed p) (order : List ℕ) (o : Ordering (p .v
   unfolding symmetryIn renamed pair
   withBlock-reordered first m = refl
 
-  -- ---- the run with an accepted block, its variables settled in the order: variable i is place order[i]
-  module _ (first m : ℕ) (e : blockVerdict p first m ≡ accepted) (prefix : List ℕ) where
-    abbrev tables : List (List ℕ)
-    tables = map (symmetryIn order p) (p .symmetries ++ blockTables p first m)
+  -- the sets of a run with an accepted block, its variables settled in the order: variable i is place order[i]
+  pub reordered-consistent : (first m : ℕ) → blockVerdict p first m ≡ accepted → (prefix ds : List ℕ) → anyEmpty ds ≡ false →
+      Consistent (reordered order (withBlock first m p)) prefix ds ↔ (Consistent (reordered order p) prefix ds × Ascends (λ i. inBlock first m (at order i)) prefix ds)
+  unfolding symmetryIn renamed pair
+  reordered-consistent first m e prefix =
+      S.consistent-block (reordered order p) (R.well-reordered p order o w) (λ i. inBlock first m (at order i)) (map (symmetryIn order p) (p .symmetries ++ blockTables p first m)) (accepted-reordered first m e) prefix
 
-    good : WellFormed (reordered order p)
-    good = R.well-reordered p order o w
-
-    pub reordered-consistent : (ds : List ℕ) → anyEmpty ds ≡ false →
-        Consistent (reordered order (withBlock first m p)) prefix ds ↔ (Consistent (reordered order p) prefix ds × Ascends (λ i. inBlock first m (at order i)) prefix ds)
-    unfolding symmetryIn renamed pair
-    reordered-consistent = S.consistent-block (reordered order p) good (λ i. inBlock first m (at order i)) tables (accepted-reordered first m e) prefix
-
-    pub reordered-prunes : (ds es : List ℕ) → Prunes (reordered order p) prefix ds es → Way (reordered order (withBlock first m p)) prefix ds → Way (reordered order (withBlock first m p)) prefix es
-    unfolding symmetryIn renamed pair
-    reordered-prunes = S.way-prunes-own (reordered order p) good (λ i. inBlock first m (at order i)) tables (accepted-reordered first m e) prefix
-
-    pub reordered-ends : (es : List ℕ) → Way (reordered order (withBlock first m p)) prefix es → Ascends (λ i. inBlock first m (at order i)) prefix es →
-        pruned (reordered order p) prefix es ≡ es → anyEmpty es ≡ false → setsAt (reordered order (withBlock first m p)) prefix ≡ es
-    unfolding symmetryIn renamed pair
-    reordered-ends = S.way-ascending (reordered order p) good (λ i. inBlock first m (at order i)) tables (accepted-reordered first m e) prefix
-
-    pub reordered-child : (v : ℕ) → T (has (at (setsAt (reordered order (withBlock first m p)) prefix) (length prefix)) v) →
-        let es = cutAfter (λ i. inBlock first m (at order i)) (length prefix) v (set (setsAt (reordered order (withBlock first m p)) prefix) (length prefix) (2 ^ v)) in
-        Way (reordered order (withBlock first m p)) (prefix ++ (v ∷ [])) es × Ascends (λ i. inBlock first m (at order i)) (prefix ++ (v ∷ [])) es
-    unfolding symmetryIn renamed pair
-    reordered-child v t =
-        let b = accepted-reordered first m e in
-        (S.child-way (reordered order p) good (λ i. inBlock first m (at order i)) tables b prefix v t, S.child-ascends (reordered order p) good (λ i. inBlock first m (at order i)) tables b prefix v t)
+  -- and its plans
+  pub reordered-plans : (first m : ℕ) → blockVerdict p first m ≡ accepted → (a : List ℕ) →
+      T (isPlan (reordered order (withBlock first m p)) a)
+      ↔ (T (isPlan (reordered order p) a) × ((x y : ℕ) → T (inBlock first m (at order x)) → T (inBlock first m (at order y)) → x < y → y < p .variables → at a x ≤ at a y))
+  unfolding symmetryIn renamed pair
+  reordered-plans first m e =
+      S.plan-block (reordered order p) (R.well-reordered p order o w) (λ i. inBlock first m (at order i)) (map (symmetryIn order p) (p .symmetries ++ blockTables p first m)) (accepted-reordered first m e)

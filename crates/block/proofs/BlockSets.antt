@@ -27,7 +27,7 @@ use Rattle.model.proofs.Assignments.{drawn-i, drawn-e, drawn-through}
 use Rattle.model.proofs.Filter.{filtered-i, filtered-e, filtered-sets, filtered-inside}
 use Rattle.model.proofs.Pairs as P
 use Rattle.model.proofs.Obey.{meetsIn, smallerIn, prefix-e, prefix-not}
-use Rattle.model.proofs.Prune.{Kept, fixed-i, fixed-e, narrowed-e, Sized, largest, Removal, removal-at, way-removal, way-live, setsAt-live, value-live, live-is, live-closed}
+use Rattle.model.proofs.Prune.{Kept, fixed-i, fixed-e, narrowed-e, Sized, largest, Removal, way-removal, setsAt-live, value-live, live-is, live-closed}
 use Rattle.model.proofs.Consistent.{consistent-e, consistent-inside, live-consistent, dead-empty}
 use Rattle.model.proofs.Tree.{well-sized}
 use Rattle.model.proofs.Child.{child-start}
@@ -303,24 +303,13 @@ module _ (p : Problem) (w : WellFormed p) (block : ℕ → Bool) (gs : List (Lis
     ascending-inside es c up some = consistent-live whole prefix same-sized es (consistent-block es some .1 (c, up)) some
 
     -- ---- for a pruner: Way is that of the whole problem, what it does is that of p
-    -- a removal of the search without the block's symmetries is one of the whole search
-    pub own-removal : (ds es : List ℕ) → Removal p prefix ds es → Removal whole prefix ds es
-    own-removal ds es r = record { sets = r .sets; less = r .less; spared = λ x v t k. r .spared x v t (kept-own ds x v k) }
-
-    -- so is the cut
+    -- the cut takes nothing that a round of the whole search keeps
     pub cut-removal : (ds : List ℕ) → Sets (p .variables) ds → Inside ds (narrowed prefix (p .initial)) → (x : ℕ) → x < length prefix → Removal whole prefix ds (cutAfter block x (at prefix x) ds)
     cut-removal ds sets inner x l = record {
       sets = cut-sets block x (at prefix x) ds (p .variables) (sets .0);
       less = λ y v t. cut-e block x (at prefix x) ds y v t .0;
       spared = λ y v t k. cut-i block x (at prefix x) ds y v (has-lt 16 (at ds y) v (sets .1 y) t) t (λ bx by h. kept-above ds (sets .0) inner x y v bx by h l k);
     }
-
-    -- and the cut of one variable
-    pub cut-one : (ds : List ℕ) → Sets (p .variables) ds → Inside ds (narrowed prefix (p .initial)) → (x y : ℕ) → T (block x) → T (block y) → x < y → x < length prefix → y < p .variables →
-        Removal whole prefix ds (set ds y (maskOf (λ u. both (has (at ds y) u) (not (ltb u (at prefix x))))))
-    cut-one ds sets inner x y bx by l c h =
-        removal-at whole prefix ds sets y h (λ u. not (ltb u (at prefix x)))
-        (λ v k. not-T (ltb v (at prefix x)) (λ q. let a = kept-above ds (sets .0) inner x y v bx by l c k in let d = ltb→lt v (at prefix x) q in omega arith))
 
     pub way-cut : (es : List ℕ) → Way whole prefix es → (x : ℕ) → x < length prefix → Way whole prefix (cutAfter block x (at prefix x) es)
     way-cut es y x l = way-removal whole prefix same-sized es (cutAfter block x (at prefix x) es) y (cut-removal es (y .sets) (y .inside) x l)
@@ -339,10 +328,6 @@ module _ (p : Problem) (w : WellFormed p) (block : ℕ → Bool) (gs : List (Lis
     -- sets that ascend, where a round without the block's filters takes nothing away: no round does
     pub fixed-whole : (es : List ℕ) → Sets (p .variables) es → Inside es (narrowed prefix (p .initial)) → Ascends block prefix es → anyEmpty es ≡ false → pruned p prefix es ≡ es → pruned whole prefix es ≡ es
     fixed-whole es sets inner up some e = fixed-i whole prefix es sets (λ x v t. kept-whole es sets inner up some x v (fixed-e p prefix es e x v t))
-
-    -- they are the sets at the prefix
-    pub way-ascending : (es : List ℕ) → Way whole prefix es → Ascends block prefix es → pruned p prefix es ≡ es → anyEmpty es ≡ false → setsAt whole prefix ≡ es
-    way-ascending es y up e some = way-live whole prefix same-sized es y (fixed-whole es (y .sets) (y .inside) up some e) some
 
     -- the plans with the block are the plans without it that ascend along it
     pub plan-block : T (isPlan whole prefix) ↔ (T (isPlan p prefix) × ((x y : ℕ) → T (block x) → T (block y) → x < y → y < p .variables → at prefix x ≤ at prefix y))

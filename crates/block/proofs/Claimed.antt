@@ -1,5 +1,5 @@
 -- The claims of specs/BlockClaims, from the laws. Assumes nothing.
-use Rattle.block.specs.BlockClaims.{Rows-all, First-rows, Trades-enough, Sets-ascend, Alone-closed}
+use Rattle.block.specs.BlockClaims.{Rows-all, First-rows, Trades-enough, Sets-ascend, Plans-ascend, Alone-closed}
 use Rattle.block.proofs.Orderings.{count, orderings-ascend, row-ordering, ordering-row}
 use Rattle.block.proofs.Orderings as O
 use Rattle.block.proofs.Block as K
@@ -16,6 +16,9 @@ trades-enough p first m w = K.block-i p w first m
 
 pub sets-ascend : Sets-ascend
 sets-ascend p order first m prefix ds w o e = R.reordered-consistent p w order o first m e prefix ds
+
+pub plans-ascend : Plans-ascend
+plans-ascend p order first m a w o e = R.reordered-plans p w order o first m e a
 
 pub alone-closed : Alone-closed
 alone-closed p first m w = K.alone-closed p w first m

@@ -3,10 +3,10 @@ use mathlib.Core.Path.{_≡_, refl, sym, ap, _∙_, subst}
 use mathlib.Core.Bool.{Bool, true, false}
 use mathlib.Core.List.{List, [], _∷_, List·Memᴰ}
 use mathlib.Core.Logic.{⊎-elim, _↔_}
-use Prim.Native.Nat.{ℕ, zero, suc, _+_, _-_, _≤_, _<_}
-use native.Mathlib.Nat.{not-suc-le-zero, le-of-suc-le-suc}
+use Prim.Native.Nat.{ℕ, zero, suc, _+_, _-_, _*_, _≤_, _<_}
+use native.Mathlib.Nat.{not-suc-le-zero, le-of-suc-le-suc, mul-le-mul-right}
 use native.Mathlib.Omega.{arith}
-use native.Mathlib.Decide.{decLt}
+use native.Mathlib.Decide.{ℕ-discrete, decLt}
 use lib.Dec.{T, leb, ltb, eqb, eqb→eq, leb→le, ltb→lt, lt→ltb, lit<}
 use lib.ListN.{length, getD, set, take, replicate, length-map, length-set, getD-replicate}
 use lib.Seq.{getD-take, length-take-le}
@@ -149,6 +149,24 @@ zero-tested = tt
 -- the first row moves nothing
 pub row-zero : (i : ℕ) → i < 5 → at (ordering 0) i ≡ i
 row-zero i h = ap (λ (e : List ℕ). at e i) (same-eq (ordering 0) (below 5) zero-tested) ∙ below-at 5 i h
+
+-- ---- factorials ascend
+factorial-some : (m : ℕ) → 1 ≤ factorial m
+unfolding factorial
+factorial-some zero = omega arith
+factorial-some (suc m) = let a = factorial-some m in let b : 1 * factorial m ≤ suc m * factorial m = mul-le-mul-right (factorial m) (omega arith) in omega arith
+
+factorial-step : (k : ℕ) → 1 ≤ k → factorial k < factorial (suc k)
+unfolding factorial
+factorial-step k l = let a = factorial-some k in let b : 2 * factorial k ≤ suc k * factorial k = mul-le-mul-right (factorial k) (omega arith) in omega arith
+
+pub factorial-up : (k m : ℕ) → 1 ≤ k → k < m → factorial k < factorial m
+factorial-up k zero l h = absurd (not-suc-le-zero h)
+factorial-up k (suc m) l h = go (ℕ-discrete k m) (factorial-up k m l)
+  where
+    go : Dec (k ≡ m) → (k < m → factorial k < factorial m) → factorial k < factorial (suc m)
+    go (yes e) f = subst (λ (n : ℕ). factorial k < factorial (suc n)) e (factorial-step k l)
+    go (no e) f = let a = f (omega arith) in let b = factorial-step m (omega arith) in omega arith
 
 -- a block's number of variables
 abbrev pub Few : ℕ → Type 0

@@ -3,12 +3,12 @@ use mathlib.Core.Bool.{Bool, true, false}
 use mathlib.Core.List.{List, [], _++_, map}
 use Prim.Native.Nat.{ℕ, zero, suc, _+_, _-_, _*_, _/_, _%_}
 use lib.ListN.{length, getD, replicate}
-use lib.Dec.{leb, ltb}
+use lib.Dec.{T, leb, ltb}
 use Rattle.model.specs.Lists.{keep, below, at, both}
 use Rattle.model.specs.ValueSets.{fullMask}
-use Rattle.model.specs.Problem.{Problem, pair, isPair, assignments}
+use Rattle.model.specs.Problem.{Problem, pair, isPair, assignments, respects}
 use Rattle.model.specs.Verdict.{Verdict, ask}
-use Rattle.model.specs.Sheet.{distinct, symmetriesVerdict}
+use Rattle.model.specs.Sheet.{distinct, permutesPairs, symmetriesVerdict}
 
 -- ---- orderings
 -- the orderings of 0 to 4, in reading order: five numbers below five, no two of them equal
@@ -68,3 +68,7 @@ isBlock p first m = both (both (leb 2 m) (leb m 5)) (leb (first + m) (p .variabl
 -- 36; then 15 and 16 for each row, items counting on from the problem's own symmetries
 unfoldable pub blockVerdict : Problem → ℕ → ℕ → Verdict
 blockVerdict p first m = ask (isBlock p first m) 36 0 (symmetriesVerdict p (length (p .symmetries)) (blockTables p first m))
+
+-- the k-th trade of neighbours, row k!, passes 15 and 16
+abbrev pub TradePasses : Problem → ℕ → ℕ → ℕ → Type 0
+TradePasses p first m k = T (permutesPairs p (orderingTable p first m (factorial k))) × T (respects p (orderingTable p first m (factorial k)))

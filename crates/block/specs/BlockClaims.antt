@@ -8,14 +8,14 @@ use lib.ListN.{length}
 use lib.Dec.{T}
 use Rattle.model.specs.Lists.{at, rowsAscend}
 use Rattle.model.specs.ValueSets.{anyEmpty}
-use Rattle.model.specs.Problem.{Problem, respects}
+use Rattle.model.specs.Problem.{Problem}
 use Rattle.model.specs.Verdict.{accepted}
-use Rattle.model.specs.Sheet.{permutesPairs}
+use Rattle.model.specs.Search.{isPlan}
 use Rattle.model.specs.Claims.{Consistent}
 use Rattle.model.specs.WellFormed.{WellFormed}
 use Rattle.order.specs.Order.{Ordering}
 use Rattle.order.specs.Reordered.{reordered}
-use Rattle.block.specs.Block.{orderings, ordering, factorial, inBlock, orderingTable, withBlock, isBlock, blockVerdict}
+use Rattle.block.specs.Block.{orderings, ordering, factorial, inBlock, withBlock, isBlock, blockVerdict, TradePasses}
 use Rattle.block.specs.BlockSets.{Ascends}
 
 -- ---- the table
@@ -28,12 +28,9 @@ abbrev pub First-rows : Type 0
 First-rows = (m row : ℕ) → 2 ≤ m → m ≤ 5 → row < 120 → (row < factorial m) ↔ ((i : ℕ) → i < 5 - m → at (ordering row) i ≡ i)
 
 -- ---- the questions
--- where the m - 1 trades of neighbours (of rows 1, 2, 6, 24 the first m - 1) pass 15 and 16, every row does
+-- the m - 1 trades of neighbours (of rows 1, 2, 6, 24 the first m - 1) are enough to ask: where they pass, every row does
 abbrev pub Trades-enough : Type 0
-Trades-enough =
-    (p : Problem) (first m : ℕ) → WellFormed p → T (isBlock p first m) →
-    ((k : ℕ) → 1 ≤ k → k < m → T (permutesPairs p (orderingTable p first m (factorial k))) × T (respects p (orderingTable p first m (factorial k)))) →
-    blockVerdict p first m ≡ accepted
+Trades-enough = (p : Problem) (first m : ℕ) → WellFormed p → T (isBlock p first m) → ((k : ℕ) → 1 ≤ k → k < m → TradePasses p first m k) → blockVerdict p first m ≡ accepted
 
 -- ---- the sets at a prefix, the variables settled in any order
 -- sets of which none is empty: consistent with the block's orderings is consistent without them, and ascending along the block
@@ -41,6 +38,13 @@ abbrev pub Sets-ascend : Type 0
 Sets-ascend =
     (p : Problem) (order : List ℕ) (first m : ℕ) (prefix ds : List ℕ) → WellFormed p → Ordering (p .variables) order → blockVerdict p first m ≡ accepted → anyEmpty ds ≡ false →
     Consistent (reordered order (withBlock first m p)) prefix ds ↔ (Consistent (reordered order p) prefix ds × Ascends (λ i. inBlock first m (at order i)) prefix ds)
+
+-- the plans are those of the run without the block that ascend along it
+abbrev pub Plans-ascend : Type 0
+Plans-ascend =
+    (p : Problem) (order : List ℕ) (first m : ℕ) (a : List ℕ) → WellFormed p → Ordering (p .variables) order → blockVerdict p first m ≡ accepted →
+    T (isPlan (reordered order (withBlock first m p)) a)
+    ↔ (T (isPlan (reordered order p) a) × ((x y : ℕ) → T (inBlock first m (at order x)) → T (inBlock first m (at order y)) → x < y → y < p .variables → at a x ≤ at a y))
 
 -- ---- a block alone (#112)
 -- two of its orderings, one after the other, make one of them
