@@ -258,7 +258,7 @@ pub record Block (p : Problem) (first m : ℕ) : Type 0 where
   pub rows : (row : ℕ) → row < factorial m → B.Passes p (orderingTable p first m row)
 
 module _ (p : Problem) (w : WellFormed p) (first m : ℕ) where
-  block-is : T (isBlock p first m) → Few m × (first + m ≤ p .variables)
+  pub block-is : T (isBlock p first m) → Few m × (first + m ≤ p .variables)
   unfolding isBlock
   block-is t =
       let a = both-l (both (leb 2 m) (leb m 5)) (leb (first + m) (p .variables)) t in

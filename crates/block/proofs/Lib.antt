@@ -7,6 +7,7 @@ pub mod Block
 pub mod BlockSets
 pub mod BlockOrderings
 pub mod BlockReordered
+pub mod BlockLent
 pub mod Claimed
 pub mod BlockExamples
 pub mod BlockSetsExamples

@@ -1,13 +1,13 @@
 -- A block of neighbouring variables that may be put in any order (paper 02, #111): the orderings of five, the symmetries that a block adds, and its questions.
 use mathlib.Core.Bool.{Bool, true, false}
-use mathlib.Core.List.{List, [], _++_, map}
+use mathlib.Core.List.{List, [], _∷_, _++_, map}
 use Prim.Native.Nat.{ℕ, zero, suc, _+_, _-_, _*_, _/_, _%_}
 use lib.ListN.{length, getD, replicate}
 use lib.Dec.{T, leb, ltb}
 use Rattle.model.specs.Lists.{keep, below, at, both}
 use Rattle.model.specs.ValueSets.{fullMask}
 use Rattle.model.specs.Problem.{Problem, pair, isPair, assignments, respects}
-use Rattle.model.specs.Verdict.{Verdict, ask}
+use Rattle.model.specs.Verdict.{Verdict, accepted, refused, ask}
 use Rattle.model.specs.Sheet.{distinct, permutesPairs, symmetriesVerdict}
 
 -- ---- orderings
@@ -72,3 +72,25 @@ blockVerdict p first m = ask (isBlock p first m) 36 0 (symmetriesVerdict p (leng
 -- the k-th trade of neighbours, row k!, passes 15 and 16
 abbrev pub TradePasses : Problem → ℕ → ℕ → ℕ → Type 0
 TradePasses p first m k = T (permutesPairs p (orderingTable p first m (factorial k))) × T (respects p (orderingTable p first m (factorial k)))
+
+-- ---- as it is lent: no bytes for none, or two: its first variable and how many
+-- the symmetries that it adds
+unfoldable pub tablesLent : Problem → List ℕ → List (List ℕ)
+tablesLent p [] = []
+tablesLent p (first ∷ []) = []
+tablesLent p (first ∷ m ∷ []) = blockTables p first m
+tablesLent p (first ∷ m ∷ x ∷ more) = []
+
+-- 36 where the bytes are neither none nor two that name a block; then the block's 15 and 16
+unfoldable pub blockLent : Problem → List ℕ → Verdict
+blockLent p [] = accepted
+blockLent p (first ∷ []) = refused 36 0
+blockLent p (first ∷ m ∷ []) = blockVerdict p first m
+blockLent p (first ∷ m ∷ x ∷ more) = refused 36 0
+
+-- its variables
+unfoldable pub inLent : List ℕ → ℕ → Bool
+inLent [] x = false
+inLent (first ∷ []) x = false
+inLent (first ∷ m ∷ []) x = inBlock first m x
+inLent (first ∷ m ∷ y ∷ more) x = false

@@ -6,9 +6,9 @@ mod walk;
 
 ghost use mathlib.Core.Path.{_≡_};
 ghost use Prim.Native.Nat.{ℕ, _+_, _*_, _≤_, _<_};
-ghost use Rattle.model.specs.Problem.{Problem};
+ghost use Rattle.model.specs.Problem.{Problem, isPair};
 ghost use Rattle.layout.specs.Layout.{pairCode};
-ghost use Rattle.symmetry.specs.Table.{Asked, tableAnswer};
+ghost use Rattle.symmetry.specs.Table.{Framed, Asked, tableAnswer};
 
 // The numbers of a compiled problem (crate layout).
 pub type Numbers = [u64; 384];
@@ -19,6 +19,14 @@ pub fn pair_code(q: usize, d: usize) -> usize
     ensures { λ r. ⌜ (r ≡ pairCode d q) × (r < 192) ⌝ }
 {
     16 * (q / d) + q % d
+}
+
+// Whether a number is that of a pair.
+pub fn is_pair(numbers: &Numbers, q: usize) -> bool
+    requires { ⌜ ((p : Problem) × Framed p (now numbers)) ⌝ }
+    ensures { λ r. ⌜ ((p : Problem) → Framed p (now (numbers .entry)) → r ≡ isPair p q) ⌝ }
+{
+    table::is_pair(numbers, q)
 }
 
 // 0 where the table at an offset passes both questions, else the number of the first whose answer is no.

@@ -41,7 +41,7 @@ pub fn initial(numbers: &Numbers, x: usize) -> ValueSet
 }
 
 // Whether a number is that of a pair.
-fn is_pair(numbers: &Numbers, q: usize) -> bool
+pub fn is_pair(numbers: &Numbers, q: usize) -> bool
     requires { ⌜ ((p : Problem) × Framed p (now numbers)) ⌝ }
     ensures { λ r. ⌜ ((p : Problem) → Framed p (now (numbers .entry)) → r ≡ isPair p q) ⌝ }
 {

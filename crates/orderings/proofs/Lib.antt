@@ -1,0 +1,4 @@
+pub mod Moving
+pub mod Filling
+pub mod Asking
+pub mod Gathering

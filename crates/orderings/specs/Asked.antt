@@ -1,0 +1,40 @@
+-- What the functions of this crate are lent. No reader has to believe this: it stands between proved functions.
+use mathlib.Core.Path.{_≡_}
+use mathlib.Core.List.{List}
+use Prim.Native.Nat.{ℕ, _+_, _*_, _≤_, _<_}
+use Rattle.model.specs.Lists.{flat}
+use Rattle.model.specs.Problem.{Problem, respects}
+use Rattle.model.specs.Sheet.{words, permutesPairs}
+use Rattle.model.specs.WellFormed.{WellFormed}
+use Rattle.symmetry.specs.Table.{Framed, Ready, answerOf}
+use Rattle.block.specs.Block.{orderings, factorial, orderingTable}
+use lib.ListN.{length}
+
+-- both arrays hold a well-formed problem of at most sixteen symmetries
+pub record Held (p : Problem) (numbers supports : List ℕ) : Type 0 where
+  pub wellFormed : WellFormed p
+  pub ready : Ready p numbers supports
+  pub symmetries : length (p .symmetries) ≤ 16
+
+-- the rows of the table, and one that a block of m uses
+pub record Row (rows : List ℕ) (row m : ℕ) : Type 0 where
+  pub table : rows ≡ flat orderings
+  pub some : 2 ≤ m
+  pub few : m ≤ 5
+  pub used : row < factorial m
+
+-- and a block of m variables of the problem
+pub record BlockRow (p : Problem) (rows : List ℕ) (row first m : ℕ) (numbers : List ℕ) : Type 0 where
+  pub wellFormed : WellFormed p
+  pub framed : Framed p numbers
+  pub uses : Row rows row m
+  pub inside : first + m ≤ p .variables
+
+-- the table of a row as bytes
+pub record TableBytes (p : Problem) (first m row : ℕ) (bytes : List ℕ) : Type 0 where
+  pub sized : length bytes ≡ 384
+  pub table : words bytes 0 (p .variables * p .values) ≡ orderingTable p first m row
+
+-- 0 where a row passes questions 15 and 16, else the number of the first that it doesn't
+abbrev pub rowAnswer : Problem → ℕ → ℕ → ℕ → ℕ
+rowAnswer p first m row = answerOf (permutesPairs p (orderingTable p first m row)) (respects p (orderingTable p first m row))
