@@ -28,7 +28,7 @@ use Rattle.constraints.proofs.Bits.{one-small}
 use Rattle.constraints.proofs.Rows.{RowIn, PairIn, alive, pair-has, supported-e, supported-i, supported-out, revised-is}
 
 -- ---- the sets that changed
-abbrev Moves : List ℕ → List ℕ → ℕ → Type 0
+abbrev pub Moves : List ℕ → List ℕ → ℕ → Type 0
 Moves ds es changed = (i : ℕ) → has changed i ≡ not (eqb (at es i) (at ds i))
 
 one-here : (b : Bool) (x : ℕ) → has (oneIf b x) x ≡ b
@@ -49,7 +49,7 @@ moves-one ds x b m q h i = ap (λ (n : ℕ). has n i) q ∙ go (ℕ-discrete i x
         (one-here (not (eqb b (at ds x))) x ∙ ap (λ (z : ℕ). not (eqb z (at ds x))) (sym (at-set ds x b h)))
     go (no n) = one-there (not (eqb b (at ds x))) x i n ∙ sym (still (at (set ds x b) i) (at ds i) (at-set-other ds x b i n))
 
-moves-more : (ds es : List ℕ) (m y b o : ℕ) → o ≡ oneIf (not (eqb b (at ds y))) y → Moves ds es m → y < length es → at es y ≡ at ds y → Moves ds (set es y b) (bitOr m o)
+pub moves-more : (ds es : List ℕ) (m y b o : ℕ) → o ≡ oneIf (not (eqb b (at ds y))) y → Moves ds es m → y < length es → at es y ≡ at ds y → Moves ds (set es y b) (bitOr m o)
 moves-more ds es m y b o f h l e i = has-or m o i ∙ ap (λ (n : ℕ). either (has m i) (has n i)) f ∙ go (ℕ-discrete i y)
   where
     go : Dec (i ≡ y) → either (has m i) (has (oneIf (not (eqb b (at ds y))) y) i) ≡ not (eqb (at (set es y b) i) (at ds i))

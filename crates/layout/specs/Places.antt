@@ -44,6 +44,9 @@ LOOSE = 88
 abbrev pub ORDER : ℕ
 ORDER = 96
 
+abbrev pub BLOCK : ℕ
+BLOCK = 108
+
 abbrev pub LANES : ℕ
 LANES = 128
 

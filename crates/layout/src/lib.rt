@@ -35,6 +35,8 @@ pub const LOOSE: usize = 88;
 
 // From here on the variable that is settled at each of twelve depths.
 pub const ORDER: usize = 96;
+// The set of the block's variables (paper 02, #111); empty where no block is lent.
+pub const BLOCK: usize = 108;
 
 // From here on the constraints on three variables in lanes.
 pub const LANES: usize = 128;

@@ -169,7 +169,7 @@ only-none s u hu =
 
 -- ---- the full set
 
-has-ones : (w v : ℕ) → has (2 ^ w - 1) v ≡ ltb v w
+pub has-ones : (w v : ℕ) → has (2 ^ w - 1) v ≡ ltb v w
 has-ones zero v = has-none v ∙ sym (le-ltb v 0 (omega arith))
 has-ones (suc w) zero =
     let e : (2 ^ suc w - 1) % 2 ≡ 1 = omega (arith, pow2 w, pow-pos w) in

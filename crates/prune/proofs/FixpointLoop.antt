@@ -14,18 +14,19 @@ use Rattle.model.specs.Problem.{Problem, Constraint}
 use Rattle.model.specs.Search.{pruned, setsAt, isLive, supported}
 use Rattle.model.proofs.Lists.{T-of, of-T, not-of, of-not, at-ext, both-l, place-of}
 use Rattle.model.proofs.Sets.{has-none, mask-ext, empty-inside, inside-antisym, size, size-inside, size-strict}
-use Rattle.model.specs.Pruning.{Sets, Inside, closed, Way}
+use Rattle.model.specs.Pruning.{Sets, Inside, closed, Way, Prunes}
 use Rattle.model.proofs.Masks.{has-and}
 use Rattle.model.proofs.Firsts.{take-sets}
-use Rattle.model.proofs.Prunes.{way-prunes}
 use Rattle.model.proofs.Prune.{Sized, Kept, fixed-i, largest, live-is, way-live, way-end}
 use Rattle.model.proofs.Tree.{well-sized}
 use Rattle.layout.specs.Places.{LINKED, MARKS}
 use Rattle.layout.specs.Pruning.{Given, Ended, setsOf}
 use Rattle.constraints.specs.Steps.{Touched}
 use Rattle.levels.proofs.Marks.{mark-mono}
-use Rattle.prune.specs.Node.{MarksRight}
-use Rattle.prune.specs.Steps.{ArraysHold, AllConstrained, LiveSets, AllFiltered, EndedAt, OnlyMarks, BeforeFixpoint, AfterFixpoint, Differ}
+use Rattle.block.specs.BlockSets.{Ascends}
+use Rattle.block.proofs.BlockSets.{ascends-less, way-prunes-own, fixed-whole}
+use Rattle.prune.specs.Node.{MarksRight, blockOf, withOrderings}
+use Rattle.prune.specs.Steps.{ArraysHold, Blocked, AllConstrained, LiveSets, AllFiltered, EndedAt, OnlyMarks, Startable, BeforeFixpoint, AfterFixpoint, Differ}
 use Rattle.prune.proofs.Pending.{take-less, still-fixed, touched-known, still-arc}
 use Rattle.prune.proofs.FilterLoop.{same-take, kept-none, kept-trans}
 
@@ -34,12 +35,12 @@ pub not-live : (p : Problem) (prefix es : List ℕ) → Way p prefix es → Size
 not-live p prefix es w s t =
     live-is p prefix ∙ ap not (of-T (anyEmpty (closed p prefix)) (empty-inside (p .variables) (closed p prefix) es (largest p prefix s .sets) (w .sets) (w .over) t))
 
-dead : (p : Problem) (k : ℕ) (work work′ sets : List ℕ) → OnlyMarks work work′ k → isLive p (take k work) ≡ false → AfterFixpoint p k work work′ sets true
-dead p k work work′ sets r e = record { answers = sym (ap not e); sets-are = λ q. absurd (subst T q tt); live = λ q. absurd (subst T q tt); marking = λ q. absurd (subst T q tt); kept = r }
+pub dead : (p : Problem) (gs : List (List ℕ)) (k : ℕ) (work work′ sets : List ℕ) → OnlyMarks work work′ k → isLive (withOrderings p gs) (take k work) ≡ false → AfterFixpoint p gs k work work′ sets true
+dead p gs k work work′ sets r e = record { answers = sym (ap not e); sets-are = λ q. absurd (subst T q tt); live = λ q. absurd (subst T q tt); marking = λ q. absurd (subst T q tt); kept = r }
 
 -- ---- which sets differ
 module _ (ds es : List ℕ) (s : Sets 16 ds) (t : Sets 16 es) (changed : ℕ) (d : Differ ds es changed) where
-  same-at : (x : ℕ) → x < 16 → has changed x ≡ false → at es x ≡ at ds x
+  pub same-at : (x : ℕ) → x < 16 → has changed x ≡ false → at es x ≡ at ds x
   same-at x l e = go (eqb (at es x) (at ds x)) refl
     where
       go : (b : Bool) → eqb (at es x) (at ds x) ≡ b → at es x ≡ at ds x
@@ -65,46 +66,59 @@ module _ {p : Problem} {supports tables numbers : List ℕ} (st : ArraysHold p s
   same-prefix : take k work ≡ take k work₀
   same-prefix = same-take work₀ work k k l r (omega (arith, h, st .wellFormed .few))
 
-  pub after-from : {work′ sets : List ℕ} {b : Bool} → AfterFixpoint p k work work′ sets b → AfterFixpoint p k work₀ work′ sets b
-  after-from {work′ = work′} {sets = sets} a = record {
-    answers = a .answers ∙ ap (λ (z : List ℕ). not (isLive p z)) same-prefix;
-    sets-are = λ q. a .sets-are q ∙ ap (setsAt p) same-prefix;
+  pub after-from : {gs : List (List ℕ)} {work′ sets : List ℕ} {b : Bool} → AfterFixpoint p gs k work work′ sets b → AfterFixpoint p gs k work₀ work′ sets b
+  after-from {gs = gs} {work′ = work′} {sets = sets} a = record {
+    answers = a .answers ∙ ap (λ (z : List ℕ). not (isLive (withOrderings p gs) z)) same-prefix;
+    sets-are = λ q. a .sets-are q ∙ ap (setsAt (withOrderings p gs)) same-prefix;
     live = a .live;
     marking = λ q. subst (λ (z : List ℕ). MarksRight p (setsOf p sets) z work′ k) same-prefix (a .marking q);
     kept = kept-trans work₀ work work′ k r (a .kept);
   }
 
 -- ---- one turn: the constraints leave es, the filters fs
-module _ {p : Problem} {supports tables numbers : List ℕ} (st : ArraysHold p supports tables numbers) {work ds : List ℕ} {k todo dirty : ℕ} (n : BeforeFixpoint p work numbers ds k todo dirty) where
+module _ {p : Problem} {gs : List (List ℕ)} {supports tables numbers : List ℕ} (st : ArraysHold p supports tables numbers) (bl : Blocked p gs numbers) {work ds : List ℕ} {k todo dirty : ℕ} (n : BeforeFixpoint p gs work numbers ds k todo dirty) where
   n-few : p .variables ≤ 16
   n-few = omega (arith, st .wellFormed .few)
 
-  pub constrained-dead : (es : List ℕ) → Ended p ds → AfterFixpoint p k work work es true
-  constrained-dead es e = dead p k work work es (kept-none work k) (not-live p (take k work) (e .0) (way-prunes p (take k work) (well-sized p (st .wellFormed)) (setsOf p ds) (e .0) (e .1 .0 (take k work)) (n .way)) (well-sized p (st .wellFormed)) (e .1 .1))
+  -- the sets that pruning by p leaves of sets on the way to the tree's are on it too
+  stays : (es fs : List ℕ) → Prunes p (take k work) es fs → Way (withOrderings p gs) (take k work) es → Way (withOrderings p gs) (take k work) fs
+  stays es fs r w = way-prunes-own p (st .wellFormed) (blockOf numbers) gs (bl .block) (take k work) es fs r w
+
+  ends : (es : List ℕ) → Way (withOrderings p gs) (take k work) es → T (anyEmpty es) → isLive (withOrderings p gs) (take k work) ≡ false
+  ends es w t = not-live (withOrderings p gs) (take k work) es w (well-sized p (st .wellFormed)) t
+
+  pub constrained-dead : (es : List ℕ) → Ended p ds → AfterFixpoint p gs k work work es true
+  constrained-dead es e = dead p gs k work work es (kept-none work k) (ends (e .0) (stays (setsOf p ds) (e .0) (e .1 .0 (take k work)) (n .way)) (e .1 .1))
 
   module _ {es : List ℕ} (c : AllConstrained p ds es) where
     pub constrained-live : LiveSets p es
-    constrained-live = record { sixteen = c .given .sixteen; full = c .given .full; unused = λ x l i. c .unused x l ∙ n .live .unused x l i }
+    constrained-live = record { sixteen = c .given .sixteen; full = c .given .full; unused = λ x l i. c .unused x l ∙ n .startable .live .unused x l i }
 
     pub constrained-marking : MarksRight p (setsOf p es) (take k work) work k
     constrained-marking e l =
-        mark-mono p (setsOf p ds) (setsOf p es) (take k work) e (at work (16 * k + MARKS + e)) (take-sets (p .variables) es (c .given .sixteen) n-few .0 ∙ sym (take-sets (p .variables) ds (n .live .sixteen) n-few .0))
-        (take-less st ds es (n .live .sixteen) (c .given .sixteen) (c .less)) (n .marking e l)
+        mark-mono p (setsOf p ds) (setsOf p es) (take k work) e (at work (16 * k + MARKS + e)) (take-sets (p .variables) es (c .given .sixteen) n-few .0 ∙ sym (take-sets (p .variables) ds (n .startable .live .sixteen) n-few .0))
+        (take-less st ds es (n .startable .live .sixteen) (c .given .sixteen) (c .less)) (n .startable .marking e l)
 
-    way-1 : Way p (take k work) (setsOf p es)
-    way-1 = way-prunes p (take k work) (well-sized p (st .wellFormed)) (setsOf p ds) (setsOf p es) (c .ways (take k work)) (n .way)
+    way-1 : Way (withOrderings p gs) (take k work) (setsOf p es)
+    way-1 = stays (setsOf p ds) (setsOf p es) (c .ways (take k work)) (n .way)
 
-    pub filters-dead : (work′ fs : List ℕ) → OnlyMarks work work′ k → EndedAt p (take k work) es → AfterFixpoint p k work work′ fs true
-    filters-dead work′ fs r e = dead p k work work′ fs r (not-live p (take k work) (e .0) (way-prunes p (take k work) (well-sized p (st .wellFormed)) (setsOf p es) (e .0) (e .1 .0) way-1) (well-sized p (st .wellFormed)) (e .1 .1))
+    ascends-1 : Ascends (blockOf numbers) (take k work) (setsOf p es)
+    ascends-1 = ascends-less (blockOf numbers) (take k work) (setsOf p ds) (setsOf p es) (take-less st ds es (n .startable .live .sixteen) (c .given .sixteen) (c .less)) (n .ascends)
+
+    pub filters-dead : (work′ fs : List ℕ) → OnlyMarks work work′ k → EndedAt p (take k work) es → AfterFixpoint p gs k work work′ fs true
+    filters-dead work′ fs r e = dead p gs k work work′ fs r (ends (e .0) (stays (setsOf p es) (e .0) (e .1 .0) way-1) (e .1 .1))
 
     module _ {work′ fs : List ℕ} (s : AllFiltered p (take k work) es fs) (m : MarksRight p (setsOf p fs) (take k work) work′ k) (r : OnlyMarks work work′ k) {changed : ℕ} (d : Differ es fs changed) where
-      way-2 : Way p (take k work) (setsOf p fs)
-      way-2 = way-prunes p (take k work) (well-sized p (st .wellFormed)) (setsOf p es) (setsOf p fs) (s .way) way-1
+      way-2 : Way (withOrderings p gs) (take k work) (setsOf p fs)
+      way-2 = stays (setsOf p es) (setsOf p fs) (s .way) way-1
+
+      ascends-2 : Ascends (blockOf numbers) (take k work) (setsOf p fs)
+      ascends-2 = ascends-less (blockOf numbers) (take k work) (setsOf p es) (setsOf p fs) (take-less st es fs (c .given .sixteen) (s .live .sixteen) (s .less)) ascends-1
 
       -- nothing moved: no constraint and no filter takes anything
-      pub fixpoint-end : changed ≡ 0 → AfterFixpoint p k work work′ fs false
+      pub fixpoint-end : changed ≡ 0 → AfterFixpoint p gs k work work′ fs false
       fixpoint-end e = record {
-        answers = sym (ap not (of-T (isLive p (take k work)) live));
+        answers = sym (ap not (of-T (isLive (withOrderings p gs) (take k work)) live));
         sets-are = λ q. sym sets;
         live = λ q. s .live;
         marking = λ q. m;
@@ -121,14 +135,19 @@ module _ {p : Problem} {supports tables numbers : List ℕ} (st : ArraysHold p s
             filters = λ g i. subst (λ (z : List ℕ). T (has (at z x) v)) (sym (s .fixed same g i)) t;
           }
 
-          fixed : pruned p (take k work) (setsOf p fs) ≡ setsOf p fs
-          fixed = subst (λ (z : List ℕ). pruned p (take k work) (setsOf p z) ≡ setsOf p z) (sym same) (fixed-i p (take k work) (setsOf p es) (take-sets (p .variables) es (c .given .sixteen) n-few) kept)
+          fixed-own : pruned p (take k work) (setsOf p fs) ≡ setsOf p fs
+          fixed-own = subst (λ (z : List ℕ). pruned p (take k work) (setsOf p z) ≡ setsOf p z) (sym same) (fixed-i p (take k work) (setsOf p es) (take-sets (p .variables) es (c .given .sixteen) n-few) kept)
 
-          sets : setsAt p (take k work) ≡ setsOf p fs
-          sets = way-live p (take k work) (well-sized p (st .wellFormed)) (setsOf p fs) way-2 fixed (s .live .full)
+          fixed : pruned (withOrderings p gs) (take k work) (setsOf p fs) ≡ setsOf p fs
+          fixed = fixed-whole p (st .wellFormed) (blockOf numbers) gs (bl .block) (take k work) (setsOf p fs) (way-2 .sets) (way-2 .inside) ascends-2 (s .live .full) fixed-own
 
-          live : T (isLive p (take k work))
-          live = T-of (isLive p (take k work)) (live-is p (take k work) ∙ ap not (ap anyEmpty (sym (way-end p (take k work) (well-sized p (st .wellFormed)) (setsOf p fs) way-2 fixed)) ∙ s .live .full))
+          sets : setsAt (withOrderings p gs) (take k work) ≡ setsOf p fs
+          sets = way-live (withOrderings p gs) (take k work) (well-sized p (st .wellFormed)) (setsOf p fs) way-2 fixed (s .live .full)
+
+          live : T (isLive (withOrderings p gs) (take k work))
+          live =
+              T-of (isLive (withOrderings p gs) (take k work))
+              (live-is (withOrderings p gs) (take k work) ∙ ap not (ap anyEmpty (sym (way-end (withOrderings p gs) (take k work) (well-sized p (st .wellFormed)) (setsOf p fs) way-2 fixed)) ∙ s .live .full))
 
       -- something moved: the constraints of the changed variables are due
       module _ {left moved : ℕ} (u : Touched numbers changed left) (q : moved ≡ bitAnd changed (at numbers LINKED)) where
@@ -139,14 +158,14 @@ module _ {p : Problem} {supports tables numbers : List ℕ} (st : ArraysHold p s
         given = record { sixteen = s .live .sixteen; full = s .live .full; inside = λ x v t. c .given .inside x v (take-less st es fs (c .given .sixteen) (s .live .sixteen) (s .less) x v t) }
 
         prefix-is : take k work′ ≡ take k work
-        prefix-is = same-take work work′ k k (n .prefix-held .work-length) r (omega (arith, n .prefix-held .depth, n-few))
+        prefix-is = same-take work work′ k k (n .startable .prefix-held .work-length) r (omega (arith, n .startable .prefix-held .depth, n-few))
 
-        pub fixpoint-turn : BeforeFixpoint p work′ numbers fs k left moved
-        fixpoint-turn = record {
+        startable : Startable p work′ numbers fs k left moved
+        startable = record {
           prefix-held = record {
-            depth = n .prefix-held .depth;
-            values = λ j l. subst (λ (z : ℕ). T (has (at (p .initial) j) z)) (sym (r .before j (omega arith))) (n .prefix-held .values j l);
-            work-length = r .size ∙ n .prefix-held .work-length;
+            depth = n .startable .prefix-held .depth;
+            values = λ j l. subst (λ (z : ℕ). T (has (at (p .initial) j) z)) (sym (r .before j (omega arith))) (n .startable .prefix-held .values j l);
+            work-length = r .size ∙ n .startable .prefix-held .work-length;
           };
           live = s .live;
           pending = record {
@@ -157,7 +176,6 @@ module _ {p : Problem} {supports tables numbers : List ℕ} (st : ArraysHold p s
             arcs = λ x l e. still-arc st es fs changed moved (c .given) given (s .less) same-at-x q x l e (c .arcs x l);
           };
           marking = subst (λ (z : List ℕ). MarksRight p (setsOf p fs) z work′ k) (sym prefix-is) m;
-          way = subst (λ (z : List ℕ). Way p z (setsOf p fs)) (sym prefix-is) way-2;
         }
           where
             -- an unused set never changes
@@ -171,5 +189,12 @@ module _ {p : Problem} {supports tables numbers : List ℕ} (st : ArraysHold p s
                     let i = d .few x t in
                     absurd (of-not (has changed x) (d .differ x i ∙ ap not (eq-eqb (at fs x) (at es x) (s .live .unused x o i ∙ sym (constrained-live .unused x o i)))) t)
 
+        pub fixpoint-turn : BeforeFixpoint p gs work′ numbers fs k left moved
+        fixpoint-turn = record {
+          startable = startable;
+          way = subst (λ (z : List ℕ). Way (withOrderings p gs) z (setsOf p fs)) (sym prefix-is) way-2;
+          ascends = subst (λ (z : List ℕ). Ascends (blockOf numbers) z (setsOf p fs)) (sym prefix-is) ascends-2;
+        }
+
       pub fixpoint-less : changed < 2 ^ 64 → (changed ≡ 0 → ⊥) → size fs < size ds
-      fixpoint-less h z = omega (arith, fewer es fs (c .given .sixteen) (s .live .sixteen) changed d h z (s .less), size-inside es ds (c .given .sixteen .0 ∙ sym (n .live .sixteen .0)) (c .less))
+      fixpoint-less h z = omega (arith, fewer es fs (c .given .sixteen) (s .live .sixteen) changed d h z (s .less), size-inside es ds (c .given .sixteen .0 ∙ sym (n .startable .live .sixteen .0)) (c .less))

@@ -5,3 +5,5 @@ pub mod Pending
 pub mod FixpointLoop
 pub mod FilterLoop
 pub mod Starts
+pub mod BlockCut
+pub mod ChildCut

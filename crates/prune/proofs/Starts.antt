@@ -1,5 +1,5 @@
 -- The sets that `root` and `child` start from are on the way to those at their prefix; what they leave on the stack. Assumes nothing.
-use mathlib.Core.Path.{_≡_, refl, sym, ap, _∙_, subst}
+use mathlib.Core.Path.{_≡_, refl, sym, ap, ap₂, _∙_, subst, subst₂}
 use mathlib.Core.Bool.{Bool, true, false, not}
 use mathlib.Core.List.{List, [], List·Memᴰ}
 use Prim.Native.Nat.{ℕ, _+_, _-_, _*_, _%_, _^_, _≤_, _<_}
@@ -24,7 +24,6 @@ use Rattle.model.proofs.Masks.{has-and, has-not, has-one}
 use Rattle.model.proofs.Members.{one-bit, only-member}
 use Rattle.model.proofs.Firsts.{take-at, take-e, take-i, take-sets, take-length, take-full}
 use Rattle.model.proofs.Prune.{narrowed-e, Largest, largest, fixed-e, way-start, setsAt-live, setsAt-sets, live-closed}
-use Rattle.model.proofs.Child.{child-start}
 use Rattle.model.proofs.Tree.{well-sized}
 use Rattle.layout.specs.Places.{INITIAL, LINKED, MARKS, OTHERS, VARIABLES}
 use Rattle.layout.specs.Layout.{constraintAt}
@@ -36,8 +35,10 @@ use Rattle.links.proofs.Partners.{goes-kept}
 use Rattle.constraints.proofs.Rows.{fixed-kept}
 use Rattle.levels.specs.Levels.{Mark}
 use Rattle.levels.proofs.Marks.{mark-start, mark-mono, mark-longer}
-use Rattle.prune.specs.Node.{Ready, MarksRight, AtNode, Reached, longer}
-use Rattle.prune.specs.Steps.{ArraysHold, BeforeFixpoint, AfterFixpoint, Loaded, Stored}
+use Rattle.block.specs.BlockSets.{Ascends, cutAfter}
+use Rattle.block.proofs.BlockSets.{root-ascends, child-way, child-ascends}
+use Rattle.prune.specs.Node.{Ready, MarksRight, AtNode, Reached, longer, blockOf, withOrderings}
+use Rattle.prune.specs.Steps.{ArraysHold, Blocked, Startable, BeforeFixpoint, AfterFixpoint, Loaded, Stored}
 use Rattle.prune.proofs.Arcs.{arc-kept, arc-free}
 use Rattle.prune.proofs.Pending.{touched-known}
 
@@ -58,10 +59,10 @@ module _ (n : ℕ) (ds es : List ℕ) (l : length es ≡ 16) (s : Sets n ds) (h 
   padded-take = at-ext (take n es) ds (take-length n es padded-sets h ∙ sym (s .0)) (λ x k. let m : x < n = subst (λ (z : ℕ). x < z) (take-length n es padded-sets h) k in take-at n es padded-sets h x m ∙ e x m)
 
 -- ---- what is left on the stack, where `work` had become `middle` before the fixpoint
-module _ (p : Problem) (few : p .variables ≤ 16) (prefix sets : List ℕ) (k : ℕ) (stack work middle work′ : List ℕ) (is : take k middle ≡ prefix) (size : length middle ≡ length work) (early : (j : ℕ) → j < 16 * k + MARKS → at middle j ≡ at work j) (late : (j : ℕ) → 16 * k + MARKS + 16 ≤ j → at middle j ≡ at work j) where
-  pub reached-dead : AfterFixpoint p k middle work′ sets true → Reached p prefix k stack work stack work′ true
+module _ (p : Problem) (gs : List (List ℕ)) (few : p .variables ≤ 16) (prefix sets : List ℕ) (k : ℕ) (stack work middle work′ : List ℕ) (is : take k middle ≡ prefix) (size : length middle ≡ length work) (early : (j : ℕ) → j < 16 * k + MARKS → at middle j ≡ at work j) (late : (j : ℕ) → 16 * k + MARKS + 16 ≤ j → at middle j ≡ at work j) where
+  pub reached-dead : AfterFixpoint p gs k middle work′ sets true → Reached p gs prefix k stack work stack work′ true
   reached-dead a = record {
-    answers = a .answers ∙ ap (λ (z : List ℕ). not (isLive p z)) is;
+    answers = a .answers ∙ ap (λ (z : List ℕ). not (isLive (withOrderings p gs) z)) is;
     holds = λ q. absurd (subst T q tt);
     before = λ i l. refl;
     after = λ i l. refl;
@@ -72,9 +73,9 @@ module _ (p : Problem) (few : p .variables ≤ 16) (prefix sets : List ℕ) (k :
     work-length = a .kept .size ∙ size;
   }
 
-  pub reached-live : (stack′ : List ℕ) → AfterFixpoint p k middle work′ sets false → Stored stack k (at sets) stack′ → Reached p prefix k stack work stack′ work′ false
+  pub reached-live : (stack′ : List ℕ) → AfterFixpoint p gs k middle work′ sets false → Stored stack k (at sets) stack′ → Reached p gs prefix k stack work stack′ work′ false
   reached-live stack′ a s = record {
-    answers = a .answers ∙ ap (λ (z : List ℕ). not (isLive p z)) is;
+    answers = a .answers ∙ ap (λ (z : List ℕ). not (isLive (withOrderings p gs) z)) is;
     holds = λ q. record {
       sets = λ x l. s .here x (omega arith) ∙ sym (take-at (p .variables) sets (a .live refl .sixteen) few x l) ∙ ap (λ (z : List ℕ). at z x) sets-are;
       unused = λ x l h. s .here x h ∙ a .live refl .unused x l h;
@@ -88,26 +89,29 @@ module _ (p : Problem) (few : p .variables ≤ 16) (prefix sets : List ℕ) (k :
     work-length = a .kept .size ∙ size;
   }
     where
-      sets-are : setsOf p sets ≡ setsAt p prefix
-      sets-are = a .sets-are refl ∙ ap (setsAt p) is
+      sets-are : setsOf p sets ≡ setsAt (withOrderings p gs) prefix
+      sets-are = a .sets-are refl ∙ ap (setsAt (withOrderings p gs)) is
 
 way-initial : (p : Problem) (prefix es : List ℕ) → Way p prefix es → Inside es (p .initial)
 way-initial p prefix es w x v t = narrowed-e prefix (p .initial) x v (w .inside x v t) .0
 
-pub arrays-hold : {p : Problem} {stack work supports tables numbers : List ℕ} → Ready p stack work supports tables numbers → ArraysHold p supports tables numbers
+pub arrays-hold : {p : Problem} {gs : List (List ℕ)} {stack work supports tables numbers : List ℕ} → Ready p gs stack work supports tables numbers → ArraysHold p supports tables numbers
 arrays-hold r = record { indexed = r .indexed; wellFormed = r .wellFormed; constraints = r .constraints; symmetries = r .symmetries }
 
+pub blocked : {p : Problem} {gs : List (List ℕ)} {stack work supports tables numbers : List ℕ} → Ready p gs stack work supports tables numbers → Blocked p gs numbers
+blocked r = record { block = r .block; few = r .block-few }
+
 -- ---- the root
-pub some-few : {p : Problem} {stack work supports tables numbers : List ℕ} → Ready p stack work supports tables numbers → at numbers VARIABLES < 64
+pub some-few : {p : Problem} {gs : List (List ℕ)} {stack work supports tables numbers : List ℕ} → Ready p gs stack work supports tables numbers → at numbers VARIABLES < 64
 some-few r = omega (arith, r .indexed .numbered .variables, r .wellFormed .few)
 
 pub some-one : (c : ℕ) → c < 64 → 1 ≤ 1 * 2 ^ c % 2 ^ 64
 some-one c h = subst (λ (z : ℕ). 1 ≤ z) (sym (one-bit 64 c h)) (pow-pos c)
 
-pub ready-few : {p : Problem} {stack work supports tables numbers : List ℕ} → Ready p stack work supports tables numbers → p .variables ≤ 16
+pub ready-few : {p : Problem} {gs : List (List ℕ)} {stack work supports tables numbers : List ℕ} → Ready p gs stack work supports tables numbers → p .variables ≤ 16
 ready-few r = omega (arith, r .wellFormed .few)
 
-module _ {p : Problem} {stack work supports tables numbers : List ℕ} (r : Ready p stack work supports tables numbers) (sets : List ℕ) (l : length sets ≡ 16) (e : (x : ℕ) → x < 16 → at sets x ≡ at numbers (INITIAL + x) % 65536) where
+module _ {p : Problem} {gs : List (List ℕ)} {stack work supports tables numbers : List ℕ} (r : Ready p gs stack work supports tables numbers) (sets : List ℕ) (l : length sets ≡ 16) (e : (x : ℕ) → x < 16 → at sets x ≡ at numbers (INITIAL + x) % 65536) where
   n-16 : p .variables ≤ 16
   n-16 = ready-few r
 
@@ -129,9 +133,9 @@ module _ {p : Problem} {stack work supports tables numbers : List ℕ} (r : Read
   is-full : anyEmpty (setsOf p sets) ≡ false
   is-full = take-full (p .variables) sets sets-16 n-16 (λ x h q. let z = sym (at-initial x h) ∙ q in omega (arith, r .wellFormed .nonempty x h, z))
 
-  root-way : Way p [] (setsOf p sets)
+  root-way : Way (withOrderings p gs) [] (setsOf p sets)
   unfolding narrowed
-  root-way = subst (Way p []) (sym are-initial) (way-start p [] (well-sized p (r .wellFormed)))
+  root-way = subst (Way (withOrderings p gs) []) (sym are-initial) (way-start (withOrderings p gs) [] (well-sized p (r .wellFormed)))
 
   -- the set of all variables
   all-of : (n : ℕ) → n < 64 → 1 * 2 ^ n % 2 ^ 64 - 1 ≡ (2 ^ n - 1) - 0
@@ -165,8 +169,8 @@ module _ {p : Problem} {stack work supports tables numbers : List ℕ} (r : Read
       zero-mark : (i : ℕ) → i < length (p .symmetries) → at middle (16 * 0 + MARKS + i) ≡ 0
       zero-mark i h = c .here i (omega (arith, h, r .symmetries))
 
-      pub root-start : BeforeFixpoint p middle numbers sets 0 todo (at numbers LINKED)
-      root-start = record {
+      startable : Startable p middle numbers sets 0 todo (at numbers LINKED)
+      startable = record {
         prefix-held = record { depth = omega arith; values = λ j h. absurd (omega arith); work-length = c .size ∙ r .work-length };
         live = record { sixteen = sets-16; full = is-full; unused = at-unused };
         pending = record {
@@ -177,7 +181,6 @@ module _ {p : Problem} {stack work supports tables numbers : List ℕ} (r : Read
           arcs = arcs;
         };
         marking = λ i h. subst (Mark p (setsOf p sets) [] i) (sym (zero-mark i h)) (mark-start p (setsOf p sets) i);
-        way = root-way;
       }
         where
           arcs : (x : ℕ) → x < p .variables → has (at numbers LINKED) x ≡ false → Arc p (setsOf p sets) x
@@ -185,25 +188,31 @@ module _ {p : Problem} {stack work supports tables numbers : List ℕ} (r : Read
               let m = member (at sets x) (sets-16 .1 x) (λ q. let z = sym (at-initial x h) ∙ q in omega (arith, r .wellFormed .nonempty x h, z)) in
               arc-free p numbers (r .indexed .linked) (setsOf p sets) x (m .0) f (take-i (p .variables) sets sets-16 n-16 x (m .0) h (m .2))
 
+      pub root-start : BeforeFixpoint p gs middle numbers sets 0 todo (at numbers LINKED)
+      root-start = record { startable = startable; way = root-way; ascends = root-ascends p (r .wellFormed) (blockOf numbers) gs (r .block) (setsOf p sets) }
+
       root-early : (j : ℕ) → j < 16 * 0 + MARKS → at middle j ≡ at work j
       root-early j h = c .before j (omega arith)
 
       root-late : (j : ℕ) → 16 * 0 + MARKS + 16 ≤ j → at middle j ≡ at work j
       root-late j h = c .after j (omega arith)
 
-      pub root-dead : (fs work′ : List ℕ) (b : Bool) → AfterFixpoint p 0 middle work′ fs b → b ≡ true → Reached p [] 0 stack work stack work′ true
-      root-dead fs work′ b a i = reached-dead p n-16 [] fs 0 stack work middle work′ refl (c .size) root-early root-late (subst (AfterFixpoint p 0 middle work′ fs) i a)
+      pub root-dead : (fs work′ : List ℕ) (b : Bool) → AfterFixpoint p gs 0 middle work′ fs b → b ≡ true → Reached p gs [] 0 stack work stack work′ true
+      root-dead fs work′ b a i = reached-dead p gs n-16 [] fs 0 stack work middle work′ refl (c .size) root-early root-late (subst (AfterFixpoint p gs 0 middle work′ fs) i a)
 
-      pub root-live : (fs work′ stack′ : List ℕ) (b : Bool) → AfterFixpoint p 0 middle work′ fs b → b ≡ false → Stored stack 0 (at fs) stack′ → Reached p [] 0 stack work stack′ work′ false
-      root-live fs work′ stack′ b a i t = reached-live p n-16 [] fs 0 stack work middle work′ refl (c .size) root-early root-late stack′ (subst (AfterFixpoint p 0 middle work′ fs) i a) t
+      pub root-live : (fs work′ stack′ : List ℕ) (b : Bool) → AfterFixpoint p gs 0 middle work′ fs b → b ≡ false → Stored stack 0 (at fs) stack′ → Reached p gs [] 0 stack work stack′ work′ false
+      root-live fs work′ stack′ b a i t = reached-live p gs n-16 [] fs 0 stack work middle work′ refl (c .size) root-early root-late stack′ (subst (AfterFixpoint p gs 0 middle work′ fs) i a) t
 
 -- ---- the child
-module _ {p : Problem} {stack work supports tables numbers : List ℕ} {k : ℕ} (a : AtNode p stack work supports tables numbers k) where
+module _ {p : Problem} {gs : List (List ℕ)} {stack work supports tables numbers : List ℕ} {k : ℕ} (a : AtNode p gs stack work supports tables numbers k) where
+  abbrev tree : Problem
+  tree = withOrderings p gs
+
   wf-sized : Sets (p .variables) (p .initial)
   wf-sized = well-sized p (a .ready .wellFormed)
 
-  parent-sets : Sets (p .variables) (setsAt p (take k work))
-  parent-sets = setsAt-sets p (take k work) wf-sized
+  parent-sets : Sets (p .variables) (setsAt tree (take k work))
+  parent-sets = setsAt-sets tree (take k work) wf-sized
 
   n-16′ : p .variables ≤ 16
   n-16′ = ready-few (a .ready)
@@ -215,41 +224,41 @@ module _ {p : Problem} {stack work supports tables numbers : List ℕ} {k : ℕ}
   prefix-length = length-take-le k work (omega (arith, k-12, a .ready .work-length))
 
   pub v-lt : at work k < 16
-  v-lt = has-lt 16 (at (setsAt p (take k work)) k) (at work k) (parent-sets .1 k) (a .member)
+  v-lt = has-lt 16 (at (setsAt tree (take k work)) k) (at work k) (parent-sets .1 k) (a .member)
 
   pub longer-is : take (k + 1) work ≡ longer work k
   unfolding at
   longer-is = ap (λ (z : ℕ). take z work) (add-one k) ∙ take-suc work k 0 (omega (arith, k-12, a .ready .work-length))
 
   -- the parent's sets are the largest, each of their values stays, and none is empty
-  parent-is : setsAt p (take k work) ≡ closed p (take k work)
-  parent-is = setsAt-live p (take k work) (live-closed p (take k work) (a .live))
+  parent-is : setsAt tree (take k work) ≡ closed tree (take k work)
+  parent-is = setsAt-live tree (take k work) (live-closed tree (take k work) (a .live))
 
-  parent-largest : Largest p (take k work) (setsAt p (take k work))
-  parent-largest = subst (Largest p (take k work)) (sym parent-is) (largest p (take k work) wf-sized)
+  parent-largest : Largest tree (take k work) (setsAt tree (take k work))
+  parent-largest = subst (Largest tree (take k work)) (sym parent-is) (largest tree (take k work) wf-sized)
 
-  parent-full : (x : ℕ) → x < p .variables → at (setsAt p (take k work)) x ≡ 0 → ⊥
-  parent-full x h e = subst T (ap anyEmpty parent-is ∙ live-closed p (take k work) (a .live)) (empty-i (setsAt p (take k work)) x (subst (λ (z : ℕ). x < z) (sym (parent-sets .0)) h) e)
+  parent-full : (x : ℕ) → x < p .variables → at (setsAt tree (take k work)) x ≡ 0 → ⊥
+  parent-full x h e = subst T (ap anyEmpty parent-is ∙ live-closed tree (take k work) (a .live)) (empty-i (setsAt tree (take k work)) x (subst (λ (z : ℕ). x < z) (sym (parent-sets .0)) h) e)
 
-  parent-fixed : (j : ℕ) → j < length (p .constraints) → Fixed (setsAt p (take k work)) (constraintAt p j)
-  parent-fixed j h x v t = fixed-e p (take k work) (setsAt p (take k work)) (parent-largest .fixed) x v t .rows (constraintAt p j) (is-one p j h)
+  parent-fixed : (j : ℕ) → j < length (p .constraints) → Fixed (setsAt tree (take k work)) (constraintAt p j)
+  parent-fixed j h x v t = fixed-e tree (take k work) (setsAt tree (take k work)) (parent-largest .fixed) x v t .rows (constraintAt p j) (is-one p j h)
 
-  parent-arc : (x : ℕ) → x < p .variables → Arc p (setsAt p (take k work)) x
+  parent-arc : (x : ℕ) → x < p .variables → Arc p (setsAt tree (take k work)) x
   parent-arc x h y w u =
-      let m = member (at (setsAt p (take k work)) x) (parent-sets .1 x) (parent-full x h) in
-      goes-kept p (a .ready .wellFormed) (setsAt p (take k work)) x y w (m .0) (m .2) (fixed-e p (take k work) (setsAt p (take k work)) (parent-largest .fixed) y w u .rows)
+      let m = member (at (setsAt tree (take k work)) x) (parent-sets .1 x) (parent-full x h) in
+      goes-kept p (a .ready .wellFormed) (setsAt tree (take k work)) x y w (m .0) (m .2) (fixed-e tree (take k work) (setsAt tree (take k work)) (parent-largest .fixed) y w u .rows)
 
   in-initial : (j : ℕ) → j < k + 1 → T (has (at (p .initial) j) (at work j))
   in-initial j h = go (ℕ-discrete j k)
     where
-      from-parent : (x w : ℕ) → T (has (at (setsAt p (take k work)) x) w) → T (has (at (p .initial) x) w) × (x < length (take k work) → w ≡ at (take k work) x)
+      from-parent : (x w : ℕ) → T (has (at (setsAt tree (take k work)) x) w) → T (has (at (p .initial) x) w) × (x < length (take k work) → w ≡ at (take k work) x)
       from-parent x w t = narrowed-e (take k work) (p .initial) x w (parent-largest .inside x w t)
 
       go : Dec (j ≡ k) → T (has (at (p .initial) j) (at work j))
       go (yes e) = subst (λ (z : ℕ). T (has (at (p .initial) z) (at work z))) (sym e) (from-parent k (at work k) (a .member) .0)
       go (no n) =
           let l : j < k = omega arith in
-          let m = member (at (setsAt p (take k work)) j) (parent-sets .1 j) (parent-full j (omega (arith, a .room))) in
+          let m = member (at (setsAt tree (take k work)) j) (parent-sets .1 j) (parent-full j (omega (arith, a .room))) in
           let r = from-parent j (m .0) (m .2) in
           subst (λ (z : ℕ). T (has (at (p .initial) j) z)) (r .1 (omega (arith, prefix-length)) ∙ at-take k work j l) (r .0)
 
@@ -276,17 +285,17 @@ module _ {p : Problem} {stack work supports tables numbers : List ℕ} {k : ℕ}
     module _ (sets : List ℕ) (l : Loaded stack k sets) (one todo dirty : ℕ) (o : one ≡ onlyMask (at sets k) (at middle k % 16))
         (d : (at sets k ≡ one → todo ≡ 0) × ((at sets k ≡ one → ⊥) → todo ≡ at numbers (OTHERS + k)))
         (f : (at sets k ≡ one → dirty ≡ 0) × ((at sets k ≡ one → ⊥) → dirty ≡ bitAnd (at numbers LINKED) (1 * 2 ^ k % 2 ^ 64))) where
-      at-parent : (x : ℕ) → x < p .variables → at sets x ≡ at (setsAt p (take k work)) x
+      at-parent : (x : ℕ) → x < p .variables → at sets x ≡ at (setsAt tree (take k work)) x
       at-parent x h = l .1 x (omega (arith, n-16′)) ∙ a .held .sets x h
 
       unused : (x : ℕ) → p .variables ≤ x → x < 16 → at sets x ≡ 1
       unused x h b = l .1 x b ∙ a .held .unused x h b
 
       before : Sets 16 sets
-      before = padded-sets (p .variables) (setsAt p (take k work)) sets (l .0) parent-sets n-16′ at-parent unused
+      before = padded-sets (p .variables) (setsAt tree (take k work)) sets (l .0) parent-sets n-16′ at-parent unused
 
-      are-parent : setsOf p sets ≡ setsAt p (take k work)
-      are-parent = padded-take (p .variables) (setsAt p (take k work)) sets (l .0) parent-sets n-16′ at-parent unused
+      are-parent : setsOf p sets ≡ setsAt tree (take k work)
+      are-parent = padded-take (p .variables) (setsAt tree (take k work)) sets (l .0) parent-sets n-16′ at-parent unused
 
       value-16 : at middle k % 16 ≡ at work k
       value-16 = omega (arith, value-is, v-lt)
@@ -300,14 +309,8 @@ module _ {p : Problem} {stack work supports tables numbers : List ℕ} {k : ℕ}
       after : Sets 16 (set sets k one)
       after = set-sets 16 sets k one before (omega (arith, k-12)) (subst (λ (z : ℕ). z < 2 ^ 16) (sym one-is) (pow-lt v-lt))
 
-      start-is : setsOf p (set sets k one) ≡ set (setsAt p (take k work)) k (2 ^ at work k)
-      start-is = take-set-lt (p .variables) sets k one (a .room) ∙ ap (λ (z : List ℕ). set z k one) are-parent ∙ ap (λ (z : ℕ). set (setsAt p (take k work)) k z) one-is
-
-      way : Way p (take (k + 1) middle) (setsOf p (set sets k one))
-      way =
-          let w = child-start p (take k work) (at work k) wf-sized (subst (λ (z : ℕ). T (has (at (setsAt p (take k work)) z) (at work k))) (sym prefix-length) (a .member)) in
-          let w′ = subst (λ (z : ℕ). Way p (longer work k) (set (setsAt p (take k work)) z (2 ^ at work k))) prefix-length w in
-          subst (λ (z : List ℕ). Way p z (setsOf p (set sets k one))) (sym child-prefix) (subst (Way p (longer work k)) (sym start-is) w′)
+      start-is : setsOf p (set sets k one) ≡ set (setsAt tree (take k work)) k (2 ^ at work k)
+      start-is = take-set-lt (p .variables) sets k one (a .room) ∙ ap (λ (z : List ℕ). set z k one) are-parent ∙ ap (λ (z : ℕ). set (setsAt tree (take k work)) k z) one-is
 
       start-full : anyEmpty (setsOf p (set sets k one)) ≡ false
       start-full = take-full (p .variables) (set sets k one) after n-16′ (λ x h e. go x h (ℕ-discrete x k) e)
@@ -327,17 +330,17 @@ module _ {p : Problem} {stack work supports tables numbers : List ℕ} {k : ℕ}
           take-i (p .variables) (set sets k one) after n-16′ k (at work k) (a .room)
           (subst (λ (z : ℕ). T (has z (at work k))) (sym (at-set sets k one k-in ∙ one-is)) (subst T (sym (has-one (at work k) (at work k))) (eqb-refl (at work k))))
 
-      start-inside : Inside (setsOf p (set sets k one)) (setsAt p (take k work))
+      start-inside : Inside (setsOf p (set sets k one)) (setsAt tree (take k work))
       start-inside x v t = go (ℕ-discrete x k)
         where
           t′ : T (has (at (set sets k one) x) v)
           t′ = take-e (p .variables) (set sets k one) after n-16′ x v t .1
 
-          go : Dec (x ≡ k) → T (has (at (setsAt p (take k work)) x) v)
+          go : Dec (x ≡ k) → T (has (at (setsAt tree (take k work)) x) v)
           go (yes e) =
               let u : T (has (2 ^ at work k) v) = subst (λ (z : ℕ). T (has z v)) (at-set sets k one k-in ∙ one-is) (subst (λ (z : ℕ). T (has (at (set sets k one) z) v)) e t′) in
               let w : v ≡ at work k = eqb-true v (at work k) (of-T (eqb v (at work k)) (subst T (has-one (at work k) v) u)) in
-              subst (λ (z : ℕ). T (has (at (setsAt p (take k work)) z) v)) (sym e) (subst (λ (z : ℕ). T (has (at (setsAt p (take k work)) k) z)) (sym w) (a .member))
+              subst (λ (z : ℕ). T (has (at (setsAt tree (take k work)) z) v)) (sym e) (subst (λ (z : ℕ). T (has (at (setsAt tree (take k work)) k) z)) (sym w) (a .member))
           go (no n) = subst (λ (z : ℕ). T (has z v)) (at-set-other sets k one x n ∙ at-parent x (take-e (p .variables) (set sets k one) after n-16′ x v t .0)) t′
 
       child-known : (j : ℕ) → T (has todo j) → j < length (p .constraints)
@@ -369,7 +372,7 @@ module _ {p : Problem} {stack work supports tables numbers : List ℕ} {k : ℕ}
       others : (j : ℕ) → j < length (p .constraints) → has todo j ≡ false → byRows p j ≡ false → Fixed (setsOf p (set sets k one)) (constraintAt p j)
       others j h n b =
           let g = good (a .ready .wellFormed) j h in
-          fixed-kept (constraintAt p j) (setsAt p (take k work)) (setsOf p (set sets k one)) (parent-fixed j h)
+          fixed-kept (constraintAt p j) (setsAt tree (take k work)) (setsOf p (set sets k one)) (parent-fixed j h)
           (λ y m. let i = g .inside y m in take-at (p .variables) (set sets k one) after n-16′ y i ∙ undue-same j h n b y m ∙ at-parent y i)
 
       -- what is dirty is variable k, where it is in a constraint by variable and has changed
@@ -388,8 +391,8 @@ module _ {p : Problem} {stack work supports tables numbers : List ℕ} {k : ℕ}
       arcs : (x : ℕ) → x < p .variables → has dirty x ≡ false → Arc p (setsOf p (set sets k one)) x
       arcs x h n = go (ℕ-discrete (at sets k) one) (ℕ-discrete x k)
         where
-          kept : at (setsOf p (set sets k one)) x ≡ at (setsAt p (take k work)) x → Arc p (setsOf p (set sets k one)) x
-          kept e = arc-kept p (setsAt p (take k work)) (setsOf p (set sets k one)) x start-inside e (parent-arc x h)
+          kept : at (setsOf p (set sets k one)) x ≡ at (setsAt tree (take k work)) x → Arc p (setsOf p (set sets k one)) x
+          kept e = arc-kept p (setsAt tree (take k work)) (setsOf p (set sets k one)) x start-inside e (parent-arc x h)
 
           go : Dec (at sets k ≡ one) → Dec (x ≡ k) → Arc p (setsOf p (set sets k one)) x
           go (yes e) q = kept (ap (λ (z : List ℕ). at (setsOf p z) x) (same e) ∙ ap (λ (z : List ℕ). at z x) are-parent)
@@ -402,31 +405,46 @@ module _ {p : Problem} {stack work supports tables numbers : List ℕ} {k : ℕ}
 
       marking : MarksRight p (setsOf p (set sets k one)) (take (k + 1) middle) middle (k + 1)
       marking e h =
-          let m = mark-longer p (setsAt p (take k work)) (take k work) (at work k) e (at work (16 * k + MARKS + e)) (a .marked e h) in
-          let n = mark-mono p (setsAt p (take k work)) (setsOf p (set sets k one)) (longer work k) e (at work (16 * k + MARKS + e)) (take-sets (p .variables) (set sets k one) after n-16′ .0 ∙ sym (parent-sets .0)) start-inside m in
+          let m = mark-longer p (setsAt tree (take k work)) (take k work) (at work k) e (at work (16 * k + MARKS + e)) (a .marked e h) in
+          let n = mark-mono p (setsAt tree (take k work)) (setsOf p (set sets k one)) (longer work k) e (at work (16 * k + MARKS + e)) (take-sets (p .variables) (set sets k one) after n-16′ .0 ∙ sym (parent-sets .0)) start-inside m in
           subst (λ (z : List ℕ). Mark p (setsOf p (set sets k one)) z e (at middle (16 * (k + 1) + MARKS + e))) (sym child-prefix)
           (subst (Mark p (setsOf p (set sets k one)) (longer work k) e) (sym (ap (at middle) slot ∙ c .here e (omega (arith, h, a .ready .symmetries)))) n)
         where
           slot : 16 * (k + 1) + MARKS + e ≡ 16 * (k + 2) + e
           slot = omega arith
 
-      pub child-before : BeforeFixpoint p middle numbers (set sets k one) (k + 1) todo dirty
-      child-before = record {
+      start-initial : Inside (setsOf p (set sets k one)) (p .initial)
+      start-initial x v t = narrowed-e (take k work) (p .initial) x v (parent-largest .inside x v (start-inside x v t)) .0
+
+      -- before the block's variables are cut
+      pub child-startable : Startable p middle numbers (set sets k one) (k + 1) todo dirty
+      child-startable = record {
         prefix-held = record { depth = omega (arith, a .room); values = λ j h. subst (λ (z : ℕ). T (has (at (p .initial) j) z)) (sym (child-early j (omega arith))) (in-initial j h); work-length = middle-length };
         live = record { sixteen = after; full = start-full; unused = start-unused };
         pending = record {
-          given = record { sixteen = after; full = start-full; inside = way-initial p (take (k + 1) middle) (setsOf p (set sets k one)) way };
+          given = record { sixteen = after; full = start-full; inside = start-initial };
           known = child-known;
           others = others;
           inner = inner;
           arcs = arcs;
         };
         marking = marking;
-        way = way;
       }
 
-    pub child-dead : (sets work′ : List ℕ) (r : Bool) → AfterFixpoint p (k + 1) middle work′ sets r → r ≡ true → Reached p (longer work k) (k + 1) stack work stack work′ true
-    child-dead sets work′ r e q = reached-dead p n-16′ (longer work k) sets (k + 1) stack work middle work′ child-prefix (c .size) child-early child-late (subst (AfterFixpoint p (k + 1) middle work′ sets) q e)
+      -- with the block's later variables cut the sets are on the way to those of the longer prefix
+      pub child-on-way : (cut : List ℕ) (v : ℕ) → v ≡ at middle k % 16 → setsOf p cut ≡ cutAfter (blockOf numbers) k v (setsOf p (set sets k one)) →
+          Way tree (take (k + 1) middle) (setsOf p cut) × Ascends (blockOf numbers) (take (k + 1) middle) (setsOf p cut)
+      child-on-way cut v i e =
+          let t = subst (λ (z : ℕ). T (has (at (setsAt tree (take k work)) z) (at work k))) (sym prefix-length) (a .member) in
+          let q : cutAfter (blockOf numbers) (length (take k work)) (at work k) (set (setsAt tree (take k work)) (length (take k work)) (2 ^ at work k)) ≡ setsOf p cut =
+          ap (λ (z : ℕ). cutAfter (blockOf numbers) z (at work k) (set (setsAt tree (take k work)) z (2 ^ at work k))) prefix-length
+          ∙ ap₂ (λ (u : ℕ) (l : List ℕ). cutAfter (blockOf numbers) k u l) (sym (i ∙ value-16)) (sym start-is) ∙ sym e in (
+            subst₂ (λ (l m : List ℕ). Way tree l m) (sym child-prefix) q (child-way p (a .ready .wellFormed) (blockOf numbers) gs (a .ready .block) (take k work) (at work k) t),
+            subst₂ (λ (l m : List ℕ). Ascends (blockOf numbers) l m) (sym child-prefix) q (child-ascends p (a .ready .wellFormed) (blockOf numbers) gs (a .ready .block) (take k work) (at work k) t),
+          )
 
-    pub child-live : (sets work′ stack′ : List ℕ) (r : Bool) → AfterFixpoint p (k + 1) middle work′ sets r → r ≡ false → Stored stack (k + 1) (at sets) stack′ → Reached p (longer work k) (k + 1) stack work stack′ work′ false
-    child-live sets work′ stack′ r e q t = reached-live p n-16′ (longer work k) sets (k + 1) stack work middle work′ child-prefix (c .size) child-early child-late stack′ (subst (AfterFixpoint p (k + 1) middle work′ sets) q e) t
+    pub child-dead : (sets work′ : List ℕ) (r : Bool) → AfterFixpoint p gs (k + 1) middle work′ sets r → r ≡ true → Reached p gs (longer work k) (k + 1) stack work stack work′ true
+    child-dead sets work′ r e q = reached-dead p gs n-16′ (longer work k) sets (k + 1) stack work middle work′ child-prefix (c .size) child-early child-late (subst (AfterFixpoint p gs (k + 1) middle work′ sets) q e)
+
+    pub child-live : (sets work′ stack′ : List ℕ) (r : Bool) → AfterFixpoint p gs (k + 1) middle work′ sets r → r ≡ false → Stored stack (k + 1) (at sets) stack′ → Reached p gs (longer work k) (k + 1) stack work stack′ work′ false
+    child-live sets work′ stack′ r e q t = reached-live p gs n-16′ (longer work k) sets (k + 1) stack work middle work′ child-prefix (c .size) child-early child-late stack′ (subst (AfterFixpoint p gs (k + 1) middle work′ sets) q e) t

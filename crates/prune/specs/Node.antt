@@ -13,7 +13,8 @@ use Rattle.model.specs.ValueSets.{has}
 use Rattle.model.specs.Problem.{Problem}
 use Rattle.model.specs.Search.{setsAt, isLive}
 use Rattle.model.specs.WellFormed.{WellFormed}
-use Rattle.layout.specs.Places.{MARKS}
+use Rattle.layout.specs.Places.{BLOCK, MARKS}
+use Rattle.block.specs.BlockSets.{BlockIn}
 use Rattle.layout.specs.Tables.{Indexed}
 use Rattle.levels.specs.Levels.{Mark}
 
@@ -22,11 +23,21 @@ pub record Holds (p : Problem) (stack : List ℕ) (k : ℕ) (ds : List ℕ) : Ty
   pub sets : (x : ℕ) → x < p .variables → at stack (16 * k + x) ≡ at ds x
   pub unused : (x : ℕ) → p .variables ≤ x → x < 16 → at stack (16 * k + x) ≡ 1
 
--- the arrays hold p, which has no more constraints and symmetries than they have room for; what is lent to write on has its length
--- (a reference to an array tells its length to no proof)
-pub record Ready (p : Problem) (stack work supports tables numbers : List ℕ) : Type 0 where
+-- the variables of the block, as a test
+abbrev pub blockOf : List ℕ → ℕ → Bool
+blockOf numbers x = has (at numbers BLOCK) x
+
+-- the problem whose prefixes these are: p, which the arrays hold, with the symmetries gs, p's own and the orderings of the block
+abbrev pub withOrderings : Problem → List (List ℕ) → Problem
+withOrderings p gs = record { variables = p .variables; values = p .values; initial = p .initial; constraints = p .constraints; symmetries = gs }
+
+-- the arrays hold p, which has no more constraints and symmetries than they have room for, and the block, whose orderings are among gs;
+-- what is lent to write on has its length (a reference to an array tells its length to no proof)
+pub record Ready (p : Problem) (gs : List (List ℕ)) (stack work supports tables numbers : List ℕ) : Type 0 where
   pub indexed : Indexed p numbers supports tables
   pub wellFormed : WellFormed p
+  pub block : BlockIn p (blockOf numbers) gs
+  pub block-few : (x : ℕ) → T (blockOf numbers x) → x < p .variables
   pub constraints : length (p .constraints) ≤ 32
   pub symmetries : length (p .symmetries) ≤ 16
   pub stack-length : length stack ≡ 208
@@ -37,17 +48,17 @@ abbrev pub MarksRight : Problem → List ℕ → List ℕ → List ℕ → ℕ �
 MarksRight p ds prefix work k = (e : ℕ) → e < length (p .symmetries) → Mark p ds prefix e (at work (16 * k + MARKS + e))
 
 -- and for those at the prefix
-abbrev pub Marked : Problem → List ℕ → List ℕ → ℕ → Type 0
-Marked p work prefix k = MarksRight p (setsAt p prefix) prefix work k
+abbrev pub Marked : Problem → List (List ℕ) → List ℕ → List ℕ → ℕ → Type 0
+Marked p gs work prefix k = MarksRight p (setsAt (withOrderings p gs) prefix) prefix work k
 
 -- the prefix of k values that work holds is live, its sets and marks are at depth k, and the next value in work is one of variable k's
-pub record AtNode (p : Problem) (stack work supports tables numbers : List ℕ) (k : ℕ) : Type 0 where
-  pub ready : Ready p stack work supports tables numbers
+pub record AtNode (p : Problem) (gs : List (List ℕ)) (stack work supports tables numbers : List ℕ) (k : ℕ) : Type 0 where
+  pub ready : Ready p gs stack work supports tables numbers
   pub room : k < p .variables
-  pub live : T (isLive p (take k work))
-  pub held : Holds p stack k (setsAt p (take k work))
-  pub marked : Marked p work (take k work) k
-  pub member : T (has (at (setsAt p (take k work)) k) (at work k))
+  pub live : T (isLive (withOrderings p gs) (take k work))
+  pub held : Holds p stack k (setsAt (withOrderings p gs) (take k work))
+  pub marked : Marked p gs work (take k work) k
+  pub member : T (has (at (setsAt (withOrderings p gs) (take k work)) k) (at work k))
 
 -- the prefix with one value more
 abbrev pub longer : List ℕ → ℕ → List ℕ
@@ -55,12 +66,12 @@ longer work k = take k work ++ (at work k ∷ [])
 
 -- the answer is whether the prefix is dead; its sets and marks are at depth k where it is live. What a dead prefix leaves in the sets and marks of depth k
 -- is open; no other set, no value of the prefix and no other mark is changed
-pub record Reached (p : Problem) (prefix : List ℕ) (k : ℕ) (stack work stack′ work′ : List ℕ) (dead : Bool) : Type 0 where
-  pub answers : dead ≡ not (isLive p prefix)
-  pub holds : dead ≡ false → Holds p stack′ k (setsAt p prefix)
+pub record Reached (p : Problem) (gs : List (List ℕ)) (prefix : List ℕ) (k : ℕ) (stack work stack′ work′ : List ℕ) (dead : Bool) : Type 0 where
+  pub answers : dead ≡ not (isLive (withOrderings p gs) prefix)
+  pub holds : dead ≡ false → Holds p stack′ k (setsAt (withOrderings p gs) prefix)
   pub before : (i : ℕ) → i < 16 * k → at stack′ i ≡ at stack i
   pub after : (i : ℕ) → 16 * k + 16 ≤ i → at stack′ i ≡ at stack i
-  pub marked : dead ≡ false → Marked p work′ prefix k
+  pub marked : dead ≡ false → Marked p gs work′ prefix k
   pub kept : (j : ℕ) → j < 16 * k + MARKS → at work′ j ≡ at work j
   pub beyond : (j : ℕ) → 16 * k + MARKS + 16 ≤ j → at work′ j ≡ at work j
   pub stack-length : length stack′ ≡ length stack

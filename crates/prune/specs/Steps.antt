@@ -4,20 +4,21 @@ use mathlib.Core.Path.{_≡_}
 use mathlib.Core.Bool.{Bool, true, false, not}
 use mathlib.Core.List.{List, List·Memᴰ}
 use Prim.Native.Nat.{ℕ, _+_, _*_, _≤_, _<_}
-use lib.Dec.{T, eqb}
+use lib.Dec.{T, eqb, ltb}
 use lib.ListN.{length, take}
-use Rattle.model.specs.Lists.{at}
-use Rattle.model.specs.ValueSets.{has, anyEmpty}
+use Rattle.model.specs.Lists.{both, at, tabulate}
+use Rattle.model.specs.ValueSets.{has, maskOf, anyEmpty}
 use Rattle.model.specs.Problem.{Problem}
 use Rattle.model.specs.Nogood.{filtered}
 use Rattle.model.specs.Search.{nogoodsOf, setsAt, isLive}
 use Rattle.model.specs.Pruning.{Sets, Inside, Way, Prunes}
 use Rattle.model.specs.WellFormed.{WellFormed}
-use Rattle.layout.specs.Places.{MARKS}
+use Rattle.layout.specs.Places.{MARKS, DEAD}
 use Rattle.layout.specs.Layout.{constraintAt}
 use Rattle.layout.specs.Tables.{Indexed, byRows}
 use Rattle.layout.specs.Pruning.{Given, Ended, Fixed, Arc, setsOf}
-use Rattle.prune.specs.Node.{MarksRight}
+use Rattle.block.specs.BlockSets.{BlockIn, Ascends}
+use Rattle.prune.specs.Node.{MarksRight, blockOf, withOrderings}
 
 -- the arrays hold p
 pub record ArraysHold (p : Problem) (supports tables numbers : List ℕ) : Type 0 where
@@ -85,18 +86,28 @@ pub record AllFilteredOr (p : Problem) (k : ℕ) (work sets work′ sets′ : Li
   pub kept : OnlyMarks work work′ k
 
 -- ---- both by turns
--- on the way to the sets at the prefix
-pub record BeforeFixpoint (p : Problem) (work numbers sets : List ℕ) (k todo dirty : ℕ) : Type 0 where
+-- the orderings of the block are among gs
+pub record Blocked (p : Problem) (gs : List (List ℕ)) (numbers : List ℕ) : Type 0 where
+  pub block : BlockIn p (blockOf numbers) gs
+  pub few : (x : ℕ) → T (blockOf numbers x) → x < p .variables
+
+-- sets from which pruning starts: the prefix is held, none is empty, the marks are right
+pub record Startable (p : Problem) (work numbers sets : List ℕ) (k todo dirty : ℕ) : Type 0 where
   pub prefix-held : PrefixHeld p work k
   pub live : LiveSets p sets
   pub pending : Pending p numbers sets todo dirty
   pub marking : MarksRight p (setsOf p sets) (take k work) work k
-  pub way : Way p (take k work) (setsOf p sets)
+
+-- and they are on the way to the sets at the prefix, with nothing left to do for the block
+pub record BeforeFixpoint (p : Problem) (gs : List (List ℕ)) (work numbers sets : List ℕ) (k todo dirty : ℕ) : Type 0 where
+  pub startable : Startable p work numbers sets k todo dirty
+  pub way : Way (withOrderings p gs) (take k work) (setsOf p sets)
+  pub ascends : Ascends (blockOf numbers) (take k work) (setsOf p sets)
 
 -- there: the answer is whether the prefix is dead, and where it is live, the sets are those at the prefix, and the marks are right for them
-pub record AfterFixpoint (p : Problem) (k : ℕ) (work work′ sets : List ℕ) (dead : Bool) : Type 0 where
-  pub answers : dead ≡ not (isLive p (take k work))
-  pub sets-are : dead ≡ false → setsOf p sets ≡ setsAt p (take k work)
+pub record AfterFixpoint (p : Problem) (gs : List (List ℕ)) (k : ℕ) (work work′ sets : List ℕ) (dead : Bool) : Type 0 where
+  pub answers : dead ≡ not (isLive (withOrderings p gs) (take k work))
+  pub sets-are : dead ≡ false → setsOf p sets ≡ setsAt (withOrderings p gs) (take k work)
   pub live : dead ≡ false → LiveSets p sets
   pub marking : dead ≡ false → MarksRight p (setsOf p sets) (take k work) work′ k
   pub kept : OnlyMarks work work′ k
@@ -105,6 +116,19 @@ pub record AfterFixpoint (p : Problem) (k : ℕ) (work work′ sets : List ℕ) 
 pub record Differ (old new : List ℕ) (changed : ℕ) : Type 0 where
   pub few : (x : ℕ) → T (has changed x) → x < 16
   pub differ : (x : ℕ) → x < 16 → has changed x ≡ not (eqb (at new x) (at old x))
+
+-- ---- the block
+-- sixteen sets, where those of some variables have lost the values below v
+unfoldable pub cutBelow : ℕ → ℕ → List ℕ → List ℕ
+cutBelow some v sets = tabulate (length sets) (λ y. maskOf (λ u. both (has (at sets y) u) (not (both (has some y) (ltb u v)))))
+
+-- the values below v are taken from the sets of some variables: the answer is the variables whose sets have changed, or DEAD where one is empty
+pub record CutOr (sets cut sets′ : List ℕ) (some : ℕ) (r : ℕ) : Type 0 where
+  pub dead : r ≡ DEAD → (y : ℕ) × (T (has some y) × (at cut y ≡ 0))
+  pub cut-to : (r ≡ DEAD → ⊥) → sets′ ≡ cut
+  pub full : (r ≡ DEAD → ⊥) → (y : ℕ) → T (has some y) → at sets′ y ≡ 0 → at sets y ≡ 0
+  pub differ : (r ≡ DEAD → ⊥) → Differ sets sets′ r
+  pub few : (r ≡ DEAD → ⊥) → (x : ℕ) → T (has r x) → T (has some x)
 
 -- ---- copies
 -- sixteen sets from a depth of the stack

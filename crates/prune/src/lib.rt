@@ -1,4 +1,5 @@
 // The sets at a prefix (paper 01, "The search"), from those at the prefix with one value less.
+use layout::BLOCK;
 use layout::DEAD;
 use layout::FAILED;
 use layout::INITIAL;
@@ -9,15 +10,20 @@ use layout::SYMMETRIES;
 use layout::VARIABLES;
 use model::ValueSet;
 ghost use mathlib.Core.Path.{_≡_};
-ghost use mathlib.Core.List.{[]};
+ghost use mathlib.Core.Bool.{not};
+ghost use mathlib.Core.List.{List, []};
 ghost use Prim.Native.Nat.{ℕ, _+_, _*_, _%_, _<_};
+ghost use lib.Dec.{T, ltb};
 ghost use lib.ListN.{length, take};
-ghost use Rattle.model.specs.Lists.{at};
+ghost use Rattle.model.specs.Lists.{both, at};
+ghost use Rattle.model.specs.ValueSets.{has, maskOf};
 ghost use Rattle.model.specs.Problem.{Problem};
+ghost use Rattle.model.specs.Pruning.{Sets};
+ghost use Rattle.block.specs.BlockSets.{cutAfter};
 ghost use Rattle.layout.specs.Places.{INITIAL, MARKS};
 ghost use Rattle.layout.specs.Pruning.{setsOf};
 ghost use Rattle.prune.specs.Node.{Ready, MarksRight, AtNode, Reached, longer};
-ghost use Rattle.prune.specs.Steps.{ArraysHold, Pending, AllConstrainedOr, PrefixHeld, LiveSets, AllFilteredOr, BeforeFixpoint, AfterFixpoint, Differ, Loaded, Stored};
+ghost use Rattle.prune.specs.Steps.{ArraysHold, Blocked, Pending, AllConstrainedOr, PrefixHeld, LiveSets, AllFilteredOr, BeforeFixpoint, AfterFixpoint, Differ, cutBelow, CutOr, Loaded, Stored};
 
 // Prunes by the constraints until nothing moves, those by variable and the others by turns; true where a set is empty.
 fn constrain(
@@ -103,8 +109,8 @@ fn fixpoint(
     todo: u64,
     dirty: u64,
 ) -> bool
-    requires { ⌜ ((p : Problem) × ArraysHold p (now supports) (now tables) (now numbers) × BeforeFixpoint p (now work) (now numbers) (now sets) k todo dirty) ⌝ }
-    ensures { λ r. ⌜ ((p : Problem) → ArraysHold p (now (supports .entry)) (now (tables .entry)) (now (numbers .entry)) → BeforeFixpoint p (now (work .entry)) (now (numbers .entry)) (now (sets .entry)) k todo dirty → AfterFixpoint p k (now (work .entry)) (now (work .exit)) (now (sets .exit)) r) ⌝ }
+    requires { ⌜ ((p : Problem) × (gs : List (List ℕ)) × ArraysHold p (now supports) (now tables) (now numbers) × Blocked p gs (now numbers) × BeforeFixpoint p gs (now work) (now numbers) (now sets) k todo dirty) ⌝ }
+    ensures { λ r. ⌜ ((p : Problem) (gs : List (List ℕ)) → ArraysHold p (now (supports .entry)) (now (tables .entry)) (now (numbers .entry)) → Blocked p gs (now (numbers .entry)) → BeforeFixpoint p gs (now (work .entry)) (now (numbers .entry)) (now (sets .entry)) k todo dirty → AfterFixpoint p gs k (now (work .entry)) (now (work .exit)) (now (sets .exit)) r) ⌝ }
 {
     let mut left = todo;
     let mut moved = dirty;
@@ -166,6 +172,48 @@ fn due(old: ValueSet, one: ValueSet, all: u64) -> u64
     if old.bits == one.bits { 0 } else { all }
 }
 
+// The members that are not below v.
+fn not_below(set: ValueSet, v: u16) -> ValueSet
+    requires { ⌜ v < 16 ⌝ }
+    ensures { λ r. ⌜ r .bits ≡ maskOf (λ u. both (has (set .bits) u) (not (ltb u v))) ⌝ }
+{
+    ValueSet {
+        bits: set.bits & !ValueSet::full(v).bits,
+    }
+}
+
+// Takes the values below v from the sets of some variables.
+fn cut(sets: &mut [u16; 16], some: u64, v: u16) -> u64
+    requires { ⌜ Sets 16 (now sets) × (v < 16) × ((y : ℕ) → T (has some y) → y < 16) ⌝ }
+    ensures { λ r. ⌜ CutOr (now (sets .entry)) (cutBelow some v (now (sets .entry))) (now (sets .exit)) some r ⌝ }
+{
+    let mut changed = 0u64;
+    let mut left = some;
+    while left != 0 {
+        let y = u64::trailing_zeros(left) as usize;
+        let old = ValueSet { bits: sets[y] };
+        let kept = not_below(old, v);
+        if kept.is_empty() {
+            return DEAD;
+        }
+        sets[y] = kept.bits;
+        changed = changed | constraints::moved(old, kept, y);
+        left = left & (left - 1);
+    }
+    changed
+}
+
+// Variable k has been settled to v: where it is one of the block, the block's later variables lose the values below v (paper 02, #111).
+fn cut_later(sets: &mut [u16; 16], block: u64, k: usize, v: u16) -> u64
+    requires { ⌜ Sets 16 (now sets) × (k < 12) × (v < 16) × ((y : ℕ) → T (has block y) → y < 16) ⌝ }
+    ensures { λ r. ⌜ CutOr (now (sets .entry)) (cutAfter (has block) k v (now (sets .entry))) (now (sets .exit)) block r ⌝ }
+{
+    if (block >> k) & 1 == 1 {
+        return cut(sets, block & !((2u64 << k) - 1), v);
+    }
+    0
+}
+
 // The marks of depth 0: nothing is known yet.
 fn clear_marks(work: &mut [u64; 256])
     requires { ⌜ length (now work) ≡ 256 ⌝ }
@@ -200,8 +248,8 @@ pub fn root(
     tables: &[u16; 55296],
     numbers: &[u64; 384],
 ) -> bool
-    requires { ⌜ ((p : Problem) × Ready p (now stack) (now work) (now supports) (now tables) (now numbers)) ⌝ }
-    ensures { λ r. ⌜ ((p : Problem) → Ready p (now (stack .entry)) (now (work .entry)) (now (supports .entry)) (now (tables .entry)) (now (numbers .entry)) → Reached p [] 0 (now (stack .entry)) (now (work .entry)) (now (stack .exit)) (now (work .exit)) r) ⌝ }
+    requires { ⌜ ((p : Problem) × (gs : List (List ℕ)) × Ready p gs (now stack) (now work) (now supports) (now tables) (now numbers)) ⌝ }
+    ensures { λ r. ⌜ ((p : Problem) (gs : List (List ℕ)) → Ready p gs (now (stack .entry)) (now (work .entry)) (now (supports .entry)) (now (tables .entry)) (now (numbers .entry)) → Reached p gs [] 0 (now (stack .entry)) (now (work .entry)) (now (stack .exit)) (now (work .exit)) r) ⌝ }
 {
     let mut sets = [1u16; 16];
     initial(numbers, &mut sets);
@@ -233,17 +281,22 @@ pub fn child(
     numbers: &[u64; 384],
     k: usize,
 ) -> bool
-    requires { ⌜ ((p : Problem) × AtNode p (now stack) (now work) (now supports) (now tables) (now numbers) k) ⌝ }
-    ensures { λ r. ⌜ ((p : Problem) → AtNode p (now (stack .entry)) (now (work .entry)) (now (supports .entry)) (now (tables .entry)) (now (numbers .entry)) k → Reached p (longer (now (work .entry)) k) (k + 1) (now (stack .entry)) (now (work .entry)) (now (stack .exit)) (now (work .exit)) r) ⌝ }
+    requires { ⌜ ((p : Problem) × (gs : List (List ℕ)) × AtNode p gs (now stack) (now work) (now supports) (now tables) (now numbers) k) ⌝ }
+    ensures { λ r. ⌜ ((p : Problem) (gs : List (List ℕ)) → AtNode p gs (now (stack .entry)) (now (work .entry)) (now (supports .entry)) (now (tables .entry)) (now (numbers .entry)) k → Reached p gs (longer (now (work .entry)) k) (k + 1) (now (stack .entry)) (now (work .entry)) (now (stack .exit)) (now (work .exit)) r) ⌝ }
 {
     let mut sets = [1u16; 16];
     load(stack, k, &mut sets);
     copy_marks(work, k);
     let old = ValueSet { bits: sets[k] };
-    let one = old.only((work[k] % 16) as u16);
+    let v = (work[k] % 16) as u16;
+    let one = old.only(v);
     let todo = due(old, one, numbers[OTHERS + k]);
     let dirty = due(old, one, numbers[LINKED] & (1u64 << k));
     sets[k] = one.bits;
+    let changed = cut_later(&mut sets, numbers[BLOCK], k, v);
+    if changed == DEAD {
+        return true;
+    }
     let dead = fixpoint(
         &mut sets,
         work,
@@ -251,8 +304,8 @@ pub fn child(
         tables,
         numbers,
         k + 1,
-        todo,
-        dirty,
+        todo | constraints::touched(numbers, changed),
+        dirty | (changed & numbers[LINKED]),
     );
     if dead {
         return true;

@@ -12,11 +12,9 @@ use Rattle.model.specs.ValueSets.{members, anyEmpty}
 use Rattle.model.specs.Problem.{Problem}
 use Rattle.model.specs.Search.{setsAt, isLive, nodesBelow}
 use Rattle.model.specs.Pruning.{closed}
-use Rattle.model.specs.WellFormed.{WellFormed}
 use Rattle.model.proofs.Lists.{of-not}
 use Rattle.model.proofs.Sets.{members-of-none, member, at-zeros, empty-i}
-use Rattle.model.proofs.Prune.{setsAt-dead, live-is, live-closed, largest, narrowed-e}
-use Rattle.model.proofs.Tree.{well-sized}
+use Rattle.model.proofs.Prune.{Sized, setsAt-dead, live-is, live-closed, largest, narrowed-e}
 
 -- ---- a dead prefix
 dead-sets : (p : Problem) (prefix : List ℕ) (x : ℕ) → isLive p prefix ≡ false → at (setsAt p prefix) x ≡ 0
@@ -31,9 +29,9 @@ dead-below p (suc k) prefix d =
     ∙ ap (λ (l : List ℕ). flat (map (λ v. (prefix ++ (v ∷ [])) ∷ nodesBelow p k (prefix ++ (v ∷ []))) l)) members-of-none
 
 -- ---- a live prefix: its values are below 16
-pub live-values : (p : Problem) → WellFormed p → (t : List ℕ) → T (isLive p t) → (i : ℕ) → i < length t → i < p .variables → at t i < 16
-live-values p w t l i h x =
-    let k = largest p t (well-sized p w) in
+pub live-values : (p : Problem) → Sized p → (t : List ℕ) → T (isLive p t) → (i : ℕ) → i < length t → i < p .variables → at t i < 16
+live-values p z t l i h x =
+    let k = largest p t z in
     let u = member (at (closed p t) i) (k .sets .1 i) (λ z. of-not (anyEmpty (closed p t)) (live-closed p t l) (empty-i (closed p t) i (let q = k .sets .0 in omega arith) z)) in
     let q = narrowed-e t (p .initial) i (u .0) (k .inside i (u .0) (u .2)) .1 h in
     let v = u .1 in omega arith

@@ -18,6 +18,7 @@ use Rattle.model.proofs.Lists.{T-of, both-l, at-set, at-set-other}
 use Rattle.model.proofs.Sets.{mask-e}
 use Rattle.model.proofs.Lowest.{lowest-in, without-less}
 use Rattle.model.proofs.Tally.{total-set}
+use Rattle.model.proofs.Tree.{well-sized}
 use Rattle.model.specs.WellFormed.{WellFormed}
 use Rattle.order.specs.Order.{Ordering}
 use Rattle.order.specs.Reordered.{write}
@@ -25,7 +26,7 @@ use Rattle.layout.specs.Places.{VARIABLES, LIMIT, ROOM, PLANS, MARKS, ALL, SPEN
 use Rattle.prune.specs.Node.{Ready, Holds, Marked, AtNode, Reached, longer}
 use Rattle.prune.proofs.Marks.{marked-on}
 use Rattle.search.specs.Walk.{withNode, Summed, State, listed, counted, walk, nodesFor}
-use Rattle.search.specs.Pair.{prefixOf, settling, orderIn, stateOf, ListRoom, Listed, AtPrefix, AtValues, AtValue, Walked, Entered, tried, lowestNode, lowestTried}
+use Rattle.search.specs.Pair.{prefixOf, settling, orderIn, ownIn, stateOf, ListRoom, Listed, AtPrefix, AtValues, AtValue, Walked, Entered, tried, lowestNode, lowestTried}
 use Rattle.search.proofs.Laws.{live-values}
 use Rattle.search.proofs.Walk.{Fits, walk-fits, walk-stopped}
 use Rattle.search.proofs.Steps.{below-is, step-none, step, step-spent, node-dead, node-plan, node-inner}
@@ -33,11 +34,13 @@ use Rattle.search.proofs.Prefix.{length-prefix, prefix-at, prefix-ext, 
 use Rattle.search.proofs.Written.{order-at, length-order, settling-inside}
 
 -- the arrays still hold p where what was lent kept its length
-ready-on : {p : Problem} {stack work supports tables numbers stack′ work′ : List ℕ} → Ready p stack work supports tables numbers → length stack′ ≡ length stack → length work′ ≡ length work →
-    Ready p stack′ work′ supports tables numbers
+ready-on : {p : Problem} {gs : List (List ℕ)} {stack work supports tables numbers stack′ work′ : List ℕ} → Ready p gs stack work supports tables numbers → length stack′ ≡ length stack → length work′ ≡ length work →
+    Ready p gs stack′ work′ supports tables numbers
 ready-on h s w = record {
   indexed = h .indexed;
   wellFormed = h .wellFormed;
+  block = h .block;
+  block-few = h .block-few;
   constraints = h .constraints;
   symmetries = h .symmetries;
   stack-length = s ∙ h .stack-length;
@@ -131,8 +134,8 @@ module _ (p : Problem) (stack work supports tables numbers list : List ℕ) (tal
           ready = ready-on (h .prefix .ready) (d .stack-length) (d .work-length);
           inner = h .prefix .inner;
           live = subst (λ (q : List ℕ). T (isLive p q)) (sym same) (h .prefix .live);
-          held = held-on p stack stack′ k (setsAt p (prefixOf work′ k)) (h .prefix .ready .wellFormed) (d .sets) (subst (λ (q : List ℕ). Holds p stack k (setsAt p q)) (sym same) (h .prefix .held));
-          marked = marked-on p work work′ (prefixOf work′ k) k (h .prefix .ready .symmetries) (d .marks) (subst (λ (q : List ℕ). Marked p work q k) (sym same) (h .prefix .marked));
+          held = held-on (ownIn p numbers) stack stack′ k (setsAt p (prefixOf work′ k)) (h .prefix .ready .wellFormed) (d .sets) (subst (λ (q : List ℕ). Holds (ownIn p numbers) stack k (setsAt p q)) (sym same) (h .prefix .held));
+          marked = marked-on (ownIn p numbers) (p .symmetries) work work′ (prefixOf work′ k) k (h .prefix .ready .symmetries) (d .marks) (subst (λ (q : List ℕ). Marked (ownIn p numbers) (p .symmetries) work q k) (sym same) (h .prefix .marked));
           limited = h .prefix .limited;
           allowed = fits .allowed;
           summed = d .summed;
@@ -203,14 +206,14 @@ module _ (p : Problem) (stack work supports tables numbers list : List ℕ) (tal
   longer-is : longer put k ≡ here
   longer-is = ap₂ (λ (q : List ℕ) (u : ℕ). q ++ (u ∷ [])) taken value
 
-  pub child-asks : AtNode p stack put supports tables numbers k
+  pub child-asks : AtNode (ownIn p numbers) (p .symmetries) stack put supports tables numbers k
   child-asks = record {
     ready = ready-on (h .ready) refl (length-set work k v);
     room = h .inner;
     live = subst (λ (q : List ℕ). T (isLive p q)) (sym taken) (h .live);
-    held = subst (λ (q : List ℕ). Holds p stack k (setsAt p q)) (sym taken) (h .held);
-    marked = marked-on p work put (take k put) k (h .ready .symmetries) (λ i l u. kept i (let f = h .ready .wellFormed .few in let n = h .inner in λ e. omega arith))
-        (subst (λ (q : List ℕ). Marked p work q k) (sym taken) (h .marked));
+    held = subst (λ (q : List ℕ). Holds (ownIn p numbers) stack k (setsAt p q)) (sym taken) (h .held);
+    marked = marked-on (ownIn p numbers) (p .symmetries) work put (take k put) k (h .ready .symmetries) (λ i l u. kept i (let f = h .ready .wellFormed .few in let n = h .inner in λ e. omega arith))
+        (subst (λ (q : List ℕ). Marked (ownIn p numbers) (p .symmetries) work q k) (sym taken) (h .marked));
     member = subst (λ (u : ℕ). T (has (at (setsAt p (take k put)) k) u)) (sym value)
         (subst (λ (q : List ℕ). T (has (at (setsAt p q) k) (lowestOf m))) (sym taken) (g .values .inside (lowestOf m) (lowest-in m small (λ e. let o = g .some in omega arith))));
   }
@@ -228,7 +231,7 @@ module _ (p : Problem) (stack work supports tables numbers list : List ℕ) (tal
   summed₂ : Summed next
   summed₂ = summed-more x tally few (h .summed)
 
-  module _ (stack₂ work₂ : List ℕ) (dead : Bool) (q : Reached p (longer put k) (k + 1) stack put stack₂ work₂ dead) where
+  module _ (stack₂ work₂ : List ℕ) (dead : Bool) (q : Reached (ownIn p numbers) (p .symmetries) (longer put k) (k + 1) stack put stack₂ work₂ dead) where
     sets₂ : (i : ℕ) → i < 16 * suc k → at stack₂ i ≡ at stack i
     sets₂ i l = q .before i (omega arith)
 
@@ -300,7 +303,7 @@ module _ (p : Problem) (stack work supports tables numbers list : List ℕ) (tal
     pub plan-bytes : dead ≡ false → k + 1 ≡ p .variables → (i : ℕ) → i < p .variables → at work₂ i < 256
     plan-bytes e n i l =
         let z : i < k + 1 = omega arith in
-        let s = live-values p (h .ready .wellFormed) here (T-of _ (live₂ e)) i (let a = length-node in omega arith) l in
+        let s = live-values p (well-sized (ownIn p numbers) (h .ready .wellFormed)) here (T-of _ (live₂ e)) i (let a = length-node in omega arith) l in
         let a : at here i ≡ at work₂ i = ap (λ (t : List ℕ). at t i) (sym node₂) ∙ prefix-at work₂ (k + 1) i z in
         omega arith
 
@@ -334,8 +337,8 @@ module _ (p : Problem) (stack work supports tables numbers list : List ℕ) (tal
       ready = ready-on (h .ready) (q .stack-length) work-length₂;
       inner = let i = h .inner in omega arith;
       live = T-of (isLive p (prefixOf work₂ (k + 1))) (subst (λ (t : List ℕ). isLive p t ≡ true) (sym node₂) (live₂ e));
-      held = subst (λ (t : List ℕ). Holds p stack₂ (k + 1) (setsAt p t)) (longer-is ∙ sym node₂) (q .holds e);
-      marked = subst (λ (t : List ℕ). Marked p work₂ t (k + 1)) (longer-is ∙ sym node₂) (q .marked e);
+      held = subst (λ (t : List ℕ). Holds (ownIn p numbers) stack₂ (k + 1) (setsAt p t)) (longer-is ∙ sym node₂) (q .holds e);
+      marked = subst (λ (t : List ℕ). Marked (ownIn p numbers) (p .symmetries) work₂ t (k + 1)) (longer-is ∙ sym node₂) (q .marked e);
       limited = h .limited;
       allowed = let a = h .allowed in let d = g .due in omega arith;
       summed = summed₂;

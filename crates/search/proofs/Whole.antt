@@ -7,24 +7,28 @@ use Prim.Native.Nat.{ℕ, zero, suc, _+_, _*_, _/_, _%_, _^_, _≤_, _<_}
 use native.Mathlib.Nat.{div-add-mod', mod-lt, sub-zero, not-suc-le-zero}
 use native.Mathlib.Decide.{decLt}
 use native.Mathlib.Omega.{arith}
-use lib.Dec.{T, eqb}
-use borrow.Author.Tests.{not-true, not-false, eqb-true, eqb-false}
-use lib.ListN.{length, set, length-set, length-replicate}
-use Rattle.model.specs.Lists.{at, choose, total}
+use lib.Dec.{T, eqb, ltb}
+use borrow.Author.Tests.{not-true, not-false, eqb-true, eqb-false, ltb-true, lt-ltb}
+use lib.ListN.{length, set, take, length-set, length-replicate}
+use Rattle.model.specs.Lists.{both, at, choose, total}
 use Rattle.model.specs.ValueSets.{has}
 use Rattle.model.specs.Problem.{Problem}
 use Rattle.model.specs.Search.{isLive, setsAt, nodes, nodesBelow}
 use Rattle.model.specs.Verdict.{Verdict, accepted, refused}
 use Rattle.model.specs.Run.{finished, spent, full, ended, resultOf, Tally, plansIn, nodesIn}
 use Rattle.model.specs.Run as Run
-use Rattle.model.proofs.Lists.{T-of, at-set, at-set-other}
+use Rattle.model.specs.Filling.{Gathered}
+use Rattle.model.specs.Sheet.{problemOf}
+use Rattle.model.proofs.Lists.{T-of, of-T, both-l, at-set, at-set-other, at-take}
 use Rattle.order.specs.Order.{Ordering}
+use Rattle.order.specs.Reordered.{reordered}
 use Rattle.order.specs.RunBy.{resultBy, placeCounts}
+use Rattle.block.specs.Block.{inLent}
 use Rattle.lent.specs.Lent.{verdictLent, orderLent, problemLent, answerLentFor, answerLent, listLentFor, listLent, tallyLentFor, tallyLent}
 use Rattle.lent.specs.Compile.{WithinLimits, CompiledLent}
 use Rattle.lent.proofs.Lent.{passed-all, ordering-lent}
 use Rattle.lent.proofs.LentQuestions.{refused-lent}
-use Rattle.layout.specs.Places.{VARIABLES, VALUES, CONSTRAINTS, SYMMETRIES, LIMIT, ROOM, LINKED, BY-ROWS, OTHERS, LOOSE, ORDER, LANES, PLANS, NUMBER, ITEM, ALL, SPENT, DEEPER, REFUSED}
+use Rattle.layout.specs.Places.{VARIABLES, VALUES, CONSTRAINTS, SYMMETRIES, LIMIT, ROOM, LINKED, BY-ROWS, OTHERS, LOOSE, ORDER, BLOCK, LANES, PLANS, NUMBER, ITEM, ALL, SPENT, DEEPER, REFUSED}
 use Rattle.layout.specs.Layout.{Numbers, Compiled}
 use Rattle.layout.specs.Tables.{Linked, Indexed}
 use Rattle.sheet.specs.Form.{Zeros}
@@ -32,13 +36,14 @@ use Rattle.sheet.specs.Meaning as S
 use Rattle.sheet.specs.declared.Answer.{Answer as Verdicts}
 use Rattle.sheet.specs.declared.Answer.the-variants.{Accepted}
 use Rattle.index.specs.Index.{Compact, Made}
-use Rattle.prune.specs.Node.{Ready, Holds, Marked, Reached}
+use Rattle.prune.specs.Node.{blockOf, Ready, Holds, Marked, Reached}
 use Rattle.search.specs.Walk.{noNodes, Summed, State, walk, stopIn, tallyBy}
-use Rattle.search.specs.Pair.{prefixOf, orderIn, Cleared, stateOf, ListRoom, AtPrefix, AtValues, Walked, tried}
+use Rattle.search.specs.Pair.{prefixOf, orderIn, ownIn, Cleared, stateOf, ListRoom, AtPrefix, AtValues, Walked, tried}
 use Rattle.search.specs.Meaning.{means}
 use Rattle.search.specs.Whole.{ordered, Prepared, RunTo, Explored, Stopped, Answered}
 use Rattle.search.specs.declared.Answer.{Answer}
 use Rattle.search.proofs.Laws.{dead-below}
+use Rattle.search.proofs.Blocks.{own-first, block-ext, lent-block}
 use Rattle.search.proofs.Outcome.{outcome}
 use Rattle.search.proofs.Turns.{values-ask, tried-all}
 use Rattle.search.proofs.Prefix.{prefix-zero}
@@ -107,7 +112,8 @@ pub none-summed : Summed noNodes
 unfolding total
 none-summed = record { twelve = length-replicate {A = ℕ} 12 0; sum = refl }
 
--- `compile` has answered, and no question with "no": p is the problem whose tree the run walks, and the bytes begin with the order
+-- `compile` has answered, and no question with "no": p is the problem whose tree the run walks, own the one that the arrays hold, and the bytes begin
+-- with the order
 module _ (b pairs block : List ℕ) (numbers supports images bytes : List ℕ) (r : Verdicts) (left : CompiledLent b pairs block numbers supports images bytes r) where
   module _ (is : r ≡ Accepted) where
     abbrev p : Problem
@@ -116,13 +122,16 @@ module _ (b pairs block : List ℕ) (numbers supports images bytes : List ℕ) (
     abbrev order : List ℕ
     order = orderLent b pairs
 
+    abbrev own : Problem
+    own = reordered order (problemOf b)
+
     accepts : verdictLent b pairs block ≡ accepted
     accepts = sym (left .answers) ∙ ap S.means is
 
-    abbrev fits : WithinLimits p
+    abbrev fits : WithinLimits own
     fits = left .limits is
 
-    abbrev h : Compiled p numbers supports images
+    abbrev h : Compiled own numbers supports images
     h = left .compiled is
 
     long : length numbers ≡ 384
@@ -141,9 +150,9 @@ module _ (b pairs block : List ℕ) (numbers supports images bytes : List ℕ) (
       at-room : at bounded ROOM ≡ room
       at-room = ap (λ (l : List ℕ). at l ROOM) put ∙ at-set (set numbers LIMIT limit) ROOM room (let l = length-set numbers LIMIT limit in let e = long in omega arith)
 
-      pub compact : (tables : List ℕ) → length tables ≡ 55296 → Compact p bounded supports images tables
+      pub compact : (tables : List ℕ) → length tables ≡ 55296 → Compact own bounded supports images tables
       compact tables lt = record {
-        compiled = record { numbered = numbers-kept p numbers bounded (fits .wellFormed .few) (fits .constraints) kept (h .numbered); supported = h .supported; imaged = h .imaged };
+        compiled = record { numbered = numbers-kept own numbers bounded (fits .wellFormed .few) (fits .constraints) kept (h .numbered); supported = h .supported; imaged = h .imaged };
         wellFormed = fits .wellFormed;
         constraints = fits .constraints;
         symmetries = fits .symmetries;
@@ -151,23 +160,51 @@ module _ (b pairs block : List ℕ) (numbers supports images bytes : List ℕ) (
         tables-length = lt;
       }
 
-      module _ (tables indexed tables′ : List ℕ) (made : Made p bounded supports tables indexed tables′) (numbers′ : List ℕ) (orders : numbers′ ≡ ordered bytes 12 indexed) where
+      module _ (tables indexed tables′ : List ℕ) (made : Made own bounded supports tables indexed tables′) (positions : ℕ) (gathered : Gathered (λ i. inLent block (at bytes i)) (at numbers VARIABLES) positions)
+          (numbers′ : List ℕ) (orders : numbers′ ≡ set (ordered bytes 12 indexed) BLOCK positions) where
+        other : (i : ℕ) → (i ≡ BLOCK → ⊥) → at numbers′ i ≡ at (ordered bytes 12 indexed) i
+        other i d = ap (λ (m : List ℕ). at m i) orders ∙ at-set-other (ordered bytes 12 indexed) BLOCK positions i d
+
         low : (i : ℕ) → i < ORDER → at numbers′ i ≡ at indexed i
-        low i l = ap (λ (m : List ℕ). at m i) orders ∙ ordered-other bytes 12 i indexed (λ j m e. omega arith)
+        low i l = other i (λ e. omega arith) ∙ ordered-other bytes 12 i indexed (λ j m e. omega arith)
 
         high : (i : ℕ) → LANES ≤ i → at numbers′ i ≡ at indexed i
-        high i l = ap (λ (m : List ℕ). at m i) orders ∙ ordered-other bytes 12 i indexed (λ j m e. omega arith)
+        high i l = other i (λ e. omega arith) ∙ ordered-other bytes 12 i indexed (λ j m e. omega arith)
 
         indexed-length : length indexed ≡ 384
         indexed-length = made .numbers-length ∙ ap length put ∙ length-set (set numbers LIMIT limit) ROOM room ∙ length-set numbers LIMIT limit ∙ long
 
         order-put : orderIn numbers′ (p .variables) ≡ order
-        order-put = order-taken numbers′ bytes (p .variables) (let f = fits .wellFormed .few in let e = left .order-length in omega arith) (λ k l. ap (λ (m : List ℕ). at m (ORDER + k)) orders ∙ ordered-at bytes 12 k indexed (let e = indexed-length in omega arith) (let f = fits .wellFormed .few in omega arith)) ∙ left .order-is is
+        order-put = order-taken numbers′ bytes (p .variables) (let f = fits .wellFormed .few in let e = left .order-length in omega arith) (λ k l. other (ORDER + k) (λ e. let f = fits .wellFormed .few in omega arith) ∙ ordered-at bytes 12 k indexed (let e = indexed-length in omega arith) (let f = fits .wellFormed .few in omega arith)) ∙ left .order-is is
 
-        pub ready : (stack work : List ℕ) → length stack ≡ 208 → length work ≡ 256 → Ready p stack work supports tables′ numbers′
-        ready stack work ls lw = record {
-          indexed = indexed-kept p indexed numbers′ supports tables′ (fits .wellFormed .few) (fits .constraints) low high (made .indexed);
+        -- the positions are those of the block's variables
+        at-block : at numbers′ BLOCK ≡ positions
+        at-block = ap (λ (m : List ℕ). at m BLOCK) orders ∙ at-set (ordered bytes 12 indexed) BLOCK positions (let e = indexed-length in let l = length-ordered bytes 12 indexed in omega arith)
+
+        placed : (i : ℕ) → blockOf numbers′ i ≡ both (ltb i (p .variables)) (inLent block (at order i))
+        placed i =
+            ap (λ (m : ℕ). has m i) at-block ∙ gathered .has-is i ∙ ap (λ (n : ℕ). both (ltb i n) (inLent block (at bytes i))) (h .numbered .variables)
+            ∙ go (ltb i (p .variables)) refl
+          where
+            go : (d : Bool) → ltb i (p .variables) ≡ d → both d (inLent block (at bytes i)) ≡ both d (inLent block (at order i))
+            go true e = ap (inLent block) (sym (at-take (p .variables) bytes i (ltb-true i (p .variables) e)) ∙ ap (λ (l : List ℕ). at l i) (left .order-is is))
+            go false e = refl
+
+        -- the arrays hold the first of the tree's symmetries
+        own-is : ownIn p numbers′ ≡ own
+        own-is = λ j. record { variables = own .variables; values = own .values; initial = own .initial; constraints = own .constraints; symmetries = same j }
+          where
+            same : take (at numbers′ SYMMETRIES) (p .symmetries) ≡ own .symmetries
+            same =
+                ap (λ (n : ℕ). take n (p .symmetries)) (low SYMMETRIES (omega arith) ∙ made .kept SYMMETRIES (omega arith) ∙ kept SYMMETRIES (omega arith) ∙ h .numbered .symmetries)
+                ∙ own-first b pairs block
+
+        pub ready : (stack work : List ℕ) → length stack ≡ 208 → length work ≡ 256 → Ready (ownIn p numbers′) (p .symmetries) stack work supports tables′ numbers′
+        ready stack work ls lw = subst (λ (r : Problem). Ready r (p .symmetries) stack work supports tables′ numbers′) (sym own-is) record {
+          indexed = indexed-kept own indexed numbers′ supports tables′ (fits .wellFormed .few) (fits .constraints) low high (made .indexed);
           wellFormed = fits .wellFormed;
+          block = block-ext own (λ i. inLent block (at order i)) (blockOf numbers′) (p .symmetries) (λ i l. sym (placed i ∙ ap (λ (d : Bool). both d (inLent block (at order i))) (lt-ltb i (p .variables) l))) (lent-block b pairs block accepts);
+          block-few = λ i t. ltb-true i (p .variables) (of-T (ltb i (p .variables)) (both-l (ltb i (p .variables)) (inLent block (at order i)) (subst T (placed i) t)));
           constraints = fits .constraints;
           symmetries = fits .symmetries;
           stack-length = ls;
@@ -182,7 +219,7 @@ module _ (b pairs block : List ℕ) (numbers supports images bytes : List ℕ) (
             let m : length list % p .variables < p .variables = mod-lt (length list) n in
             record { some = n; fits = omega arith; most = omega arith; listed = omega arith }
 
-        module _ (stack work stack′ work′ : List ℕ) (dead : Bool) (ls : length stack ≡ 208) (blank : Zeros 256 work) (q : Reached p [] 0 stack work stack′ work′ dead) where
+        module _ (stack work stack′ work′ : List ℕ) (dead : Bool) (ls : length stack ≡ 208) (blank : Zeros 256 work) (q : Reached (ownIn p numbers′) (p .symmetries) [] 0 stack work stack′ work′ dead) where
           plans-none : at work′ PLANS ≡ 0
           plans-none = q .kept PLANS (omega arith) ∙ blank .blank PLANS
 
@@ -194,8 +231,8 @@ module _ (b pairs block : List ℕ) (numbers supports images bytes : List ℕ) (
             ready = ready stack′ work′ (q .stack-length ∙ ls) (q .work-length ∙ blank .sized);
             inner = fits .wellFormed .some;
             live = T-of (isLive p (prefixOf work′ 0)) (ap (isLive p) (prefix-zero work′) ∙ not-false (isLive p []) (sym (q .answers) ∙ e));
-            held = subst (λ (t : List ℕ). Holds p stack′ 0 (setsAt p t)) (sym (prefix-zero work′)) (q .holds e);
-            marked = subst (λ (t : List ℕ). Marked p work′ t 0) (sym (prefix-zero work′)) (q .marked e);
+            held = subst (λ (t : List ℕ). Holds (ownIn p numbers′) stack′ 0 (setsAt p t)) (sym (prefix-zero work′)) (q .holds e);
+            marked = subst (λ (t : List ℕ). Marked (ownIn p numbers′) (p .symmetries) work′ t 0) (sym (prefix-zero work′)) (q .marked e);
             limited = subst (λ (k : ℕ). k < 2 ^ 32) (sym limited) small;
             allowed = omega arith;
             summed = none-summed;

@@ -4,7 +4,7 @@ use mathlib.Core.Path.{_≡_}
 use mathlib.Core.List.{List, [], _∷_, _++_}
 use Prim.Native.Nat.{ℕ, suc, _+_, _-_, _*_, _^_, _≤_, _<_}
 use lib.Dec.{T}
-use lib.ListN.{length}
+use lib.ListN.{length, take}
 use Rattle.model.specs.Lists.{at, tabulate}
 use Rattle.model.specs.ValueSets.{has, lowestOf}
 use Rattle.model.specs.Problem.{Problem}
@@ -12,8 +12,8 @@ use Rattle.model.specs.Search.{setsAt, isLive, nodesBelow}
 use Rattle.model.specs.Run.{Tally}
 use Rattle.order.specs.Order.{Ordering}
 use Rattle.order.specs.Reordered.{write}
-use Rattle.layout.specs.Places.{LIMIT, ROOM, ORDER, PLANS, MARKS, ALL, DEEPER}
-use Rattle.prune.specs.Node.{Ready, Holds, Marked}
+use Rattle.layout.specs.Places.{SYMMETRIES, LIMIT, ROOM, ORDER, PLANS, MARKS, ALL, DEEPER}
+use Rattle.prune.specs.Node.{withOrderings, Ready, Holds, Marked}
 use Rattle.search.specs.Walk.{Summed, withNode, noNodes, State, listed, walk, nodesFor}
 
 -- the prefix: the first k numbers of `work`
@@ -61,14 +61,18 @@ pub record Listed (n : ℕ) (order work list work′ list′ : List ℕ) (stop :
   pub others : (i : ℕ) → (i ≡ PLANS → ⊥) → at work′ i ≡ at work i
   pub work-length : length work′ ≡ length work
 
+-- the problem that the arrays hold: p with the symmetries that are in them, which are the first of p's; the others are orderings of the block
+abbrev pub ownIn : Problem → List ℕ → Problem
+ownIn p numbers = withOrderings p (take (at numbers SYMMETRIES) (p .symmetries))
+
 -- the prefix of k values in `work` is live, its sets and marks stand at depth k, and a run goes on that may make as many nodes as the numbers say,
 -- whose counts add up, and go by an order of the variables
 pub record AtPrefix (p : Problem) (stack work supports tables numbers list : List ℕ) (tally : Tally) (k : ℕ) : Type 0 where
-  pub ready : Ready p stack work supports tables numbers
+  pub ready : Ready (ownIn p numbers) (p .symmetries) stack work supports tables numbers
   pub inner : k < p .variables
   pub live : T (isLive p (prefixOf work k))
-  pub held : Holds p stack k (setsAt p (prefixOf work k))
-  pub marked : Marked p work (prefixOf work k) k
+  pub held : Holds (ownIn p numbers) stack k (setsAt p (prefixOf work k))
+  pub marked : Marked (ownIn p numbers) (p .symmetries) work (prefixOf work k) k
   pub limited : at numbers LIMIT < 2 ^ 32
   pub allowed : tally .nodes ≤ at numbers LIMIT
   pub summed : Summed tally

@@ -1,5 +1,6 @@
 // The search (paper 01): to settle a variable is to try its values; to try a value is to settle the next variable.
 use layout::ALL;
+use layout::BLOCK;
 use layout::DEEPER;
 use layout::FULL;
 use layout::ITEM;
@@ -23,7 +24,7 @@ ghost use Rattle.model.specs.Run as Run;
 ghost use Rattle.order.specs.Order.{Ordering};
 ghost use Rattle.order.specs.Reordered.{write};
 ghost use Rattle.lent.specs.Lent.{answerLent, listLent, tallyLent};
-ghost use Rattle.layout.specs.Places.{VARIABLES, LIMIT, ROOM, ORDER, PLANS};
+ghost use Rattle.layout.specs.Places.{VARIABLES, LIMIT, ROOM, ORDER, PLANS, BLOCK};
 ghost use Rattle.search.specs.Walk.{noNodes, overwritten};
 ghost use Rattle.search.specs.Pair.{prefixOf, settling, orderIn, Countable, Counted, Cleared, ListRoom, Listed, AtValues, AtValue, Walked, Entered, tried, lowestTried};
 ghost use Rattle.search.specs.Meaning.{means, tallyIn};
@@ -290,6 +291,14 @@ fn put_order(numbers: &mut [u64], order: &[u8; 16])
     }
 }
 
+// Puts the set of the positions of the block's variables among the numbers.
+fn put_block(numbers: &mut [u64], positions: u64)
+    requires { ⌜ BLOCK < length (now numbers) ⌝ }
+    ensures { λ _. ⌜ now (numbers .exit) ≡ set (now (numbers .entry)) BLOCK positions ⌝ }
+{
+    numbers[BLOCK] = positions;
+}
+
 // Puts the questions to what is lent, and makes of it all that the search reads: REFUSED where it is, and its number and item then stand in `work`;
 // ALL where the empty prefix is dead, else DEEPER.
 fn prepare(
@@ -325,6 +334,8 @@ fn prepare(
             put_bounds(numbers, limit as u64, room as u64);
             index::index(numbers, supports, &images, tables);
             put_order(numbers, &order);
+            let positions = orderings::positions(block, n, &order);
+            put_block(numbers, positions);
             if prune::root(stack, work, supports, tables, numbers) {
                 ALL
             } else {

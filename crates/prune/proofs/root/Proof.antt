@@ -2,7 +2,7 @@
 use borrow.Author.Needs.{needs}
 use mathlib.Core.Path.{refl}
 use Rattle.model.specs.Lists.{at}
-use Rattle.prune.proofs.Starts.{some-few, some-one, arrays-hold, root-start, root-dead, root-live}
+use Rattle.prune.proofs.Starts.{some-few, some-one, arrays-hold, blocked, root-start, root-dead, root-live}
 use Rattle.prune.proofs.root.Statement.{statement}
 use Rattle.prune.proofs.root.Tie as tie
 
@@ -17,11 +17,11 @@ element-copy-out-touched c = search needs
 
 shl-touched : tie.Need-shl-touched
 unfolding at
-shl-touched c = some-few (c .before .before .before .before .before .pre .1)
+shl-touched c = some-few (c .before .before .before .before .before .pre .2)
 
 sub-touched : tie.Need-sub-touched
 unfolding at
-sub-touched c = some-one _ (some-few (c .before .before .before .before .before .pre .1))
+sub-touched c = some-one _ (some-few (c .before .before .before .before .before .pre .2))
 
 touched-requires : tie.Need-touched-requires
 touched-requires c κs = search needs
@@ -32,24 +32,24 @@ element-copy-out-fixpoint c = search needs
 fixpoint-requires : tie.Need-fixpoint-requires
 unfolding at
 fixpoint-requires c κs =
-    let r = c .before .before .before .before .before .before .before .before .before .pre .1 in
+    let r = c .before .before .before .before .before .before .before .before .before .pre .2 in
     let i = c .before .before .before .before .before .before .before .initial .ensures in
-    (_, arrays-hold r, root-start r _ (i .0) (i .1) _ refl _ (c .before .before .before .touched .ensures) _ (c .before .before .before .before .before .clear-marks .ensures))
+    (_, _, arrays-hold r, blocked r, root-start r _ (i .0) (i .1) _ refl _ (c .before .before .before .touched .ensures) _ (c .before .before .before .before .before .clear-marks .ensures))
 
 returns : tie.Need-returns
 unfolding at
-returns c = λ p r.
+returns c = λ p gs r.
     let i = c .before .before .before .before .before .before .before .before .before .initial .ensures in
-    root-dead r (c .before .before .before .before .before .before .before .before .before .initial .last .1 .0) (i .0) (i .1) _ refl _ (c .before .before .before .before .before .touched .ensures) _ (c .before .before .before .before .before .before .before .clear-marks .ensures) _ _ _ (c .before .fixpoint .ensures p (arrays-hold r) (root-start r _ (i .0) (i .1) _ refl _ (c .before .before .before .before .before .touched .ensures) _ (c .before .before .before .before .before .before .before .clear-marks .ensures))) (c .if1 .taken)
+    root-dead r (c .before .before .before .before .before .before .before .before .before .initial .last .1 .0) (i .0) (i .1) _ refl _ (c .before .before .before .before .before .touched .ensures) _ (c .before .before .before .before .before .before .before .clear-marks .ensures) _ _ _ (c .before .fixpoint .ensures p gs (arrays-hold r) (blocked r) (root-start r _ (i .0) (i .1) _ refl _ (c .before .before .before .before .before .touched .ensures) _ (c .before .before .before .before .before .before .before .clear-marks .ensures))) (c .if1 .taken)
 
 store-requires : tie.Need-store-requires
 store-requires c κs = search needs
 
 returns-2 : tie.Need-returns-2
 unfolding at
-returns-2 c = λ p r.
+returns-2 c = λ p gs r.
     let i = c .before .before .before .before .before .before .before .before .before .before .before .before .initial .ensures in
-    root-live r (c .before .before .before .before .before .before .before .before .before .before .before .before .initial .last .1 .0) (i .0) (i .1) _ refl _ (c .before .before .before .before .before .before .before .before .touched .ensures) _ (c .before .before .before .before .before .before .before .before .before .before .clear-marks .ensures) _ _ _ _ (c .before .before .before .before .fixpoint .ensures p (arrays-hold r) (root-start r _ (i .0) (i .1) _ refl _ (c .before .before .before .before .before .before .before .before .touched .ensures) _ (c .before .before .before .before .before .before .before .before .before .before .clear-marks .ensures))) (c .before .before .before .if1 .left) (c .store .ensures)
+    root-live r (c .before .before .before .before .before .before .before .before .before .before .before .before .initial .last .1 .0) (i .0) (i .1) _ refl _ (c .before .before .before .before .before .before .before .before .touched .ensures) _ (c .before .before .before .before .before .before .before .before .before .before .clear-marks .ensures) _ _ _ _ (c .before .before .before .before .fixpoint .ensures p gs (arrays-hold r) (blocked r) (root-start r _ (i .0) (i .1) _ refl _ (c .before .before .before .before .before .before .before .before .touched .ensures) _ (c .before .before .before .before .before .before .before .before .before .before .clear-marks .ensures))) (c .before .before .before .if1 .left) (c .store .ensures)
 
 pub root-spec : {M : Type 1} → statement M
 root-spec =

@@ -23,14 +23,14 @@ element-write-work c = search needs
 child-requires : tie.Need-child-requires
 child-requires c κs =
     let a = c .before .before .before .before in
-    (a .pre .0, child-asks (a .pre .0) _ _ _ _ _ _ (a .pre .1 .0) _ _ (a .pre .1 .1) (a .fits .m .fits) _ (c .before .before .lowest .ensures))
+    (_, _, child-asks (a .pre .0) _ _ _ _ _ _ (a .pre .1 .0) _ _ (a .pre .1 .1) (a .fits .m .fits) _ (c .before .before .lowest .ensures))
 
 returns : tie.Need-returns
 returns c =
     let a = c .before .before .before .before .before .before in λ p made g.
     let w = a .fits .m .fits in
     let l = c .before .before .before .before .lowest .ensures in
-    entered-dead p _ _ _ _ _ _ made _ _ g w _ l _ _ _ (c .before .child .ensures p (child-asks p _ _ _ _ _ _ made _ _ g w _ l)) (c .if1 .taken)
+    entered-dead p _ _ _ _ _ _ made _ _ g w _ l _ _ _ (c .before .child .ensures _ _ (child-asks p _ _ _ _ _ _ made _ _ g w _ l)) (c .if1 .taken)
 
 add-if2 : tie.Need-add-if2
 add-if2 c = search needs
@@ -46,7 +46,7 @@ list-plan-requires c κs =
     let g = a .pre .1 .1 in
     let w = a .fits .m .fits in
     let l = c .before .before .before .before .before .before .before .before .lowest .ensures in
-    let q = c .before .before .before .before .before .child .ensures p (child-asks p _ _ _ _ _ _ _ _ _ g w _ l) in
+    let q = c .before .before .before .before .before .child .ensures _ _ (child-asks p _ _ _ _ _ _ _ _ _ g w _ l) in
     let v = g .values .prefix .ready .indexed .numbered .variables in (
       plan-asks p _ _ _ _ _ _ _ _ _ g w _ l _ _ _ q,
       (
@@ -66,7 +66,7 @@ returns-2 c =
     let a = c .before .before .before .before .before .before .before .before .before .before .before .before .before in λ p made g.
     let w = a .fits .m .fits in
     let l = c .before .before .before .before .before .before .before .before .before .before .before .lowest .ensures in
-    let q = c .before .before .before .before .before .before .before .before .child .ensures p (child-asks p _ _ _ _ _ _ made _ _ g w _ l) in
+    let q = c .before .before .before .before .before .before .before .before .child .ensures _ _ (child-asks p _ _ _ _ _ _ made _ _ g w _ l) in
     let v = g .values .prefix .ready .indexed .numbered .variables in
     entered-plan p _ _ _ _ _ _ made _ _ g w _ l _ _ _ q (c .before .before .before .before .before .before .before .if1 .left) (c .before .before .before .before .before .if2 .taken ∙ v) _ _ _
     (c .before .before .list-plan .ensures)
@@ -77,7 +77,7 @@ returns-3 c =
     let a = c .before .before .before .before .before .before .before .before in λ p made g.
     let w = a .fits .m .fits in
     let l = c .before .before .before .before .before .before .lowest .ensures in
-    let q = c .before .before .before .child .ensures p (child-asks p _ _ _ _ _ _ made _ _ g w _ l) in
+    let q = c .before .before .before .child .ensures _ _ (child-asks p _ _ _ _ _ _ made _ _ g w _ l) in
     let v = g .values .prefix .ready .indexed .numbered .variables in
     entered-inner p _ _ _ _ _ _ made _ _ g w _ l _ _ _ q (c .before .before .if1 .left) (λ z. c .if2 .left (z ∙ sym v))
 

@@ -1,0 +1,130 @@
+-- The sets of a child once the block's later variables are cut: what may be pruned from there, and a set that is empty. Assumes nothing.
+use mathlib.Core.Path.{_≡_, refl, sym, ap, _∙_, subst}
+use mathlib.Core.Bool.{Bool, true, false}
+use mathlib.Core.List.{List}
+use mathlib.Core.Logic.{⊎-elim}
+use Prim.Native.Nat.{ℕ, _+_, _*_, _≤_, _<_}
+use native.Mathlib.Omega.{arith}
+use lib.Dec.{T}
+use lib.Bits.{bitAnd, bitOr}
+use lib.ListN.{length, take}
+use Rattle.model.specs.Lists.{either, at}
+use Rattle.model.specs.ValueSets.{has}
+use Rattle.model.specs.Problem.{Problem}
+use Rattle.model.specs.Pruning.{Sets, Inside, Way}
+use Rattle.model.proofs.Lists.{T-of, of-not, not-of, both-l, either-l, either-r, either-e}
+use Rattle.model.proofs.Sets.{empty-i}
+use Rattle.model.proofs.Masks.{has-and, has-or}
+use Rattle.model.proofs.Firsts.{take-at, take-sets, take-length, take-full, full-take}
+use Rattle.model.proofs.Tree.{well-sized}
+use Rattle.layout.specs.Places.{BLOCK, LINKED, MARKS, DEAD}
+use Rattle.layout.specs.Pruning.{Given, setsOf}
+use Rattle.constraints.specs.Steps.{Touched}
+use Rattle.levels.proofs.Marks.{mark-mono}
+use Rattle.block.specs.BlockSets.{Ascends, cutAfter}
+use Rattle.block.proofs.BlockSets.{cut-sets, cut-e}
+use Rattle.prune.specs.Node.{blockOf, withOrderings}
+use Rattle.prune.specs.Steps.{ArraysHold, Blocked, LiveSets, Startable, BeforeFixpoint, AfterFixpoint, CutOr}
+use Rattle.prune.proofs.Pending.{take-less, still-fixed, touched-known, still-arc}
+use Rattle.prune.proofs.FilterLoop.{kept-none}
+use Rattle.prune.proofs.FixpointLoop.{not-live, dead, same-at}
+use Rattle.prune.proofs.BlockCut.{after-take}
+
+module _ {p : Problem} {gs : List (List ℕ)} {supports tables numbers : List ℕ} (st : ArraysHold p supports tables numbers) (bl : Blocked p gs numbers) {work ds : List ℕ} {j todo dirty : ℕ}
+    (b : Startable p work numbers ds j todo dirty) (k v : ℕ) {cut : List ℕ} {changed : ℕ} (c : CutOr ds (cutAfter (blockOf numbers) k v ds) cut (at numbers BLOCK) changed) where
+  n-16 : p .variables ≤ 16
+  n-16 = omega (arith, st .wellFormed .few)
+
+  abbrev whole : List ℕ
+  whole = cutAfter (blockOf numbers) k v ds
+
+  whole-16 : Sets 16 whole
+  whole-16 = cut-sets (blockOf numbers) k v ds 16 (b .live .sixteen .0)
+
+  pub whole-is : setsOf p whole ≡ cutAfter (blockOf numbers) k v (setsOf p ds)
+  whole-is = after-take (at numbers BLOCK) k v ds (b .live .sixteen) (p .variables) n-16
+
+  -- a set is empty: the prefix is dead
+  pub cut-dead : changed ≡ DEAD → Way (withOrderings p gs) (take j work) (setsOf p whole) → (sets : List ℕ) → AfterFixpoint p gs j work work sets true
+  cut-dead e w sets =
+      let d = c .dead e in
+      let h = bl .few (d .0) (d .1 .0) in
+      dead p gs j work work sets (kept-none work j)
+      (not-live (withOrderings p gs) (take j work) (setsOf p whole) w (well-sized p (st .wellFormed))
+      (empty-i (setsOf p whole) (d .0) (subst (λ (n : ℕ). d .0 < n) (sym (take-length (p .variables) whole whole-16 n-16)) h) (take-at (p .variables) whole whole-16 n-16 (d .0) h ∙ d .1 .1)))
+
+  module _ (alive : changed ≡ DEAD → ⊥) where
+    cut-is : cut ≡ whole
+    cut-is = c .cut-to alive
+
+    pub cut-sets-are : setsOf p cut ≡ cutAfter (blockOf numbers) k v (setsOf p ds)
+    cut-sets-are = ap (setsOf p) cut-is ∙ whole-is
+
+    cut-16 : Sets 16 cut
+    cut-16 = subst (Sets 16) (sym cut-is) whole-16
+
+    less : Inside cut ds
+    less x u t = cut-e (blockOf numbers) k v ds x u (subst (λ (l : List ℕ). T (has (at l x) u)) cut-is t) .0
+
+    same : (x : ℕ) → x < 16 → has changed x ≡ false → at cut x ≡ at ds x
+    same = same-at ds cut (b .live .sixteen) cut-16 changed (c .differ alive)
+
+    -- outside of the block nothing changes
+    outside : (x : ℕ) → has (at numbers BLOCK) x ≡ false → has changed x ≡ false
+    outside x e = not-of (has changed x) (λ t. of-not (has (at numbers BLOCK) x) e (c .few alive x t))
+
+    some : (x : ℕ) → x < p .variables → at cut x ≡ 0 → ⊥
+    some x h e = full-take (p .variables) ds (b .live .sixteen) n-16 (b .live .full) x h (go (has (at numbers BLOCK) x) refl)
+      where
+        go : (d : Bool) → has (at numbers BLOCK) x ≡ d → at ds x ≡ 0
+        go true q = c .full alive x (T-of (has (at numbers BLOCK) x) q) e
+        go false q = sym (same x (omega (arith, n-16)) (outside x q)) ∙ e
+
+    live : LiveSets p cut
+    live = record {
+      sixteen = cut-16;
+      full = take-full (p .variables) cut cut-16 n-16 some;
+      unused = λ x h l. same x l (outside x (not-of (has (at numbers BLOCK) x) (λ t. let q = bl .few x t in omega arith))) ∙ b .live .unused x h l;
+    }
+
+    inside : Inside (setsOf p cut) (setsOf p ds)
+    inside = take-less st ds cut (b .live .sixteen) cut-16 less
+
+    given : Given p cut
+    given = record { sixteen = cut-16; full = live .full; inside = λ x u t. b .pending .given .inside x u (inside x u t) }
+
+    module _ {left todo′ dirty′ : ℕ} (u : Touched numbers changed left) (t : todo′ ≡ bitOr todo left) (d : dirty′ ≡ bitOr dirty (bitAnd changed (at numbers LINKED))) where
+      has-todo : (i : ℕ) → has todo′ i ≡ either (has todo i) (has left i)
+      has-todo i = ap (λ (n : ℕ). has n i) t ∙ has-or todo left i
+
+      has-dirty : (x : ℕ) → has dirty′ x ≡ either (has dirty x) (has (bitAnd changed (at numbers LINKED)) x)
+      has-dirty x = ap (λ (n : ℕ). has n x) d ∙ has-or dirty (bitAnd changed (at numbers LINKED)) x
+
+      same-x : (x : ℕ) → x < p .variables → has changed x ≡ false → at cut x ≡ at ds x
+      same-x x h = same x (omega (arith, n-16))
+
+      neither : (a e : Bool) (r : Bool) → r ≡ either a e → r ≡ false → (a ≡ false) × (e ≡ false)
+      neither a e r q f = (not-of a (λ x. of-not r f (subst T (sym q) (either-l a e x))), not-of e (λ x. of-not r f (subst T (sym q) (either-r a e x))))
+
+      cut-startable : Startable p work numbers cut j todo′ dirty′
+      cut-startable = record {
+        prefix-held = b .prefix-held;
+        live = live;
+        pending = record {
+          given = given;
+          known = λ i q. ⊎-elim {C = i < length (p .constraints)} (b .pending .known i) (touched-known st changed left u (c .differ alive .few) i) (either-e (has todo i) (has left i) (subst T (has-todo i) q));
+          others = λ i h f r.
+              let n = neither (has todo i) (has left i) (has todo′ i) (has-todo i) f in
+              still-fixed st ds cut changed left (b .live .sixteen) cut-16 same-x u i h (n .1) r (b .pending .others i h (n .0) r);
+          inner = λ x q. ⊎-elim {C = x < p .variables} (b .pending .inner x) (λ m. bl .few x (c .few alive x (both-l (has changed x) (has (at numbers LINKED) x) (subst T (has-and changed (at numbers LINKED) x) m)))) (either-e (has dirty x) (has (bitAnd changed (at numbers LINKED)) x) (subst T (has-dirty x) q));
+          arcs = λ x h f.
+              let n = neither (has dirty x) (has (bitAnd changed (at numbers LINKED)) x) (has dirty′ x) (has-dirty x) f in
+              still-arc st ds cut changed (bitAnd changed (at numbers LINKED)) (b .pending .given) given less same-x refl x h (n .1) (b .pending .arcs x h (n .0));
+        };
+        marking = λ e h.
+            mark-mono p (setsOf p ds) (setsOf p cut) (take j work) e (at work (16 * j + MARKS + e))
+            (take-sets (p .variables) cut cut-16 n-16 .0 ∙ sym (take-sets (p .variables) ds (b .live .sixteen) n-16 .0)) inside (b .marking e h);
+      }
+
+      pub cut-before : Way (withOrderings p gs) (take j work) (setsOf p cut) × Ascends (blockOf numbers) (take j work) (setsOf p cut) → BeforeFixpoint p gs work numbers cut j todo′ dirty′
+      cut-before w = record { startable = cut-startable; way = w .0; ascends = w .1 }
