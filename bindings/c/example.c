@@ -1,5 +1,5 @@
 /* Lists the paper's sheet A by planner_run and prints its plans; then with the second window settled first, and with
- * pairs that go round. */
+ * pairs that go round; then filters by source document 001's nogoods. */
 #include <stdio.h>
 
 #include "planner.h"
@@ -48,11 +48,29 @@ static void list_in_order(const uint8_t *pairs, size_t pairs_len) {
     printf("%s %u %u, trials by window %u %u\n", kinds[kind], plans, trials, number(answer + 12), number(answer + 16));
 }
 
+/* 001's four nogoods, with x1 to x6 as windows 0 to 5. */
+static void filter(const char *name, uint8_t x2, uint8_t x5) {
+    static const char *const endings[] = {"consistent", "entailed", "failed"};
+    static const uint8_t index[8] = {0, 1, 2, 3, 4, 2, 5, 0};
+    static const uint8_t equal[8] = {255, 1, 255, 1, 1, 255, 2, 255};
+    static const uint8_t not_equal[8] = {2, 255, 1, 255, 255, 2, 255, 1};
+    uint8_t sets[12] = {6, 0, x2, 0, 6, 0, 2, 0, x5, 0, 6, 0};
+    uint32_t ending = planner_filter(sets, sizeof sets, index, sizeof index, equal, sizeof equal, not_equal,
+                                     sizeof not_equal);
+    printf("%s: %s, sets", name, endings[ending]);
+    for (int i = 0; i < 12; i += 2)
+        printf(" %d", sets[i]);
+    printf("\n");
+}
+
 int main(void) {
     list_plans(1000000);
     list_plans(2);
     list_in_order((const uint8_t[]){1, 0}, 2);
     list_in_order((const uint8_t[]){1, 0, 0, 1}, 4);
+    filter("001", 6, 2);
+    filter("001 with x5 in {1, 2}", 6, 6);
+    filter("001 with x2 = 1", 2, 2);
     uint32_t code = planner_question(sheet_a, 63);
     printf("a byte short: refused %u %u\n", PLANNER_NUMBER(code), PLANNER_ITEM(code));
     return 0;

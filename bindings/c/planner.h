@@ -26,7 +26,8 @@ extern "C" {
 #endif
 
 /* What a function returns other than 0 is a refusal: the paper's number and the item (window, rule, exchange
- * or entry) that it speaks of. Every lent buffer, the answer too, then holds the bytes it came with. */
+ * or entry) that it speaks of. Every lent buffer, the answer too, then holds the bytes it came with. Only
+ * planner_filter returns 1 and 2 too, which are no refusals: a refusal is 256 or more. */
 #define PLANNER_NUMBER(code) ((code) >> 8)
 #define PLANNER_ITEM(code) ((code) & 255)
 
@@ -36,6 +37,10 @@ extern "C" {
 /* In the filter's lists equal and not_equal: no value here. */
 #define PLANNER_ABSENT 255
 
+/* planner_filter: how it ended. */
+#define PLANNER_CONSISTENT 0    /* some assignments from the sets left obey the nogoods, and some don't */
+#define PLANNER_ENTAILED 1      /* every assignment from the sets left obeys them all, and there is one */
+#define PLANNER_FILTER_FAILED 2 /* no assignment from the lent sets obeys them */
 /* planner_filter: the sets' length is odd. */
 #define PLANNER_HALF_SET (255u * 256u)
 /* planner_run: the answer's length isn't PLANNER_ANSWER_BYTES; planner_run_lent: it isn't PLANNER_LENT_ANSWER_BYTES. */
@@ -60,8 +65,9 @@ uint32_t planner_question(const uint8_t *sheet, size_t sheet_len);
  *   not_equal[i] = v  says: if all that was added before it holds, window index[i] hasn't value v.
  * So "x1 = 1 and x3 = 2 imply x0 isn't 4" is index 1 3 0, equal 1 2 255, not_equal 255 255 4.
  * A value stays exactly if some assignment from the sets uses it and obeys every nogood; with no such
- * assignment every set becomes empty. 0 if filtered, else number * 256 + item (17 to 19) or, asked first,
- * PLANNER_HALF_SET; the sets are then as they came. */
+ * assignment every set becomes empty. How it ended (#102): PLANNER_CONSISTENT, PLANNER_ENTAILED or
+ * PLANNER_FILTER_FAILED; else number * 256 + item (17 to 19) or, asked first, PLANNER_HALF_SET, and the sets
+ * are then as they came. */
 uint32_t planner_filter(uint8_t *sets, size_t sets_len, const uint8_t *index, size_t index_len,
                         const uint8_t *equal, size_t equal_len, const uint8_t *not_equal,
                         size_t not_equal_len);

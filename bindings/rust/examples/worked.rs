@@ -32,12 +32,14 @@ fn main() {
         println!("{:?}", question_lent(&sheet, pairs, block));
     }
 
-    let mut sets = [6, 6, 6, 2, 2, 6];
     let index = [0, 1, 2, 3, 4, 2, 5, 0];
     let equal = [ABSENT, 1, ABSENT, 1, 1, ABSENT, 2, ABSENT];
     let not_equal = [2, ABSENT, 1, ABSENT, ABSENT, 2, ABSENT, 1];
-    let filtered = filter(&mut sets, &index, &equal, &not_equal);
-    println!("{filtered:?} {sets:?}");
+    // As in 001; with its x5 in {1, 2}; with its x2 = 1.
+    for mut sets in [[6, 6, 6, 2, 2, 6], [6, 6, 6, 2, 6, 6], [6, 2, 6, 2, 2, 6]] {
+        let ending = filter(&mut sets, &index, &equal, &not_equal);
+        println!("{ending:?} {sets:?}");
+    }
     println!("{:?}", filter(&mut [], &[], &[], &[]));
 
     println!("{} small sheets", small_sheets().count());

@@ -99,6 +99,17 @@ impl Ending {
     }
 }
 
+/// How the filter ended.
+#[derive(Clone, Copy, Debug, PartialEq, Eq)]
+pub enum FilterEnding {
+    /// Some assignments from the sets left obey the nogoods, and some don't.
+    Consistent,
+    /// Every assignment from the sets left obeys them all, and there is one.
+    Entailed,
+    /// No assignment from the lent sets obeys them: every set is empty now.
+    Failed,
+}
+
 /// What a run answers: its ending, the plans listed and the trials made.
 #[derive(Clone, Copy, Debug, PartialEq, Eq)]
 pub struct Answer {
@@ -125,9 +136,14 @@ pub fn question(sheet: &[u8]) -> Result<(), Refusal> {
 /// window `index[i]`, and one of `equal[i]` and `not_equal[i]` is [`ABSENT`]: an equal value adds "the window
 /// has it" to what the entries after it ask; a not-equal value says that the window hasn't it if all that was
 /// added before holds. After a refusal the sets are as they came.
-pub fn filter(sets: &mut [u16], index: &[u8], equal: &[u8], not_equal: &[u8]) -> Result<(), Refusal> {
+pub fn filter(
+    sets: &mut [u16],
+    index: &[u8],
+    equal: &[u8],
+    not_equal: &[u8],
+) -> Result<FilterEnding, Refusal> {
     let mut bytes: Vec<u8> = sets.iter().flat_map(|set| set.to_le_bytes()).collect();
-    Refusal::from_code(unsafe {
+    let code = unsafe {
         exported::planner_filter(
             bytes.as_mut_ptr(),
             bytes.len(),
@@ -138,11 +154,17 @@ pub fn filter(sets: &mut [u16], index: &[u8], equal: &[u8], not_equal: &[u8]) ->
             not_equal.as_ptr(),
             not_equal.len(),
         )
-    })?;
+    };
+    let ending = match code {
+        0 => FilterEnding::Consistent,
+        1 => FilterEnding::Entailed,
+        2 => FilterEnding::Failed,
+        _ => return Err(Refusal { number: code / 256, item: code % 256 }),
+    };
     for (set, two) in sets.iter_mut().zip(bytes.chunks(2)) {
         *set = u16::from_le_bytes([two[0], two[1]]);
     }
-    Ok(())
+    Ok(ending)
 }
 
 /// Lists the sheet's plans, n bytes each, at the front of the list, with at most `node_limit` trials.

@@ -1,7 +1,7 @@
 //! Part `filter`: sets and nogood lists, right and damaged.
 
 use crate::planner;
-use crate::tally::{code, Guarded, Tally};
+use crate::tally::{code, ending_code, Guarded, Tally};
 use sheets::{lists, Lists, Rng};
 
 /// The answer to half a set.
@@ -25,13 +25,16 @@ fn filter(lists: &Lists, odd: bool, rng: &mut Rng, tally: &mut Tally) {
     let answer = oracle::filter(&mut left, &lists.index, &lists.equal, &lists.not_equal);
     let mut before = bytes(&lists.sets);
     let mut after = bytes(&left);
-    let mut expected = code(&answer);
+    let mut expected = answer.map_or_else(|_| code(&answer), ending_code);
     if odd {
         before.push(7);
         after = before.clone();
         expected = HALF_SET;
     } else {
         tally.answer(&answer);
+        if let Ok(ending) = answer {
+            tally.endings[ending_code(ending) as usize] += 1;
+        }
     }
     let mut room = Guarded::new(before.len(), rng.word() as u8);
     room.lent().copy_from_slice(&before);

@@ -1,7 +1,7 @@
 //! The proved planner beside the oracle: `differential [PART ..]`, with no word all parts. SEED and CASES
 //! are read from the environment, and SHARED_BENCH for another folder of sheets with reports than
 //! ../shared/bench beside the repository. Case i of a part draws from SEED + i, so that a difference comes
-//! back with that seed and one case. Every refusal number must be reached by its part.
+//! back with that seed and one case. Every refusal number must be reached by its part, and every ending of the filter.
 
 mod columns;
 mod filter;
@@ -36,8 +36,10 @@ const REFUSALS: &[(&str, RangeInclusive<u32>)] = &[
     ("small", 39..=40),
 ];
 const CASES: usize = 2000;
-/// With fewer cases, numbers that nothing reached are no failure.
+/// With fewer cases, numbers and endings that nothing reached are no failure.
 const ENOUGH_CASES: usize = 1000;
+/// The endings of the filter by their code; each must be met at least as often as there are cases.
+const ENDINGS: &[&str] = &["consistent", "entailed", "failed"];
 
 fn environment(name: &str, otherwise: usize) -> usize {
     std::env::var(name)
@@ -60,6 +62,9 @@ fn main() {
         (tally.accepted, tally.refused) = (0, BTreeMap::new());
         test(part, seed, cases, &mut tally);
         reached(part, cases, &mut tally);
+    }
+    if parts.iter().any(|part| part == "filter") {
+        ended(cases, &mut tally);
     }
     println!("differential: {} passed, {} failed", tally.passed, tally.failed);
     std::process::exit(if tally.failed == 0 { 0 } else { 1 });
@@ -101,6 +106,17 @@ fn test(part: &str, seed: usize, cases: usize, tally: &mut Tally) {
     }
     let comparisons = tally.passed + tally.failed - before;
     println!("{part}: {comparisons} comparisons, {:.1} s", start.elapsed().as_secs_f64());
+}
+
+/// How many filters ended in each way, and a failure for each way that too few did.
+fn ended(cases: usize, tally: &mut Tally) {
+    for (ending, count) in ENDINGS.iter().zip(tally.endings) {
+        println!("{ending} {count}");
+        if count < cases && cases >= ENOUGH_CASES {
+            println!("{ending} was met less than {cases} times");
+            tally.failed += 1;
+        }
+    }
 }
 
 /// How many of a part's cases got each number, and a failure for each of its numbers that none got.

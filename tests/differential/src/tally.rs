@@ -1,6 +1,6 @@
 //! What passed, what failed, and how many of a part's cases got each refusal number.
 
-use oracle::Refusal;
+use oracle::{FilterEnding, Refusal};
 use std::collections::BTreeMap;
 
 /// How many differences are printed in full.
@@ -16,6 +16,8 @@ pub struct Tally {
     /// The part's cases that were accepted, and those that got each number.
     pub accepted: usize,
     pub refused: BTreeMap<u32, usize>,
+    /// Filters by the code of their ending.
+    pub endings: [usize; 3],
     /// What is tested now, printed with a difference.
     pub case: String,
 }
@@ -47,6 +49,15 @@ impl Tally {
     /// Counts a refusal.
     pub fn count(&mut self, number: u32) {
         *self.refused.entry(number).or_default() += 1;
+    }
+}
+
+/// How the filter ended, as the exported function gives it.
+pub fn ending_code(ending: FilterEnding) -> u32 {
+    match ending {
+        FilterEnding::Consistent => 0,
+        FilterEnding::Entailed => 1,
+        FilterEnding::Failed => 2,
     }
 }
 

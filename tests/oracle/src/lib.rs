@@ -13,7 +13,7 @@ pub mod sheet;
 pub mod small;
 pub mod store;
 
-pub use nogood::filter;
+pub use nogood::{filter, FilterEnding};
 pub use report::report;
 pub use search::{run, Ending, Outcome};
 pub use sheet::{question, Problem, Refusal};

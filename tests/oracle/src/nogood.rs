@@ -11,11 +11,30 @@ pub enum Entry {
     NotEqual(usize, usize),
 }
 
+/// How the filter ended (paper 02, #102).
+#[derive(Clone, Copy, Debug, PartialEq, Eq)]
+pub enum FilterEnding {
+    /// No assignment from the lent sets obeys the nogoods.
+    Failed,
+    /// Some does, and every assignment from the sets left obeys them all.
+    Entailed,
+    /// Neither.
+    Consistent,
+}
+
 /// The mark for "absent" in the lists of bytes.
 const ABSENT: u8 = 255;
 
-/// The filter on three lists of bytes: questions 17 to 19, then the sets that are left.
-pub fn filter(sets: &mut [u16], index: &[u8], equal: &[u8], not_equal: &[u8]) -> Result<(), Refusal> {
+/// All assignments are drawn where they are at most so many.
+const DRAWN: u64 = 4096;
+
+/// The filter on three lists of bytes: questions 17 to 19, then the sets that are left and how it ended.
+pub fn filter(
+    sets: &mut [u16],
+    index: &[u8],
+    equal: &[u8],
+    not_equal: &[u8],
+) -> Result<FilterEnding, Refusal> {
     if sets.is_empty() || sets.len() > 12 {
         return Err(Refusal { number: 17, item: 0 });
     }
@@ -29,9 +48,16 @@ pub fn filter(sets: &mut [u16], index: &[u8], equal: &[u8], not_equal: &[u8]) ->
             None => return Err(Refusal { number: 19, item: item as u32 }),
         }
     }
-    let left = filtered(sets, &entries);
+    let few = sets.iter().map(|set| set.count_ones() as u64).product::<u64>() <= DRAWN;
+    let left =
+        if few { filtered_by_assignments(sets, &entries) } else { filtered_by_products(sets, &entries) };
+    let ending = if few {
+        ending_by_assignments(sets, &left, &entries)
+    } else {
+        ending_by_counts(sets, &left, &entries)
+    };
     sets.copy_from_slice(&left);
-    Ok(())
+    Ok(ending)
 }
 
 /// One entry: its place is one of the sets', just one of the two is 255, and the other is below 16.
@@ -44,16 +70,6 @@ fn entry(count: usize, index: u8, equal: u8, not_equal: u8) -> Option<Entry> {
         (value, ABSENT) if value < 16 => Some(Entry::Equal(variable, value as usize)),
         (ABSENT, value) if value < 16 => Some(Entry::NotEqual(variable, value as usize)),
         _ => None,
-    }
-}
-
-/// The sets that the filter leaves. All assignments are drawn where they are at most 4,096.
-fn filtered(sets: &[u16], entries: &[Entry]) -> Vec<u16> {
-    let count: u64 = sets.iter().map(|set| set.count_ones() as u64).product();
-    if count <= 4096 {
-        filtered_by_assignments(sets, entries)
-    } else {
-        filtered_by_products(sets, entries)
     }
 }
 
@@ -74,6 +90,17 @@ pub fn filtered_by_assignments(sets: &[u16], entries: &[Entry]) -> Vec<u16> {
 /// at none, which gives a union of products of sets.
 pub fn filtered_by_products(sets: &[u16], entries: &[Entry]) -> Vec<u16> {
     let mut left = vec![0; sets.len()];
+    for product in products(sets, entries) {
+        for (all, set) in left.iter_mut().zip(product) {
+            *all |= set;
+        }
+    }
+    left
+}
+
+/// The products that are not empty. No two have an assignment in common.
+fn products(sets: &[u16], entries: &[Entry]) -> Vec<Vec<u16>> {
+    let mut all = Vec::new();
     let mut product = sets.to_vec();
     for entry in entries {
         match *entry {
@@ -81,21 +108,37 @@ pub fn filtered_by_products(sets: &[u16], entries: &[Entry]) -> Vec<u16> {
             Entry::Equal(variable, value) => {
                 let mut breaking = product.clone();
                 breaking[variable] &= !(1 << value);
-                unite(&mut left, &breaking);
+                all.push(breaking);
                 product[variable] &= 1 << value;
             }
         }
     }
-    unite(&mut left, &product);
-    left
+    all.push(product);
+    all.retain(|product| !product.contains(&0));
+    all
 }
 
-/// Adds a product's values, unless the product is empty.
-fn unite(left: &mut [u16], product: &[u16]) {
-    if product.iter().all(|&set| set != 0) {
-        for (all, set) in left.iter_mut().zip(product) {
-            *all |= set;
-        }
+/// The ending in the paper's words, over all assignments from the sets and from those left.
+pub fn ending_by_assignments(sets: &[u16], left: &[u16], entries: &[Entry]) -> FilterEnding {
+    if !assignments(sets).iter().any(|assignment| obeys(assignment, entries)) {
+        FilterEnding::Failed
+    } else if assignments(left).iter().all(|assignment| obeys(assignment, entries)) {
+        FilterEnding::Entailed
+    } else {
+        FilterEnding::Consistent
+    }
+}
+
+/// The same by counting the assignments that obey, product by product.
+pub fn ending_by_counts(sets: &[u16], left: &[u16], entries: &[Entry]) -> FilterEnding {
+    let size = |sets: &[u16]| sets.iter().map(|set| set.count_ones() as u64).product::<u64>();
+    let obeying = |sets: &[u16]| products(sets, entries).iter().map(|product| size(product)).sum::<u64>();
+    if obeying(sets) == 0 {
+        FilterEnding::Failed
+    } else if obeying(left) == size(left) {
+        FilterEnding::Entailed
+    } else {
+        FilterEnding::Consistent
     }
 }
 

@@ -2,7 +2,7 @@
 
 use oracle::lent::run_lent;
 use oracle::sheet::Constraint;
-use oracle::{filter, question, report, run, Ending, Outcome, Problem, Refusal};
+use oracle::{filter, question, report, run, Ending, FilterEnding, Outcome, Problem, Refusal};
 
 fn sheet(words: &[u16]) -> Vec<u8> {
     words.iter().flat_map(|word| word.to_le_bytes()).collect()
@@ -116,19 +116,23 @@ const NOT_EQUAL: [u8; 8] = [2, 255, 1, 255, 255, 2, 255, 1];
 #[test]
 fn the_worked_filter() {
     let mut sets = [6, 6, 6, 2, 2, 6];
-    assert_eq!(filter(&mut sets, &INDEX, &EQUAL, &NOT_EQUAL), Ok(()));
+    assert_eq!(filter(&mut sets, &INDEX, &EQUAL, &NOT_EQUAL), Ok(FilterEnding::Entailed));
     assert_eq!(sets, [2, 4, 6, 2, 2, 6]);
+    // With x5 in {1, 2}, and with x2 = 1.
     let mut sets = [6, 6, 6, 2, 6, 6];
-    assert_eq!(filter(&mut sets, &INDEX, &EQUAL, &NOT_EQUAL), Ok(()));
+    assert_eq!(filter(&mut sets, &INDEX, &EQUAL, &NOT_EQUAL), Ok(FilterEnding::Consistent));
     assert_eq!(sets, [2, 6, 6, 2, 6, 6]);
+    let mut sets = [6, 2, 6, 2, 2, 6];
+    assert_eq!(filter(&mut sets, &INDEX, &EQUAL, &NOT_EQUAL), Ok(FilterEnding::Failed));
+    assert_eq!(sets, [0; 6]);
 }
 
 #[test]
 fn small_filters() {
     let mut sets = [1, 9];
-    assert_eq!(filter(&mut sets, &[], &[], &[]), Ok(()));
+    assert_eq!(filter(&mut sets, &[], &[], &[]), Ok(FilterEnding::Entailed));
     assert_eq!(sets, [1, 9]);
-    assert_eq!(filter(&mut sets, &[0], &[255], &[0]), Ok(()));
+    assert_eq!(filter(&mut sets, &[0], &[255], &[0]), Ok(FilterEnding::Failed));
     assert_eq!(sets, [0, 0]);
 }
 

@@ -23,13 +23,16 @@ pub fn lists(rng: &mut Rng) -> Lists {
     lists
 }
 
-/// Sets and lists that the filter accepts.
+/// Sets and lists that the filter accepts. Half of them are short, over sets of two or more values: their filter
+/// often ends consistent.
 pub fn right_lists(rng: &mut Rng) -> Lists {
-    let count = rng.pick(&[1, 2, 2, 3, 3, 4, 5, 6, 12]);
-    let style = rng.below(4);
+    let short = rng.chance(50);
+    let count = rng.pick(if short { &[2, 3, 4, 5, 6] } else { &[1, 2, 2, 3, 3, 4, 5, 6, 12] });
+    let style = if short { SHORT } else { rng.below(SHORT) };
     let sets: Vec<u16> = (0..count).map(|_| lent_set(rng, style)).collect();
-    let length = rng.pick(&[0, 1, 2, 3, 4, 6, 8, 12, 20, 60, 191, 192]);
-    let equalities = rng.pick(&[0, 10, 30, 50, 90]);
+    let length =
+        rng.pick(if short { &[2, 3, 4, 5, 6, 8] } else { &[0, 1, 2, 3, 4, 6, 8, 12, 20, 60, 191, 192] });
+    let equalities = rng.pick(if short { &[50] } else { &[0, 10, 30, 50, 90] });
     let mut lists = Lists { sets, index: Vec::new(), equal: Vec::new(), not_equal: Vec::new() };
     for _ in 0..length {
         let variable = rng.below(count);
@@ -44,13 +47,17 @@ pub fn right_lists(rng: &mut Rng) -> Lists {
     lists
 }
 
-/// A lent set: of one to three values, of any, or now and then empty.
+/// The style of the sets of short lists.
+const SHORT: usize = 4;
+
+/// A lent set: of one to three values, of any, or now and then empty; for short lists of two to four.
 fn lent_set(rng: &mut Rng, style: usize) -> u16 {
     let any = rng.word() as u16;
     match style {
         0 => any & rng.word() as u16 & rng.word() as u16,
         1 if rng.chance(50) => 1 << rng.below(4),
         1 | 2 => 1 << rng.below(4) | 1 << rng.below(4) | 1 << rng.below(3),
+        SHORT => 3 << rng.below(4) | 1 << rng.below(4) | 1 << rng.below(16),
         _ if rng.chance(3) => 0,
         _ => any | 1,
     }

@@ -1,7 +1,10 @@
 //! The oracle beside listings by brute force, on random sheets and lists.
 
 use oracle::listing::{image, solutions};
-use oracle::nogood::{filtered_by_assignments, filtered_by_products, Entry};
+use oracle::nogood::{
+    ending_by_assignments, ending_by_counts, filtered_by_assignments, filtered_by_products, Entry,
+    FilterEnding,
+};
 use oracle::Ending;
 use sheets::{encode, problem, right_lists, Rng};
 
@@ -32,10 +35,11 @@ fn plans_are_the_leaders() {
     assert!(carried > 300, "symmetries take away plans often enough");
 }
 
-/// The two ways to filter agree.
+/// The two ways to filter agree, and the two ways to say how it ended; each ending comes often.
 #[test]
 fn assignments_and_products_agree() {
     let mut rng = Rng::new(1);
+    let mut endings = Vec::new();
     for _ in 0..5000 {
         let lists = right_lists(&mut rng);
         if lists.sets.iter().map(|set| set.count_ones() as u64).product::<u64>() > 2000 {
@@ -49,6 +53,13 @@ fn assignments_and_products_agree() {
         let (first, second) =
             (filtered_by_assignments(&lists.sets, &entries), filtered_by_products(&lists.sets, &entries));
         assert_eq!(first, second);
+        let ending = ending_by_assignments(&lists.sets, &first, &entries);
+        assert_eq!(ending, ending_by_counts(&lists.sets, &first, &entries));
+        endings.push(ending);
+    }
+    for ending in [FilterEnding::Failed, FilterEnding::Entailed, FilterEnding::Consistent] {
+        let met = endings.iter().filter(|&&other| other == ending).count();
+        assert!(met > 300, "{ending:?} only {met} times");
     }
 }
 
