@@ -8,6 +8,7 @@ pub mod Listing
 pub mod Turns
 pub mod Facts
 pub mod Sheets
+pub mod Blocks
 pub mod Whole
 pub mod Demands
 pub mod Reborrow

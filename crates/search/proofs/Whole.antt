@@ -140,6 +140,9 @@ module _ (b pairs block : List ℕ) (numbers supports images bytes : List ℕ) (
     pub some-variables : 0 < at numbers VARIABLES
     some-variables = subst (λ (n : ℕ). 0 < n) (sym (h .numbered .variables)) (fits .wellFormed .some)
 
+    pub few-variables : at numbers VARIABLES ≤ 16
+    few-variables = let e = h .numbered .variables in let f = fits .wellFormed .few in omega arith
+
     module _ (limit : ℕ) (small : limit < 2 ^ 32) (size room : ℕ) (rooms : room ≡ size / at numbers VARIABLES) (bounded : List ℕ) (put : bounded ≡ set (set numbers LIMIT limit) ROOM room) where
       kept : (i : ℕ) → i < 68 → at bounded i ≡ at numbers i
       kept i l = ap (λ (l : List ℕ). at l i) put ∙ at-set-other (set numbers LIMIT limit) ROOM room i (λ e. omega arith) ∙ at-set-other numbers LIMIT limit i (λ e. omega arith)

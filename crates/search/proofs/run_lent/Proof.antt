@@ -46,7 +46,7 @@ use Rattle.search.specs.declared.Answer.{Answer}
 use Rattle.search.proofs.Tally as T
 use Rattle.search.proofs.Answer as O
 use Rattle.search.proofs.Answer.Laws as O′
-use Rattle.lent.proofs.Compiling.{zeros}
+use Rattle.sheet.proofs.Whole.{zeros}
 use Rattle.search.proofs.Whole.{stopped, said}
 use Rattle.search.proofs.Locals.{zeros-typed, zeros-in, array-out}
 use Rattle.search.proofs.Loans as loan
