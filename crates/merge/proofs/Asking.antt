@@ -1,24 +1,25 @@
 -- The questions as the code puts them. Assumes nothing.
 use mathlib.Core.Path.{_≡_, refl, sym, ap, ap₂, _∙_, subst}
 use mathlib.Core.Bool.{Bool, true, false}
-use mathlib.Core.List.{List, [], _∷_}
-use Prim.Native.Nat.{ℕ, _%_, _≤_, _<_}
+use mathlib.Core.List.{List, [], _∷_, _++_}
+use Prim.Native.Nat.{ℕ, _+_, _/_, _%_, _≤_, _<_}
+use native.Mathlib.Nat.{div-add-mod'}
 use native.Mathlib.Omega.{arith}
 use lib.Dec.{leb, ltb, eqb, leb→le, eqb→eq}
-use lib.ListN.{length, take}
-use borrow.Author.Tests.{lt-leb, ne-eqb, le-leb, eq-eqb}
-use Rattle.model.specs.Lists.{both, all}
+use lib.ListN.{length, take, length-append}
+use borrow.Author.Tests.{lt-leb, ne-eqb, le-leb, eq-eqb, leb-true, leb-false, ltb-false}
+use Rattle.model.specs.Lists.{both, all, flat, same}
 use Rattle.model.specs.Verdict.{Verdict, accepted, refused, ask}
 use Rattle.model.specs.Room.{Outcome, rowsIn, wrote, refusal, outcomeOf, roomAfter}
 use Rattle.model.proofs.Lists.{T-of, both-l, both-r}
 use Rattle.order.specs.Order.{settlingOrder, settlesAll, orderVerdict}
 use Rattle.order.specs.Settled.{Ordered}
 use Rattle.order.proofs.Placing.{settling-of}
-use Rattle.model.proofs.Room.{refused-out, wrote-out, both-no-l, both-no-r, both-yes}
-use Rattle.model.specs.Written.{Written}
+use Rattle.model.proofs.Room.{flat-cut, refused-out, wrote-out, both-no-l, both-no-r, both-yes}
 use Rattle.model.proofs.Written.{fronted}
-use Rattle.merge.specs.Merge.{ascends, mergedBy, merged, wholeLists, orderedVerdict, mergeVerdict}
-use Rattle.merge.specs.Inner.{Places, Rests}
+use Rattle.order.specs.Reordered.{earlierBy}
+use Rattle.merge.specs.Merge.{ascends, insert, union, mergedBy, merged, wholeLists, orderedVerdict, mergeVerdict}
+use Rattle.merge.specs.Inner.{Rests, Sorts, Walked}
 
 -- ---- 25 to 27
 module _ (n : ℕ) (order a b d : List ℕ) where
@@ -43,11 +44,54 @@ module _ (n : ℕ) (order a b d : List ℕ) where
   pub no-27 : ascends order (rowsIn n a) ≡ true → ascends order (rowsIn n b) ≡ true → leb (length (mergedBy n order a b)) (length d) ≡ false → Refused 27
   no-27 e f g = refused-out 27 (orderedVerdict n order a b (length d)) (mergedBy n order a b) d (λ z. omega arith) (verdict true true false e f g)
 
-  pub wrote-all : ascends order (rowsIn n a) ≡ true → ascends order (rowsIn n b) ≡ true → leb (length (mergedBy n order a b)) (length d) ≡ true → (after : List ℕ) (k : ℕ) → Written d 0 (mergedBy n order a b) after k →
-      (wrote k ≡ outcomeOf (orderedVerdict n order a b (length d)) (mergedBy n order a b)) × (after ≡ roomAfter (orderedVerdict n order a b (length d)) (mergedBy n order a b) d)
-  wrote-all e f g after k w =
-      let h = fronted w in
-      wrote-out (orderedVerdict n order a b (length d)) (mergedBy n order a b) d after k (sym (verdict true true true e f g)) (h .bytes) (h .count)
+  pub wrote-all : ascends order (rowsIn n a) ≡ true → ascends order (rowsIn n b) ≡ true → leb (length (mergedBy n order a b)) (length d) ≡ true → (d′ after : List ℕ) (o : Outcome) → d′ ≡ d → Walked true d′ (mergedBy n order a b) after o →
+      (o ≡ outcomeOf (orderedVerdict n order a b (length d)) (mergedBy n order a b)) × (after ≡ roomAfter (orderedVerdict n order a b (length d)) (mergedBy n order a b) d)
+  wrote-all e f g d′ after o z w′ =
+      let w : Walked true d (mergedBy n order a b) after o = subst (λ (l : List ℕ). Walked true l (mergedBy n order a b) after o) z w′ in
+      let h = fronted (w .written refl) in
+      let r = wrote-out (orderedVerdict n order a b (length d)) (mergedBy n order a b) d after (length (mergedBy n order a b)) (sym (verdict true true true e f g)) (h .bytes) (h .count) in
+      (w .fits (leb-true (length (mergedBy n order a b)) (length d) g) ∙ r .0, r .1)
+
+-- ---- the merged list is no longer than both
+insert-length : (order r : List ℕ) (rows : List (List ℕ)) → length (flat (insert order r rows)) ≤ length r + length (flat rows)
+unfolding insert flat
+insert-length order r [] = omega (arith, length-append r [])
+insert-length order r (s ∷ rows) = go (insert-length order r rows) (same r s) (earlierBy order r s)
+  where
+    go : length (flat (insert order r rows)) ≤ length r + length (flat rows) → (p q : Bool) → length {A = ℕ} (flat (elim p [ true ↦ s ∷ rows | false ↦ elim q [ true ↦ r ∷ s ∷ rows | false ↦ s ∷ insert order r rows ] ])) ≤ length r + length (s ++ flat rows)
+    go ih true q = omega arith
+    go ih false true = omega (arith, length-append r (s ++ flat rows))
+    go ih false false = omega (arith, length-append s (flat (insert order r rows)), length-append s (flat rows))
+
+union-length : (order : List ℕ) (rows others : List (List ℕ)) → length (flat (union order rows others)) ≤ length (flat rows) + length (flat others)
+unfolding union flat
+union-length order rows [] = omega arith
+union-length order rows (r ∷ others) = omega (arith, insert-length order r (union order rows others), union-length order rows others, length-append r (flat others))
+
+pub rows-bytes : (n : ℕ) (a : List ℕ) → length a % n ≡ 0 → flat (rowsIn n a) ≡ a
+unfolding rowsIn
+rows-bytes n a e = flat-cut n (length a / n) a (omega (arith, div-add-mod' (length a) n))
+
+pub fits-both : (n : ℕ) (order a b : List ℕ) → Sorts n order a b → (room : ℕ) → ltb room (length a + length b) ≡ false → true ≡ leb (length (mergedBy n order a b)) room
+unfolding mergedBy
+fits-both n order a b s room h =
+    sym (le-leb _ room (omega (arith, union-length order (rowsIn n a) (rowsIn n b), ap length (rows-bytes n a (s .rests .first)), ap length (rows-bytes n b (s .rests .second)), ltb-false room (length a + length b) h)))
+
+-- ---- what a count tells
+module _ (writes : Bool) (d text after : List ℕ) (o : Outcome) (w : Walked writes d text after o) where
+  pub told-yes : (x : ℕ) → o ≡ wrote x → true ≡ leb (length text) (length d)
+  told-yes x e = go (leb (length text) (length d)) refl
+    where
+      go : (t : Bool) → leb (length text) (length d) ≡ t → true ≡ t
+      go true q = refl
+      go false q = let k : o ≡ refusal 27 0 = w .short (leb-false (length text) (length d) q) in let z : _≡_ {A = ℕ} 0 1 = cc in absurd (omega arith)
+
+  pub told-no : (x y : ℕ) → o ≡ refusal x y → false ≡ leb (length text) (length d)
+  told-no x y e = go (leb (length text) (length d)) refl
+    where
+      go : (t : Bool) → leb (length text) (length d) ≡ t → false ≡ t
+      go true q = let k : o ≡ wrote (length text) = w .fits (leb-true (length text) (length d) q) in let z : _≡_ {A = ℕ} 0 1 = cc in absurd (omega arith)
+      go false q = refl
 
 -- ---- 24
 module _ (n : ℕ) (a b : List ℕ) where

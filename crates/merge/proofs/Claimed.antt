@@ -1,19 +1,18 @@
 -- The claims of paper 02, #106. Assumes nothing.
-use mathlib.Core.Path.{_≡_, refl, sym, ap, ap₂, _∙_, subst}
+use mathlib.Core.Path.{_≡_, refl, sym, ap, _∙_, subst}
 use mathlib.Core.Logic.{_⊎_, _↔_, inl, inr, ⊎-elim}
 use mathlib.Core.List.{List, [], _∷_, map, List·Memᴰ, List·Memᴰ·head, List·Memᴰ·not-nil}
-use Prim.Native.Nat.{ℕ, _*_, _/_, _%_, _≤_}
-use native.Mathlib.Nat.{div-add-mod'}
+use Prim.Native.Nat.{ℕ, _≤_}
 use native.Mathlib.Omega.{arith}
 use lib.Dec.{T}
 use lib.ListN.{length}
-use Rattle.model.specs.Lists.{flat, below, at, rowsAscend}
+use Rattle.model.specs.Lists.{flat, below, rowsAscend}
 use Rattle.model.specs.Room.{rowsIn}
 use Rattle.model.specs.Sheet.{verdictOf, problemOf}
 use Rattle.model.specs.Verdict.{Verdict, accepted, isAccepted}
-use Rattle.model.proofs.Lists.{T-of, of-T, at-ext, at-below, length-below, earlier-asym, Sorted, sorted-ext}
+use Rattle.model.proofs.Lists.{T-of, of-T, earlier-asym, Sorted, sorted-ext}
 use Rattle.model.proofs.Accepted.{asked}
-use Rattle.model.proofs.Room.{Wide, wide-tail, rows-wide, rows-none, rows-back, flat-cut}
+use Rattle.model.proofs.Room.{Wide, wide-tail, rows-wide, rows-none, rows-back}
 use Rattle.model.specs.Run.{finished}
 use Rattle.order.specs.Order.{settlingOrder, orderVerdict, Ordering}
 use Rattle.order.specs.Reordered.{read, LeaderBy}
@@ -25,9 +24,9 @@ use Rattle.model.proofs.Demands.{of-accepted}
 use Rattle.merge.specs.Inner.{Places}
 use Rattle.merge.specs.Merge.{ascends, union, mergedBy, merged, wholeLists, orderedVerdict, mergeVerdict}
 use Rattle.merge.specs.Claims.{Holds, Ascends, Itself, Empty, Swapped, Nothing-lent, plansOf, Plans-of-either}
-use Rattle.merge.proofs.Reading.{Earlier, ascends-none, sorted-of, ascends-of}
+use Rattle.merge.proofs.Reading.{Earlier, read-below, ascends-none, sorted-of, ascends-of}
 use Rattle.merge.proofs.Union.{union-e, union-i, union-wide, union-sorted}
-use Rattle.merge.proofs.Asking.{Whole, whole-e}
+use Rattle.merge.proofs.Asking.{rows-bytes, Whole, whole-e}
 
 -- the merged bytes as rows are the union
 pub merged-rows : (n : ℕ) (order a b : List ℕ) → 1 ≤ n → rowsIn n (mergedBy n order a b) ≡ union order (rowsIn n a) (rowsIn n b)
@@ -49,11 +48,6 @@ ascends-by n order a b h p s t =
     (ascends-of order (union order (rowsIn n a) (rowsIn n b)) (union-sorted n order p (rowsIn n a) (rowsIn n b) (rows-wide n a) (rows-wide n b) (sorted-of order (rowsIn n a) s)))
 
 -- ---- by place
-read-below : (n : ℕ) (r : List ℕ) → length r ≡ n → read (below n) r ≡ r
-unfolding read
-read-below n r e =
-    at-ext (map (at r) (below n)) r (length-below (at r) n ∙ sym e) (λ i h. at-below (at r) n i (omega (arith, length-below (at r) n)))
-
 read-all : (n : ℕ) (rows : List (List ℕ)) → Wide n rows → map (read (below n)) rows ≡ rows
 read-all n [] w = refl
 read-all n (r ∷ rows) w = cons (read-below n r (w r (List·Memᴰ·head refl))) (read-all n rows (wide-tail w))
@@ -115,8 +109,7 @@ module _ (n : ℕ) (pairs a b : List ℕ) (k : Accepted n pairs a b) where
   second-sorted = sorted-of order (rowsIn n b) (k .second)
 
   bytes-back : flat (rowsIn n a) ≡ a
-  unfolding rowsIn
-  bytes-back = flat-cut n (length a / n) a (omega (arith, div-add-mod' (length a) n, k .whole .first))
+  bytes-back = rows-bytes n a (k .whole .first)
 
   union-itself : union order (rowsIn n a) (rowsIn n a) ≡ rowsIn n a
   union-itself =

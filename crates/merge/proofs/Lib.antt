@@ -1,6 +1,9 @@
 pub mod Reading
+pub mod Words
+pub mod Copying
 pub mod Union
 pub mod Stepping
 pub mod Turning
+pub mod Walking
 pub mod Asking
 pub mod Claimed

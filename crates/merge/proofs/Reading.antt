@@ -10,10 +10,10 @@ use lib.Dec.{T, eqb, ltb}
 use lib.ListN.{length, drop, getD, drop-of-length-le}
 use lib.Seq.{drop-cons}
 use borrow.Author.Tests.{ltb-true, ltb-false, eq-eqb}
-use Rattle.model.specs.Lists.{at, earlier, rowsAscend}
-use Rattle.model.proofs.Lists.{T-of, of-T, not-of, earlier-lt, earlier-e, earlier-trans, at-map, at-mem, at-ext, Sorted}
+use Rattle.model.specs.Lists.{at, below, earlier, rowsAscend}
+use Rattle.model.proofs.Lists.{T-of, of-T, not-of, earlier-lt, earlier-e, earlier-trans, at-map, at-mem, at-ext, at-below, length-below, Sorted}
 use Rattle.merge.specs.Merge.{ascends}
-use Rattle.merge.specs.Inner.{Places}
+use Rattle.merge.specs.Inner.{Places, ByPlace, Kind}
 use Rattle.order.specs.Reordered.{read, earlierBy}
 
 -- ---- rows as they are
@@ -66,9 +66,42 @@ pub rows-equal : (n : ℕ) (order : List ℕ) → Places n order → (a b : List
 rows-equal n order p a b ea eb s t =
     read-inj n order p a b ea eb (earlier-total (read order a) (read order b) (length-read order a ∙ sym (length-read order b)) s t)
 
+-- ---- by place
+pub read-below : (n : ℕ) (r : List ℕ) → length r ≡ n → read (below n) r ≡ r
+unfolding read
+read-below n r e =
+    at-ext (map (at r) (below n)) r (length-below (at r) n ∙ sym e) (λ i h. at-below (at r) n i (omega (arith, length-below (at r) n)))
+
+pub plain-way : (n : ℕ) (order : List ℕ) → ByPlace n order → (a b : List ℕ) → n ≡ length a → n ≡ length b → earlier a b ≡ earlierBy order a b
+plain-way n order p a b ea eb =
+    sym (ap (λ (o : List ℕ). earlierBy o a b) (p .order-is) ∙ ap₂ earlier (read-below n a (sym ea)) (read-below n b (sym eb)))
+
+pub in-place : (n : ℕ) (order : List ℕ) → 8 ≤ n → n ≤ 12 → length order ≡ n → ((k : ℕ) → k < length order → getD order k 0 ≡ k) → Kind n order true
+unfolding at
+in-place n order some most e h =
+    record {
+      most = most;
+      words = λ q.
+          record {
+            some = some;
+            order-is = at-ext order (below n) (e ∙ sym (ap length (map-id (below n)) ∙ length-below (λ (x : ℕ). x) n)) (λ i l. h i l ∙ sym (ap (λ (o : List ℕ). at o i) (map-id (below n)) ∙ at-below (λ (x : ℕ). x) n i (omega arith)));
+          };
+    }
+  where
+    map-id : (l : List ℕ) → l ≡ map (λ (x : ℕ). x) l
+    map-id [] = refl
+    map-id (x ∷ l) = ap (λ (r : List ℕ). x ∷ r) (map-id l)
+
+pub not-plain : (n : ℕ) (order : List ℕ) → n ≤ 12 → Kind n order false
+not-plain n order most = record { most = most; words = λ q. absurd (subst T (sym q) tt) }
+
 -- ---- two rows compared from a place of the order on
 abbrev pub onwards : List ℕ → List ℕ → List ℕ → ℕ → Bool
 onwards order a b k = earlier (read (drop k order) a) (read (drop k order) b)
+
+pub come-end : (order a b : List ℕ) (i : ℕ) → length order ≤ i → onwards order a b i ≡ false
+unfolding read earlier
+come-end order a b i h = ap (λ (l : List ℕ). earlier (read l a) (read l b)) (drop-of-length-le order {i = i} h)
 
 module _ (order a b : List ℕ) (i : ℕ) where
   read-from : (r : List ℕ) → i < length order → read (drop i order) r ≡ getD r (getD order i 0) 0 ∷ read (drop (i + 1) order) r
@@ -87,9 +120,23 @@ module _ (order a b : List ℕ) (i : ℕ) where
   pub come-eq : i < length order → getD a (getD order i 0) 0 ≡ getD b (getD order i 0) 0 → onwards order a b i ≡ onwards order a b (i + 1)
   come-eq h e = here h ∙ earlier-same (getD a (getD order i 0) 0) (getD b (getD order i 0) 0) (read (drop (i + 1) order) a) (read (drop (i + 1) order) b) e
 
-  pub come-end : length order ≤ i → onwards order a b i ≡ false
-  unfolding read earlier
-  come-end h = ap (λ (l : List ℕ). earlier (read l a) (read l b)) (drop-of-length-le order {i = i} h)
+  ended : length order ≤ i + 1 → onwards order a b (i + 1) ≡ false
+  ended h = come-end order a b (i + 1) h
+
+  -- where the rows differ at the place, or it is the last, it decides
+  pub come-way : i < length order → (getD a (getD order i 0) 0 ≡ getD b (getD order i 0) 0 → length order ≤ i + 1) → onwards order a b i ≡ ltb (getD a (getD order i 0) 0) (getD b (getD order i 0) 0)
+  come-way h last = cases (ltb x y) refl (ltb y x) refl
+    where
+      x : ℕ
+      x = getD a (getD order i 0) 0
+
+      y : ℕ
+      y = getD b (getD order i 0) 0
+
+      cases : (p : Bool) → ltb x y ≡ p → (q : Bool) → ltb y x ≡ q → onwards order a b i ≡ p
+      cases true e q f = come-lt h (ltb-true x y e)
+      cases false e true f = come-gt h (ltb-true y x f)
+      cases false e false f = let z : x ≡ y = omega (arith, ltb-false x y e, ltb-false y x f) in come-eq h z ∙ ended (last z)
 
 -- ---- lists of rows
 abbrev pub Earlier : List ℕ → List ℕ → List ℕ → Type 0

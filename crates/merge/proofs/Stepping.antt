@@ -4,19 +4,20 @@ use mathlib.Core.Bool.{Bool, true, false, not}
 use mathlib.Core.Logic.{_⊎_, inl, inr}
 use mathlib.Core.List.{List, [], _∷_, _++_, List·Memᴰ, List·Memᴰ·head, List·Memᴰ·tail, List·Memᴰ·not-nil}
 use Prim.Native.Nat.{ℕ, _+_, _-_, _%_, _≤_, _<_}
-use native.Mathlib.Nat.{mod-eq-of-lt, mod-eq-sub-mod}
+use native.Mathlib.Nat.{le-antisymm, mod-eq-of-lt, mod-eq-sub-mod}
 use native.Mathlib.Omega.{arith}
-use lib.Dec.{T, eqb, leb}
+use lib.Dec.{T, eqb, leb, ltb}
 use lib.ListN.{length, take, drop, length-drop}
 use lib.Seq.{length-take-le, take-nil}
-use borrow.Author.Tests.{eqb-true, eqb-false, eq-eqb, ne-eqb, leb-true, leb-false}
+use borrow.Author.Tests.{eqb-true, eqb-false, eq-eqb, ne-eqb, leb-true, leb-false, ltb-true, ltb-false, lt-ltb, le-ltb}
 use Rattle.model.specs.Lists.{choose, both, either, flat, same}
 use Rattle.model.specs.Room.{rowsIn}
 use Rattle.model.proofs.Lists.{T-of, of-T, not-of, of-not, same-eq, same-refl, earlier-asym, earlier-trans, Sorted}
 use Rattle.model.proofs.Room.{Wide, wide-tail, rows-wide, rows-none, rows-cons}
 use Rattle.merge.specs.Merge.{ascends, union, mergedBy}
-use Rattle.merge.specs.Inner.{Places, wayOf, Rests, Sorts, fromFirst, nextRow, taken}
+use Rattle.merge.specs.Inner.{Places, wayOf, Rests, Sorts, fromFirst, nextRow, ofFirst, taken}
 use Rattle.order.specs.Reordered.{read, earlierBy}
+use Rattle.merge.specs.declared.Way.{Way}
 use Rattle.merge.specs.declared.Way.the-variants.{Before, Same, After}
 use Rattle.merge.proofs.Reading.{rows-equal, Earlier, sorted-of, ascends-of}
 use Rattle.merge.proofs.Union.{union-step}
@@ -31,6 +32,30 @@ way-after p q e f = sym (ap₂ wayOf e f)
 pub way-same : (p q : Bool) → p ≡ false → q ≡ false → Same ≡ wayOf p q
 way-same p q e f = sym (ap₂ wayOf e f)
 
+pub less : (x y : ℕ) → y ≤ x → (x ≡ y → ⊥) → y < x
+less x y h ne = go (leb x y) refl
+  where
+    go : (t : Bool) → leb x y ≡ t → y < x
+    go true e = absurd (ne (le-antisymm (leb-true x y e) h))
+    go false e = leb-false x y e
+
+pub less-by : (room first second : ℕ) → first ≤ room → ltb (room - first) second ≡ ltb room (first + second)
+less-by room first second h = go (ltb (room - first) second) refl
+  where
+    go : (t : Bool) → ltb (room - first) second ≡ t → t ≡ ltb room (first + second)
+    go true e = sym (lt-ltb room (first + second) (omega (arith, ltb-true (room - first) second e)))
+    go false e = sym (le-ltb room (first + second) (omega (arith, ltb-false (room - first) second e)))
+
+-- the list that is chosen
+pub chosen-second : {A : Type 0} (w : Way) → w ≡ Before → (x y : A) → y ≡ choose (ofFirst w) x y
+chosen-second w q x y = sym (ap (λ (v : Way). choose (ofFirst v) x y) q)
+
+pub chosen-first : {A : Type 0} (w : Way) → w ≡ Same → (x y : A) → x ≡ choose (ofFirst w) x y
+chosen-first w q x y = sym (ap (λ (v : Way). choose (ofFirst v) x y) q)
+
+pub chosen-rest : {A : Type 0} (w : Way) → w ≡ After → (x y : A) → x ≡ choose (ofFirst w) x y
+chosen-rest w q x y = sym (ap (λ (v : Way). choose (ofFirst v) x y) q)
+
 -- and back
 pub before-way : (p q : Bool) → Before ≡ wayOf p q → p ≡ true
 before-way true q e = refl
@@ -40,11 +65,6 @@ before-way false false e = let z : _≡_ {A = ℕ} 0 1 = cc in absurd (omega ari
 pub after-way : (p q : Bool) → After ≡ wayOf p q → p ≡ false
 after-way true q e = let z : _≡_ {A = ℕ} 0 1 = cc in absurd (omega arith)
 after-way false q e = refl
-
-pub after-way-2 : (p q : Bool) → After ≡ wayOf p q → q ≡ true
-after-way-2 true q e = let z : _≡_ {A = ℕ} 0 1 = cc in absurd (omega arith)
-after-way-2 false true e = refl
-after-way-2 false false e = let z : _≡_ {A = ℕ} 0 1 = cc in absurd (omega arith)
 
 pub same-way : (p q : Bool) → Same ≡ wayOf p q → (p ≡ false) × (q ≡ false)
 same-way true q e = let z : _≡_ {A = ℕ} 0 1 = cc in absurd (omega arith)
@@ -92,12 +112,6 @@ module _ (n : ℕ) (order a b : List ℕ) where
   pub next-second : fromFirst n order a b ≡ false → take n b ≡ nextRow n order a b
   unfolding nextRow
   next-second e = sym (ap (λ (t : Bool). take n (choose t a b)) e)
-
-  pub ptr-first : {A : Type 0} (x y : A) → fromFirst n order a b ≡ true → x ≡ choose (fromFirst n order a b) x y
-  ptr-first x y e = sym (ap (λ (t : Bool). choose t x y) e)
-
-  pub ptr-second : {A : Type 0} (x y : A) → fromFirst n order a b ≡ false → y ≡ choose (fromFirst n order a b) x y
-  ptr-second x y e = sym (ap (λ (t : Bool). choose t x y) e)
 
 -- ---- what a row takes away
 pub taken-none : (n : ℕ) (rest row : List ℕ) → length rest ≡ 0 → 0 ≡ taken n rest row

@@ -3,47 +3,91 @@ use mathlib.Core.Path.{_≡_, refl, sym, ap, ap₂, _∙_, subst}
 use mathlib.Core.Bool.{Bool, true, false, not}
 use mathlib.Core.List.{List, _∷_, _++_, append-assoc, append-nil}
 use Prim.Native.Nat.{ℕ, _+_, _-_, _%_, _≤_, _<_}
-use native.Mathlib.Nat.{mod-self}
 use native.Mathlib.Omega.{arith}
-use lib.Dec.{leb}
+use lib.Dec.{leb, eqb}
 use lib.ListN.{length, take, drop, length-drop, length-append}
-use lib.Seq.{length-take-le, take-all}
-use borrow.Author.Tests.{le-leb, lt-leb, leb-true, leb-false}
+use lib.Seq.{length-take-le, take-all, take-nil}
+use borrow.Author.Tests.{leb-true, leb-false, eq-eqb, ne-eqb, eqb-true, eqb-false}
 use Rattle.model.specs.Room.{rowsIn}
 use Rattle.model.proofs.Room.{rows-none, rows-cons}
-use Rattle.model.specs.Written.{Written}
-use Rattle.model.proofs.Written.{written-then}
 use Rattle.merge.specs.Merge.{ascends, mergedBy}
 use Rattle.order.specs.Reordered.{earlierBy}
-use Rattle.merge.specs.Inner.{wayOf, Rests, Sorts, fromFirst, nextRow, taken}
+use Rattle.model.specs.Lists.{choose}
+use Rattle.merge.specs.Inner.{wayOf, Rests, Sorts, fromFirst, nextRow, stands, ofFirst, Fronts, takenFirst, takenSecond, taken}
 use Rattle.merge.specs.declared.Way.{Way}
 use Rattle.merge.specs.declared.Way.the-variants.{Before, Same, After}
 use Rattle.merge.proofs.Reading.{rows-equal, ascends-yes, ascends-no, ascends-none, ascends-one}
-use Rattle.merge.proofs.Stepping.{before-way, after-way, after-way-2, same-way, by-rows, some-row, drop-whole, taken-yes, taken-no, not-itself, Step, stepped, ended}
+use Rattle.merge.proofs.Stepping.{before-way, after-way, same-way, second-empty, first-empty, by-rows, next-first, next-second, empty, some-row, drop-whole, taken-none, taken-yes, taken-no, not-itself, Step, stepped, ended}
 
--- ---- next
-module _ (n : ℕ) (order a b : List ℕ) (hb : length b ≡ 0 → ⊥) (ha : length a ≡ 0 → ⊥) (w : Way) (e : w ≡ wayOf (earlierBy order (take n b) (take n a)) (earlierBy order (take n a) (take n b))) where
-  pub next-before : w ≡ Before → fromFirst n order a b ≡ false
-  next-before q = by-rows n order a b hb ha ∙ ap not (before-way (earlierBy order (take n b) (take n a)) (earlierBy order (take n a) (take n b)) (sym q ∙ e))
+-- ---- stand
+module _ (n : ℕ) (order a b : List ℕ) where
+  pub stand-after : length b ≡ 0 → After ≡ stands n order a b
+  unfolding stands
+  stand-after e = sym (ap (λ (t : Bool). elim t [ true ↦ After | false ↦ elim (eqb (length a) 0) [ true ↦ Before | false ↦ wayOf (earlierBy order (take n b) (take n a)) (earlierBy order (take n a) (take n b)) ] ]) (eq-eqb (length b) 0 e))
 
-  pub next-same : w ≡ Same → fromFirst n order a b ≡ true
-  next-same q = by-rows n order a b hb ha ∙ ap not (same-way (earlierBy order (take n b) (take n a)) (earlierBy order (take n a) (take n b)) (sym q ∙ e) .0)
+  pub stand-before : (length b ≡ 0 → ⊥) → length a ≡ 0 → Before ≡ stands n order a b
+  unfolding stands
+  stand-before h e = sym (ap₂ (λ (t u : Bool). elim t [ true ↦ After | false ↦ elim u [ true ↦ Before | false ↦ wayOf (earlierBy order (take n b) (take n a)) (earlierBy order (take n a) (take n b)) ] ]) (ne-eqb (length b) 0 h) (eq-eqb (length a) 0 e))
 
-  pub next-after : w ≡ After → fromFirst n order a b ≡ true
-  next-after q = by-rows n order a b hb ha ∙ ap not (after-way (earlierBy order (take n b) (take n a)) (earlierBy order (take n a) (take n b)) (sym q ∙ e))
+  pub stand-rows : (length b ≡ 0 → ⊥) → (length a ≡ 0 → ⊥) → wayOf (earlierBy order (take n b) (take n a)) (earlierBy order (take n a) (take n b)) ≡ stands n order a b
+  unfolding stands
+  stand-rows h k = sym (ap₂ (λ (t u : Bool). elim t [ true ↦ After | false ↦ elim u [ true ↦ Before | false ↦ wayOf (earlierBy order (take n b) (take n a)) (earlierBy order (take n a) (take n b)) ] ]) (ne-eqb (length b) 0 h) (ne-eqb (length a) 0 k))
 
--- ---- past
-module _ (n : ℕ) (order a row : List ℕ) (h : length a ≡ 0 → ⊥) (w : Way) (e : w ≡ wayOf (earlierBy order (take n a) row) (earlierBy order row (take n a))) where
-  pub past-before : w ≡ Before → 0 ≡ taken n a row
-  past-before q = taken-no n a row h (λ z. not-itself order (take n a) row (before-way (earlierBy order (take n a) row) (earlierBy order row (take n a)) (sym q ∙ e)) z)
+-- what is known by how the second's next row stands to the first's
+module _ (n : ℕ) (order a b : List ℕ) (d : Rests n order a b) (w : Way) (e : w ≡ stands n order a b) where
+  split : (P : Way → Type 0) → (length b ≡ 0 → P After) → ((length b ≡ 0 → ⊥) → length a ≡ 0 → P Before) →
+      ((length b ≡ 0 → ⊥) → (length a ≡ 0 → ⊥) → earlierBy order (take n b) (take n a) ≡ true → P Before) →
+      ((length b ≡ 0 → ⊥) → (length a ≡ 0 → ⊥) → earlierBy order (take n b) (take n a) ≡ false → earlierBy order (take n a) (take n b) ≡ true → P After) →
+      ((length b ≡ 0 → ⊥) → (length a ≡ 0 → ⊥) → earlierBy order (take n b) (take n a) ≡ false → earlierBy order (take n a) (take n b) ≡ false → P Same) → P w
+  unfolding stands
+  split P none only later sooner equal = subst P (sym e) (go (eqb (length b) 0) refl (eqb (length a) 0) refl (earlierBy order (take n b) (take n a)) refl (earlierBy order (take n a) (take n b)) refl)
+    where
+      go : (t : Bool) → eqb (length b) 0 ≡ t → (u : Bool) → eqb (length a) 0 ≡ u → (p : Bool) → earlierBy order (take n b) (take n a) ≡ p → (q : Bool) → earlierBy order (take n a) (take n b) ≡ q → P (elim t [ true ↦ After | false ↦ elim u [ true ↦ Before | false ↦ wayOf p q ] ])
+      go true f u g p i q j = none (eqb-true (length b) 0 f)
+      go false f true g p i q j = only (eqb-false (length b) 0 f) (eqb-true (length a) 0 g)
+      go false f false g true i q j = later (eqb-false (length b) 0 f) (eqb-false (length a) 0 g) i
+      go false f false g false i true j = sooner (eqb-false (length b) 0 f) (eqb-false (length a) 0 g) i j
+      go false f false g false i false j = equal (eqb-false (length b) 0 f) (eqb-false (length a) 0 g) i j
 
-  pub past-after : w ≡ After → 0 ≡ taken n a row
-  past-after q = taken-no n a row h (λ z. not-itself order row (take n a) (after-way-2 (earlierBy order (take n a) row) (earlierBy order row (take n a)) (sym q ∙ e)) (sym z))
+  chosen : ofFirst w ≡ fromFirst n order a b
+  chosen =
+      split (λ (v : Way). ofFirst v ≡ fromFirst n order a b) (λ hb. sym (second-empty n order a b hb)) (λ hb ha. sym (first-empty n order a b hb ha)) (λ hb ha q. sym (by-rows n order a b hb ha ∙ ap not q))
+      (λ hb ha q z. sym (by-rows n order a b hb ha ∙ ap not q)) (λ hb ha q z. sym (by-rows n order a b hb ha ∙ ap not q))
 
-  pub past-same : Rests n order a row → length row ≡ n → w ≡ Same → n ≡ taken n a row
-  past-same r l q =
-      let s = same-way (earlierBy order (take n a) row) (earlierBy order row (take n a)) (sym q ∙ e) in
-      taken-yes n a row h (rows-equal n order (r .places) (take n a) row (length-take-le n a (some-row n a (r .first) h)) l (s .0) (s .1))
+  pub next-is : take n (choose (ofFirst w) a b) ≡ nextRow n order a b
+  unfolding nextRow
+  next-is = ap (λ (t : Bool). take n (choose t a b)) chosen
+
+  pub fronts : Fronts n w a b
+  fronts =
+      split (λ (v : Way). Fronts n v a b) (λ hb h. some-row n a (d .first) h) (λ hb ha. some-row n b (d .second) hb) (λ hb ha q. some-row n b (d .second) hb) (λ hb ha q z h. some-row n a (d .first) h)
+      (λ hb ha q z. some-row n a (d .first) ha)
+
+  module _ (row : List ℕ) (k : row ≡ nextRow n order a b) (full : length row ≡ 0 → ⊥) where
+    is-first : fromFirst n order a b ≡ true → take n a ≡ row
+    is-first q = next-first n order a b q ∙ sym k
+
+    is-second : fromFirst n order a b ≡ false → take n b ≡ row
+    is-second q = next-second n order a b q ∙ sym k
+
+    some-first : take n a ≡ row → length a ≡ 0 → ⊥
+    some-first q z = full (sym (ap length q) ∙ ap (λ (l : List ℕ). length (take n l)) (empty a z) ∙ ap length (take-nil n))
+
+    pub first-taken : takenFirst n w ≡ taken n a row
+    first-taken =
+        split (λ (v : Way). takenFirst n v ≡ taken n a row) (λ hb. let q = is-first (second-empty n order a b hb) in taken-yes n a row (some-first q) q) (λ hb ha. taken-none n a row ha)
+        (λ hb ha q. taken-no n a row ha (λ z. not-itself order (take n b) (take n a) q (is-second (by-rows n order a b hb ha ∙ ap not q) ∙ sym z)))
+        (λ hb ha q v. taken-yes n a row ha (is-first (by-rows n order a b hb ha ∙ ap not q)))
+        (λ hb ha q v. taken-yes n a row ha (is-first (by-rows n order a b hb ha ∙ ap not q)))
+
+    pub second-taken : takenSecond n w ≡ taken n b row
+    second-taken =
+        split (λ (v : Way). takenSecond n v ≡ taken n b row) (λ hb. taken-none n b row hb) (λ hb ha. taken-yes n b row hb (is-second (first-empty n order a b hb ha)))
+        (λ hb ha q. taken-yes n b row hb (is-second (by-rows n order a b hb ha ∙ ap not q)))
+        (λ hb ha q v. taken-no n b row hb (λ z. not-itself order (take n a) (take n b) v (is-first (by-rows n order a b hb ha ∙ ap not q) ∙ sym z)))
+        (λ hb ha q v.
+        taken-yes n b row hb
+        (sym (rows-equal n order (d .places) (take n a) (take n b) (length-take-le n a (some-row n a (d .first) ha)) (length-take-le n b (some-row n b (d .second) hb)) v q) ∙ is-first (by-rows n order a b hb ha ∙ ap not q)))
 
 -- ---- parts
 pub part-is : (a : List ℕ) (i : ℕ) → take (length a - i) (drop i a) ≡ drop i a
@@ -109,15 +153,6 @@ module _ (n : ℕ) (order a b : List ℕ) (d : Sorts n order a b) (row : List �
   pub row-fits : length (mergedBy n order a b) ≡ n + length (mergedBy n order (drop (taken n a row) a) (drop (taken n b row) b))
   row-fits = ap length (step .text) ∙ length-append row (mergedBy n order (drop (taken n a row) a) (drop (taken n b row) b)) ∙ ap (λ (k : ℕ). k + length (mergedBy n order (drop (taken n a row) a) (drop (taken n b row) b))) (step .width)
 
-  whole-row : length row % n ≡ 0
-  whole-row = ap (λ (k : ℕ). k % n) (step .width) ∙ mod-self n
-
-  pub past-first : Rests n order a row × (length row ≡ n)
-  past-first = (record { places = d .rests .places; some = d .rests .some; first = d .rests .first; second = whole-row }, step .width)
-
-  pub past-second : Rests n order b row × (length row ≡ n)
-  past-second = (record { places = d .rests .places; some = d .rests .some; first = d .rests .second; second = whole-row }, step .width)
-
   module _ (i j : ℕ) (ei : i ≡ taken n a row) (ej : j ≡ taken n b row) where
     turn : Step n order a b row i j
     turn = stepped n order a b d row i j e full ei ej
@@ -138,25 +173,14 @@ module _ (n : ℕ) (order a b : List ℕ) (d : Sorts n order a b) (row : List �
       pub fewer : length a′ + length b′ < length a + length b
       fewer = omega (arith, turn .fewer, ap length ea, ap length eb)
 
-      pub count : (total all : ℕ) → total + length (mergedBy n order a b) ≡ all → total + n + length (mergedBy n order a′ b′) ≡ all
-      count total all h = omega (arith, ap length text, length-append row (mergedBy n order a′ b′), turn .width)
-
-      pub more : {o t out : List ℕ} {at : ℕ} {out′ : List ℕ} {at′ : ℕ} (all : List ℕ) → at ≤ length o → t ++ mergedBy n order a b ≡ all → Written o 0 t out at → Written out at row out′ at′ → ((u : List ℕ) × Written o 0 u out′ at′ × (u ++ mergedBy n order a′ b′ ≡ all))
-      more {t} all fits h v w =
-          (t ++ row, written-then fits v w, append-assoc t row (mergedBy n order a′ b′) ∙ sym (ap (λ (x : List ℕ). t ++ x) text) ∙ h)
+      -- the text so far, the row and what is left
+      pub text-is : (t : List ℕ) → (t ++ row) ++ mergedBy n order a′ b′ ≡ t ++ mergedBy n order a b
+      text-is t = append-assoc t row (mergedBy n order a′ b′) ∙ sym (ap (λ (x : List ℕ). t ++ x) text)
 
 -- a row fits where the whole does
-pub room-for : (n : ℕ) (order a b : List ℕ) → Sorts n order a b → (row : List ℕ) → row ≡ nextRow n order a b → (length row ≡ 0 → ⊥) → (t all : List ℕ) (at size : ℕ) → at ≡ 0 + length t → t ++ mergedBy n order a b ≡ all → length all ≤ size → at + length row ≤ size
+pub room-for : (n : ℕ) (order a b : List ℕ) → Sorts n order a b → (row : List ℕ) → row ≡ nextRow n order a b → (length row ≡ 0 → ⊥) → (t all : List ℕ) (at size : ℕ) → at ≡ length t → t ++ mergedBy n order a b ≡ all → length all ≤ size → at + length row ≤ size
 room-for n order a b d row e full t all at size h q l =
     omega (arith, ap length q, length-append t (mergedBy n order a b), row-fits n order a b d row e full, row-width n order a b d row e full)
 
 pub at-end : (n : ℕ) (order a b : List ℕ) → Sorts n order a b → (row : List ℕ) → row ≡ nextRow n order a b → length row ≡ 0 → (t all : List ℕ) → t ++ mergedBy n order a b ≡ all → t ≡ all
 at-end n order a b d row e z t all q = sym (append-nil t) ∙ sym (ap (λ (x : List ℕ). t ++ x) (ended n order a b d row e z)) ∙ q
-
-pub fits-end : (n : ℕ) (order a b : List ℕ) → Sorts n order a b → (row : List ℕ) → row ≡ nextRow n order a b → length row ≡ 0 → (total all room : ℕ) → total + length (mergedBy n order a b) ≡ all → total ≤ room → true ≡ leb all room
-fits-end n order a b d row e z total all room q h =
-    sym (le-leb all room (omega (arith, ap length (ended n order a b d row e z))))
-
-pub fits-not : (n : ℕ) (order a b : List ℕ) → Sorts n order a b → (row : List ℕ) → row ≡ nextRow n order a b → (length row ≡ 0 → ⊥) → (total all room : ℕ) → total + length (mergedBy n order a b) ≡ all → room - total < n → total ≤ room → false ≡ leb all room
-fits-not n order a b d row e full total all room q h l =
-    sym (lt-leb all room (omega (arith, row-fits n order a b d row e full)))

@@ -46,7 +46,12 @@ slice-aggregate-merge-by c =
 merge-by-requires : tie.Need-merge-by-requires
 merge-by-requires c κs =
     let a = c .before .before .before .before .before .before .before .before .before .before .before .args in
-    ready (a .n) (a .pairs .now) (a .first .now) (a .second .now) (a .room .now) (sym (c .before .before .before .before .before .before .whole .ensures) ∙ not-false _ (c .before .before .before .before .before .if1 .left)) (c .before .before .before .settling-order .ensures) (c .before .before .if2 .left)
+    let yes = sym (c .before .before .before .before .before .before .whole .ensures) ∙ not-false _ (c .before .before .before .before .before .if1 .left) in
+    let most = whole-e (a .n) (a .first .now) (a .second .now) yes .most in (
+      ready (a .n) (a .pairs .now) (a .first .now) (a .second .now) (a .room .now) yes (c .before .before .before .settling-order .ensures) (c .before .before .if2 .left),
+      length-take-le (a .n) (c .before .before .before .settling-order .last .1 .1 .0) (omega (arith, c .before .before .before .settling-order .ensures .size, most)),
+      most,
+    )
 
 same-length : tie.Need-same-length
 same-length c = search needs

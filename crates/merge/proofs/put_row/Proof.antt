@@ -1,80 +1,68 @@
--- `put_row`: after i turns the buffer has the row's first i bytes at the place. Assumes nothing.
-use mathlib.Core.Path.{_≡_, refl, sym, ap, _∙_}
-use mathlib.Core.List.{List}
-use Prim.Native.Nat.{ℕ, _+_, _-_, _≤_, _<_}
-use native.Mathlib.Nat.{le-antisymm}
-use native.Mathlib.Numerals.{add-one}
+-- `put_row`: the first four bytes, the next four and the last four are the row. Assumes nothing.
+use Prim.Native.Nat.{_+_, _-_}
 use native.Mathlib.Omega.{arith}
+use lib.ListN.{length}
+use Rattle.merge.proofs.Copying.{row-put}
 use borrow.Author.Needs.{needs}
-use lib.ListN.{length, getD, set, length-set}
-use lib.Seq.{paste, paste-zero, paste-suc}
-use Rattle.model.specs.Written.{Written}
-use Rattle.model.proofs.Written.{written-paste}
 use Rattle.merge.proofs.put_row.Statement.{statement}
 use Rattle.merge.proofs.put_row.Tie as tie
 
-abbrev Inv-loop : tie.InvT-loop
-Inv-loop out₀ at row i₀ out i = (i ≤ length row) × (out ≡ paste out₀ at row i) × (length out ≡ length out₀)
+put-bytes-requires : tie.Need-put-bytes-requires
+put-bytes-requires c κs = search needs
 
-abbrev μ-loop : tie.MeasureT-loop
-μ-loop out₀ at row i₀ out i = length row - i
+same-length : tie.Need-same-length
+same-length c = search needs
 
--- a turn stores one byte more
-turn : (d : List ℕ) (at : ℕ) (t : List ℕ) (i : ℕ) (o : List ℕ) → at + i < length d → i < length t → o ≡ paste d at t i → set o (at + i) (getD t i 0) ≡ paste d at t (i + 1)
-turn d at t i o h k e = ap (λ (l : List ℕ). set l (at + i) (getD t i 0)) e ∙ paste-suc d at t i 0 h k ∙ ap (paste d at t) (sym (add-one i))
+returns : tie.Need-returns
+returns c = search needs
 
-whole : (d : List ℕ) (at : ℕ) (t : List ℕ) (i : ℕ) (o : List ℕ) → i ≡ length t → o ≡ paste d at t i → Written d at t o (at + i)
-whole d at t i o e p = rw p (written-paste d at t i e)
+put-four-requires : tie.Need-put-four-requires
+put-four-requires c κs = search needs
 
-loop-holds : tie.Need-loop-holds Inv-loop μ-loop
-loop-holds c = (search needs, paste-zero (c .args .out .now) (c .args .at) (c .args .row .now), refl)
+add-put-four : tie.Need-add-put-four
+add-put-four c = search needs
 
-shared-slice-read-out : tie.Need-shared-slice-read-out Inv-loop μ-loop
-shared-slice-read-out c = search needs
+put-four-requires-2 : tie.Need-put-four-requires-2
+put-four-requires-2 c κs = search needs
 
-add-out : tie.Need-add-out Inv-loop μ-loop
-add-out c = search needs
+add-put-four-2 : tie.Need-add-put-four-2
+add-put-four-2 c = search needs
 
-slice-write-out : tie.Need-slice-write-out Inv-loop μ-loop
-slice-write-out c = search needs
+sub-put-four : tie.Need-sub-put-four
+sub-put-four c = search needs
 
-add-i : tie.Need-add-i Inv-loop μ-loop
-add-i c = search needs
+sub-put-four-2 : tie.Need-sub-put-four-2
+sub-put-four-2 c = search needs
 
-loop-less : tie.Need-loop-less Inv-loop μ-loop
-loop-less c = search needs
+put-four-requires-3 : tie.Need-put-four-requires-3
+put-four-requires-3 c κs = search needs
 
-loop-again : tie.Need-loop-again Inv-loop μ-loop
-loop-again c =
-    let l = c .before .before in
-    let a = l .before .args in
-    (search needs, turn (a .out .now) (a .at) (a .row .now) (l .loop .i) (l .loop .out) (omega arith) (omega arith) (l .loop .inv .1), simp length-set (l .loop .inv .2))
-
-add-result : tie.Need-add-result Inv-loop μ-loop
+add-result : tie.Need-add-result
 add-result c = search needs
 
-same-length : tie.Need-same-length Inv-loop μ-loop
-same-length c = c .before .loop .inv .2
+same-length-2 : tie.Need-same-length-2
+same-length-2 c = search needs
 
-returns : tie.Need-returns Inv-loop μ-loop
-returns c =
-    let l = c .before in
-    let a = l .before .args in
-    whole (a .out .now) (a .at) (a .row .now) (l .loop .i) (l .loop .out) (le-antisymm (l .loop .inv .0) (c .loop-test .left)) (l .loop .inv .1)
+returns-2 : tie.Need-returns-2
+returns-2 c =
+    let s = c .before .before .before .before .before .before .before .before .before .before .before .before .before .before .before in
+    let n = length (s .args .row .now) in
+    row-put (s .args .out .now) (s .args .at) (s .args .row .now) _ _ _ (n - 4) (s .args .at + n - 4) (s .pre .0) (omega arith) (omega arith) (omega arith) (c .before .before .before .before .before .before .before .before .before .before .put-four .ensures) (c .before .before .before .before .before .before .put-four2 .ensures) (omega arith) (c .before .before .put-four3 .ensures)
 
 pub put-row-spec : {M : Type 1} → statement M
 put-row-spec =
     tie.close
     (tie.spec
-    Inv-loop
-    μ-loop
-    loop-holds
-    shared-slice-read-out
-    add-out
-    slice-write-out
-    add-i
-    loop-less
-    loop-again
-    add-result
+    put-bytes-requires
     same-length
-    returns)
+    returns
+    put-four-requires
+    add-put-four
+    put-four-requires-2
+    add-put-four-2
+    sub-put-four
+    sub-put-four-2
+    put-four-requires-3
+    add-result
+    same-length-2
+    returns-2)

@@ -1,0 +1,80 @@
+-- `put_bytes`: after i turns the buffer has the row's first i bytes at the place. Assumes nothing.
+use mathlib.Core.Path.{_≡_, refl, sym, ap, _∙_}
+use mathlib.Core.List.{List}
+use Prim.Native.Nat.{ℕ, _+_, _-_, _≤_, _<_}
+use native.Mathlib.Nat.{le-antisymm}
+use native.Mathlib.Numerals.{add-one}
+use native.Mathlib.Omega.{arith}
+use borrow.Author.Needs.{needs}
+use lib.ListN.{length, getD, set, length-set}
+use lib.Seq.{paste, paste-zero, paste-suc}
+use Rattle.model.specs.Written.{Written}
+use Rattle.model.proofs.Written.{written-paste}
+use Rattle.merge.proofs.put_bytes.Statement.{statement}
+use Rattle.merge.proofs.put_bytes.Tie as tie
+
+abbrev Inv-loop : tie.InvT-loop
+Inv-loop out₀ at row i₀ out i = (i ≤ length row) × (out ≡ paste out₀ at row i) × (length out ≡ length out₀)
+
+abbrev μ-loop : tie.MeasureT-loop
+μ-loop out₀ at row i₀ out i = length row - i
+
+-- a turn stores one byte more
+turn : (d : List ℕ) (at : ℕ) (t : List ℕ) (i : ℕ) (o : List ℕ) → at + i < length d → i < length t → o ≡ paste d at t i → set o (at + i) (getD t i 0) ≡ paste d at t (i + 1)
+turn d at t i o h k e = ap (λ (l : List ℕ). set l (at + i) (getD t i 0)) e ∙ paste-suc d at t i 0 h k ∙ ap (paste d at t) (sym (add-one i))
+
+whole : (d : List ℕ) (at : ℕ) (t : List ℕ) (i : ℕ) (o : List ℕ) → i ≡ length t → o ≡ paste d at t i → Written d at t o (at + i)
+whole d at t i o e p = rw p (written-paste d at t i e)
+
+loop-holds : tie.Need-loop-holds Inv-loop μ-loop
+loop-holds c = (search needs, paste-zero (c .args .out .now) (c .args .at) (c .args .row .now), refl)
+
+shared-slice-read-out : tie.Need-shared-slice-read-out Inv-loop μ-loop
+shared-slice-read-out c = search needs
+
+add-out : tie.Need-add-out Inv-loop μ-loop
+add-out c = search needs
+
+slice-write-out : tie.Need-slice-write-out Inv-loop μ-loop
+slice-write-out c = search needs
+
+add-i : tie.Need-add-i Inv-loop μ-loop
+add-i c = search needs
+
+loop-less : tie.Need-loop-less Inv-loop μ-loop
+loop-less c = search needs
+
+loop-again : tie.Need-loop-again Inv-loop μ-loop
+loop-again c =
+    let l = c .before .before in
+    let a = l .before .args in
+    (search needs, turn (a .out .now) (a .at) (a .row .now) (l .loop .i) (l .loop .out) (omega arith) (omega arith) (l .loop .inv .1), simp length-set (l .loop .inv .2))
+
+add-result : tie.Need-add-result Inv-loop μ-loop
+add-result c = search needs
+
+same-length : tie.Need-same-length Inv-loop μ-loop
+same-length c = c .before .loop .inv .2
+
+returns : tie.Need-returns Inv-loop μ-loop
+returns c =
+    let l = c .before in
+    let a = l .before .args in
+    whole (a .out .now) (a .at) (a .row .now) (l .loop .i) (l .loop .out) (le-antisymm (l .loop .inv .0) (c .loop-test .left)) (l .loop .inv .1)
+
+pub put-bytes-spec : {M : Type 1} → statement M
+put-bytes-spec =
+    tie.close
+    (tie.spec
+    Inv-loop
+    μ-loop
+    loop-holds
+    shared-slice-read-out
+    add-out
+    slice-write-out
+    add-i
+    loop-less
+    loop-again
+    add-result
+    same-length
+    returns)
