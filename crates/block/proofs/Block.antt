@@ -1,8 +1,8 @@
 -- A block's symmetries: what an ordering does to pairs, that trades of neighbours are enough to ask, that its variables have equal initial sets, and that two of them make one. Assumes nothing.
 use mathlib.Core.Path.{_≡_, refl, sym, ap, ap₂, _∙_, subst}
 use mathlib.Core.Bool.{Bool, false}
-use mathlib.Core.List.{List, [], _∷_, _++_, map, List·Memᴰ, List·Memᴰ·head, List·Memᴰ·tail, List·Memᴰ·append-cases, Memᴰ·cast, Memᴰ·map, Memᴰ·of-map}
-use mathlib.Core.Logic.{_⊎_, inl, inr, ⊎-elim}
+use mathlib.Core.List.{List, [], _∷_, _++_, map, List·Memᴰ, List·Memᴰ·head, List·Memᴰ·tail, Memᴰ·cast, Memᴰ·map, Memᴰ·of-map}
+use mathlib.Core.Logic.{_⊎_, inl, inr}
 use Prim.Native.Nat.{ℕ, zero, suc, _+_, _-_, _*_, _≤_, _<_}
 use native.Mathlib.Omega.{arith}
 use native.Mathlib.Decide.{ℕ-discrete, decLt}
@@ -14,7 +14,7 @@ use Rattle.model.specs.ValueSets.{has}
 use Rattle.model.specs.Problem.{Problem, pair, respects}
 use Rattle.model.specs.Verdict.{Verdict, accepted, refused, ask, isAccepted}
 use Rattle.model.specs.Sheet.{permutesPairs, symmetriesVerdict}
-use Rattle.model.specs.WellFormed.{WellFormed, GoodSymmetry, Respected}
+use Rattle.model.specs.WellFormed.{WellFormed, GoodSymmetry}
 use Rattle.block.specs.Block.{ordering, factorial, andThen, inBlock, imageOf, orderingTable, blockTables, withBlock, isBlock, blockVerdict, TradePasses}
 use Rattle.model.proofs.Lists.{both-l, both-r, of-T, not-of, T-ext, map-append, below-i, below-e, upFrom-add, length-below}
 use Rattle.model.proofs.Sets.{mask-ext}
@@ -334,30 +334,10 @@ module _ (p : Problem) (w : WellFormed p) (first m : ℕ) where
     pub trade-refused-16 : T (permutesPairs p (orderingTable p first m (factorial k))) → respects p (orderingTable p first m (factorial k)) ≡ false → blockVerdict p first m ≡ refused 16 (length (p .symmetries) + factorial k)
     trade-refused-16 = row-refused-16 is (factorial k) (factorial-up k m l h) rows-before
 
-  -- the problem with an accepted block is well formed, and its symmetries respect it: every law of the search holds of it
-  module _ (e : blockVerdict p first m ≡ accepted) where
-    abbrev tables : List (List ℕ)
-    tables = p .symmetries ++ blockTables p first m
-
-    row-passes : (g : List ℕ) → List·Memᴰ g (blockTables p first m) → B.Passes p g
-    unfolding blockTables
-    row-passes g i = let r = Memᴰ·of-map (orderingTable p first m) (below (factorial m)) i in subst (B.Passes p) (r .2) (block-e e .rows (r .0) (below-e (factorial m) (r .0) (r .1)))
-
-    pub well-formed-block : WellFormed (withBlock first m p)
-    well-formed-block = record {
-      some = w .some;
-      few = w .few;
-      one = w .one;
-      sixteen = w .sixteen;
-      sized = w .sized;
-      nonempty = w .nonempty;
-      narrow = w .narrow;
-      constrained = λ c i. (let g = w .constrained c i in record { some = g .some; few = g .few; inside = g .inside; ordered = g .ordered; sized = g .sized; valued = g .valued });
-      symmetric = λ g i. B.good-other p tables g (⊎-elim {C = GoodSymmetry p g} (w .symmetric g) (λ j. row-passes g j .good) (List·Memᴰ·append-cases (p .symmetries) i));
-    }
-
-    pub respected-block : Respected p → Respected (withBlock first m p)
-    respected-block q = record { respectful = λ g i. B.respects-other p tables g (⊎-elim {C = T (respects p g)} (q .respectful g) (λ j. row-passes g j .respectful) (List·Memᴰ·append-cases (p .symmetries) i)) }
+  -- the tables of an accepted block pass both questions
+  pub row-passes : blockVerdict p first m ≡ accepted → (g : List ℕ) → List·Memᴰ g (blockTables p first m) → B.Passes p g
+  unfolding blockTables
+  row-passes e g i = let r = Memᴰ·of-map (orderingTable p first m) (below (factorial m)) i in subst (B.Passes p) (r .2) (block-e e .rows (r .0) (below-e (factorial m) (r .0) (r .1)))
 
   -- a block's orderings, used with no other symmetries: any two of them, one after the other, agree with one of them on all numbers
   pub alone-closed : p .symmetries ≡ [] → blockVerdict p first m ≡ accepted → (g h : List ℕ) → List·Memᴰ g (withBlock first m p .symmetries) → List·Memᴰ h (withBlock first m p .symmetries) →
@@ -366,7 +346,7 @@ module _ (p : Problem) (w : WellFormed p) (first m : ℕ) where
       let b = block-e e in
       let only : p .symmetries ++ blockTables p first m ≡ blockTables p first m = ap (λ (l : List (List ℕ)). l ++ blockTables p first m) none in
       let i′ = subst (List·Memᴰ g) only i in
-      let n : length g ≡ p .variables * p .values = well-formed-block e .symmetric g i .sized in (
+      let n : length g ≡ p .variables * p .values = row-passes e g i′ .good .sized in (
         andThen g h,
         subst (List·Memᴰ (andThen g h)) (sym only) (block-closed p w first m (b .few) (b .inside) (λ row l. b .rows row l .good .permutes) g h i′ (subst (List·Memᴰ h) only j)),
         λ q l. sym (at-andThen g h q (subst (λ (k : ℕ). q < k) (sym n) l)),

@@ -1,13 +1,24 @@
--- A block as it is lent, by the number of bytes. Assumes nothing.
-use mathlib.Core.Path.{_≡_, refl}
-use mathlib.Core.Bool.{false}
-use mathlib.Core.List.{List, [], _∷_}
-use Prim.Native.Nat.{ℕ}
+-- A block as it is lent: by the number of bytes, the tables of an accepted one, and its variables in an order. Assumes nothing.
+use mathlib.Core.Path.{_≡_, refl, sym, subst}
+use mathlib.Core.Bool.{Bool, false}
+use mathlib.Core.List.{List, [], _∷_, _++_, map, append-nil, List·Memᴰ, List·Memᴰ·not-nil}
+use mathlib.Core.Logic.{inl, inr, ⊎-elim}
+use Prim.Native.Nat.{ℕ, _<_}
 use native.Mathlib.Omega.{arith}
+use lib.Dec.{T}
 use lib.ListN.{length, getD}
-use Rattle.model.specs.Problem.{Problem}
-use Rattle.model.specs.Verdict.{accepted, refused}
-use Rattle.block.specs.Block.{inBlock, blockVerdict, blockLent, inLent}
+use Rattle.model.specs.Lists.{at}
+use Rattle.model.specs.Problem.{Problem, pair, isPair}
+use Rattle.model.specs.Verdict.{Verdict, accepted, refused, isAccepted}
+use Rattle.model.specs.WellFormed.{WellFormed}
+use Rattle.order.specs.Order.{Ordering}
+use Rattle.order.specs.Reordered.{symmetryIn, reordered}
+use Rattle.block.specs.Block.{variableTable, inBlock, orderingTable, blockTables, blockVerdict, tablesLent, blockLent, inLent}
+use Rattle.block.specs.BlockSets.{Reorders, BlockIn}
+use Rattle.model.proofs.More.{withSymmetries}
+use Rattle.block.proofs.Tables.{Passes}
+use Rattle.block.proofs.Block.{row-passes}
+use Rattle.block.proofs.BlockReordered.{accepted-reordered}
 
 pub lent-none : (p : Problem) (l : List ℕ) → length l ≡ 0 → accepted ≡ blockLent p l
 unfolding blockLent
@@ -41,3 +52,63 @@ inside-two [] e x = absurd (omega arith)
 inside-two (y ∷ []) e x = absurd (omega arith)
 inside-two (y ∷ z ∷ []) e x = refl
 inside-two (y ∷ z ∷ u ∷ l) e x = absurd (omega arith)
+
+-- ---- the tables that it adds
+is-accepted : (v : Verdict) → T (isAccepted v) → v ≡ accepted
+is-accepted accepted t = refl
+is-accepted (refused number item) t = absurd t
+
+pub tables-pass : (p : Problem) → WellFormed p → (block : List ℕ) → T (isAccepted (blockLent p block)) → (g : List ℕ) → List·Memᴰ g (tablesLent p block) → Passes p g
+unfolding tablesLent blockLent
+tables-pass p w [] h g i = absurd (List·Memᴰ·not-nil i)
+tables-pass p w (first ∷ []) h g i = absurd (List·Memᴰ·not-nil i)
+tables-pass p w (first ∷ m ∷ []) h g i = row-passes p w first m (is-accepted (blockVerdict p first m) h) g i
+tables-pass p w (first ∷ m ∷ x ∷ more) h g i = absurd (List·Memᴰ·not-nil i)
+
+-- they don't look at the other symmetries
+pub tables-other : (p : Problem) (gs : List (List ℕ)) (block : List ℕ) → tablesLent (withSymmetries p gs) block ≡ tablesLent p block
+unfolding tablesLent blockTables orderingTable variableTable isPair pair
+tables-other p gs [] = refl
+tables-other p gs (first ∷ []) = refl
+tables-other p gs (first ∷ m ∷ []) = refl
+tables-other p gs (first ∷ m ∷ x ∷ more) = refl
+
+-- ---- a test that agrees with a block's on the variables serves as well
+pub block-same : (p : Problem) (block block′ : ℕ → Bool) (gs : List (List ℕ)) → ((x : ℕ) → x < p .variables → block x ≡ block′ x) → BlockIn p block gs → BlockIn p block′ gs
+block-same p block block′ gs e b = record {
+  equal = λ x y l k s t. b .equal x y l k (back x l s) (back y k t);
+  own = b .own;
+  each = λ g i. ⊎-elim inl (λ r. inr (again g r)) (b .each g i);
+  trade = λ x y l k f s t. b .trade x y l k f (back x l s) (back y k t);
+}
+  where
+    back : (x : ℕ) → x < p .variables → T (block′ x) → T (block x)
+    back x l t = subst T (sym (e x l)) t
+
+    again : (g : List ℕ) → Reorders p block g → Reorders p block′ g
+    again g r = record {
+      image = r .image;
+      moved = r .moved;
+      variable = r .variable;
+      injective = r .injective;
+      only = λ x l f. let q = r .only x l f in (subst T (e x l) (q .0), subst T (e (r .image x) (r .variable x l)) (q .1));
+    }
+
+-- no block: any test that holds of no variable
+pub block-none : (p : Problem) (block : ℕ → Bool) → ((x : ℕ) → x < p .variables → T (block x) → ⊥) → BlockIn p block (p .symmetries)
+block-none p block f = record {
+  equal = λ x y l k s t. absurd (f x l s);
+  own = λ g i. i;
+  each = λ g i. inl i;
+  trade = λ x y l k d s t. absurd (f x l s);
+}
+
+-- the block of the reordered problem: the positions of its variables
+module _ (p : Problem) (w : WellFormed p) (order : List ℕ) (o : Ordering (p .variables) order) where
+  pub lent-reordered : (block : List ℕ) → T (isAccepted (blockLent p block)) → BlockIn (reordered order p) (λ i. inLent block (at order i)) (map (symmetryIn order p) (p .symmetries ++ tablesLent p block))
+  unfolding blockLent tablesLent inLent
+  lent-reordered [] h =
+      subst (λ (gs : List (List ℕ)). BlockIn (reordered order p) (λ i. false) (map (symmetryIn order p) gs)) (sym (append-nil (p .symmetries))) (block-none (reordered order p) (λ i. false) (λ i l t. t))
+  lent-reordered (first ∷ []) h = absurd h
+  lent-reordered (first ∷ m ∷ []) h = accepted-reordered p w order o first m (is-accepted (blockVerdict p first m) h)
+  lent-reordered (first ∷ m ∷ x ∷ more) h = absurd h

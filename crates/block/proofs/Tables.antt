@@ -13,7 +13,7 @@ use Rattle.model.specs.Problem.{Problem, Constraint, pair, isPair, pairsAt, wit
 use Rattle.model.specs.Sheet.{distinct, permutesPairs}
 use Rattle.model.specs.Claims.{Drawn}
 use Rattle.block.specs.Block.{andThen, variableTable}
-use Rattle.model.specs.WellFormed.{WellFormed, GoodSymmetry}
+use Rattle.model.specs.WellFormed.{WellFormed, GoodSymmetry, Respected}
 use Rattle.model.proofs.Lists.{both-i, T-dec, of-T, not-of, all-i, any-i, below-e, length-below, at-below, at-ext, map-ext}
 use Rattle.model.proofs.Assignments.{drawn-e}
 use Rattle.model.proofs.Pairs as P
@@ -53,6 +53,23 @@ module _ (p : Problem) (gs : List (List ℕ)) where
   pub respects-other : (g : List ℕ) → T (respects p g) → T (respects (withSymmetries p gs) g)
   unfolding respects
   respects-other g = subst (λ (fs : List (List ℕ)). T (all (λ f. any (λ h. within h (map (at g) f)) fs) fs)) (sym forbidden-other)
+
+  -- so the problem with other symmetries is as good as these are
+  pub well-formed-with : WellFormed p → ((g : List ℕ) → List·Memᴰ g gs → GoodSymmetry p g) → WellFormed (withSymmetries p gs)
+  well-formed-with w h = record {
+    some = w .some;
+    few = w .few;
+    one = w .one;
+    sixteen = w .sixteen;
+    sized = w .sized;
+    nonempty = w .nonempty;
+    narrow = w .narrow;
+    constrained = λ c i. (let g = w .constrained c i in record { some = g .some; few = g .few; inside = g .inside; ordered = g .ordered; sized = g .sized; valued = g .valued });
+    symmetric = λ g i. good-other g (h g i);
+  }
+
+  pub respected-with : ((g : List ℕ) → List·Memᴰ g gs → T (respects p g)) → Respected (withSymmetries p gs)
+  respected-with h = record { respectful = λ g i. respects-other g (h g i) }
 
 -- a table that passes questions 15 and 16
 pub record Passes (p : Problem) (g : List ℕ) : Type 0 where
