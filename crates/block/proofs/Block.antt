@@ -16,7 +16,7 @@ use Rattle.model.specs.Verdict.{Verdict, accepted, refused, ask, isAccepted}
 use Rattle.model.specs.Sheet.{permutesPairs, symmetriesVerdict}
 use Rattle.model.specs.WellFormed.{WellFormed, GoodSymmetry}
 use Rattle.block.specs.Block.{ordering, factorial, andThen, inBlock, imageOf, orderingTable, blockTables, withBlock, isBlock, blockVerdict, TradePasses}
-use Rattle.model.proofs.Lists.{both-l, both-r, of-T, not-of, T-ext, map-append, below-i, below-e, upFrom-add, length-below}
+use Rattle.model.proofs.Lists.{both-l, both-r, T-of, of-T, not-of, T-ext, map-append, below-i, below-e, upFrom-add, length-below}
 use Rattle.model.proofs.Sets.{mask-ext}
 use Rattle.model.proofs.Accepted.{asked, symmetries-e}
 use Rattle.block.proofs.Orderings.{Few, factorial-up, Moves, moves, moves-small, moves-high, at-andThen, product-row, generated, trade-at, row-zero}
@@ -257,18 +257,23 @@ pub record Block (p : Problem) (first m : ℕ) : Type 0 where
   pub inside : first + m ≤ p .variables
   pub rows : (row : ℕ) → row < factorial m → B.Passes p (orderingTable p first m row)
 
-module _ (p : Problem) (w : WellFormed p) (first m : ℕ) where
-  pub block-is : T (isBlock p first m) → Few m × (first + m ≤ p .variables)
-  unfolding isBlock
-  block-is t =
-      let a = both-l (both (leb 2 m) (leb m 5)) (leb (first + m) (p .variables)) t in
-      ((leb→le 2 m (both-l (leb 2 m) (leb m 5) a), leb→le m 5 (both-r (leb 2 m) (leb m 5) a)), leb→le (first + m) (p .variables) (both-r (both (leb 2 m) (leb m 5)) (leb (first + m) (p .variables)) t))
+-- question 36
+pub block-is : (p : Problem) (first m : ℕ) → T (isBlock p first m) → Few m × (first + m ≤ p .variables)
+unfolding isBlock
+block-is p first m t =
+    let a = both-l (both (leb 2 m) (leb m 5)) (leb (first + m) (p .variables)) t in
+    ((leb→le 2 m (both-l (leb 2 m) (leb m 5) a), leb→le m 5 (both-r (leb 2 m) (leb m 5) a)), leb→le (first + m) (p .variables) (both-r (both (leb 2 m) (leb m 5)) (leb (first + m) (p .variables)) t))
 
+pub is-block : (p : Problem) (first m : ℕ) → Few m → first + m ≤ p .variables → T (isBlock p first m)
+unfolding isBlock
+is-block p first m f l = T-of (isBlock p first m) (ap₂ both (ap₂ both (le-leb 2 m (f .0)) (le-leb m 5 (f .1))) (le-leb (first + m) (p .variables) l))
+
+module _ (p : Problem) (w : WellFormed p) (first m : ℕ) where
   pub block-e : blockVerdict p first m ≡ accepted → Block p first m
   unfolding blockVerdict blockTables
   block-e e =
       let q = asked (isBlock p first m) 36 0 (symmetriesVerdict p (length (p .symmetries)) (blockTables p first m)) (subst (λ (v : Verdict). T (isAccepted v)) (sym e) tt) in
-      let b = block-is (q .0) in
+      let b = block-is p first m (q .0) in
       record {
         few = b .0;
         inside = b .1;
@@ -281,7 +286,7 @@ module _ (p : Problem) (w : WellFormed p) (first m : ℕ) where
   pub block-i : T (isBlock p first m) → ((k : ℕ) → 1 ≤ k → k < m → TradePasses p first m k) → blockVerdict p first m ≡ accepted
   unfolding blockVerdict blockTables
   block-i is t =
-      let b = block-is is in
+      let b = block-is p first m is in
       ap (λ (c : Bool). ask c 36 0 (symmetriesVerdict p (length (p .symmetries)) (blockTables p first m))) (of-T (isBlock p first m) is)
       ∙ symmetries-i p (length (p .symmetries)) (blockTables p first m)
       (λ g i. let r = Memᴰ·of-map (orderingTable p first m) (below (factorial m)) i in
@@ -326,7 +331,7 @@ module _ (p : Problem) (w : WellFormed p) (first m : ℕ) where
   -- the first trade of neighbours that is refused decides: the rows before it pass
   module _ (is : T (isBlock p first m)) (k : ℕ) (l : 1 ≤ k) (h : k < m) (before : (j : ℕ) → 1 ≤ j → j < k → TradePasses p first m j) where
     rows-before : (r : ℕ) → r < factorial k → T (permutesPairs p (orderingTable p first m r)) × T (respects p (orderingTable p first m r))
-    rows-before r i = let a = trades-before p w first m (block-is is .0) (block-is is .1) k l h before r i in (a .good .permutes, a .respectful)
+    rows-before r i = let a = trades-before p w first m (block-is p first m is .0) (block-is p first m is .1) k l h before r i in (a .good .permutes, a .respectful)
 
     pub trade-refused-15 : permutesPairs p (orderingTable p first m (factorial k)) ≡ false → blockVerdict p first m ≡ refused 15 (length (p .symmetries) + factorial k)
     trade-refused-15 = row-refused-15 is (factorial k) (factorial-up k m l h) rows-before

@@ -9,9 +9,9 @@ use lib.ListN.{length, take, length-map}
 use borrow.Author.Tests.{eq-eqb, ne-eqb}
 use Rattle.model.specs.Lists.{at}
 use Rattle.model.specs.Problem.{Problem}
-use Rattle.model.specs.Verdict.{Verdict, accepted, refused, ask, isAccepted}
+use Rattle.model.specs.Verdict.{Verdict, accepted, ask, isAccepted}
 use Rattle.model.specs.Sheet.{verdictOf, problemOf}
-use Rattle.model.proofs.Accepted.{constraints-are, symmetries-are, well-formed}
+use Rattle.model.proofs.Accepted.{constraints-are, symmetries-are, passed}
 use Rattle.order.specs.Order.{settlingOrder, orderVerdict, Ordering}
 use Rattle.order.specs.Reordered.{constraintIn, symmetryIn, reordered}
 use Rattle.order.specs.Settled.{Ordered}
@@ -25,18 +25,20 @@ use Rattle.sheet.specs.Form.{Sized, Compilation}
 use Rattle.sheet.specs.Meaning.{means, andThen}
 use Rattle.sheet.specs.declared.Answer.{Answer}
 use Rattle.sheet.specs.declared.Answer.the-variants.{Accepted, Refused}
-use Rattle.lent.specs.Lent.{blockLent, verdictLent, orderLent}
+use Rattle.block.specs.Block.{blockLent}
+use Rattle.orderings.specs.Asked.{Held}
+use Rattle.lent.specs.Lent.{verdictLent, orderLent}
 use Rattle.lent.specs.Compile.{WithinLimits, CompiledLent, Lendings, AskedLent}
-use Rattle.lent.proofs.Lent.{passed-all, lent-passed, well-lent, ordering-lent}
+use Rattle.lent.proofs.Lent.{passed-all, lent-passed, well-sheet, ordering-lent}
 
 -- a refusal is no acceptance
 never : (r : Answer) (number item : ℕ) → r ≡ Refused number item → r ≡ Accepted → ⊥
 never r number item e q = let z : _≡_ {A = ℕ} 0 1 = cc in omega arith
 
 -- ---- the pairs' and the block's questions
-module _ (n : ℕ) (pairs old new : List ℕ) (r : ℕ) (o : Ordered n pairs old new r) (long : length old ≡ 16) (block : List ℕ) (p : Problem) (same : p .variables ≡ n) where
+module _ (n : ℕ) (pairs old new : List ℕ) (r : ℕ) (o : Ordered n pairs old new r) (long : length old ≡ 16) (block : List ℕ) (p : Problem) (same : n ≡ p .variables) where
   asked : orderVerdict (p .variables) pairs (blockLent p block) ≡ ask (eqb r 0) r 0 (blockLent p block)
-  asked = ap (λ (k : ℕ). orderVerdict k pairs (blockLent p block)) same ∙ o .answer (blockLent p block)
+  asked = ap (λ (k : ℕ). orderVerdict k pairs (blockLent p block)) (sym same) ∙ o .answer (blockLent p block)
 
   pub pairs-refused : (r ≡ 0 → ⊥) → Lendings p pairs block new (Refused r 0)
   pairs-refused h = record {
@@ -45,33 +47,19 @@ module _ (n : ℕ) (pairs old new : List ℕ) (r : ℕ) (o : Ordered n pairs old
     order-length = o .size ∙ long;
   }
 
-  module _ (none : r ≡ 0) where
-    passed : orderVerdict (p .variables) pairs (blockLent p block) ≡ blockLent p block
-    passed = asked ∙ ap (λ (t : Bool). ask t r 0 (blockLent p block)) (eq-eqb r 0 none)
+  pub block-answers : r ≡ 0 → (t : Answer) → means t ≡ blockLent p block → Lendings p pairs block new t
+  block-answers none t e = record {
+    answers = e ∙ sym (asked ∙ ap (λ (t : Bool). ask t r 0 (blockLent p block)) (eq-eqb r 0 none));
+    order-is = λ q. ap (λ (k : ℕ). take k new) (sym same) ∙ o .settled none ∙ ap (λ (k : ℕ). settlingOrder k pairs) same;
+    order-length = o .size ∙ long;
+  }
 
-    pub block-refused : (length block ≡ 0 → ⊥) → Lendings p pairs block new (Refused 36 0)
-    unfolding blockLent
-    block-refused h = record {
-      answers = sym (passed ∙ go block h);
-      order-is = λ q. absurd (never (Refused 36 0) 36 0 refl q);
-      order-length = o .size ∙ long;
-    }
-      where
-        go : (l : List ℕ) → (length l ≡ 0 → ⊥) → blockLent p l ≡ refused 36 0
-        go [] h = absurd (h refl)
-        go (x ∷ l) h = refl
+-- what the block's questions are lent
+pub variables-are : (p : Problem) (numbers supports : List ℕ) → Held p numbers supports → at numbers VARIABLES ≡ p .variables
+variables-are p numbers supports h = h .ready .framed .numbered .variables
 
-    pub nothing-refused : length block ≡ 0 → Lendings p pairs block new Accepted
-    unfolding blockLent
-    nothing-refused h = record {
-      answers = sym (passed ∙ go block h);
-      order-is = λ q. ap (λ (k : ℕ). take k new) same ∙ o .settled none ∙ ap (λ (k : ℕ). settlingOrder k pairs) (sym same);
-      order-length = o .size ∙ long;
-    }
-      where
-        go : (l : List ℕ) → length l ≡ 0 → blockLent p l ≡ accepted
-        go [] h = refl
-        go (x ∷ l) h = absurd (omega arith)
+pub variables-few : (p : Problem) (numbers supports : List ℕ) → Held p numbers supports → at numbers VARIABLES ≤ 12
+variables-few p numbers supports h = subst (λ (k : ℕ). k ≤ 12) (sym (variables-are p numbers supports h)) (h .wellFormed .few)
 
 -- ---- the sheet's questions first
 module _ (b numbers supports images : List ℕ) (r : Answer) (c : Compilation b numbers supports images r) where
@@ -89,11 +77,25 @@ module _ (b numbers supports images : List ℕ) (r : Answer) (c : Compilation b 
     accepts : verdictOf b ≡ accepted
     accepts = sym (c .answers) ∙ ap means e
 
-    pub same-variables : problemOf b .variables ≡ at numbers VARIABLES
-    same-variables = sym (c .compiled e .numbered .variables)
-
-    pub few-variables : at numbers VARIABLES ≤ 12
-    few-variables = subst (λ (k : ℕ). k ≤ 12) same-variables (well-formed b (passed-all (verdictOf b) accepts) .few)
+    pub held : Held (problemOf b) numbers supports
+    held =
+        let x = passed b (passed-all (verdictOf b) accepts) in
+        let w = x .well in
+        let l = constraints-are b in
+        let m = symmetries-are b in
+        let f = x .header .constraints in
+        let g = x .header .symmetries in
+        record {
+          wellFormed = w;
+          ready = record {
+            framed = record {
+              stated = record { few = w .few; one = w .one; sixteen = w .sixteen; narrow = w .narrow; most = omega arith; constrained = w .constrained };
+              numbered = c .compiled e .numbered;
+            };
+            supported = c .compiled e .supported;
+          };
+          symmetries = omega arith;
+        }
 
     pub sheet-accepted : (pairs block order : List ℕ) (t : Answer) → Lendings (problemOf b) pairs block order t → AskedLent b pairs block numbers supports images order t
     unfolding verdictLent
@@ -136,7 +138,7 @@ module _ (b pairs block numbers supports images order : List ℕ) (r : Answer) (
 
   limits : WithinLimits (reordered (orderLent b pairs) (problemOf b))
   limits = record {
-    wellFormed = well-reordered p (orderLent b pairs) ordered (well-lent b pairs block good);
+    wellFormed = well-reordered p (orderLent b pairs) ordered (well-sheet b pairs block good);
     constraints = let l = length-map (p .constraints) (constraintIn (orderLent b pairs)) in let f = few-constraints in omega arith;
     symmetries = let l = length-map (p .symmetries) (symmetryIn (orderLent b pairs) p) in let f = few-symmetries in omega arith;
   }
@@ -155,7 +157,7 @@ module _ (b pairs block numbers supports images order : List ℕ) (r : Answer) (
   pub movable : Movable (problemOf b) order numbers supports images
   movable = record {
     compiled = a .compiled e;
-    wellFormed = well-lent b pairs block good;
+    wellFormed = well-sheet b pairs block good;
     ordering = subst (Ordering (p .variables)) (sym (a .order-is e)) ordered;
     constraints = few-constraints;
     symmetries = let f = few-symmetries in omega arith;
@@ -174,7 +176,7 @@ module _ (b pairs block numbers supports images order : List ℕ) (r : Answer) (
   compiled-same h =
       whole numbers supports images
       (subst (λ (q : Problem). Compiled q numbers supports images)
-      (sym (ap (λ (l : List ℕ). reordered (settlingOrder (p .variables) l) p) (none pairs h) ∙ ap (λ (o : List ℕ). reordered o p) (no-pairs (p .variables)) ∙ reordered-below p (well-lent b pairs block good))) (a .compiled e))
+      (sym (ap (λ (l : List ℕ). reordered (settlingOrder (p .variables) l) p) (none pairs h) ∙ ap (λ (o : List ℕ). reordered o p) (no-pairs (p .variables)) ∙ reordered-below p (well-sheet b pairs block good))) (a .compiled e))
       (a .sizes e)
     where
       none : (l : List ℕ) → length l ≡ 0 → l ≡ []

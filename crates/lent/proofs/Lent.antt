@@ -1,21 +1,21 @@
 -- The second and the third demand of a run that is lent a sheet, pairs and a block (specs/LentClaims). Assumes nothing.
 use mathlib.Core.Path.{_≡_, refl, sym, ap, ap₂, _∙_, subst, subst₂}
-use mathlib.Core.Logic.{_↔_}
-use mathlib.Core.List.{List, [], _∷_, map, List·Memᴰ, Sublistᴰ}
+use mathlib.Core.Logic.{_↔_, ⊎-elim}
+use mathlib.Core.List.{List, [], _∷_, _++_, map, List·Memᴰ, List·Memᴰ·append-cases, Memᴰ·append-left, Memᴰ·append-right, Sublistᴰ}
 use Prim.Native.Nat.{ℕ}
 use native.Mathlib.Omega.{arith}
 use lib.Dec.{T}
 use lib.ListN.{length, take, drop}
 use Rattle.model.specs.Lists.{flat}
-use Rattle.model.specs.Problem.{Problem, isSolution}
+use Rattle.model.specs.Problem.{Problem, respects, isSolution}
 use Rattle.model.specs.Verdict.{Verdict, accepted, refused, isAccepted}
 use Rattle.model.specs.Sheet.{verdictOf, problemOf}
-use Rattle.model.specs.WellFormed.{WellFormed, Respected}
+use Rattle.model.specs.WellFormed.{WellFormed, GoodSymmetry, Respected}
 use Rattle.model.specs.Run.{Ending, finished, plansIn, resultOf, ended, written, listedPlans}
 use Rattle.model.specs.Claims.{OneMore}
 use Rattle.model.proofs.Accepted.{Passed, passed}
 use Rattle.model.proofs.OneMore.{one-more}
-use Rattle.model.proofs.More.{FewerIn}
+use Rattle.model.proofs.More.{FewerIn, withSymmetries}
 use Rattle.model.proofs.Demands.{listed-back}
 use Rattle.order.specs.Order.{Ordering, settlingOrder, orderVerdict}
 use Rattle.order.specs.Reordered.{write, reordered, ChainBy}
@@ -24,7 +24,10 @@ use Rattle.order.proofs.Order.{OrderPassed, order-passed}
 use Rattle.order.proofs.SetsBy.{largest-by}
 use Rattle.order.proofs.RunBy.{sublist-map, leadersBy-ascend, leadersBy-hold, chainsBy, rows-sized-by, rows-counted-by, finished-lists, first-lists, none-lists, counts-by, fewer-by}
 use Rattle.sheet.specs.Meaning.{andThen}
-use Rattle.lent.specs.Lent.{blockLent, verdictLent, problemWith, orderLent, problemLent, answerLentFor, answerLent, listLentFor, listLent, plansLent}
+use Rattle.block.specs.Block.{tablesLent, blockLent}
+use Rattle.block.proofs.Tables.{Passes, well-formed-with, respected-with}
+use Rattle.block.proofs.BlockLent.{tables-pass, tables-other}
+use Rattle.lent.specs.Lent.{verdictLent, problemWith, orderLent, problemLent, answerLentFor, answerLent, listLentFor, listLent, plansLent}
 use Rattle.lent.specs.LentClaims.{Sets-largest-lent, Leaders-ascend-lent, Lists-leaders-lent, First-part-lent, Counts-lent, Ends-lent, Chains-lent, Nothing-listed-lent, Fewer-lent, Finishes-too-lent}
 
 -- ---- what the questions show
@@ -48,11 +51,23 @@ module _ (b pairs block : List ℕ) (good : T (isAccepted (verdictLent b pairs b
       let q = order-passed (problemOf b .variables) pairs (blockLent (problemOf b) block) (r .1) in
       record { sheet = passed b (r .0); ordered = q .0; blocked = q .1 }
 
+  pub well-sheet : WellFormed (problemOf b)
+  well-sheet = lent-passed .sheet .well
+
+  pass : (g : List ℕ) → List·Memᴰ g (tablesLent (problemOf b) block) → Passes (problemOf b) g
+  pass = tables-pass (problemOf b) well-sheet block (lent-passed .blocked)
+
   pub well-lent : WellFormed (problemWith b block)
-  well-lent = lent-passed .sheet .well
+  well-lent =
+      let p = problemOf b in
+      well-formed-with p (p .symmetries ++ tablesLent p block) well-sheet
+      (λ g i. ⊎-elim {C = GoodSymmetry p g} (well-sheet .symmetric g) (λ j. pass g j .good) (List·Memᴰ·append-cases (p .symmetries) i))
 
   pub respected-lent : Respected (problemWith b block)
-  respected-lent = lent-passed .sheet .respected
+  respected-lent =
+      let p = problemOf b in
+      respected-with p (p .symmetries ++ tablesLent p block)
+      (λ g i. ⊎-elim {C = T (respects p g)} (lent-passed .sheet .respected .respectful g) (λ j. pass g j .respectful) (List·Memᴰ·append-cases (p .symmetries) i))
 
   pub ordering-lent : Ordering (problemOf b .variables) (orderLent b pairs)
   ordering-lent = lent-passed .ordered .settled .ordering
@@ -134,6 +149,7 @@ unfolding answerLent answerLentFor
 ends-lent b pairs block limit out h = (resultBy (orderLent b pairs) (problemWith b block) limit (length out) .ending, ap (λ (v : Verdict). answerLentFor v b pairs block limit (length out)) h)
 
 pub chains-lent : Chains-lent
+unfolding isSolution
 chains-lent b pairs block limit out plans made h s n =
     let e = finished plans made in
     let good = lent-good b pairs block limit out e h in
@@ -141,6 +157,7 @@ chains-lent b pairs block limit out plans made h s n =
     (chainsBy (problemWith b block) (well-lent b pairs block good) (respected-lent b pairs block good) (orderLent b pairs) (ordering-lent b pairs block good) s n)
 
 pub nothing-listed-lent : Nothing-listed-lent
+unfolding isSolution
 nothing-listed-lent b pairs block limit out plans made h = (
   λ z. q .0 (none-of (leadersBy (orderLent b pairs) (problemWith b block)) (l ∙ z)),
   λ none. sym l ∙ ap length (q .1 none),
@@ -166,14 +183,22 @@ nothing-listed-lent b pairs block limit out plans made h = (
     none-of (x ∷ r) z = absurd (omega arith)
 
 -- ---- one exchange more, under the same pairs and block
+-- the sheet's problem with other exchanges, and the same block
+problem-other : (b c : List ℕ) (gs : List (List ℕ)) (block : List ℕ) → problemOf c ≡ withSymmetries (problemOf b) gs → problemWith c block ≡ withSymmetries (problemOf b) (gs ++ tablesLent (problemOf b) block)
+problem-other b c gs block e =
+    ap (λ (q : Problem). withSymmetries q (q .symmetries ++ tablesLent q block)) e
+    ∙ ap (λ (ts : List (List ℕ)). withSymmetries (problemOf b) (gs ++ ts)) (tables-other (problemOf b) gs block)
+
 fewer-in : (b c t pairs block : List ℕ) (k : ℕ) → OneMore b c k t → T (isAccepted (verdictLent b pairs block)) →
     FewerIn (problemLent b pairs block) (problemLent c pairs block) × (orderLent c pairs ≡ orderLent b pairs)
 unfolding verdictLent
 fewer-in b c t pairs block k more good =
     let r = one-more b c t k more (both-passed (verdictOf b) (orderVerdict (problemOf b .variables) pairs (blockLent (problemOf b) block)) good .0) in
+    let ts = tablesLent (problemOf b) block in
     let e : orderLent c pairs ≡ orderLent b pairs = ap (λ (q : Problem). settlingOrder (q .variables) pairs) (r .2) in (
-      subst₂ (λ (o : List ℕ) (q : Problem). FewerIn (problemLent b pairs block) (reordered o q)) (sym e) (sym (r .2))
-          (fewer-by (problemWith b block) (orderLent b pairs) (r .0) (well-lent b pairs block good) (ordering-lent b pairs block good) (r .1)),
+      subst₂ (λ (o : List ℕ) (q : Problem). FewerIn (problemLent b pairs block) (reordered o q)) (sym e) (sym (problem-other b c (r .0) block (r .2)))
+          (fewer-by (problemWith b block) (orderLent b pairs) (r .0 ++ ts) (well-lent b pairs block good) (ordering-lent b pairs block good)
+          (λ g i. ⊎-elim {C = List·Memᴰ g (r .0 ++ ts)} (λ j. Memᴰ·append-left ts (r .1 g j)) (λ j. Memᴰ·append-right (r .0) j) (List·Memᴰ·append-cases (problemOf b .symmetries) i))),
       e,
     )
 

@@ -1,42 +1,97 @@
 -- The questions put to a sheet, pairs and a block (specs/LentClaims): their order, and what 30 and 36 mean. Assumes nothing.
 use mathlib.Core.Path.{_≡_, refl, sym, ap, ap₂, _∙_, subst}
-use mathlib.Core.Bool.{Bool}
-use mathlib.Core.Logic.{_↔_}
+use mathlib.Core.Bool.{Bool, true, false}
+use mathlib.Core.Logic.{_↔_, _⊎_, inl, inr, ⊎-elim}
 use mathlib.Core.List.{List, [], _∷_, List·Memᴰ}
-use Prim.Native.Nat.{ℕ, _%_, _≤_, _<_}
+use Prim.Native.Nat.{ℕ, suc, _%_, _≤_, _<_}
 use native.Mathlib.Omega.{arith}
-use lib.Dec.{leb, ltb, eqb, leb→le, ltb→lt, eqb→eq}
+use lib.Dec.{T, leb, ltb, eqb, leb→le, ltb→lt, eqb→eq}
 use lib.ListN.{length}
 use borrow.Author.Tests.{le-leb, eq-eqb}
 use Rattle.model.specs.Lists.{both, all}
-use Rattle.model.specs.Problem.{Problem}
+use Rattle.model.specs.Problem.{Problem, respects}
 use Rattle.model.specs.Verdict.{Verdict, accepted, refused, ask}
-use Rattle.model.specs.Sheet.{problemOf, verdictOf}
-use Rattle.model.proofs.Lists.{both-l, both-r, not-of, all-e}
+use Rattle.model.specs.Sheet.{problemOf, permutesPairs, symmetriesVerdict, verdictOf}
+use Rattle.model.proofs.Lists.{both-l, both-r, of-T, T-of, not-of, all-e}
 use Rattle.order.specs.Order.{Circle, settlesAll, orderVerdict}
 use Rattle.order.proofs.Order.{question-30, no-circle-passes}
 use Rattle.sheet.specs.Meaning.{andThen}
-use Rattle.lent.specs.Lent.{blockLent, verdictLent, answerLentFor, answerLent, listLentFor, listLent, tallyLentFor, tallyLent}
-use Rattle.lent.specs.LentClaims.{Pairs, Questions-lent, Refused-lent}
+use Rattle.block.specs.Block.{blockTables, isBlock, blockVerdict, blockLent}
+use Rattle.block.proofs.Block.{block-is, is-block}
+use Rattle.lent.specs.Lent.{verdictLent, answerLentFor, answerLent, listLentFor, listLent, tallyLentFor, tallyLent}
+use Rattle.lent.specs.LentClaims.{Pairs, NamesBlock, Questions-lent, Refused-lent}
 
--- ---- the block's question: nothing lent passes, any bytes get 36
-block-none : (p : Problem) (block : List ℕ) → block ≡ [] → blockLent p block ≡ accepted
-unfolding blockLent
-block-none p [] e = refl
-block-none p (x ∷ block) e = absurd (let z = ap length e in omega arith)
+-- ---- the block's questions
+abbrev numberIn : Verdict → ℕ
+numberIn accepted = 0
+numberIn (refused number item) = number
 
-is-36 : (p : Problem) (block : List ℕ) → (blockLent p block ≡ refused 36 0) ↔ (block ≡ [] → ⊥)
-unfolding blockLent
-is-36 p block = (λ e z. let c : _≡_ {A = ℕ} 0 1 = cc (block-none p block z) in omega arith, some block)
+-- the questions to the tables are 15 and 16
+abbrev OfTables : Verdict → Type 0
+OfTables v = (numberIn v ≡ 0) ⊎ (numberIn v ≡ 15) ⊎ (numberIn v ≡ 16)
+
+tables-number : (p : Problem) (i : ℕ) (gs : List (List ℕ)) → OfTables (symmetriesVerdict p i gs)
+unfolding symmetriesVerdict
+tables-number p i [] = inl refl
+tables-number p i (g ∷ gs) = go (permutesPairs p g) (respects p g) (tables-number p (suc i) gs)
   where
-    some : (l : List ℕ) → (l ≡ [] → ⊥) → blockLent p l ≡ refused 36 0
-    some [] h = absurd (h refl)
-    some (x ∷ l) h = refl
+    go : (b c : Bool) → OfTables (symmetriesVerdict p (suc i) gs) → OfTables (ask b 15 i (ask c 16 i (symmetriesVerdict p (suc i) gs)))
+    go false c h = inr (inl refl)
+    go true false h = inr (inr refl)
+    go true true h = h
+
+tables-not : (k item : ℕ) → 17 ≤ k → (v : Verdict) → OfTables v → v ≡ refused k item → ⊥
+tables-not k item l v h e =
+    let n : numberIn v ≡ k = ap numberIn e in
+    ⊎-elim {C = ⊥} (λ z. omega arith) (⊎-elim {C = ⊥} (λ z. omega arith) (λ z. omega arith)) h
+
+module _ (p : Problem) (first m : ℕ) where
+  block-asked : T (isBlock p first m) → blockVerdict p first m ≡ symmetriesVerdict p (length (p .symmetries)) (blockTables p first m)
+  unfolding blockVerdict
+  block-asked t = ap (λ (b : Bool). ask b 36 0 (symmetriesVerdict p (length (p .symmetries)) (blockTables p first m))) (of-T (isBlock p first m) t)
+
+  block-cases : T (isBlock p first m) ⊎ (blockVerdict p first m ≡ refused 36 0)
+  unfolding blockVerdict
+  block-cases = go (isBlock p first m) refl
+    where
+      go : (b : Bool) → isBlock p first m ≡ b → T (isBlock p first m) ⊎ (ask (isBlock p first m) 36 0 (symmetriesVerdict p (length (p .symmetries)) (blockTables p first m)) ≡ refused 36 0)
+      go true e = inl (T-of (isBlock p first m) e)
+      go false e = inr (ap (λ (b : Bool). ask b 36 0 (symmetriesVerdict p (length (p .symmetries)) (blockTables p first m))) e)
+
+-- the block's questions: nothing lent passes, bytes that name no block get 36, and for a block there are its tables
+none-passes : (p : Problem) → blockLent p [] ≡ accepted
+unfolding blockLent
+none-passes p = refl
+
+named : (p : Problem) (block : List ℕ) (n : NamesBlock (p .variables) block) → blockLent p block ≡ symmetriesVerdict p (length (p .symmetries)) (blockTables p (n .0) (n .1))
+unfolding blockLent
+named p block n = ap (blockLent p) (n .2) ∙ block-asked p (n .0) (n .1) (is-block p (n .0) (n .1) (n .3, n .4) (n .5))
+
+not-named : (p : Problem) (block : List ℕ) → (block ≡ [] → ⊥) → (NamesBlock (p .variables) block → ⊥) → blockLent p block ≡ refused 36 0
+unfolding blockLent
+not-named p [] h k = absurd (h refl)
+not-named p (first ∷ []) h k = refl
+not-named p (first ∷ m ∷ []) h k =
+    ⊎-elim {C = blockVerdict p first m ≡ refused 36 0} (λ t. let r = block-is p first m t in absurd (k (first, m, refl, r .0 .0, r .0 .1, r .1))) (λ e. e) (block-cases p first m)
+not-named p (first ∷ m ∷ x ∷ more) h k = refl
+
+is-36 : (p : Problem) (block : List ℕ) → (blockLent p block ≡ refused 36 0) ↔ ((block ≡ [] → ⊥) × (NamesBlock (p .variables) block → ⊥))
+is-36 p block = (
+  λ e. (
+    λ z. let c : _≡_ {A = ℕ} 0 36 = ap numberIn (sym (none-passes p)) ∙ ap (λ (l : List ℕ). numberIn (blockLent p l)) (sym z) ∙ ap numberIn e in omega arith,
+    λ n. tables-not 36 0 (omega arith) (symmetriesVerdict p (length (p .symmetries)) (blockTables p (n .0) (n .1))) (tables-number p (length (p .symmetries)) (blockTables p (n .0) (n .1))) (sym (named p block n) ∙ e),
+  ),
+  λ r. not-named p block (r .0) (r .1),
+)
 
 not-30 : (p : Problem) (block : List ℕ) → blockLent p block ≡ refused 30 0 → ⊥
 unfolding blockLent
-not-30 p [] e = let c : _≡_ {A = ℕ} 0 1 = cc in omega arith
-not-30 p (x ∷ block) e = let c : _≡_ {A = ℕ} 36 30 = cc in omega arith
+not-30 p [] e = let c : _≡_ {A = ℕ} 0 30 = ap numberIn e in omega arith
+not-30 p (first ∷ []) e = let c : _≡_ {A = ℕ} 36 30 = ap numberIn e in omega arith
+not-30 p (first ∷ m ∷ []) e =
+    ⊎-elim {C = ⊥} (λ t. tables-not 30 0 (omega arith) (symmetriesVerdict p (length (p .symmetries)) (blockTables p first m)) (tables-number p (length (p .symmetries)) (blockTables p first m)) (sym (block-asked p first m t) ∙ e))
+    (λ q. let c : _≡_ {A = ℕ} 36 30 = ap numberIn (sym q ∙ e) in omega arith) (block-cases p first m)
+not-30 p (first ∷ m ∷ x ∷ more) e = let c : _≡_ {A = ℕ} 36 30 = ap numberIn e in omega arith
 
 -- ---- the pairs' questions
 module _ (n : ℕ) (pairs : List ℕ) (later : Verdict) where
@@ -61,8 +116,9 @@ questions-lent b pairs block = record {
   half = λ e h. rest e ∙ is-28 n pairs (blockLent p block) h;
   outside = λ e few whole h. rest e ∙ is-29 n pairs (blockLent p block) few whole h;
   circle = λ e q. subst (λ (v : Verdict). (v ≡ refused 30 0) ↔ Circle pairs) (sym (rest e)) (question-30 n pairs (q .few) (q .whole) (q .inside) (blockLent p block) (not-30 p block));
-  unknown = λ e q ok. subst (λ (v : Verdict). (v ≡ refused 36 0) ↔ (block ≡ [] → ⊥)) (sym (pass e q ok)) (is-36 p block);
-  none = λ e q ok z. pass e q ok ∙ block-none p block z;
+  unknown = λ e q ok. subst (λ (v : Verdict). (v ≡ refused 36 0) ↔ ((block ≡ [] → ⊥) × (NamesBlock n block → ⊥))) (sym (pass e q ok)) (is-36 p block);
+  rows = λ e q ok k. pass e q ok ∙ named p block k;
+  none = λ e q ok z. pass e q ok ∙ ap (blockLent p) z ∙ none-passes p;
 }
   where
     p : Problem

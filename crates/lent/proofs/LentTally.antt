@@ -1,10 +1,11 @@
 -- The counts by place of a run that is lent pairs and a block (specs/LentClaims), and an empty lending, which changes nothing. Assumes nothing.
-use mathlib.Core.Path.{_≡_, refl, sym, ap, _∙_, subst}
-use mathlib.Core.List.{List, []}
+use mathlib.Core.Path.{_≡_, refl, sym, ap, ap₂, _∙_, subst}
+use mathlib.Core.List.{List, [], append-nil}
 use Prim.Native.Nat.{ℕ, _≤_}
 use lib.ListN.{length}
 use lib.Seq.{length-take-le}
 use Rattle.model.specs.Lists.{at, below, total}
+use Rattle.model.specs.Problem.{Problem}
 use Rattle.model.specs.Verdict.{Verdict, accepted, refused}
 use Rattle.model.specs.Sheet.{verdictOf, problemOf}
 use Rattle.model.specs.WellFormed.{WellFormed}
@@ -12,6 +13,7 @@ use Rattle.model.specs.Search.{nodes}
 use Rattle.model.specs.Run.{Ending, nodesIn, Result, Answer, refusal, ended, answerFor, answerOf, written, listFor, listOf, Tally, tallyAt, tallyFor, tallyOf}
 use Rattle.model.proofs.Accepted.{well-formed}
 use Rattle.model.proofs.Tally.{made-inside}
+use Rattle.model.proofs.More.{withSymmetries}
 use Rattle.order.specs.Order.{Ordering}
 use Rattle.order.specs.Reordered.{reordered}
 use Rattle.order.specs.RunBy.{resultBy, placeCounts}
@@ -19,7 +21,8 @@ use Rattle.order.proofs.Order.{no-pairs, no-pairs-asked}
 use Rattle.order.proofs.LeadersBy.{reordered-below}
 use Rattle.order.proofs.RunBy.{same-result, same-counts, places-total, places-none, places-twelve}
 use Rattle.sheet.specs.Meaning.{andThen}
-use Rattle.lent.specs.Lent.{blockLent, verdictLent, problemWith, orderLent, problemLent, answerLentFor, answerLent, listLentFor, listLent, tallyLentFor, tallyLent}
+use Rattle.block.specs.Block.{tablesLent, blockLent}
+use Rattle.lent.specs.Lent.{verdictLent, problemWith, orderLent, problemLent, answerLentFor, answerLent, listLentFor, listLent, tallyLentFor, tallyLent}
 use Rattle.lent.specs.LentClaims.{Nothing-lent, Tally-lent, Total-lent}
 use Rattle.lent.proofs.Lent.{passed-all, ran-lent, lent-good, well-lent, ordering-lent}
 
@@ -61,6 +64,10 @@ verdict-none b = ap (andThen (verdictOf b)) (no-pairs-asked (problemOf b .variab
     go accepted = refl
     go (refused number item) = refl
 
+problem-none : (b : List ℕ) → problemWith b [] ≡ problemOf b
+unfolding tablesLent
+problem-none b = ap (withSymmetries (problemOf b)) (append-nil (problemOf b .symmetries))
+
 module _ (b : List ℕ) (limit : ℕ) (out : List ℕ) (tally : Tally) where
   -- the run, its list and its tally by the verdict
   accepts : verdictOf b ≡ accepted →
@@ -71,7 +78,7 @@ module _ (b : List ℕ) (limit : ℕ) (out : List ℕ) (tally : Tally) where
       let w = well-formed b (passed-all (verdictOf b) e) in
       let n = no-pairs (p .variables) in
       let s = same-result p w limit (length out) in
-      let q = ap (λ (o : List ℕ). resultBy o p limit (length out)) n in
+      let q = ap₂ (λ (o : List ℕ) (r : Problem). resultBy o r limit (length out)) n (problem-none b) in
       let v = verdict-none b ∙ e in
       let answer : answerLentFor (verdictLent b [] []) b [] [] limit (length out) ≡ answerFor (verdictOf b) b limit (length out) =
       ap (λ (v : Verdict). answerLentFor v b [] [] limit (length out)) v ∙ ap (λ (r : Result). ended (r .ending)) q ∙ ap ended (s .0) ∙ sym (ap (λ (v : Verdict). answerFor v b limit (length out)) e) in (
@@ -82,7 +89,7 @@ module _ (b : List ℕ) (limit : ℕ) (out : List ℕ) (tally : Tally) where
     where
       tallies : WellFormed (problemOf b) → orderLent b [] ≡ below (problemOf b .variables) → (a : Answer) → tallyLentFor a b [] [] tally ≡ tallyFor a (problemOf b) tally
       tallies w n (refusal number item) = refl
-      tallies w n (ended e) = ap (λ (cs : List ℕ). record { nodes = nodesIn e; counts = cs }) (ap (λ (o : List ℕ). placeCounts o (problemOf b) (nodesIn e)) n ∙ same-counts (problemOf b) w (nodesIn e))
+      tallies w n (ended e) = ap (λ (cs : List ℕ). record { nodes = nodesIn e; counts = cs }) (ap₂ (λ (o : List ℕ) (p : Problem). placeCounts o p (nodesIn e)) n (problem-none b) ∙ same-counts (problemOf b) w (nodesIn e))
 
   refuses : (number item : ℕ) → verdictOf b ≡ refused number item →
       (answerLent b [] [] limit out ≡ answerOf b limit out) × (listLent b [] [] limit out ≡ listOf b limit out) × (tallyLent b [] [] limit out tally ≡ tallyOf b limit out tally)
@@ -112,5 +119,6 @@ nothing-lent b = record {
   list = λ limit out. same-run b limit out any-tally .1;
   tally = λ limit out tally. same-run b limit out tally .2;
   order = no-pairs (problemOf b .variables);
-  tree = λ e. ap (λ (o : List ℕ). reordered o (problemOf b)) (no-pairs (problemOf b .variables)) ∙ reordered-below (problemOf b) (well-formed b (passed-all (verdictOf b) e));
+  problem = problem-none b;
+  tree = λ e. ap₂ reordered (no-pairs (problemOf b .variables)) (problem-none b) ∙ reordered-below (problemOf b) (well-formed b (passed-all (verdictOf b) e));
 }

@@ -13,7 +13,8 @@ use Rattle.sheet.specs.Form.{Sized}
 use Rattle.sheet.specs.Meaning.{means}
 use Rattle.sheet.specs.declared.Answer.{Answer}
 use Rattle.sheet.specs.declared.Answer.the-variants.{Accepted}
-use Rattle.lent.specs.Lent.{blockLent, verdictLent, orderLent}
+use Rattle.block.specs.Block.{blockLent}
+use Rattle.lent.specs.Lent.{verdictLent, orderLent}
 
 -- a problem that the arrays have room for
 pub record WithinLimits (p : Problem) : Type 0 where
@@ -32,7 +33,7 @@ pub record CompiledLent (b pairs block numbers supports images order : List ℕ)
   pub order-length : length order ≡ 16
 
 -- ---- inside
--- questions 28 to 30 and 36 to a problem of n variables; where there is no "no", the order of the variables stands in the first bytes
+-- questions 28 to 30 and those to the block; where there is no "no", the order of the variables stands in the first bytes
 pub record Lendings (p : Problem) (pairs block order : List ℕ) (r : Answer) : Type 0 where
   pub answers : means r ≡ orderVerdict (p .variables) pairs (blockLent p block)
   pub order-is : r ≡ Accepted → take (p .variables) order ≡ settlingOrder (p .variables) pairs

@@ -1,6 +1,6 @@
 -- A run that is lent a sheet, pairs and a block (paper 02, #107, #108 and #111): its questions, its problem, its answer, its list and its tally.
--- Pairs: two bytes each, "this place before that place". Block: no block is known, so any bytes are refused.
-use mathlib.Core.List.{List, [], _∷_}
+-- Pairs: two bytes each, "this place before that place". Block: no bytes for none, else two, its first place and how many.
+use mathlib.Core.List.{List, _++_}
 use Prim.Native.Nat.{ℕ}
 use lib.ListN.{length}
 use Rattle.model.specs.Problem.{Problem}
@@ -10,20 +10,24 @@ use Rattle.model.specs.Run.{Ending, plansIn, nodesIn, Answer, refusal, ended, w
 use Rattle.order.specs.Order.{settlingOrder, orderVerdict}
 use Rattle.order.specs.Reordered.{reordered}
 use Rattle.order.specs.RunBy.{resultBy, placeCounts}
+use Rattle.block.specs.Block.{tablesLent, blockLent}
 use Rattle.sheet.specs.Meaning.{andThen}
 
 -- ---- the questions: the sheet's, then 28 to 30, then the block's
-unfoldable pub blockLent : Problem → List ℕ → Verdict
-blockLent p [] = accepted
-blockLent p (x ∷ more) = refused 36 0
-
 unfoldable pub verdictLent : List ℕ → List ℕ → List ℕ → Verdict
 verdictLent b pairs block = andThen (verdictOf b) (orderVerdict (problemOf b .variables) pairs (blockLent (problemOf b) block))
 
 -- ---- the problem
--- that of the sheet with the block's symmetries, of which there are none, after its own
+-- that of the sheet with the block's symmetries after its own
 abbrev pub problemWith : List ℕ → List ℕ → Problem
-problemWith b block = problemOf b
+problemWith b block =
+    record {
+      variables = problemOf b .variables;
+      values = problemOf b .values;
+      initial = problemOf b .initial;
+      constraints = problemOf b .constraints;
+      symmetries = problemOf b .symmetries ++ tablesLent (problemOf b) block;
+    }
 
 -- the order in which the run settles the places
 abbrev pub orderLent : List ℕ → List ℕ → List ℕ

@@ -1,22 +1,23 @@
 -- What is claimed of a run that is lent a sheet, pairs and a block (specs/Lent): its questions, the second and the third demand of paper 01 with
--- "reads earlier in the order" (paper 02, #108), and its counts (#107). They speak of the sheet's problem and of rows by place number.
+-- "reads earlier in the order" (paper 02, #108), and its counts (#107). Leaders and chains read the block's orderings (#111). They speak of the sheet's problem and of rows by place number.
 -- The proofs are in proofs/Lent.antt, LentQuestions.antt and LentTally.antt.
 use mathlib.Core.Path.{_≡_}
 use mathlib.Core.Logic.{_↔_}
-use mathlib.Core.List.{List, [], map, List·Memᴰ, Sublistᴰ}
-use Prim.Native.Nat.{ℕ, _%_, _≤_, _<_}
+use mathlib.Core.List.{List, [], _∷_, map, List·Memᴰ, Sublistᴰ}
+use Prim.Native.Nat.{ℕ, _+_, _%_, _≤_, _<_}
 use lib.ListN.{length, take}
 use lib.Dec.{T}
 use Rattle.model.specs.Lists.{at, below, rowsAscend, total}
 use Rattle.model.specs.Problem.{isSolution}
 use Rattle.model.specs.Verdict.{accepted, refused}
-use Rattle.model.specs.Sheet.{problemOf, verdictOf}
+use Rattle.model.specs.Sheet.{problemOf, symmetriesVerdict, verdictOf}
 use Rattle.model.specs.Run.{Ending, finished, plansIn, nodesIn, refusal, ended, answerOf, listOf, Tally, tallyOf}
 use Rattle.model.specs.Search.{nodes}
 use Rattle.model.specs.Claims.{OneMore}
 use Rattle.order.specs.Order.{Circle}
 use Rattle.order.specs.Reordered.{read, LeaderBy, ChainBy}
 use Rattle.order.specs.RunBy.{leadersBy, Largest-by, CountsBy, placeCounts}
+use Rattle.block.specs.Block.{blockTables}
 use Rattle.lent.specs.Lent.{verdictLent, problemWith, orderLent, problemLent, answerLent, listLent, plansLent, tallyLent}
 
 -- ---- the questions
@@ -26,15 +27,22 @@ pub record Pairs (n : ℕ) (pairs : List ℕ) : Type 0 where
   pub whole : length pairs % 2 ≡ 0
   pub inside : (x : ℕ) → List·Memᴰ x pairs → x < n
 
+-- the bytes name 2 to 5 neighbouring places
+abbrev pub NamesBlock : ℕ → List ℕ → Type 0
+NamesBlock n block = (first : ℕ) × (m : ℕ) × (block ≡ first ∷ m ∷ []) × (2 ≤ m) × (m ≤ 5) × (first + m ≤ n)
+
 -- the sheet's come first; then 28 where there are over 64 pairs or half a pair, 29 where a place isn't below n; else 30 exactly for a circle;
--- without one 36 exactly where bytes are lent for a block
+-- without one 36 exactly where bytes are lent that name no block; for a block what is left is its 15 and 16, items counting on from g
 pub record QuestionsLent (b pairs block : List ℕ) : Type 0 where
   pub sheet : (number item : ℕ) → verdictOf b ≡ refused number item → verdictLent b pairs block ≡ refused number item
   pub half : verdictOf b ≡ accepted → ((length pairs ≤ 128) × (length pairs % 2 ≡ 0) → ⊥) → verdictLent b pairs block ≡ refused 28 0
   pub outside : verdictOf b ≡ accepted → length pairs ≤ 128 → length pairs % 2 ≡ 0 → (((x : ℕ) → List·Memᴰ x pairs → x < problemOf b .variables) → ⊥) →
       verdictLent b pairs block ≡ refused 29 0
   pub circle : verdictOf b ≡ accepted → Pairs (problemOf b .variables) pairs → (verdictLent b pairs block ≡ refused 30 0) ↔ Circle pairs
-  pub unknown : verdictOf b ≡ accepted → Pairs (problemOf b .variables) pairs → (Circle pairs → ⊥) → (verdictLent b pairs block ≡ refused 36 0) ↔ (block ≡ [] → ⊥)
+  pub unknown : verdictOf b ≡ accepted → Pairs (problemOf b .variables) pairs → (Circle pairs → ⊥) →
+      (verdictLent b pairs block ≡ refused 36 0) ↔ ((block ≡ [] → ⊥) × (NamesBlock (problemOf b .variables) block → ⊥))
+  pub rows : verdictOf b ≡ accepted → Pairs (problemOf b .variables) pairs → (Circle pairs → ⊥) → (k : NamesBlock (problemOf b .variables) block) →
+      verdictLent b pairs block ≡ symmetriesVerdict (problemOf b) (length (problemOf b .symmetries)) (blockTables (problemOf b) (k .0) (k .1))
   pub none : verdictOf b ≡ accepted → Pairs (problemOf b .variables) pairs → (Circle pairs → ⊥) → block ≡ [] → verdictLent b pairs block ≡ accepted
 
 abbrev pub Questions-lent : Type 0
@@ -53,6 +61,7 @@ pub record NothingLent (b : List ℕ) : Type 0 where
   pub list : (limit : ℕ) (out : List ℕ) → listLent b [] [] limit out ≡ listOf b limit out
   pub tally : (limit : ℕ) (out : List ℕ) (tally : Tally) → tallyLent b [] [] limit out tally ≡ tallyOf b limit out tally
   pub order : orderLent b [] ≡ below (problemOf b .variables)
+  pub problem : problemWith b [] ≡ problemOf b
   pub tree : verdictOf b ≡ accepted → problemLent b [] [] ≡ problemOf b
 
 abbrev pub Nothing-lent : Type 0

@@ -1,11 +1,11 @@
--- Runs that are lent pairs (paper 02, #108 and #107), as one list of statements about the definitions. One theorem says that each holds (proofs/LentExamples).
+-- Runs that are lent pairs and a block (paper 02, #108, #107 and #111), as one list of statements about the definitions. One theorem says that each holds (proofs/LentExamples).
 use mathlib.Core.Path.{_≡_}
 use mathlib.Core.List.{List, [], _∷_}
 use Prim.Native.Nat.{ℕ}
 use lib.ListN.{replicate}
 use Rattle.model.specs.Verdict.{accepted, refused}
 use Rattle.model.specs.Run.{ended, finished, Tally}
-use Rattle.model.specs.Examples.{sheetA, sheetR, sheetF}
+use Rattle.model.specs.Examples.{sheetA, sheetA0, sheetR, sheetF}
 use Rattle.lent.specs.Lent.{verdictLent, answerLent, plansLent, tallyLent}
 
 abbrev room : List ℕ
@@ -37,6 +37,18 @@ testsLent =
     ∷ (verdictLent sheetA (0 ∷ 0 ∷ []) (0 ∷ []) ≡ refused 30 0)
     ∷ (verdictLent sheetA (0 ∷ 1 ∷ 1 ∷ 0 ∷ []) (0 ∷ []) ≡ refused 30 0)
     ∷ (verdictLent sheetA (0 ∷ 1 ∷ 0 ∷ 1 ∷ []) [] ≡ accepted)
-    -- no block is known
-    ∷ (verdictLent sheetA (0 ∷ 1 ∷ []) (0 ∷ 2 ∷ []) ≡ refused 36 0)
+    -- one byte, three bytes, a block of one place, a block past the last place
+    ∷ (verdictLent sheetA (0 ∷ 1 ∷ []) (0 ∷ []) ≡ refused 36 0)
+    ∷ (verdictLent sheetA [] (0 ∷ 2 ∷ 0 ∷ []) ≡ refused 36 0)
+    ∷ (verdictLent sheetA [] (0 ∷ 1 ∷ []) ≡ refused 36 0)
+    ∷ (verdictLent sheetA [] (1 ∷ 2 ∷ []) ≡ refused 36 0)
+    -- A without its exchange and a block of both places is A
+    ∷ (answerLent sheetA0 [] (0 ∷ 2 ∷ []) 1000000 room ≡ ended (finished 3 6))
+    ∷ (plansLent sheetA0 [] (0 ∷ 2 ∷ []) 1000000 room (finished 3 6) ≡ (0 ∷ 1 ∷ []) ∷ (0 ∷ 2 ∷ []) ∷ (1 ∷ 2 ∷ []) ∷ [])
+    -- three places, any two different, in one block: one plan is left
+    ∷ (answerLent sheetR [] (0 ∷ 3 ∷ []) 1000000 room ≡ ended (finished 1 6))
+    ∷ (plansLent sheetR [] (0 ∷ 3 ∷ []) 1000000 room (finished 1 6) ≡ (0 ∷ 1 ∷ 2 ∷ []) ∷ [])
+    -- settled 2, 1, 0, the block of places 1 and 2 ascends in that order: the later place 1 is no smaller than 2
+    ∷ (answerLent sheetF (2 ∷ 1 ∷ 1 ∷ 0 ∷ []) (1 ∷ 2 ∷ []) 1000000 room ≡ ended (finished 4 9))
+    ∷ (plansLent sheetF (2 ∷ 1 ∷ 1 ∷ 0 ∷ []) (1 ∷ 2 ∷ []) 1000000 room (finished 4 9) ≡ (0 ∷ 0 ∷ 0 ∷ []) ∷ (1 ∷ 0 ∷ 0 ∷ []) ∷ (1 ∷ 1 ∷ 0 ∷ []) ∷ (1 ∷ 1 ∷ 1 ∷ []) ∷ [])
     ∷ []

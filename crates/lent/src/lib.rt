@@ -1,31 +1,31 @@
 // A run that is lent a sheet, pairs and a block (paper 02, #108 and #111): its questions, and the compiled problem whose tree the run walks.
 ghost use mathlib.Core.Path.{_≡_};
-ghost use Prim.Native.Nat.{_≤_};
 ghost use lib.ListN.{length};
 ghost use Rattle.model.specs.Problem.{Problem};
 ghost use Rattle.sheet.specs.Form.{Zeros};
 ghost use Rattle.sheet.specs.Meaning.{means};
+ghost use Rattle.orderings.specs.Asked.{Held};
 ghost use Rattle.lent.specs.Lent.{verdictLent};
 ghost use Rattle.lent.specs.Compile.{Lendings, AskedLent, CompiledLent};
 use layout::VARIABLES;
 use sheet::Answer;
 
-// Questions 28 to 30 and 36 of a sheet for n places, and the order of these in the first bytes.
-fn lendings(n: usize, pairs: &[u8], block: &[u8], order: &mut [u8; 16]) -> Answer
-    requires { ⌜ (n ≤ 12) × (length (now order) ≡ 16) ⌝ }
-    ensures { λ r. ⌜ ((p : Problem) → p .variables ≡ n → Lendings p (now (pairs .entry)) (now (block .entry)) (now (order .exit)) r) ⌝ }
+// Questions 28 to 30, and the order of the variables in the first bytes; then the block's questions.
+fn lendings(
+    pairs: &[u8],
+    block: &[u8],
+    numbers: &[u64; 384],
+    supports: &[u16; 8192],
+    order: &mut [u8; 16],
+) -> Answer
+    requires { ⌜ ((p : Problem) × Held p (now numbers) (now supports)) × (length (now order) ≡ 16) ⌝ }
+    ensures { λ r. ⌜ ((p : Problem) → Held p (now (numbers .entry)) (now (supports .entry)) → Lendings p (now (pairs .entry)) (now (block .entry)) (now (order .exit)) r) ⌝ }
 {
-    let number = order::settling_order(n, pairs, order);
+    let number = order::settling_order(numbers[VARIABLES] as usize, pairs, order);
     if number != 0 {
         return Answer::Refused { number, item: 0 };
     }
-    if block.len() != 0 {
-        return Answer::Refused {
-            number: 36,
-            item: 0,
-        };
-    }
-    Answer::Accepted
+    orderings::question(block, numbers, supports)
 }
 
 // All questions in their order; where there is no "no", the arrays hold the sheet's problem.
@@ -45,7 +45,7 @@ fn ask(
     let Answer::Accepted = first else {
         return first;
     };
-    lendings(numbers[VARIABLES] as usize, pairs, block, order)
+    lendings(pairs, block, numbers, supports, order)
 }
 
 // All questions, in their order, to any bytes.

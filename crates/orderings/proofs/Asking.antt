@@ -44,7 +44,7 @@ next-row k row e = ap (λ (x : ℕ). (k + 1) * x) e ∙ subst (λ (n : ℕ). n *
 
 module _ (p : Problem) (numbers supports : List ℕ) (h : Held p numbers supports) (first m : ℕ) (is : T (isBlock p first m)) where
   pub few : Few m
-  few = K.block-is p (h .wellFormed) first m is .0
+  few = K.block-is p first m is .0
 
   pub symmetries-are : getD numbers 67 0 ≡ length (p .symmetries)
   unfolding at
@@ -66,7 +66,7 @@ module _ (p : Problem) (numbers supports : List ℕ) (h : Held p numbers support
       wellFormed = h .wellFormed;
       framed = h .ready .framed;
       uses = record { table = t; some = few .0; few = few .1; used = let a = factorial-up k m l u in omega arith };
-      inside = K.block-is p (h .wellFormed) first m is .1;
+      inside = K.block-is p first m is .1;
     }
 
     module _ (before : (j : ℕ) → 1 ≤ j → j < k → TradePasses p first m j) (r : ℕ) (answer : r ≡ rowAnswer p first m row) where

@@ -1,7 +1,6 @@
 -- The sheet's questions, then the lendings'. Assumes nothing.
 use borrow.Author.Needs.{needs}
-use Rattle.model.specs.Lists.{at}
-use Rattle.lent.proofs.Compiling.{sheet-refused, same-variables, few-variables, sheet-accepted}
+use Rattle.lent.proofs.Compiling.{sheet-refused, held, sheet-accepted}
 use Rattle.lent.proofs.ask.Statement.{statement}
 use Rattle.lent.proofs.ask.Tie as tie
 
@@ -17,19 +16,14 @@ enum-told-2 c = search needs
 returns : tie.Need-returns
 returns c = sheet-refused _ _ _ _ _ (c .before .before .compile .ensures) _ _ _ _ _ (c .enum-told2 .given .1) (search needs)
 
-element-copy-out-lendings : tie.Need-element-copy-out-lendings
-element-copy-out-lendings c = search needs
-
 lendings-requires : tie.Need-lendings-requires
-unfolding at
-lendings-requires c κs = (few-variables _ _ _ _ _ (c .before .before .before .before .compile .ensures) (c .before .before .enum-told .given .1), search needs)
+lendings-requires c κs = ((_, held _ _ _ _ _ (c .before .before .before .before .before .compile .ensures) (c .before .before .before .enum-told .given .1)), search needs)
 
 returns-2 : tie.Need-returns-2
-unfolding at
 returns-2 c =
-    let h = c .before .before .before .before .before .compile .ensures in
-    let e = c .before .before .before .enum-told .given .1 in
-    sheet-accepted _ _ _ _ _ h e _ _ _ _ (c .lendings .ensures _ (same-variables _ _ _ _ _ h e))
+    let h = c .before .before .before .before .before .before .compile .ensures in
+    let e = c .before .before .before .before .enum-told .given .1 in
+    sheet-accepted _ _ _ _ _ h e _ _ _ _ (c .lendings .ensures _ (held _ _ _ _ _ h e))
 
 pub ask-spec : {M : Type 1} → statement M
 ask-spec =
@@ -39,6 +33,5 @@ ask-spec =
     enum-told
     enum-told-2
     returns
-    element-copy-out-lendings
     lendings-requires
     returns-2)
