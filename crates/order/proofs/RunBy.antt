@@ -41,7 +41,7 @@ keep-map {A} {B} f p q (x ∷ l) h = go (keep-map f p q l (λ y m. h y (List·Me
     go ih false true e = absurd (subst T (sym e) tt)
     go ih false false e = ih
 
-take-map : {A B : Type 0} (f : A → B) (n : ℕ) (l : List A) → take n (map f l) ≡ map f (take n l)
+pub take-map : {A B : Type 0} (f : A → B) (n : ℕ) (l : List A) → take n (map f l) ≡ map f (take n l)
 take-map f zero l = refl
 take-map f (suc n) [] = refl
 take-map {A} {B} f (suc n) (x ∷ l) = ap (λ (r : List B). f x ∷ r) (take-map f n l)

@@ -28,15 +28,15 @@ use Rattle.search.specs.Demands.{Call, CallWith, plansFrom, AtEnd, AtFin
 use Rattle.search.proofs.Sheets.{answer-refused, list-refused}
 
 -- ---- an answer is known by what it means
-is-refused : (r : Answer) (number item : ℕ) → means r ≡ refusal number item → r ≡ Refused number item
+pub is-refused : (r : Answer) (number item : ℕ) → means r ≡ refusal number item → r ≡ Refused number item
 is-refused (Refused a b) number item e = cc
 is-refused (Ended x) number item e = absurd (let z : _≡_ {A = ℕ} 0 1 = cc in omega arith)
 
-is-ended : (r : Answer) (x : Run.Ending) → means r ≡ ended x → (e : Ending) × (r ≡ Ended e)
+pub is-ended : (r : Answer) (x : Run.Ending) → means r ≡ ended x → (e : Ending) × (r ≡ Ended e)
 is-ended (Refused a b) x e = absurd (let z : _≡_ {A = ℕ} 0 1 = cc in omega arith)
 is-ended (Ended y) x e = (y, refl)
 
-is-finished : (e : Ending) (plans nodes : ℕ) → endingOf e ≡ Run.finished plans nodes → e ≡ Finished plans nodes
+pub is-finished : (e : Ending) (plans nodes : ℕ) → endingOf e ≡ Run.finished plans nodes → e ≡ Finished plans nodes
 is-finished (Finished a b) plans nodes h = cc
 is-finished (Spent a b) plans nodes h = absurd (let z : _≡_ {A = ℕ} 0 1 = cc in omega arith)
 is-finished (Full a b) plans nodes h = absurd (let z : _≡_ {A = ℕ} 0 1 = cc in omega arith)

@@ -11,6 +11,7 @@ pub mod Sheets
 pub mod Blocks
 pub mod Whole
 pub mod Demands
+pub mod DemandsLent
 pub mod Reborrow
 pub mod Loans
 pub mod Locals

@@ -4,3 +4,4 @@ pub mod Pair
 pub mod Meaning
 pub mod Whole
 pub mod Demands
+pub mod DemandsLent
