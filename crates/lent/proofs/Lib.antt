@@ -3,4 +3,5 @@ pub mod Lent
 pub mod LentQuestions
 pub mod LentTally
 pub mod Compiling
+pub mod Blocked
 pub mod LentExamples

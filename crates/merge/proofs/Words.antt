@@ -12,9 +12,9 @@ use lib.Seq.{drop-cons}
 use borrow.Author.Count.{below-none, below-more}
 use borrow.Author.Tests.{ltb-true, ltb-false}
 use Rattle.model.specs.Lists.{earlier}
-use Rattle.model.proofs.Lists.{T-of, of-T, not-of, earlier-lt}
+use Rattle.model.proofs.Lists.{T-of, of-T, not-of, earlier-lt, earlier-asym}
 use Rattle.merge.specs.Inner.{wayOf, eightOf, wordOf, Number, Long, Decides}
-use Rattle.merge.proofs.Reading.{earlier-asym, earlier-same}
+use Rattle.merge.proofs.Reading.{earlier-same}
 
 -- two rows compared from a place on
 abbrev pub from : List ℕ → List ℕ → ℕ → Bool

@@ -8,7 +8,6 @@ pub mod Listing
 pub mod Turns
 pub mod Facts
 pub mod Sheets
-pub mod Blocks
 pub mod Whole
 pub mod Demands
 pub mod DemandsLent

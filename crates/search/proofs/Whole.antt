@@ -1,6 +1,6 @@
 -- A whole run: what is made of an accepted sheet before the search, what `settle` is given at the empty prefix, and that its walk comes to the
 -- run's answer, list and tally. Assumes nothing.
-use mathlib.Core.Path.{_≡_, refl, sym, ap, ap₂, _∙_, subst}
+use mathlib.Core.Path.{_≡_, refl, sym, ap, ap₂, _∙_, subst, subst₂}
 use mathlib.Core.Bool.{Bool, true, false}
 use mathlib.Core.List.{List, []}
 use Prim.Native.Nat.{ℕ, zero, suc, _+_, _*_, _/_, _%_, _^_, _≤_, _<_}
@@ -14,7 +14,7 @@ use Rattle.model.specs.Lists.{both, at, choose, total}
 use Rattle.model.specs.ValueSets.{has}
 use Rattle.model.specs.Problem.{Problem}
 use Rattle.model.specs.Search.{isLive, setsAt, nodes, nodesBelow}
-use Rattle.model.specs.Verdict.{Verdict, accepted, refused}
+use Rattle.model.specs.Verdict.{Verdict, accepted, refused, isAccepted}
 use Rattle.model.specs.Run.{finished, spent, full, ended, resultOf, Tally, plansIn, nodesIn}
 use Rattle.model.specs.Run as Run
 use Rattle.model.specs.Filling.{Gathered}
@@ -27,6 +27,7 @@ use Rattle.block.specs.Block.{inLent}
 use Rattle.lent.specs.Lent.{verdictLent, orderLent, problemLent, answerLentFor, answerLent, listLentFor, listLent, tallyLentFor, tallyLent}
 use Rattle.lent.specs.Compile.{WithinLimits, CompiledLent}
 use Rattle.lent.proofs.Lent.{passed-all, ordering-lent}
+use Rattle.lent.proofs.Blocked.{own-first, block-walked, block-inside}
 use Rattle.lent.proofs.LentQuestions.{refused-lent}
 use Rattle.layout.specs.Places.{VARIABLES, VALUES, CONSTRAINTS, SYMMETRIES, LIMIT, ROOM, LINKED, BY-ROWS, OTHERS, LOOSE, ORDER, BLOCK, LANES, PLANS, NUMBER, ITEM, ALL, SPENT, DEEPER, REFUSED}
 use Rattle.layout.specs.Layout.{Numbers, Compiled}
@@ -43,7 +44,6 @@ use Rattle.search.specs.Meaning.{means}
 use Rattle.search.specs.Whole.{ordered, Prepared, RunTo, Explored, Stopped, Answered}
 use Rattle.search.specs.declared.Answer.{Answer}
 use Rattle.search.proofs.Laws.{dead-below}
-use Rattle.search.proofs.Blocks.{own-first, block-ext, lent-block}
 use Rattle.search.proofs.Outcome.{outcome}
 use Rattle.search.proofs.Turns.{values-ask, tried-all}
 use Rattle.search.proofs.Prefix.{prefix-zero}
@@ -180,18 +180,14 @@ module _ (b pairs block : List ℕ) (numbers supports images bytes : List ℕ) (
         order-put : orderIn numbers′ (p .variables) ≡ order
         order-put = order-taken numbers′ bytes (p .variables) (let f = fits .wellFormed .few in let e = left .order-length in omega arith) (λ k l. other (ORDER + k) (λ e. let f = fits .wellFormed .few in omega arith) ∙ ordered-at bytes 12 k indexed (let e = indexed-length in omega arith) (let f = fits .wellFormed .few in omega arith)) ∙ left .order-is is
 
-        -- the positions are those of the block's variables
         at-block : at numbers′ BLOCK ≡ positions
         at-block = ap (λ (m : List ℕ). at m BLOCK) orders ∙ at-set (ordered bytes 12 indexed) BLOCK positions (let e = indexed-length in let l = length-ordered bytes 12 indexed in omega arith)
 
-        placed : (i : ℕ) → blockOf numbers′ i ≡ both (ltb i (p .variables)) (inLent block (at order i))
-        placed i =
-            ap (λ (m : ℕ). has m i) at-block ∙ gathered .has-is i ∙ ap (λ (n : ℕ). both (ltb i n) (inLent block (at bytes i))) (h .numbered .variables)
-            ∙ go (ltb i (p .variables)) refl
-          where
-            go : (d : Bool) → ltb i (p .variables) ≡ d → both d (inLent block (at bytes i)) ≡ both d (inLent block (at order i))
-            go true e = ap (inLent block) (sym (at-take (p .variables) bytes i (ltb-true i (p .variables) e)) ∙ ap (λ (l : List ℕ). at l i) (left .order-is is))
-            go false e = refl
+        few : Gathered (λ i. inLent block (at bytes i)) (problemOf b .variables) (at numbers′ BLOCK)
+        few = subst₂ (Gathered (λ i. inLent block (at bytes i))) (h .numbered .variables) (sym at-block) gathered
+
+        good : T (isAccepted (verdictLent b pairs block))
+        good = passed-all (verdictLent b pairs block) accepts
 
         -- the arrays hold the first of the tree's symmetries
         own-is : ownIn p numbers′ ≡ own
@@ -206,8 +202,8 @@ module _ (b pairs block : List ℕ) (numbers supports images bytes : List ℕ) (
         ready stack work ls lw = subst (λ (r : Problem). Ready r (p .symmetries) stack work supports tables′ numbers′) (sym own-is) record {
           indexed = indexed-kept own indexed numbers′ supports tables′ (fits .wellFormed .few) (fits .constraints) low high (made .indexed);
           wellFormed = fits .wellFormed;
-          block = block-ext own (λ i. inLent block (at order i)) (blockOf numbers′) (p .symmetries) (λ i l. sym (placed i ∙ ap (λ (d : Bool). both d (inLent block (at order i))) (lt-ltb i (p .variables) l))) (lent-block b pairs block accepts);
-          block-few = λ i t. ltb-true i (p .variables) (of-T (ltb i (p .variables)) (both-l (ltb i (p .variables)) (inLent block (at order i)) (subst T (placed i) t)));
+          block = block-walked b pairs block good bytes (left .order-is is) (at numbers′ BLOCK) few;
+          block-few = block-inside b pairs block good bytes (left .order-is is) (at numbers′ BLOCK) few;
           constraints = fits .constraints;
           symmetries = fits .symmetries;
           stack-length = ls;

@@ -3,10 +3,6 @@ use Rattle.model.specs.Lists.{at}
 use Rattle.lent.proofs.Compiling.{pairs-refused, block-answers, variables-are, variables-few}
 use Rattle.lent.proofs.lendings.Statement.{statement}
 use Rattle.lent.proofs.lendings.Tie as tie
-use Rattle.lent.proofs.lendings.Reads as reads
-use Rattle.lent.proofs.lendings.Lts as lts
-use Rattle.order.proofs.settling_order.Reads as settling-order-reads
-use Rattle.orderings.proofs.question.Reads as question-reads
 
 -- src/lib.rt:24:40
 element-copy-out-settling-order : tie.Need-element-copy-out-settling-order
