@@ -1,26 +1,29 @@
 -- How the figure is got: a bare run on the arrays of the run, which are in the settling order, and the count over its rows. Assumes nothing.
 use mathlib.Core.Path.{_≡_, refl, sym, ap, _∙_, subst}
 use mathlib.Core.Logic.{inr}
-use mathlib.Core.List.{List, [], _++_, List·Memᴰ·not-nil}
+use mathlib.Core.List.{List, [], _++_, map, List·Memᴰ·not-nil}
 use Prim.Native.Nat.{ℕ, suc, _+_, _*_, _/_, _%_, _^_, _≤_, _<_}
 use native.Mathlib.Nat.{le-of-mul-le-mul-right}
 use native.Mathlib.Omega.{arith}
 use lib.Dec.{eqb}
-use lib.ListN.{length}
-use Rattle.model.specs.Lists.{any, flat, at}
+use lib.ListN.{length, drop}
+use Rattle.model.specs.Lists.{any, flat, at, below}
 use Rattle.model.specs.ValueSets.{has}
 use Rattle.model.specs.Problem.{Problem}
 use Rattle.model.specs.Verdict.{accepted}
 use Rattle.model.specs.WellFormed.{WellFormed, Respected}
-use Rattle.model.specs.Run.{finished, resultOf}
+use Rattle.model.specs.Run.{finished, resultOf, written}
 use Rattle.model.proofs.Tree.{plans-of-tree}
 use Rattle.model.proofs.Runs.{finished-rows, finished-fits}
 use Rattle.model.proofs.More.{withSymmetries}
 use Rattle.model.proofs.Demands.{same-test}
 use Rattle.layout.specs.Places.{INITIAL, SCOPES, VARIABLES, VALUES, CONSTRAINTS, SYMMETRIES}
 use Rattle.layout.specs.Layout.{constraintAt, Images, Compiled}
+use Rattle.order.specs.Reordered.{write}
 use Rattle.order.specs.RunBy.{resultBy}
 use Rattle.order.proofs.Reordered.{well-reordered, respected-reordered}
+use Rattle.order.proofs.LeadersBy.{reordered-below}
+use Rattle.order.proofs.RunBy.{same-result}
 use Rattle.lent.specs.Lent.{verdictLent, problemWith, orderLent, problemLent}
 use Rattle.lent.proofs.Lent.{passed-all, well-lent, respected-lent, ordering-lent}
 use Rattle.families.specs.Families.{solutionsOf, familiesOf}
@@ -93,12 +96,18 @@ module _ (b pairs block : List ℕ) (limit room : ℕ) (h : verdictLent b pairs 
         let c : length (solutionsOf p) * p .variables ≤ room = subst (λ (rows : List (List ℕ)). length rows * p .variables ≤ room) (plans-of-tree q wq ∙ same-test q wq rq ∙ leaders-without p) a in
         le-of-mul-le-mul-right (let z : length (solutionsOf p) * p .variables ≤ 4096 * p .variables = omega arith in z) (w .some)
 
-    -- so what `families::families` is lent is right
-    pub figure-counted : (images rest : List ℕ) → room ≤ 4096 * problemLent b pairs block .variables → Images (problemLent b pairs block) images → length (problemLent b pairs block .symmetries) ≤ 136 →
-        Counted (problemLent b pairs block) (flat (resultOf (bareLent b pairs block) limit room .rows) ++ rest) images (problemLent b pairs block .variables) (length (problemLent b pairs block .symmetries)) plans
-    figure-counted images rest l i some = record {
+    by-position : map (write (below (p .variables))) (resultOf (bareLent b pairs block) limit room .rows) ≡ solutionsOf (problemLent b pairs block)
+    unfolding resultBy
+    by-position = ap (λ (z : Problem). map (write (below (p .variables))) (resultOf z limit room .rows)) (sym (reordered-below q wq)) ∙ same-result q wq limit room .1 ∙ bare-rows
+
+    -- so what `families::families` is lent is right, where the rows are written by position
+    pub figure-counted : (images out : List ℕ) → room ≤ 4096 * problemLent b pairs block .variables → Images (problemLent b pairs block) images → length (problemLent b pairs block .symmetries) ≤ 136 →
+        Counted (problemLent b pairs block) (written (map (write (below (problemLent b pairs block .variables))) (resultOf (bareLent b pairs block) limit room .rows)) out) images (problemLent b pairs block .variables)
+        (length (problemLent b pairs block .symmetries)) plans
+    unfolding written
+    figure-counted images out l i some = record {
       lent = record {
-        listed = subst (λ (rows : List (List ℕ)). Listed p (flat rows ++ rest) (p .variables)) (sym bare-rows) (listed-solutions p w r (few l) rest);
+        listed = subst (λ (rows : List (List ℕ)). Listed p (flat rows ++ drop (length (flat rows)) out) (p .variables)) (sym by-position) (listed-solutions p w r (few l) (drop (length (flat (solutionsOf p))) out));
         some = some;
         imaged = i;
       };
