@@ -1,4 +1,5 @@
--- The family of a solution holds exactly those joined to it, and the number of families is that of any list with one solution of each (specs/Families). Assumes nothing.
+-- The family of a solution holds exactly those joined to it, and the number of families is that of any list with one solution of each
+-- (specs/Families). Assumes nothing.
 use mathlib.Core.Path.{_≡_, refl, sym, ap, ap₂, _∙_, subst}
 use mathlib.Core.Bool.{Bool, true, false}
 use mathlib.Core.Logic.{_⊎_, inl, inr, ⊎-elim}

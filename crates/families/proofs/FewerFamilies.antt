@@ -1,4 +1,5 @@
--- Families and other symmetries: more symmetries never make more families, those that join nothing new don't matter, nor does their order, and without any each solution is a family. Assumes nothing.
+-- Families and other symmetries: more symmetries never make more families, those that join nothing new don't matter, nor does their order, and
+-- without any each solution is a family. Assumes nothing.
 use mathlib.Core.Path.{_≡_, refl, sym, ap, _∙_, subst}
 use mathlib.Core.Bool.{not}
 use mathlib.Core.List.{List, [], List·Memᴰ, List·Memᴰ·not-nil}

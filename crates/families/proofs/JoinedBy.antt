@@ -1,4 +1,5 @@
--- Families in an order: what is joined in a problem is joined in the reordered problem; closed symmetries leave one leader of each family in any order. Assumes nothing.
+-- Families in an order: what is joined in a problem is joined in the reordered problem; closed symmetries leave one leader of each family in
+-- any order. Assumes nothing.
 use mathlib.Core.Path.{_≡_, refl, sym, _∙_, subst, subst₂}
 use mathlib.Core.Logic.{⊎-elim}
 use mathlib.Core.List.{List, [], _∷_, map, List·Memᴰ, List·Memᴰ·head, List·Memᴰ·tail, Memᴰ·map, Memᴰ·of-map}

@@ -1,4 +1,5 @@
--- Counting families by breadth-first search over the numbers of the solutions: each step keeps the walk (specs/Walk), and at its end the count is that of the families. Assumes nothing.
+-- Counting families by breadth-first search over the numbers of the solutions: each step keeps the walk (specs/Walk), and at its end the count
+-- is that of the families. Assumes nothing.
 use mathlib.Core.Path.{_≡_, refl, sym, ap, _∙_, subst}
 use mathlib.Core.Logic.{_⊎_, inl, inr, ⊎-elim}
 use mathlib.Core.List.{List, [], _∷_, map, List·Memᴰ, List·Memᴰ·cases-cons, Memᴰ·map, Memᴰ·of-map}

@@ -1,4 +1,5 @@
--- For the code that counts families: the number of an image, and breadth-first search over the numbers of the solutions. The steps are proved in proofs/Numbers.antt and proofs/Walk.antt.
+-- For the code that counts families: the number of an image, and breadth-first search over the numbers of the solutions. The steps are proved in
+-- proofs/Numbers.antt and proofs/Walk.antt. No reader has to believe this: it stands between proved functions.
 use mathlib.Core.Path.{_≡_}
 use mathlib.Core.List.{List, []}
 use Prim.Native.Nat.{ℕ, _≤_, _<_}

@@ -19,7 +19,7 @@ use Rattle.model.proofs.More.{withSymmetries}
 use Rattle.model.proofs.Demands.{same-test}
 use Rattle.layout.specs.Places.{INITIAL, SCOPES, VARIABLES, VALUES, CONSTRAINTS, SYMMETRIES}
 use Rattle.layout.specs.Layout.{constraintAt, Images, Compiled}
-use Rattle.order.specs.Reordered.{write}
+use Rattle.order.specs.Reordered.{write, symmetryIn}
 use Rattle.order.specs.RunBy.{resultBy}
 use Rattle.order.proofs.Reordered.{well-reordered, respected-reordered}
 use Rattle.order.proofs.LeadersBy.{reordered-below}
@@ -28,7 +28,7 @@ use Rattle.lent.specs.Lent.{verdictLent, problemWith, orderLent, problemLent}
 use Rattle.lent.proofs.Lent.{passed-all, well-lent, respected-lent, ordering-lent}
 use Rattle.families.specs.Families.{solutionsOf, familiesOf}
 use Rattle.families.specs.Numbered.{Listed, Counted}
-use Rattle.families.proofs.FewerFamilies.{well-formed-with, leaders-without}
+use Rattle.families.proofs.FewerFamilies.{well-formed-with, families-none, leaders-without}
 use Rattle.families.proofs.JoinedBy.{families-reordered}
 use Rattle.families.proofs.Rows.{listed-solutions}
 use Rattle.figure.specs.Figure.{problemBare, number, dash, familiesLent}
@@ -124,6 +124,16 @@ module _ (b pairs block : List ℕ) (limit room : ℕ) (h : verdictLent b pairs 
         let bare : Finished (resultBy (orderLent b pairs) (problemBare b) limit room .ending) = (plans, made, e) in
         f .counted (f .bare-enough bare) bare
         ∙ ap number (sym (families-reordered (problemWith b block) (well-lent b pairs block good) (respected-lent b pairs block good) (orderLent b pairs) (ordering-lent b pairs block good)) ∙ sym a)
+
+  -- without symmetries the run is the bare run, and each of its plans is a family
+  pub figure-none : (plans made : ℕ) → problemWith b block .symmetries ≡ [] → resultBy (orderLent b pairs) (problemWith b block) limit room .ending ≡ finished plans made → familiesLent b pairs block limit room ≡ number plans
+  unfolding resultBy
+  figure-none plans made none e =
+      let good = passed-all (verdictLent b pairs block) h in
+      let f = families-lent b pairs block limit room h in
+      let e′ : resultOf (bareLent b pairs block) limit room .ending ≡ finished plans made = sym (f .none none) ∙ e in
+      figure-number plans made e′ plans
+      (bare-plans plans made e′ ∙ sym (families-none p w r (ap (map (symmetryIn (orderLent b pairs) (problemWith b block))) none)))
 
   -- a dash where it isn't finished
   pub figure-dash : (Finished (resultOf (bareLent b pairs block) limit room .ending) → ⊥) → familiesLent b pairs block limit room ≡ dash
