@@ -51,7 +51,7 @@ among-most : (p : Problem) (k : ℕ) → plansAmong p k ≤ k
 among-most p k = omega (arith, keep-most (isPlan p) (take k (nodes p)), length-take k (nodes p))
 
 -- there are no more plans than nodes
-plans-most : (p : Problem) (limit room′ : ℕ) (e : Ending) → resultOf p limit room′ .ending ≡ e → plansIn e ≤ nodesIn e
+pub plans-most : (p : Problem) (limit room′ : ℕ) (e : Ending) → resultOf p limit room′ .ending ≡ e → plansIn e ≤ nodesIn e
 plans-most p limit room′ e h = go e (counts p limit room′ e h)
   where
     go : (x : Ending) → Tree·counted p limit room′ x → plansIn x ≤ nodesIn x

@@ -1,27 +1,19 @@
--- What `planner_run_counts` answers, by what it called. Assumes nothing.
-use mathlib.Core.Path.{_≡_, refl, sym, ap, ap₂, _∙_, subst}
-use mathlib.Core.Bool.{Bool}
+-- Twelve counts as bytes. Assumes nothing.
+use mathlib.Core.Path.{_≡_, refl, sym, ap, _∙_, subst}
 use mathlib.Core.List.{List, [], _∷_, _++_}
-use Prim.Native.Nat.{ℕ, suc, _+_, _*_, _^_, _≤_, _<_}
+use Prim.Native.Nat.{ℕ, _+_, _*_, _≤_, _<_}
 use native.Mathlib.Numerals.{add-one}
 use native.Mathlib.Omega.{arith}
 use lib.ListN.{length, take, getD, length-append}
 use lib.Seq.{take-suc, take-all}
-use borrow.Author.Tests.{eq-eqb, ne-eqb}
-use Rattle.model.specs.Lists.{choose, at}
+use Rattle.model.specs.Lists.{at}
 use Rattle.model.specs.Bytes.{fourBytes}
 use Rattle.model.specs.Written.{Written}
 use Rattle.model.proofs.Written.{written-then, written-none}
-use Rattle.model.specs.Sheet.{problemOf}
 use Rattle.model.specs.Claims as Claims
-use Rattle.model.proofs.Demands.{tally-counts}
-use Rattle.model.proofs.Tally.{at-total}
-use Rattle.model.specs.Run.{Answer, refusal, ended, Ending, Tally, nodesIn, answerOf, listOf, tallyFor, tallyOf, tallyAt}
-use Rattle.planner.specs.Exported.{wrongLength, answerCode, threeNumbers, endingBytes}
-use Rattle.planner.specs.Tallied.{numbersOf, countedBytes, countsCode, countsList, countsAnswer}
-use Rattle.planner.specs.Inner.{Twelve}
+use Rattle.planner.specs.Exported.{threeNumbers}
+use Rattle.planner.specs.Tallied.{numbersOf}
 use Rattle.planner.proofs.Numbers.{whole}
-use Rattle.planner.proofs.Reported.{counted}
 
 -- ---- numbers of four bytes
 pub length-numbers : (ks : List ℕ) → length (numbersOf ks) ≡ 4 * length ks
@@ -62,40 +54,3 @@ unfolding fourBytes threeNumbers
 put-counts kind a b ks l n u v w x =
     whole (omega (arith, length-append (threeNumbers kind a b) (numbersOf ks), length-numbers ks))
     (written-then (omega (arith, u .ends, v .ends, w .ends)) (written-then (omega (arith, u .ends, v .ends)) (written-then (omega (arith, u .ends)) u v) w) x)
-
--- ---- the exported run
-module _ (b : List ℕ) (limit : ℕ) (list answer : List ℕ) where
-  pub wrong-answer : (length answer ≡ 60 → ⊥) → (wrongLength ≡ countsCode b limit list answer) × ((list ≡ countsList b limit list answer) × (answer ≡ countsAnswer b limit list answer))
-  unfolding countsCode countsList countsAnswer
-  wrong-answer h =
-      let e = ne-eqb (length answer) 60 h in (
-        sym (ap {B = ℕ} (λ (t : Bool). choose t (answerCode (answerOf b limit list)) wrongLength) e),
-        (
-          sym (ap {B = List ℕ} (λ (t : Bool). choose t (listOf b limit list) list) e),
-          sym (ap {B = List ℕ} (λ (t : Bool). choose t (countedBytes (problemOf b) (answerOf b limit list) answer) answer) e),
-        ),
-      )
-
-  pub right-answer : (r : ℕ) (after bytes : List ℕ) (a : Answer) → length answer ≡ 60 → answerOf b limit list ≡ a → r ≡ answerCode a → after ≡ listOf b limit list → bytes ≡ countedBytes (problemOf b) a answer →
-      (r ≡ countsCode b limit list answer) × ((after ≡ countsList b limit list answer) × (bytes ≡ countsAnswer b limit list answer))
-  unfolding countsCode countsList countsAnswer
-  right-answer r after bytes a h so c l w =
-      let e = eq-eqb (length answer) 60 h in (
-        c ∙ ap answerCode (sym so) ∙ sym (ap {B = ℕ} (λ (t : Bool). choose t (answerCode (answerOf b limit list)) wrongLength) e),
-        (
-          l ∙ sym (ap {B = List ℕ} (λ (t : Bool). choose t (listOf b limit list) list) e),
-          w ∙ ap (λ (x : Answer). countedBytes (problemOf b) x answer) (sym so) ∙ sym (ap {B = List ℕ} (λ (t : Bool). choose t (countedBytes (problemOf b) (answerOf b limit list) answer) answer) e),
-        ),
-      )
-
-  -- the counts of a run that ended
-  pub counts-of : (e : Ending) (tally after : Tally) → answerOf b limit list ≡ ended e → after ≡ tallyOf b limit list tally → after .counts ≡ tallyAt (problemOf b) (nodesIn e) .counts
-  unfolding tallyOf
-  counts-of e tally after so t = ap (λ (x : Tally). x .counts) t ∙ ap (λ (x : Answer). tallyFor x (problemOf b) tally .counts) so
-
-  -- they add up to the nodes made, which are at most the limit
-  pub counts-fit : (e : Ending) (tally after : Tally) → limit < 2 ^ 32 → answerOf b limit list ≡ ended e → after ≡ tallyOf b limit list tally → Twelve (after .counts)
-  unfolding at
-  counts-fit e tally after l so q =
-      let t : Claims.Tallied b e after = subst (Claims.Tallied b e) (sym q) (tally-counts b limit list tally e so) in
-      record { long = t .twelve; small = λ i. omega (arith, at-total (after .counts) i, t .sum, counted b limit list e l so .made) }

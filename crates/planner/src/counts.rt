@@ -1,6 +1,6 @@
-// Nodes by variable (paper 02, #107): a run whose answer has the twelve counts besides.
+// Nodes by variable (paper 02, #107): an ending and the twelve counts as bytes, and a run whose answer has them.
 use crate::bytes::four;
-use crate::code;
+use crate::lendings::planner_run_lent;
 use search::Ending;
 ghost use mathlib.Core.Path.{_≡_};
 ghost use mathlib.Core.List.{_++_};
@@ -35,7 +35,8 @@ fn told(out: &mut [u8], kind: usize, plans: usize, nodes: usize, counts: [u32; 1
     numbers(out, third, counts);
 }
 
-fn ending(out: &mut [u8], e: Ending, counts: [u32; 12])
+// An ending as three numbers, then the counts.
+pub fn ending(out: &mut [u8], e: Ending, counts: [u32; 12])
     requires { ⌜ (length (now out) ≡ 60) × Counted (endingOf e) × Twelve counts ⌝ }
     ensures { λ _. ⌜ now (out .exit) ≡ endingBytes (endingOf e) ++ numbersOf counts ⌝ }
 {
@@ -59,18 +60,6 @@ pub extern "C" fn planner_run_counts(
     ensures { λ _. ⌜ now (list .exit) ≡ countsList (now (sheet .entry)) limit (now (list .entry)) (now (answer .entry)) ⌝ }
     ensures { λ _. ⌜ now (answer .exit) ≡ countsAnswer (now (sheet .entry)) limit (now (list .entry)) (now (answer .entry)) ⌝ }
 {
-    if answer.len() != 60 {
-        return 65280;
-    }
-    let r = search::run_counted(sheet, limit, list);
-    let tally = r.tally;
-    let counts = tally.counts;
-    let said = r.answer;
-    match said {
-        search::Answer::Refused { number, item } => code(number, item),
-        search::Answer::Ended(e) => {
-            ending(answer, e, counts);
-            0
-        }
-    }
+    let none = [0u8; 0];
+    planner_run_lent(sheet, &none, &none, limit, list, answer)
 }
