@@ -59,7 +59,7 @@ constraints-small b h (suc k) i o later le s =
     (λ e. ask-small ascend 13 i v0 l
     (λ e. s0))))))
 
-symmetries-small : (p : Problem) (i : ℕ) (gs : List (List ℕ)) → i + length gs ≤ 256 → Small (symmetriesVerdict p i gs)
+pub symmetries-small : (p : Problem) (i : ℕ) (gs : List (List ℕ)) → i + length gs ≤ 256 → Small (symmetriesVerdict p i gs)
 unfolding symmetriesVerdict
 symmetries-small p i [] le = tt
 symmetries-small p i (g ∷ gs) le =
