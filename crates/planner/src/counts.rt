@@ -1,6 +1,5 @@
-// Nodes by variable (paper 02, #107): an ending and the twelve counts as bytes, and a run whose answer has them.
+// Nodes by variable (paper 02, #107): an ending and the twelve counts as bytes.
 use crate::bytes::four;
-use crate::lendings::planner_run_lent;
 use search::Ending;
 ghost use mathlib.Core.Path.{_≡_};
 ghost use mathlib.Core.List.{_++_};
@@ -10,7 +9,7 @@ ghost use Rattle.model.specs.Written.{Written};
 ghost use Rattle.search.specs.Meaning.{endingOf};
 ghost use Rattle.planner.specs.Exported.{threeNumbers, endingBytes};
 ghost use Rattle.planner.specs.Inner.{Counted, Twelve};
-ghost use Rattle.planner.specs.Tallied.{numbersOf, countsCode, countsList, countsAnswer};
+ghost use Rattle.planner.specs.Tallied.{numbersOf};
 
 // Writes the counts from a place on.
 fn numbers(out: &mut [u8], start: usize, counts: [u32; 12])
@@ -45,21 +44,4 @@ pub fn ending(out: &mut [u8], e: Ending, counts: [u32; 12])
         Ending::Spent(plans, nodes) => told(out, 2, plans, nodes, counts),
         Ending::Full(plans, nodes) => told(out, 3, plans, nodes, counts),
     }
-}
-
-// As planner_run, and the answer has 60 bytes: kind, plans and nodes, then twelve numbers of four bytes, the nodes that settle each variable.
-// Returns 0, or the refusal, or, asked first, 255 times 256 where the answer has not 60 bytes; list and answer are then as they came.
-#[no_mangle]
-pub extern "C" fn planner_run_counts(
-    sheet: &[u8],
-    limit: u32,
-    list: &mut [u8],
-    answer: &mut [u8],
-) -> u32
-    ensures { λ r. ⌜ r ≡ countsCode (now (sheet .entry)) limit (now (list .entry)) (now (answer .entry)) ⌝ }
-    ensures { λ _. ⌜ now (list .exit) ≡ countsList (now (sheet .entry)) limit (now (list .entry)) (now (answer .entry)) ⌝ }
-    ensures { λ _. ⌜ now (answer .exit) ≡ countsAnswer (now (sheet .entry)) limit (now (list .entry)) (now (answer .entry)) ⌝ }
-{
-    let none = [0u8; 0];
-    planner_run_lent(sheet, &none, &none, limit, list, answer)
 }
