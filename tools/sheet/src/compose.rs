@@ -1,5 +1,6 @@
 //! From statements to what the sheet states: sets, rules and exchanges, each with the line that it comes from.
 
+use crate::alike::trades;
 use crate::pack::pack;
 use crate::problem::{draws, unlike_rows, Constraint, Place, Problem};
 use crate::text::{fault, Exchange, Fault, Parsed, Statement, Text};
@@ -44,7 +45,9 @@ pub fn compose(text: &Text) -> Parsed<Composed> {
     composed.exchanges(text)?;
     let mut rules = as_written(text, &composed.problem);
     if rules.len() > MOST_RULES {
-        rules = pack(text, &composed.problem)?;
+        let mut traded = composed.problem.clone();
+        traded.symmetries.extend(trades(text, &composed.problem));
+        rules = pack(text, &traded)?;
         composed.packed = true;
     }
     for (constraint, line) in rules {
@@ -106,7 +109,9 @@ pub fn as_written(text: &Text, problem: &Problem) -> Vec<Ruled> {
     let mut rules: Vec<Ruled> = Vec::new();
     for stated in &text.statements {
         let new = match &stated.statement {
-            Statement::May(..) | Statement::Exchange(_) | Statement::Before(..) => Vec::new(),
+            Statement::May(..) | Statement::Exchange(_) | Statement::Before(..) | Statement::Alike(..) => {
+                Vec::new()
+            }
             Statement::Different(scope) => different(scope, problem.values.len()),
             Statement::Forbid(rows) => forbidden(problem, rows),
             statement => vec![alone(problem, statement)],

@@ -223,37 +223,48 @@ fn respect(problem: &Problem, item: usize) -> Reason {
 
 /// A forbidden set whose image under an exchange contains none, in words.
 pub fn broken_set(problem: &Problem, item: usize) -> Option<String> {
-    let table = &problem.symmetries[item];
-    let image = |set: &Vec<usize>| set.iter().map(|&number| table[number]).collect::<Vec<usize>>();
     let names =
         |set: &[usize]| set.iter().map(|&number| problem.pair_name(number)).collect::<Vec<_>>().join(" ");
-    let sets = forbidden_sets(problem);
-    let set = sets.iter().find(|set| !contains_forbidden(problem, &image(set)))?;
-    let (from, to) = (names(set), names(&image(set)));
+    let (from, to) = match two_of_one(problem, &problem.symmetries[item]) {
+        Some(two) => two,
+        None => broken(problem, &problem.symmetries[item]).map(|(_, set, image)| (set, image))?,
+    };
+    let (from, to) = (names(&from), names(&to));
     Some(format!("it doesn't respect the sheet: {from} is forbidden, and its image {to} is not"))
 }
 
-/// Two pairs of one window; one pair for each window of a rule, whose duties are no row.
-fn forbidden_sets(problem: &Problem) -> Vec<Vec<usize>> {
+fn image(table: &[usize], set: &[usize]) -> Vec<usize> {
+    set.iter().map(|&number| table[number]).collect()
+}
+
+/// Two pairs of one window whose images contain no forbidden set, and these.
+fn two_of_one(problem: &Problem, table: &[usize]) -> Option<(Vec<usize>, Vec<usize>)> {
     let d = problem.values.len();
-    let mut sets = Vec::new();
-    for variable in 0..problem.variables.len() {
-        for two in draws(problem, &[variable, variable]) {
-            if two[0] < two[1] {
-                sets.push(two.iter().map(|value| variable * d + value).collect());
-            }
-        }
-    }
-    for constraint in &problem.constraints {
+    let two =
+        |variable: usize| draws(problem, &[variable, variable]).into_iter().map(move |two| (variable, two));
+    (0..problem.variables.len())
+        .flat_map(two)
+        .filter(|(_, two)| two[0] < two[1])
+        .map(|(variable, two)| two.iter().map(|value| variable * d + value).collect::<Vec<usize>>())
+        .map(|set| (image(table, &set), set))
+        .find(|(image, _)| !contains_forbidden(problem, image))
+        .map(|(image, set)| (set, image))
+}
+
+/// The first rule that forbids a set whose image under a table contains no forbidden set, that set and its image.
+pub fn broken(problem: &Problem, table: &[usize]) -> Option<(usize, Vec<usize>, Vec<usize>)> {
+    let d = problem.values.len();
+    for (rule, constraint) in problem.constraints.iter().enumerate() {
         for row in draws(problem, &constraint.scope) {
-            if constraint.rows.binary_search(&row).is_err() {
-                sets.push(
-                    constraint.scope.iter().zip(&row).map(|(variable, value)| variable * d + value).collect(),
-                );
+            let set: Vec<usize> =
+                constraint.scope.iter().zip(&row).map(|(variable, value)| variable * d + value).collect();
+            let image = image(table, &set);
+            if constraint.rows.binary_search(&row).is_err() && !contains_forbidden(problem, &image) {
+                return Some((rule, set, image));
             }
         }
     }
-    sets
+    None
 }
 
 fn contains_forbidden(problem: &Problem, set: &[usize]) -> bool {

@@ -2,15 +2,22 @@
 
 use crate::command::{refuse, Arguments, Choice, Source, Stop};
 use crate::listing::{list_on_terminal, Limits, Listing};
-use crate::make::{make_stated, Made};
-use crate::pairs::wrong;
+use crate::make::{make_stated, of_block, Made};
 use crate::parse::parse;
 use crate::text::Text;
+use crate::{alike, pairs};
+use planner::Refusal;
 
 pub const PAIRS_OPTION: Choice = Choice {
     name: "--pairs",
     value: Some("FILE"),
     about: "settles windows in the order of a file of pairs, as `sheet make --pairs` writes it",
+};
+
+pub const BLOCK_OPTION: Choice = Choice {
+    name: "--block",
+    value: Some("FILE"),
+    about: "takes windows for alike by a file, as `sheet make --block` writes it",
 };
 
 pub struct Input {
@@ -30,26 +37,48 @@ impl Input {
         Ok(Input { name: source.name().to_string(), source: words, text, made })
     }
 
-    /// The same with the pairs of the file that `--pairs` names.
+    /// The same with the pairs and the block of the files that `--pairs` and `--block` name.
     pub fn lent(mut self, arguments: &Arguments) -> Result<Input, Stop> {
-        let Some(file) = arguments.file("--pairs") else {
-            return Ok(self);
-        };
-        if !self.made.pairs.is_empty() {
-            return refuse(format!("{} has `before` lines, and so takes no --pairs", self.name));
+        let [pairs, block] = ["--pairs", "--block"].map(|name| arguments.file(name));
+        if let Some(file) = &pairs {
+            if !self.made.pairs.is_empty() {
+                return refuse(format!("{} has `before` lines, and so takes no --pairs", self.name));
+            }
+            self.made.pairs = file.bytes()?;
         }
-        self.made.pairs = file.bytes()?;
-        let Made { problem, sheet, pairs } = &self.made;
-        if let Err(refusal) = planner::question_lent(sheet, pairs, &[]) {
-            let wrong = wrong(pairs, &problem.variables, |pair| format!("pair {pair}"));
-            let words = wrong.map_or(String::new(), |wrong| wrong.words);
-            return refuse(format!("{}: {refusal}: {words}", file.name()));
+        if let Some(file) = &block {
+            if !self.made.block.is_empty() {
+                return refuse(format!("{} has an `alike` line, and so takes no --block", self.name));
+            }
+            self.made.block = file.bytes()?;
         }
-        Ok(self)
+        match planner::question_lent(&self.made.sheet, &self.made.pairs, &self.made.block) {
+            Ok(()) => Ok(self),
+            Err(refusal) => {
+                let (file, words) = match of_block(&self.made.problem, refusal) {
+                    true => (block, not_alike(&self.made, refusal)),
+                    false => (pairs, not_pairs(&self.made)),
+                };
+                let name = file.as_ref().map_or(self.name.as_str(), Source::name);
+                refuse(format!("{name}: {refusal}: {words}"))
+            }
+        }
     }
 
     /// The plans.
     pub fn list(&self, limits: Limits) -> Result<Listing, Stop> {
         list_on_terminal(&self.made, limits).or_else(|refusal| refuse(format!("{}: {refusal}", self.name)))
     }
+}
+
+/// What is wrong with a file of pairs.
+fn not_pairs(made: &Made) -> String {
+    let wrong = pairs::wrong(&made.pairs, &made.problem.variables, |pair| format!("pair {pair}"));
+    wrong.map_or(String::new(), |wrong| wrong.words)
+}
+
+/// What is wrong with a file of a block.
+fn not_alike(made: &Made, refusal: Refusal) -> String {
+    let rules: Vec<_> = made.problem.constraints.iter().map(|rule| (rule.clone(), 0)).collect();
+    alike::wrong(&made.block, &made.problem, &rules, |rule| format!("rule {rule}"), refusal)
 }

@@ -3,6 +3,7 @@
 //! `explain`, `columns` (with `rows`), `merge`.
 //! Whether a sheet is accepted, and which plans it has, is always asked of the proved planner.
 
+pub mod alike;
 pub mod columns;
 pub mod command;
 pub mod compose;

@@ -79,7 +79,7 @@ pub fn list(
         None => limits.trials,
     };
     let lent = loop {
-        let lent = planner::run_lent(&made.sheet, &made.pairs, &[], allowance, &mut room)?;
+        let lent = planner::run_lent(&made.sheet, &made.pairs, &made.block, allowance, &mut room)?;
         let answer = lent.answer;
         let enough = limits.first && answer.plans > 0;
         if answer.ending != Ending::Spent || allowance == limits.trials || enough {

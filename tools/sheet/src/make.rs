@@ -1,5 +1,6 @@
 //! From a text to its sheet, if the planner accepts it.
 
+use crate::alike;
 use crate::command::{refuse, Arguments, Choice, Command, Outcome, Status, Stop};
 use crate::compose::{as_written, compose, Composed};
 use crate::explain::{broken_set, reason};
@@ -15,36 +16,58 @@ pub const COMMAND: Command = Command {
     usage: "TEXT > SHEET",
     about: "makes the sheet; a fault is said with its line, and nothing is written",
     files: 1..=1,
-    options: &[Choice {
-        name: "--pairs",
-        value: Some("FILE"),
-        about: "writes the pairs of the `before` lines to a file, two bytes each",
-    }],
+    options: &[
+        Choice {
+            name: "--pairs",
+            value: Some("FILE"),
+            about: "writes the pairs of the `before` lines to a file, two bytes each",
+        },
+        Choice {
+            name: "--block",
+            value: Some("FILE"),
+            about: "writes the `alike` line to a file, two bytes: its first window and how many",
+        },
+    ],
     run,
 };
 
 /// What a sheet leaves out.
-const NO_PAIRS: &str = "the sheet doesn't hold the `before` lines; --pairs FILE writes them beside it";
+const NO_PAIRS: &str = "the sheet doesn't hold the `before` lines; --pairs FILE writes them beside it\n";
+const NO_BLOCK: &str = "the sheet doesn't hold the `alike` line; --block FILE writes it beside it\n";
 
 fn run(arguments: &Arguments) -> Result<Outcome, Stop> {
-    let file = arguments.file("--pairs");
-    if file.as_ref().is_some_and(|file| file.0 == "-") {
-        return refuse("make writes the pairs to a file, not to standard output");
+    let files = ["--pairs", "--block"].map(|name| arguments.file(name));
+    for (file, what) in files.iter().zip(["pairs", "block"]) {
+        if file.as_ref().is_some_and(|file| file.0 == "-") {
+            return refuse(format!("make writes the {what} to a file, not to standard output"));
+        }
     }
     let made = Input::read(&arguments.sources[0])?.made;
-    let note = if file.is_none() && !made.pairs.is_empty() { NO_PAIRS } else { "" };
-    if let Some(file) = file {
-        file.write(&made.pairs)?;
+    let mut note = String::new();
+    for ((file, bytes), left_out) in files.iter().zip([&made.pairs, &made.block]).zip([NO_PAIRS, NO_BLOCK]) {
+        match file {
+            Some(file) => file.write(bytes)?,
+            None if bytes.is_empty() => {}
+            None => note += left_out,
+        }
     }
-    Ok(Outcome { output: made.sheet, note: note.to_string(), status: Status::Finished })
+    Ok(Outcome { output: made.sheet, note, status: Status::Finished })
 }
 
-/// An accepted sheet, what it states, and the pairs lent beside it.
+/// An accepted sheet, what it states, and the pairs and the block lent beside it.
 #[derive(Debug)]
 pub struct Made {
     pub problem: Problem,
     pub sheet: Vec<u8>,
     pub pairs: Vec<u8>,
+    pub block: Vec<u8>,
+}
+
+impl Made {
+    /// Is a plan left out that an exchange makes of an earlier one?
+    pub fn has_exchanges(&self) -> bool {
+        !self.problem.symmetries.is_empty() || !self.block.is_empty()
+    }
 }
 
 /// The sheet that a text describes.
@@ -54,12 +77,29 @@ pub fn make(text: &str) -> Parsed<Made> {
 
 pub fn make_stated(text: &Text) -> Parsed<Made> {
     let composed = compose(text)?;
-    let (sheet, pairs) = (composed.problem.encode(), pairs::stated(text));
-    match planner::question_lent(&sheet, &pairs, &[]) {
-        Ok(()) => Ok(Made { problem: composed.problem, sheet, pairs }),
-        Err(refusal) if refusal.number >= 28 => pairs::check(text).and(fault(1, refusal.to_string())),
+    let (sheet, pairs, block) = (composed.problem.encode(), pairs::stated(text), alike::stated(text));
+    match planner::question_lent(&sheet, &pairs, &block) {
+        Ok(()) => Ok(Made { problem: composed.problem, sheet, pairs, block }),
+        Err(refusal) if (28..=30).contains(&refusal.number) => {
+            pairs::check(text).and(fault(1, refusal.to_string()))
+        }
+        Err(refusal) if of_block(&composed.problem, refusal) => not_alike(text, &composed, refusal),
         Err(refusal) => refused(text, &composed, &sheet, refusal),
     }
+}
+
+/// Does a refusal speak of the block: of itself, or of an ordering after the sheet's own exchanges?
+pub fn of_block(problem: &Problem, refusal: Refusal) -> bool {
+    let item = refusal.item as usize;
+    refusal.number == 36 || (15..=16).contains(&refusal.number) && item >= problem.symmetries.len()
+}
+
+/// A refusal of the block as a fault of its line.
+fn not_alike<T>(text: &Text, composed: &Composed, refusal: Refusal) -> Parsed<T> {
+    let rules = as_written(text, &composed.problem);
+    let stands = |rule: usize| format!("line {}", rules[rule].1);
+    let words = alike::wrong(&alike::stated(text), &composed.problem, &rules, stands, refusal);
+    fault(alike::line(text).map_or(1, |(_, line)| line), format!("{words} ({refusal})"))
 }
 
 /// A refusal as a fault of the line that it comes from, in the text's own names.

@@ -2,7 +2,7 @@
 
 use crate::command::{Arguments, Command, Outcome, Stop};
 use crate::counts::share;
-use crate::input::{Input, PAIRS_OPTION};
+use crate::input::{Input, BLOCK_OPTION, PAIRS_OPTION};
 use crate::listing::{Limits, Listing, PLANS_OPTION, TRIALS_OPTION};
 use crate::pairs::settled;
 use crate::problem::Problem;
@@ -16,7 +16,7 @@ pub const COMMAND: Command = Command {
     usage: "TEXT > hall.html",
     about: "writes the hall and its plans as a page",
     files: 1..=1,
-    options: &[TRIALS_OPTION, PLANS_OPTION, PAIRS_OPTION],
+    options: &[TRIALS_OPTION, PLANS_OPTION, PAIRS_OPTION, BLOCK_OPTION],
     run,
 };
 
@@ -81,7 +81,7 @@ impl Page<'_> {
     fn ending(&self) -> String {
         let meaning = match (self.listing.ending, self.listing.plans.is_empty()) {
             (Ending::Finished, true) => "Everything was tried: there is no plan.",
-            (Ending::Finished, false) if self.problem().symmetries.is_empty() => {
+            (Ending::Finished, false) if !self.input.made.has_exchanges() => {
                 "Everything was tried: these are all the plans."
             }
             (Ending::Finished, false) => {
@@ -140,7 +140,7 @@ impl Page<'_> {
             stated.map(|stated| self.line(stated)).collect::<String>()
         };
         let rules = of(|statement| statement.narrows() && !matches!(statement, Statement::May(..)));
-        let exchanges = of(|statement| matches!(statement, Statement::Exchange(_)));
+        let exchanges = of(Statement::exchanges);
         let order = of(|statement| matches!(statement, Statement::Before(..)));
         section("h3", "Rules", rules)
             + &section("h3", "Exchanges", exchanges)
@@ -164,9 +164,9 @@ impl Page<'_> {
         if self.listing.plans.is_empty() {
             return String::new();
         }
-        let left = match self.problem().symmetries.is_empty() {
-            true => "",
-            false => "A plan that an exchange makes of an earlier one is left out.",
+        let left = match self.input.made.has_exchanges() {
+            true => "A plan that an exchange makes of an earlier one is left out.",
+            false => "",
         };
         let order = match settled(self.problem(), &self.input.made.pairs) {
             windows if windows.is_empty() => String::new(),

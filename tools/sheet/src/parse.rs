@@ -1,11 +1,12 @@
 //! Reads a text line by line.
 
+use crate::alike;
 use crate::problem::Constraint;
 use crate::text::{fault, Exchange, Parsed, Stated, Statement, Text};
 use crate::words::{nearest, words};
 
 /// The words that start a line.
-const STARTS: [&str; 14] = [
+const STARTS: [&str; 15] = [
     "windows",
     "duties",
     "may",
@@ -20,6 +21,7 @@ const STARTS: [&str; 14] = [
     "at most",
     "exchange",
     "before",
+    "alike",
 ];
 
 /// The most windows and the most duties.
@@ -113,6 +115,7 @@ impl Parser {
             ("before", _) => {
                 self.fault("write `before WINDOW WINDOW`: the first is settled before the second")
             }
+            ("alike", windows) => self.alike(windows),
             (_, what) => self.exchange(what),
         }
     }
@@ -270,6 +273,28 @@ impl Parser {
         let least = if word == "most" { 0 } else { number };
         let most = if word == "least" { scope.len() } else { number };
         Ok(Statement::Count { least, most, value, scope })
+    }
+
+    /// Neighbouring windows, in any order.
+    fn alike(&self, names: &[&str]) -> Parsed<Statement> {
+        let is_alike = |stated: &&Stated| matches!(stated.statement, Statement::Alike(..));
+        if let Some(stated) = self.text.statements.iter().find(is_alike) {
+            return self.fault(format!("a second `alike`; the first stands in line {}", stated.first));
+        }
+        let mut windows = self.windows(names)?;
+        windows.sort();
+        if !(2..=alike::MOST).contains(&windows.len()) {
+            return self.fault(format!("`alike` takes 2 to {} windows, not {}", alike::MOST, windows.len()));
+        }
+        match windows.windows(2).find(|two| two[0] + 1 < two[1]) {
+            Some(two) => self.fault(format!(
+                "alike windows stand side by side in the line `windows`, and `{}` stands between `{}` and `{}`",
+                self.text.variables[two[0] + 1],
+                self.text.variables[two[0]],
+                self.text.variables[two[1]]
+            )),
+            None => Ok(Statement::Alike(windows[0], windows.len())),
+        }
     }
 
     fn exchange(&self, what: &[&str]) -> Parsed<Statement> {

@@ -2,7 +2,7 @@
 
 use crate::command::{refuse, Arguments, Choice, Command, Outcome, Stop};
 use crate::counts::drawn;
-use crate::input::{Input, PAIRS_OPTION};
+use crate::input::{Input, BLOCK_OPTION, PAIRS_OPTION};
 use crate::listing::{Limits, PLANS_OPTION, TRIALS_OPTION};
 use crate::pairs::settled;
 use crate::table::{csv, json, table};
@@ -29,6 +29,7 @@ pub const COMMAND: Command = Command {
         TRIALS_OPTION,
         PLANS_OPTION,
         PAIRS_OPTION,
+        BLOCK_OPTION,
     ],
     run,
 };
@@ -59,7 +60,7 @@ fn run(arguments: &Arguments) -> Result<Outcome, Stop> {
         (listing.plans.concat(), ending)
     } else {
         let gap = if listing.plans.is_empty() { "" } else { "\n" };
-        let left = if problem.symmetries.is_empty() { "" } else { LEFT_OUT };
+        let left = if input.made.has_exchanges() { LEFT_OUT } else { "" };
         let by_window =
             if arguments.has(BY_WINDOW) { drawn(&problem.variables, &listing.counts) } else { String::new() };
         let text = table(problem, &listing) + gap + &ending + left + &in_order(&input) + &by_window;

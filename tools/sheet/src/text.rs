@@ -55,6 +55,8 @@ pub enum Statement {
     Exchange(Exchange),
     /// `before`: the first window is settled before the second.
     Before(usize, usize),
+    /// `alike`: the first of neighbouring windows, and how many.
+    Alike(usize, usize),
 }
 
 #[derive(Clone, Debug)]
@@ -69,6 +71,11 @@ pub enum Exchange {
 impl Statement {
     /// Does the statement say which plans there are (and is no exchange or order)?
     pub fn narrows(&self) -> bool {
-        !matches!(self, Statement::Exchange(_) | Statement::Before(..))
+        !matches!(self, Statement::Before(..)) && !self.exchanges()
+    }
+
+    /// Does it say under what the hall looks the same?
+    pub fn exchanges(&self) -> bool {
+        matches!(self, Statement::Exchange(_) | Statement::Alike(..))
     }
 }

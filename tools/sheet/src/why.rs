@@ -1,7 +1,7 @@
 //! `sheet why`: where there is no plan, lines of the text that already have none, none of which can be left out.
 
 use crate::command::{Arguments, Command, Outcome, Stop};
-use crate::input::{Input, PAIRS_OPTION};
+use crate::input::{Input, BLOCK_OPTION, PAIRS_OPTION};
 use crate::listing::{list_on_terminal, Limits, Listing, TRIALS_OPTION};
 use crate::make::make_stated;
 use crate::problem::Problem;
@@ -15,7 +15,7 @@ pub const COMMAND: Command = Command {
     usage: "TEXT",
     about: "shows a plan, or lines of the text that already have none",
     files: 1..=1,
-    options: &[TRIALS_OPTION, PAIRS_OPTION],
+    options: &[TRIALS_OPTION, PAIRS_OPTION, BLOCK_OPTION],
     run,
 };
 

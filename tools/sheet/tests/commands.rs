@@ -64,6 +64,8 @@ fn golden_files() {
     golden("hall.why", output("why examples/hall.txt"), 0);
     golden("order.table", output("plans tools/sheet/tests/golden/order.txt"), 0);
     golden("order.html", output("page tools/sheet/tests/golden/order.txt"), 0);
+    golden("alike.table", output("plans tools/sheet/tests/golden/alike.txt"), 0);
+    golden("alike.html", output("page tools/sheet/tests/golden/alike.txt"), 0);
     golden("help", output("--help"), 0);
     golden("help.plans", output("plans --help"), 0);
 }
@@ -154,6 +156,7 @@ fn wrong_words() {
         ("plans examples/a.txt --pairs", "--pairs takes a file\n"),
         ("plans --pairs - -", "standard input can stand for one file only\n"),
         ("make --pairs - examples/a.txt", "make writes the pairs to a file, not to standard output\n"),
+        ("make --block - examples/a.txt", "make writes the block to a file, not to standard output\n"),
     ] {
         is(output(words), 1, "", said);
     }

@@ -170,6 +170,35 @@ fn pairs() {
     assert_eq!(after("before b b\nmay c"), "5: `c` may have no duty (refused 8 2)");
 }
 
+#[test]
+fn alike() {
+    assert_eq!(after("alike a"), "4: `alike` takes 2 to 5 windows, not 1");
+    assert_eq!(after("alike a a"), "4: `a` stands twice");
+    assert_eq!(after("alike a till"), "4: no window is called `till`");
+    assert_eq!(
+        after("alike c a"),
+        "4: alike windows stand side by side in the line `windows`, and `b` stands between `a` and `c`"
+    );
+    assert_eq!(after("alike a b\nalike b c"), "5: a second `alike`; the first stands in line 4");
+    assert_eq!(
+        whole("windows a b c d e f\nduties x\nalike a b c d e f"),
+        "3: `alike` takes 2 to 5 windows, not 6"
+    );
+    assert_eq!(
+        after("may a x y\nalike a b c"),
+        "5: `a` and `b` aren't alike: `b` may have `z`, and `a` may not (refused 15 2)"
+    );
+    assert_eq!(
+        after("different a b\nalike a b c"),
+        "5: `b` and `c` aren't alike: line 4 forbids a.x b.x, and no rule forbids a.x c.x (refused 16 1)"
+    );
+    assert_eq!(
+        after("exchange duties x y\nalike b c\nforbid b x c y, b y c x\nforbid c z"),
+        "5: `b` and `c` aren't alike: line 7 forbids c.z, and no rule forbids b.z (refused 16 2)"
+    );
+    assert_eq!(after("may a x\nalike a b\nbefore c c"), "6: `c` can't come before itself (refused 30 0)");
+}
+
 /// Sixteen duties, three windows, and a rule that allows all rows but one.
 const LARGE: &str = "windows a b c d\nduties 0 1 2 3 4 5 6 7 8 9 10 11 12 13 14 15\n";
 

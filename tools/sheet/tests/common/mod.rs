@@ -22,7 +22,7 @@ fn obeys(plan: &[usize], statement: &Statement) -> bool {
             let count = scope.iter().filter(|&&window| plan[window] == *value).count();
             (*least..=*most).contains(&count)
         }
-        Statement::Exchange(_) | Statement::Before(..) => true,
+        Statement::Exchange(_) | Statement::Before(..) | Statement::Alike(..) => true,
     }
 }
 
