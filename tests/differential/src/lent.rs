@@ -7,7 +7,7 @@ use crate::run::{node_limit, room, words};
 use crate::tally::{code, Guarded, Tally, WRONG_SIZE};
 use oracle::lent::{question_lent, run_lent};
 use oracle::Problem;
-use sheets::{block, damaged, encode, pairs, problem, Rng};
+use sheets::{alike_problem, block, damaged, encode, pairs, problem, Rng};
 use std::fs;
 use std::path::Path;
 
@@ -85,9 +85,13 @@ impl Lent {
 }
 
 pub fn case(rng: &mut Rng, tally: &mut Tally) {
-    let problem = problem(rng);
+    let (problem, alike) = match rng.chance(20) {
+        true => alike_problem(rng),
+        false => (problem(rng), [0, 0]),
+    };
     let sheet = if rng.chance(10) { damaged(rng, &problem) } else { encode(&problem) };
-    let lent = Lent { sheet, pairs: pairs(rng, problem.variables), block: block(rng) };
+    let block = if alike[1] > 0 { alike.to_vec() } else { block(rng, problem.variables) };
+    let lent = Lent { sheet, pairs: pairs(rng, problem.variables), block };
     question(&lent, tally);
     let whole = run_lent(&lent.sheet, &lent.pairs, &lent.block, u32::MAX, &mut vec![0; 12 * 4096]);
     let (plans, nodes) =
@@ -177,7 +181,9 @@ pub fn examples(tally: &mut Tally) {
     };
     for sheet in [stored("a.sheet"), stored("cycle.sheet"), encode(&twelve)] {
         for pairs in &all {
-            for block in [&[][..], &[0], &[0, 9], &[0, 2, 0]] {
+            for block in
+                [&[][..], &[0], &[0, 1], &[0, 2], &[1, 2], &[0, 3], &[2, 5], &[5, 3], &[0, 6], &[0, 2, 0]]
+            {
                 tally.case = format!("part lent, pairs {pairs:?}, block {block:?}");
                 let lent = Lent { sheet: sheet.clone(), pairs: pairs.clone(), block: block.to_vec() };
                 question(&lent, tally);

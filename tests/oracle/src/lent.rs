@@ -1,6 +1,7 @@
 //! A run that is lent pairs (paper 02, #108) and a block (#111): prefixes, trials and the list follow the settling
-//! order, and rows are written by place number. Its tally has the trials by place (#107). No block is known yet.
+//! order, and rows are written by place number. Its tally has the trials by place (#107).
 
+use crate::block::with_block;
 use crate::nogood::{filtered_by_products, Entry};
 use crate::order::settling_order;
 use crate::{contains, members, question, Ending, Outcome, Problem, Refusal};
@@ -12,14 +13,12 @@ pub struct Tallied {
     pub counts: [u32; 12],
 }
 
-/// All questions that a run puts: the sheet's, then the pairs', then the block's. What the sheet states, and the order.
+/// All questions that a run puts: the sheet's, then the pairs', then the block's. What the sheet states, with the block's
+/// orderings as exchanges, and the order.
 pub fn question_lent(sheet: &[u8], pairs: &[u8], block: &[u8]) -> Result<(Problem, Vec<usize>), Refusal> {
     let problem = question(sheet)?;
     let order = settling_order(problem.variables, pairs)?;
-    if !block.is_empty() {
-        return Err(Refusal { number: 36, item: 0 });
-    }
-    Ok((problem, order))
+    Ok((with_block(problem, block)?, order))
 }
 
 /// A run: the questions, then the search.

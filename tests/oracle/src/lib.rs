@@ -1,6 +1,7 @@
 //! The paper's definitions as plain Rust, written from the paper alone and as simply as they can be
 //! run. Speed is no aim: forbidden sets and assignments are drawn one by one.
 
+pub mod block;
 pub mod columns;
 pub mod lent;
 pub mod listing;

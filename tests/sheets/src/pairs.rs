@@ -68,8 +68,17 @@ fn circle(rng: &mut Rng, places: usize, pairs: &mut Vec<u8>) {
     }
 }
 
-/// A block: mostly none, else some bytes.
-pub fn block(rng: &mut Rng) -> Vec<u8> {
-    let length = if rng.chance(90) { 0 } else { rng.pick(&[1, 2, 2, 2, 3, 12]) };
-    (0..length).map(|_| rng.below(6) as u8).collect()
+/// A block of some places: mostly none, else neighbouring places, or any bytes.
+pub fn block(rng: &mut Rng, places: usize) -> Vec<u8> {
+    match rng.below(20) {
+        0 => (0..rng.pick(&[1, 2, 2, 2, 3])).map(|_| rng.below(14) as u8).collect(),
+        1 | 2 if places > 1 => neighbours(rng, places).to_vec(),
+        _ => Vec::new(),
+    }
+}
+
+/// 2 to 5 neighbouring places of two or more: the first, and how many.
+pub fn neighbours(rng: &mut Rng, places: usize) -> [u8; 2] {
+    let count = rng.pick(&[2, 2, 3, 3, 4, 5]).min(places);
+    [rng.below(places + 1 - count) as u8, count as u8]
 }

@@ -1,7 +1,7 @@
 //! Random problems whose exchanges respect the sheet.
 
 use crate::symmetry::{random_symmetry, Symmetry};
-use crate::Rng;
+use crate::{neighbours, Rng};
 use oracle::nogood::assignments;
 use oracle::sheet::Constraint;
 use oracle::{contains, Problem};
@@ -18,7 +18,12 @@ pub fn problem(rng: &mut Rng) -> Problem {
             all_different(rng, &mut problem);
             tables.extend(transposition(&problem));
         }
-        2..=6 => tables = closed(rng, &mut problem),
+        2..=6 => {
+            let generators: Vec<Symmetry> = (0..rng.pick(&[1, 1, 2]))
+                .map(|_| random_symmetry(rng, &problem.initial, problem.values))
+                .collect();
+            tables = closed(rng, &mut problem, &generators);
+        }
         _ => {
             for _ in 0..rng.pick(&[0, 1, 1, 2, 3, 6, 32]) {
                 let constraint = random_constraint(rng, &problem);
@@ -28,6 +33,29 @@ pub fn problem(rng: &mut Rng) -> Problem {
     }
     add_symmetries(rng, &mut problem, tables);
     problem
+}
+
+/// A problem with a block of alike places: its first place, and how many.
+pub fn alike_problem(rng: &mut Rng) -> (Problem, [u8; 2]) {
+    let mut problem = empty_problem(rng);
+    while problem.variables < 2 {
+        problem = empty_problem(rng);
+    }
+    let block = neighbours(rng, problem.variables);
+    let places = usize::from(block[0])..usize::from(block[0] + block[1]);
+    let smallest =
+        *problem.initial[places.clone()].iter().min_by_key(|set| set.count_ones()).expect("a place");
+    problem.initial[places.clone()].fill(smallest);
+    let trades: Vec<Symmetry> = (places.start + 1..places.end)
+        .map(|second| {
+            let mut to: Vec<usize> = (0..problem.variables).collect();
+            to.swap(second - 1, second);
+            Symmetry { to, value: vec![(0..problem.values).collect(); problem.variables] }
+        })
+        .collect();
+    let tables = closed(rng, &mut problem, &trades);
+    add_symmetries(rng, &mut problem, tables);
+    (problem, block)
 }
 
 /// Places, values and initial sets.
@@ -104,18 +132,15 @@ fn transposition(problem: &Problem) -> Option<Vec<usize>> {
     square.then(|| (0..n * n).map(|number| number % n * n + number / n).collect())
 }
 
-/// Random rules closed under one or two random symmetries, and these as tables.
-fn closed(rng: &mut Rng, problem: &mut Problem) -> Vec<Vec<usize>> {
-    let count = rng.pick(&[1, 1, 2]);
-    let generators: Vec<Symmetry> =
-        (0..count).map(|_| random_symmetry(rng, &problem.initial, problem.values)).collect();
+/// Random rules closed under symmetries, and these as tables.
+fn closed(rng: &mut Rng, problem: &mut Problem, generators: &[Symmetry]) -> Vec<Vec<usize>> {
     for _ in 0..rng.pick(&[0, 1, 1, 2, 3]) {
         let mut constraint = random_constraint(rng, problem);
         constraint.rows.retain(|row| meets(problem, &constraint.scope, row));
         let mut orbit = vec![constraint];
         let mut at = 0;
         while at < orbit.len() && orbit.len() <= 32 {
-            for generator in &generators {
+            for generator in generators {
                 let image = generator.image(&orbit[at]);
                 if !orbit.contains(&image) {
                     orbit.push(image);

@@ -109,7 +109,7 @@ fn too_many_pairs_or_half_a_pair() {
     assert_eq!(settling_order(2, &[255, 0]), refused(29));
     assert_eq!(question_lent(&a(), &[2, 0], &[]), refused(29));
     assert_eq!(question_lent(&a(), &[2, 0], &[0]), refused(29));
-    assert_eq!(question_lent(&a(), &[1, 0], &[0]), refused(36));
+    assert_eq!(question_lent(&a(), &[1, 0], &[0, 3]), refused(36));
     assert_eq!(question_lent(&a()[1..], &[2], &[7]), refused(2));
 }
 

@@ -52,7 +52,7 @@ fn refusals() {
         let problem = problem(&mut rng);
         let pairs = pairs(&mut rng, problem.variables);
         let sheet = if rng.chance(30) { damaged(&mut rng, &problem) } else { encode(&problem) };
-        let block = block(&mut rng);
+        let block = block(&mut rng, problem.variables);
         let mut list = vec![77; 30];
         if let Err(refusal) = run_lent(&sheet, &pairs, &block, 1000, &mut list) {
             assert_eq!(oracle::question(&sheet).err().unwrap_or(refusal), refusal);
