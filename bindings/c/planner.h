@@ -78,20 +78,22 @@ uint32_t planner_filter(uint8_t *sets, size_t sets_len, const uint8_t *index, si
 uint32_t planner_run(const uint8_t *sheet, size_t sheet_len, uint32_t node_limit, uint8_t *list,
                      size_t list_len, uint8_t *answer, size_t answer_len);
 
-/* ---- Windows that open after others (#108), and trials by window (#107). Beside the sheet a run is lent:
+/* ---- Windows that open after others (#108), alike windows (#111), trials by window (#107). Beside the sheet a run is lent:
  *   pairs, two bytes each, "this window before that window", at most 64; repeats are harmless, and no bytes are no
  *     pairs. The settling order always takes the lowest-numbered window whose forerunners are all settled;
- *   a block (#111): no block is known yet, so no bytes are lent, and any bytes are refused with 36. */
+ *   a block of 2 to 5 neighbouring windows that are alike, two bytes, the first window and how many, or no bytes for
+ *     none. All its orderings act as exchanges after the sheet's own. */
 
 /* Puts all questions that such a run puts: 0, or number * 256 + item. 1 to 16 to the sheet; then, with item 0, to the
  * pairs 28 (at most 64, and no half pair), 29 (their windows are below n) and 30 (they don't go round in a circle; a
- * window before itself is one), and to the block 36. */
+ * window before itself is one), and to the block 36 (two bytes, 2 to 5 windows, all on the sheet); then 15 and 16 to its
+ * orderings, ascending, with items that count on from the sheet's exchanges. */
 uint32_t planner_question_lent(const uint8_t *sheet, size_t sheet_len, const uint8_t *pairs, size_t pairs_len,
                                const uint8_t *block, size_t block_len);
 
 /* As planner_run, with the windows settled in the order of the pairs: the trials follow it, and so does the order in
- * which plans read and are listed; each plan is written by window number. Without pairs the list and the ending are
- * those of planner_run. The answer has PLANNER_LENT_ANSWER_BYTES bytes: kind, plans, trials, then twelve 32-bit
+ * which plans read and are listed; each plan is written by window number. Without pairs and block the list and the
+ * ending are those of planner_run. The answer has PLANNER_LENT_ANSWER_BYTES bytes: kind, plans, trials, then twelve 32-bit
  * numbers, low byte first, the trials that settle each window, by its number: they add up to the trials, and windows
  * that the sheet hasn't have 0. Refusals as planner_question_lent gives them or, asked first, PLANNER_ANSWER_ROOM;
  * list and answer are then as they came. */

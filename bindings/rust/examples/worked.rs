@@ -26,6 +26,9 @@ fn main() {
         let lent = run_lent(&sheet, pairs, &[], 1_000_000, &mut list).expect("an accepted sheet");
         println!("{:?} {:?}: {:?}", lent.answer.ending, &lent.counts[..2], list);
     }
+    let bare = [&sheet[..6], &[0, 0], &sheet[8..14], &[52, 0], &sheet[16..52]].concat();
+    let lent = run_lent(&bare, &[], &[0, 2], 1_000_000, &mut [0; 6]).expect("alike windows");
+    println!("alike: {:?} {:?}", lent.answer.ending, &lent.counts[..2]);
     for (pairs, block) in
         [(&[1, 0, 1][..], &[][..]), (&[1, 2], &[]), (&[1, 0, 0, 1], &[]), (&[1, 0], &[0, 3])]
     {

@@ -1,8 +1,9 @@
 //! The questions and the run that are lent pairs and a block beside the sheet (paper 02, #107, #108, #111).
 //!
 //! Pairs are two bytes each, "this window before that window", at most 64, repeats included; no bytes are no pairs.
-//! The settling order always takes the lowest-numbered window whose forerunners are all settled. No block is known
-//! yet: any bytes of one are refused with 36.
+//! The settling order always takes the lowest-numbered window whose forerunners are all settled. A block is no bytes,
+//! or two: the first of 2 to 5 neighbouring windows that are alike, and how many; all its orderings act as exchanges
+//! after the sheet's own.
 
 use crate::{number, Answer, Ending, Refusal};
 
@@ -40,7 +41,8 @@ pub struct LentAnswer {
     pub counts: [u32; 12],
 }
 
-/// Puts all questions that a run puts: 1 to 16 to the sheet, then 28 to 30 to the pairs, then 36 to the block.
+/// Puts all questions that a run puts: 1 to 16 to the sheet, then 28 to 30 to the pairs, then 36 to the block, then 15
+/// and 16 to its orderings, with items that count on from the sheet's exchanges.
 pub fn question_lent(sheet: &[u8], pairs: &[u8], block: &[u8]) -> Result<(), Refusal> {
     Refusal::from_code(unsafe {
         exported::planner_question_lent(
