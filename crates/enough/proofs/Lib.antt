@@ -1,0 +1,2 @@
+-- The laws, in the order of the argument.
+pub mod AtLeast

@@ -1,0 +1,2 @@
+-- At least m plans?
+pub mod AtLeast

@@ -1,0 +1,4 @@
+-- The laws, in the order of the argument.
+pub mod Turns
+pub mod SameSearch
+pub mod Retyped

@@ -1,0 +1,2 @@
+-- Retyped exchanges, and the filter applied again and by turns.
+pub mod Retyped
