@@ -1,4 +1,4 @@
--- Request #101: the answer from the nodes is what a run with room for m - 1 plans says; what it says of the complete list; its figures. Assumes nothing.
+-- Paper 02, #101: the answer from the nodes is what a run with room for m - 1 plans says; what it says of the complete list; its figures. Assumes nothing.
 use mathlib.Core.Path.{_≡_, refl, sym, ap, ap₂, _∙_, subst}
 use mathlib.Core.Bool.{Bool, true, false}
 use mathlib.Core.List.{List, [], _∷_}

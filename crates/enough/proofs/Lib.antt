@@ -1,2 +1,3 @@
 -- The laws, in the order of the argument.
 pub mod AtLeast
+pub mod LentEnough

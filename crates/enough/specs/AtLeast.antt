@@ -1,4 +1,4 @@
--- Request #101: are there at least m plans? The answer, from the tree's nodes, and what is claimed of it.
+-- Paper 02, #101: are there at least m plans? The answer, from the tree's nodes, and what is claimed of it.
 -- The proofs are in proofs/AtLeast.antt; what a caller is told, and what it is good for, is in specs/Lent and specs/LentClaims.
 use mathlib.Core.Path.{_≡_}
 use mathlib.Core.Bool.{true, false}
@@ -33,11 +33,6 @@ enoughOf p limit m =
       | true ↦ enough m (nodesTo p m)
       | false ↦ elim (leb (length (nodes p)) limit) [ true ↦ tooFew (plansAmong p limit) (length (nodes p)) | false ↦ unknown (plansAmong p limit) limit ]
     ]
-
--- ---- what a caller holds
-pub data EnoughAnswer : Type 0 where
-  refusal : ℕ → ℕ → EnoughAnswer
-  answered : Enough → EnoughAnswer
 
 -- ---- the claims
 -- m = 0: yes without a node, whatever the limit
