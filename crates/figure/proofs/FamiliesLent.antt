@@ -17,8 +17,10 @@ use Rattle.order.specs.RunBy.{resultBy, leadersBy}
 use Rattle.order.proofs.Order.{no-circle-passes}
 use Rattle.order.proofs.RunBy.{leadersBy-hold, finished-lists, rows-counted-by, fewer-by}
 use Rattle.sheet.specs.Meaning.{andThen}
-use Rattle.lent.specs.Lent.{blockLent, verdictLent, problemWith, orderLent, answerLentFor, answerLent, listLentFor, listLent}
+use Rattle.block.specs.Block.{blockLent}
+use Rattle.lent.specs.Lent.{verdictLent, problemWith, orderLent, answerLentFor, answerLent, listLentFor, listLent}
 use Rattle.lent.proofs.Lent.{passed-all, lent-passed, well-lent, respected-lent, ordering-lent, lent-good, ran-lent, lists-leaders-lent}
+use Rattle.lent.proofs.LentTally.{nothing-lent}
 use Rattle.families.specs.Families.{familiesOf}
 use Rattle.families.proofs.FamilyCount.{families}
 use Rattle.families.proofs.FewerFamilies.{well-formed-with}
@@ -93,10 +95,11 @@ bare-run b pairs block limit out h =
     let x = lent-passed b pairs block (passed-all (verdictLent b pairs block) h) in
     let c = bareSheet b in
     let e = bare-passed b (x .sheet) in
+    let same : problemWith c [] ≡ problemBare b = nothing-lent c .problem ∙ e .1 in
     let k = x .ordered in
     let v : verdictLent c pairs [] ≡ accepted = ap₂ andThen (e .0) (ap (λ (q : Problem). orderVerdict (q .variables) pairs accepted) (e .1) ∙ no-circle-passes (problemOf b .variables) pairs (k .few) (k .whole) (k .inside) accepted (k .acyclic)) in (
-      ap (λ (u : Verdict). answerLentFor u c pairs [] limit (length out)) v ∙ ap (λ (q : Problem). ended (resultBy (settlingOrder (q .variables) pairs) q limit (length out) .ending)) (e .1),
-      ap (λ (u : Verdict). listLentFor u c pairs [] limit out) v ∙ ap (λ (q : Problem). written (resultBy (settlingOrder (q .variables) pairs) q limit (length out) .rows) out) (e .1),
+      ap (λ (u : Verdict). answerLentFor u c pairs [] limit (length out)) v ∙ ap (λ (q : Problem). ended (resultBy (settlingOrder (q .variables) pairs) q limit (length out) .ending)) same,
+      ap (λ (u : Verdict). listLentFor u c pairs [] limit out) v ∙ ap (λ (q : Problem). written (resultBy (settlingOrder (q .variables) pairs) q limit (length out) .rows) out) same,
     )
 
 -- ---- closed exchanges

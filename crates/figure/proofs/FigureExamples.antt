@@ -5,10 +5,11 @@ use Rattle.model.proofs.Examples.{opened}
 use Rattle.order.specs.Order.{pairsIn, forerunners, canFollow, settledFirst, settlingOrder}
 use Rattle.order.specs.Reordered.{position, read, write, valueOf, scopeIn, rowIn, renamed, symmetryIn}
 use Rattle.order.specs.RunBy.{resultBy}
+use Rattle.block.specs.Block.{tablesLent}
 use Rattle.families.specs.Families.{solutionsOf, widened, reachedIn, familyOf, isEarliest, earliestOf, familiesOf}
 use Rattle.figure.specs.Figure.{bareSheet, familiesLent}
 use Rattle.figure.specs.FigureExamples.{testsFigure}
 
 pub examples-figure : Each testsFigure
-unfolding opened pairsIn forerunners canFollow settledFirst settlingOrder position read write valueOf scopeIn rowIn renamed symmetryIn resultBy solutionsOf widened reachedIn familyOf isEarliest earliestOf familiesOf bareSheet familiesLent
+unfolding opened pairsIn forerunners canFollow settledFirst settlingOrder position read write valueOf scopeIn rowIn renamed symmetryIn resultBy tablesLent solutionsOf widened reachedIn familyOf isEarliest earliestOf familiesOf bareSheet familiesLent
 examples-figure = (refl, (refl, (refl, (refl, (refl, (refl, (refl, (refl, (refl, tt)))))))))
