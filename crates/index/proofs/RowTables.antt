@@ -3,20 +3,22 @@ use mathlib.Core.Path.{_≡_, refl, sym, ap, _∙_, subst, fun-ext}
 use mathlib.Core.Bool.{Bool, true, false, not}
 use mathlib.Core.List.{List, [], _∷_, List·Memᴰ, List·Memᴰ·head, List·Memᴰ·tail}
 use Prim.Native.Nat.{ℕ, zero, suc, _+_, _*_, _/_, _%_, _^_, _≤_, _<_}
-use native.Mathlib.Nat.{mod-eq-of-lt}
+use native.Mathlib.Nat.{mod-eq-of-lt, lt-of-le-of-lt}
 use native.Mathlib.Omega.{arith}
 use native.Mathlib.Decide.{ℕ-discrete}
-use lib.Dec.{T, ltb, leb, leb·zero}
+use lib.Dec.{T, eqb, ltb, leb, leb·zero}
 use lib.ListN.{length}
-use lib.Pow.{pow-mono}
-use borrow.Author.Tests.{eqb-true, eq-eqb, lt-ltb, le-ltb, le-leb, lt-leb, leb-true, leb-false, ltb-true, ltb-false}
+use lib.Bits.{bitAnd, and-le-r}
+use lib.Pow.{pow-mono, pow-lt}
+use borrow.Author.Tests.{eqb-true, eq-eqb, ne-eqb, lt-ltb, le-ltb, le-leb, lt-leb, leb-true, leb-false, ltb-true, ltb-false}
 use Rattle.model.specs.Lists.{any, at, same, both, either}
-use Rattle.model.specs.ValueSets.{has, maskOf}
+use Rattle.model.specs.ValueSets.{has, maskOf, commonMask}
 use Rattle.model.specs.Problem.{Problem}
 use Rattle.model.specs.Filling.{Filled, Gathered}
 use Rattle.model.proofs.Lists.{T-of, of-T, of-not, list-2, at-set-other}
 use Rattle.model.proofs.Sets.{has-none, has-out, pow2, has-mask, mask-lt, mask-ext}
-use Rattle.model.proofs.Masks.{has-not, is-mask}
+use Rattle.model.proofs.Masks.{has-and, has-not, has-one, is-mask}
+use Rattle.model.proofs.Members.{both-no, common-op-r}
 use Rattle.model.proofs.Filling.{gathered-is}
 use Rattle.layout.specs.Places.{SCOPES, BY-ROWS, LOOSE, SMALLER}
 use Rattle.layout.specs.Layout.{constraintAt}
@@ -73,6 +75,24 @@ pub rows-skip : (p : Problem) (i : ℕ) (tables : List ℕ) → i < length (p .c
 rows-skip p i tables h b r x v y hx hv hy = r x v y hx hv hy ∙ goes-other p i x v y (not-link p i x y h b) (not-link p i y x h b)
 
 -- ---- the values whose sets have w, gathered
+-- a set has w where it meets the set of w
+pub meets-one : (s w one r : ℕ) → w < 16 → one ≡ 2 ^ w → r ≡ commonMask s one → not (eqb r 0) ≡ has s w
+meets-one s w one r l e m = go (has s w) refl
+  where
+    is : r ≡ bitAnd s (2 ^ w)
+    is = m ∙ ap (commonMask s) e ∙ sym (common-op-r s (2 ^ w) (pow-lt l))
+
+    go : (b : Bool) → has s w ≡ b → not (eqb r 0) ≡ b
+    go true q =
+        ap not (ne-eqb r 0 (λ z. of-not (has r w) (ap (λ (n : ℕ). has n w) z ∙ has-none w)
+        (T-of (has r w) (ap (λ (n : ℕ). has n w) is ∙ has-and s (2 ^ w) w ∙ ap (λ (b : Bool). both b (has (2 ^ w) w)) q ∙ has-one w w ∙ eq-eqb w w refl))))
+    go false q =
+        ap not (eq-eqb r 0 (is ∙ mask-ext 16 (bitAnd s (2 ^ w)) 0 (lt-of-le-of-lt (and-le-r s (2 ^ w)) (pow-lt l)) (omega arith) (λ v k. has-and s (2 ^ w) v ∙ none v (ℕ-discrete v w) ∙ sym (has-none v))))
+      where
+        none : (v : ℕ) → Dec (v ≡ w) → both (has s v) (has (2 ^ w) v) ≡ false
+        none v (yes z) = ap (λ (b : Bool). both b (has (2 ^ w) v)) (ap (has s) z ∙ q)
+        none v (no z) = ap (both (has s v)) (has-one w v ∙ ne-eqb v w z) ∙ both-no (has s v)
+
 below-power : (n : ℕ) → n < 2 ^ n
 below-power zero = omega arith
 below-power (suc n) = omega (arith, below-power n, pow2 n)

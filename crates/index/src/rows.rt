@@ -31,16 +31,17 @@ fn clear(tables: &mut [u16; 55296])
 
 // The values whose sets have w, of sixteen sets from a base on.
 fn column(supports: &[u16; 8192], base: usize, w: u16) -> ValueSet
-    requires { ⌜ base + 16 ≤ 8192 ⌝ }
+    requires { ⌜ (base + 16 ≤ 8192) × (w < 16) ⌝ }
     ensures { λ r. ⌜ r .bits ≡ maskOf (λ v. has (at (now (supports .entry)) (base + v)) w) ⌝ }
 {
+    let one = ValueSet::full(16).only(w);
     let mut all = 0u64;
     let mut v = 0;
     while v < 16 {
         let set = ValueSet {
             bits: supports[base + v],
         };
-        all = all | one_if(set.contains(w), v);
+        all = all | one_if(!set.common(one).is_empty(), v);
         v += 1;
     }
     ValueSet {

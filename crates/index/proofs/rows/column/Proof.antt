@@ -1,36 +1,46 @@
 -- A column of sixteen sets. Assumes nothing.
-use mathlib.Core.Bool.{Bool}
+use mathlib.Core.Bool.{Bool, not}
 use mathlib.Core.Path.{ap, _∙_}
-use Prim.Native.Nat.{_+_, _-_, _≤_}
+use Prim.Native.Nat.{ℕ, _+_, _-_, _≤_}
 use borrow.Author.Needs.{needs}
 use Rattle.model.specs.Lists.{at}
-use Rattle.model.specs.ValueSets.{has, oneIf}
+use Rattle.model.specs.ValueSets.{has, onlyMask, oneIf}
 use Rattle.model.specs.Filling.{Gathered}
+use Rattle.model.proofs.Members.{one-op}
 use Rattle.model.proofs.Filling.{gathered-begin, gathered-turn, gathered-end}
-use Rattle.index.proofs.RowTables.{gathered-mask}
+use Rattle.index.proofs.RowTables.{meets-one, gathered-mask}
 use Rattle.index.proofs.rows.column.Statement.{statement}
 use Rattle.index.proofs.rows.column.Tie as tie
 
 abbrev Inv-loop : tie.InvT-loop
-Inv-loop supports base w all₀ v₀ all v = (v ≤ 16) × Gathered (λ u. has (at supports (base + u)) w) v all
+Inv-loop supports base w one all₀ v₀ all v = (v ≤ 16) × Gathered (λ u. has (at supports (base + u)) w) v all
 
 abbrev μ-loop : tie.MeasureT-loop
-μ-loop supports base w all₀ v₀ all v = 16 - v
+μ-loop supports base w one all₀ v₀ all v = 16 - v
+
+full-requires : tie.Need-full-requires Inv-loop μ-loop
+full-requires c κs = search needs
+
+only-requires : tie.Need-only-requires Inv-loop μ-loop
+only-requires c κs = search needs
 
 loop-holds : tie.Need-loop-holds Inv-loop μ-loop
 loop-holds c = (search needs, gathered-begin _)
 
-add-t8 : tie.Need-add-t8 Inv-loop μ-loop
-add-t8 c = search needs
+add-t10 : tie.Need-add-t10 Inv-loop μ-loop
+add-t10 c = search needs
 
-mul-t9 : tie.Need-mul-t9 Inv-loop μ-loop
-mul-t9 c = search needs
+mul-t11 : tie.Need-mul-t11 Inv-loop μ-loop
+mul-t11 c = search needs
 
-element-copy-out-t12 : tie.Need-element-copy-out-t12 Inv-loop μ-loop
-element-copy-out-t12 c = search needs
+element-copy-out-t14 : tie.Need-element-copy-out-t14 Inv-loop μ-loop
+element-copy-out-t14 c = search needs
 
-contains-requires : tie.Need-contains-requires Inv-loop μ-loop
-contains-requires c κs = search needs
+common-requires : tie.Need-common-requires Inv-loop μ-loop
+common-requires c κs = search needs
+
+is-empty-requires : tie.Need-is-empty-requires Inv-loop μ-loop
+is-empty-requires c κs = search needs
 
 one-if-requires : tie.Need-one-if-requires Inv-loop μ-loop
 one-if-requires c κs = search needs
@@ -43,10 +53,16 @@ loop-less c = search needs
 
 loop-again : tie.Need-loop-again Inv-loop μ-loop
 unfolding at
-loop-again c = (search needs, gathered-turn _ _ _ _ (c .before .before .before .before .loop .inv .1) (c .one-if .ensures ∙ ap (λ (b : Bool). oneIf b (c .before .before .before .before .loop .v)) (c .before .contains .ensures)))
+loop-again c =
+    let e = c .before in
+    let l = e .before .before .before in
+    let o = l .before .before in
+    let is = o .only .ensures ∙ ap (λ (n : ℕ). onlyMask n (o .before .before .args .w)) (o .before .full .ensures) ∙ one-op _ (o .before .before .pre .1) in
+    let found = ap not (e .is-empty .ensures) ∙ meets-one _ _ _ _ (o .before .before .pre .1) is (e .before .common .ensures) in
+    (search needs, gathered-turn _ _ _ _ (l .before .loop .inv .1) (c .one-if .ensures ∙ ap (λ (b : Bool). oneIf b (l .before .loop .v)) found))
 
-cast-t15 : tie.Need-cast-t15 Inv-loop μ-loop
-cast-t15 c = search needs
+cast-t19 : tie.Need-cast-t19 Inv-loop μ-loop
+cast-t19 c = search needs
 
 returns : tie.Need-returns Inv-loop μ-loop
 returns c = gathered-mask _ _ (gathered-end _ _ _ _ (search needs) (search needs) (c .before .loop .inv .1))
@@ -57,14 +73,17 @@ column-spec =
     (tie.spec
     Inv-loop
     μ-loop
+    full-requires
+    only-requires
     loop-holds
-    add-t8
-    mul-t9
-    element-copy-out-t12
-    contains-requires
+    add-t10
+    mul-t11
+    element-copy-out-t14
+    common-requires
+    is-empty-requires
     one-if-requires
     add-v
     loop-less
     loop-again
-    cast-t15
+    cast-t19
     returns)
