@@ -54,7 +54,7 @@ inside-two (y ∷ z ∷ []) e x = refl
 inside-two (y ∷ z ∷ u ∷ l) e x = absurd (omega arith)
 
 -- ---- the tables that it adds
-is-accepted : (v : Verdict) → T (isAccepted v) → v ≡ accepted
+pub is-accepted : (v : Verdict) → T (isAccepted v) → v ≡ accepted
 is-accepted accepted t = refl
 is-accepted (refused number item) t = absurd t
 
