@@ -31,7 +31,7 @@ use Rattle.lent.specs.Lent.{verdictLent, problemWith, orderLent, problem
 use Rattle.lent.specs.LentClaims.{Sets-largest-lent, Leaders-ascend-lent, Lists-leaders-lent, First-part-lent, Counts-lent, Ends-lent, Chains-lent, Nothing-listed-lent, Fewer-lent, Finishes-too-lent}
 
 -- ---- what the questions show
-both-passed : (v u : Verdict) → T (isAccepted (andThen v u)) → T (isAccepted v) × T (isAccepted u)
+pub both-passed : (v u : Verdict) → T (isAccepted (andThen v u)) → T (isAccepted v) × T (isAccepted u)
 both-passed accepted u t = (tt, t)
 both-passed (refused number item) u t = absurd t
 
@@ -184,7 +184,7 @@ nothing-listed-lent b pairs block limit out plans made h = (
 
 -- ---- one exchange more, under the same pairs and block
 -- the sheet's problem with other exchanges, and the same block
-problem-other : (b c : List ℕ) (gs : List (List ℕ)) (block : List ℕ) → problemOf c ≡ withSymmetries (problemOf b) gs → problemWith c block ≡ withSymmetries (problemOf b) (gs ++ tablesLent (problemOf b) block)
+pub problem-other : (b c : List ℕ) (gs : List (List ℕ)) (block : List ℕ) → problemOf c ≡ withSymmetries (problemOf b) gs → problemWith c block ≡ withSymmetries (problemOf b) (gs ++ tablesLent (problemOf b) block)
 problem-other b c gs block e =
     ap (λ (q : Problem). withSymmetries q (q .symmetries ++ tablesLent q block)) e
     ∙ ap (λ (ts : List (List ℕ)). withSymmetries (problemOf b) (gs ++ ts)) (tables-other (problemOf b) gs block)

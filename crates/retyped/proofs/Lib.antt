@@ -2,3 +2,4 @@
 pub mod Turns
 pub mod SameSearch
 pub mod Retyped
+pub mod LentRetyped

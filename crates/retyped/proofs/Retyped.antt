@@ -1,4 +1,4 @@
--- Request #109, sheets: two accepted sheets that differ only in the order of their exchanges have the same runs. Assumes nothing.
+-- Paper 02, #109, sheets: two accepted sheets that differ only in the order of their exchanges have the same runs. Assumes nothing.
 use mathlib.Core.Path.{_≡_, refl, sym, ap, ap₂, _∙_, subst}
 use mathlib.Core.Bool.{not}
 use mathlib.Core.List.{List, [], _∷_, map, List·Memᴰ, List·Memᴰ·head, List·Memᴰ·tail, Memᴰ·map, Memᴰ·of-map, List·Permᴰ, List·Permᴰ·nil, List·Permᴰ·cons, List·Permᴰ·swap, List·Permᴰ·trans, Permᴰ·symm, map-map}

@@ -1,4 +1,4 @@
--- Request #109, problems: two that have the same symmetries, in whatever order, have the same sets, nodes, plans and runs. Assumes nothing.
+-- Paper 02, #109, problems: two that have the same symmetries, in whatever order, have the same sets, nodes, plans and runs. Assumes nothing.
 use mathlib.Core.Path.{_≡_, refl, sym, ap, _∙_, subst}
 use mathlib.Core.Bool.{Bool, true, false, not}
 use mathlib.Core.List.{List, [], _∷_, _++_, map, List·Memᴰ}

@@ -1,4 +1,4 @@
--- Request #109, the filter: twice is once, smaller sets leave smaller remainders, and two lists by turns leave the largest sets that both leave alone. Assumes nothing.
+-- Paper 02, #109, the filter: twice is once, smaller sets leave smaller remainders, and two lists by turns leave the largest sets that both leave alone. Assumes nothing.
 use mathlib.Core.Path.{_≡_, refl, sym, ap, _∙_, subst}
 use mathlib.Core.Bool.{Bool, true, false}
 use mathlib.Core.List.{List}

@@ -1,2 +1,3 @@
 -- Retyped exchanges, and the filter applied again and by turns.
 pub mod Retyped
+pub mod LentClaims

@@ -1,4 +1,4 @@
--- Request #109: the filter applied again, to smaller sets, and by turns with another list; and problems and sheets that differ only
+-- Paper 02, #109: the filter applied again, to smaller sets, and by turns with another list; and problems and sheets that differ only
 -- in the order of their symmetries (the paper's exchanges). The proofs are in proofs/Turns.antt, proofs/SameSearch.antt and proofs/Retyped.antt.
 use mathlib.Core.Path.{_≡_}
 use mathlib.Core.Bool.{true, false}
@@ -11,7 +11,7 @@ use Rattle.model.specs.Lists.{at, same, below}
 use Rattle.model.specs.ValueSets.{has}
 use Rattle.model.specs.Problem.{Problem}
 use Rattle.model.specs.Verdict.{accepted}
-use Rattle.model.specs.Sheet.{Header, headerOf, problemOf, verdictOf}
+use Rattle.model.specs.Sheet.{Header, headerOf, verdictOf}
 use Rattle.model.specs.Nogood.{Entry, filtered}
 use Rattle.model.specs.Search.{setsAt, isLive, isPlan, nodes}
 use Rattle.model.specs.Run.{resultOf}
