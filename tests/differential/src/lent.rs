@@ -36,14 +36,14 @@ extern "C" {
 }
 
 /// Kind, plans, trials, and the trials of twelve places.
-const ANSWER_BYTES: usize = 60;
+pub const ANSWER_BYTES: usize = 60;
 
 /// What a run is lent besides its list.
 #[derive(Clone, Debug, PartialEq, Eq)]
-struct Lent {
-    sheet: Vec<u8>,
-    pairs: Vec<u8>,
-    block: Vec<u8>,
+pub struct Lent {
+    pub sheet: Vec<u8>,
+    pub pairs: Vec<u8>,
+    pub block: Vec<u8>,
 }
 
 impl Lent {
@@ -60,7 +60,7 @@ impl Lent {
         }
     }
 
-    fn run(&self, limit: u32, list: &mut [u8], answer: &mut [u8]) -> u32 {
+    pub fn run(&self, limit: u32, list: &mut [u8], answer: &mut [u8]) -> u32 {
         unsafe {
             planner_run_lent(
                 self.sheet.as_ptr(),
@@ -79,7 +79,7 @@ impl Lent {
     }
 
     /// All that is lent, to be printed.
-    fn bytes(&self) -> Vec<u8> {
+    pub fn bytes(&self) -> Vec<u8> {
         [&self.pairs[..], &self.block, &self.sheet].concat()
     }
 }

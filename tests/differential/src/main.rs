@@ -10,6 +10,7 @@ mod merge;
 mod planner;
 mod question;
 mod report;
+mod retyped;
 mod run;
 mod small;
 mod store;
@@ -22,7 +23,8 @@ use std::path::{Path, PathBuf};
 use std::time::Instant;
 use tally::{Tally, WRONG_SIZE};
 
-const PARTS: &[&str] = &["question", "filter", "run", "lent", "report", "columns", "merge", "store", "small"];
+const PARTS: &[&str] =
+    &["question", "filter", "run", "lent", "retyped", "report", "columns", "merge", "store", "small"];
 /// The refusal numbers that a part must reach.
 const REFUSALS: &[(&str, RangeInclusive<u32>)] = &[
     ("question", 1..=16),
@@ -81,6 +83,7 @@ fn test(part: &str, seed: usize, cases: usize, tally: &mut Tally) {
             "filter" => filter::case(&mut rng, tally),
             "run" => run::case(&mut rng, tally),
             "lent" => lent::case(&mut rng, tally),
+            "retyped" => retyped::case(&mut rng, tally),
             "columns" => columns::case(&mut rng, tally),
             "merge" => merge::case(&mut rng, tally),
             "store" => store::case(&mut rng, tally),
