@@ -11,6 +11,7 @@ pub mod Sheets
 pub mod Whole
 pub mod Demands
 pub mod DemandsLent
+pub mod RetypedCalls
 pub mod Reborrow
 pub mod Loans
 pub mod Locals

@@ -5,3 +5,4 @@ pub mod Meaning
 pub mod Whole
 pub mod Demands
 pub mod DemandsLent
+pub mod RetypedCalls
