@@ -1,13 +1,14 @@
 -- The figure of a run that is lent a sheet, pairs and a block, and one of each family (specs/FigureClaims). Assumes nothing.
 use mathlib.Core.Path.{_≡_, refl, sym, ap, ap₂, _∙_, subst}
-use mathlib.Core.Logic.{_↔_, _⊎_, ⊎-elim}
-use mathlib.Core.List.{List, [], List·Memᴰ, List·Memᴰ·not-nil}
+use mathlib.Core.Logic.{_↔_, _⊎_, inl, ⊎-elim}
+use mathlib.Core.List.{List, [], _∷_, _++_, map, append-nil, List·Memᴰ, List·Memᴰ·not-nil}
 use Prim.Native.Nat.{ℕ}
 use lib.Dec.{T}
 use lib.ListN.{length}
 use Rattle.model.specs.Problem.{Problem, isSolution}
 use Rattle.model.specs.Verdict.{Verdict, accepted, isAccepted}
-use Rattle.model.specs.Sheet.{problemOf}
+use Rattle.model.specs.Lists.{upFrom, below}
+use Rattle.model.specs.Sheet.{headerOf, problemOf, tableAt}
 use Rattle.model.specs.WellFormed.{WellFormed, Respected}
 use Rattle.model.specs.Run.{Ending, finished, spent, full, plansIn, ended, written}
 use Rattle.model.proofs.More.{withSymmetries}
@@ -17,16 +18,18 @@ use Rattle.order.specs.RunBy.{resultBy, leadersBy}
 use Rattle.order.proofs.Order.{no-circle-passes}
 use Rattle.order.proofs.RunBy.{leadersBy-hold, finished-lists, rows-counted-by, fewer-by}
 use Rattle.sheet.specs.Meaning.{andThen}
-use Rattle.block.specs.Block.{blockLent}
+use Rattle.block.specs.Block.{blockVerdict, tablesLent, blockLent}
+use Rattle.block.proofs.BlockLent.{is-accepted}
+use Rattle.block.proofs.Claimed.{alone-closed}
 use Rattle.lent.specs.Lent.{verdictLent, problemWith, orderLent, answerLentFor, answerLent, listLentFor, listLent}
-use Rattle.lent.proofs.Lent.{passed-all, lent-passed, well-lent, respected-lent, ordering-lent, lent-good, ran-lent, lists-leaders-lent}
+use Rattle.lent.proofs.Lent.{passed-all, lent-passed, well-sheet, well-lent, respected-lent, ordering-lent, lent-good, ran-lent, lists-leaders-lent}
 use Rattle.lent.proofs.LentTally.{nothing-lent}
-use Rattle.families.specs.Families.{familiesOf}
+use Rattle.families.specs.Families.{Closed, familiesOf}
 use Rattle.families.proofs.FamilyCount.{families}
 use Rattle.families.proofs.FewerFamilies.{well-formed-with}
 use Rattle.families.proofs.JoinedBy.{leader-earliest-by, earliest-leader-by, each-by, leaders-each-by}
 use Rattle.figure.specs.Figure.{problemBare, bareSheet, number, dash, figureFor, familiesLent}
-use Rattle.figure.specs.FigureClaims.{ranWith, ranBare, Finished, Families-lent, Bare-run, OneListedEach, One-of-each-lent}
+use Rattle.figure.specs.FigureClaims.{ranWith, ranBare, Finished, Families-lent, Bare-run, OneListedEach, One-of-each-lent, Block-alone-closed, Block-alone-one-each}
 use Rattle.figure.proofs.BareSheet.{bare-passed}
 
 -- ---- the figure
@@ -140,3 +143,25 @@ one-of-each-lent b pairs block limit out plans made closed h = subst (OneListedE
     listed =
         let r = ran-lent b pairs block limit out (finished plans made) h in
         sym (ap plansIn (r .so)) ∙ rows-counted-by p w rp order o limit (length out) ∙ ap length (finished-lists p w rp order o limit (length out) plans made (r .so))
+
+-- ---- a block alone
+tables-closed : (p : Problem) → WellFormed p → p .symmetries ≡ [] → (block : List ℕ) → T (isAccepted (blockLent p block)) → Closed (withSymmetries p (p .symmetries ++ tablesLent p block))
+unfolding blockLent tablesLent
+tables-closed p w none [] h f g i j = absurd (List·Memᴰ·not-nil (subst (List·Memᴰ f) (append-nil (p .symmetries) ∙ none) i))
+tables-closed p w none (first ∷ []) h f g i j = absurd h
+tables-closed p w none (first ∷ m ∷ []) h f g i j = inl (alone-closed p first m w none (is-accepted (blockVerdict p first m) h) f g i j)
+tables-closed p w none (first ∷ m ∷ x ∷ more) h f g i j = absurd h
+
+block-closed : (b pairs block : List ℕ) → T (isAccepted (verdictLent b pairs block)) → headerOf b .symmetries ≡ 0 → Closed (problemWith b block)
+unfolding problemOf below upFrom
+block-closed b pairs block good none =
+    tables-closed (problemOf b) (well-sheet b pairs block good) (ap (λ (k : ℕ). map (tableAt b (headerOf b)) (below k)) none ∙ no-tables) block (lent-passed b pairs block good .blocked)
+  where
+    no-tables : map (tableAt b (headerOf b)) (below 0) ≡ []
+    no-tables = refl
+
+pub block-alone-closed : Block-alone-closed
+block-alone-closed b pairs block h = block-closed b pairs block (passed-all (verdictLent b pairs block) h)
+
+pub block-alone-one-each : Block-alone-one-each
+block-alone-one-each b pairs block limit out plans made none h = one-of-each-lent b pairs block limit out plans made (block-closed b pairs block (lent-good b pairs block limit out (finished plans made) h) none) h

@@ -8,7 +8,7 @@ use lib.ListN.{length}
 use lib.Dec.{T}
 use Rattle.model.specs.Problem.{isSolution}
 use Rattle.model.specs.Verdict.{accepted}
-use Rattle.model.specs.Sheet.{problemOf, verdictOf}
+use Rattle.model.specs.Sheet.{headerOf, problemOf, verdictOf}
 use Rattle.model.specs.Run.{Ending, finished, ended, written}
 use Rattle.order.specs.Reordered.{earlierBy}
 use Rattle.order.specs.RunBy.{resultBy}
@@ -65,4 +65,14 @@ pub record OneListedEach (b pairs block : List ℕ) (plans : ℕ) (held : List (
 abbrev pub One-of-each-lent : Type 0
 One-of-each-lent =
     (b pairs block : List ℕ) (limit : ℕ) (out : List ℕ) (plans made : ℕ) → Closed (problemWith b block) → answerLent b pairs block limit out ≡ ended (finished plans made) →
+    OneListedEach b pairs block plans (plansLent b pairs block limit out (finished plans made))
+
+-- a block used with no exchanges of the sheet is closed
+abbrev pub Block-alone-closed : Type 0
+Block-alone-closed = (b pairs block : List ℕ) → verdictLent b pairs block ≡ accepted → headerOf b .symmetries ≡ 0 → Closed (problemWith b block)
+
+-- so a finished run with a block alone lists one plan of each family
+abbrev pub Block-alone-one-each : Type 0
+Block-alone-one-each =
+    (b pairs block : List ℕ) (limit : ℕ) (out : List ℕ) (plans made : ℕ) → headerOf b .symmetries ≡ 0 → answerLent b pairs block limit out ≡ ended (finished plans made) →
     OneListedEach b pairs block plans (plansLent b pairs block limit out (finished plans made))
