@@ -11,8 +11,8 @@
  *
  * Stack. The most that a call takes below the caller, on the sheet that goes deepest (12 windows of 16 duties,
  * each duty tried one below the other):
- *   planner_question 21 KB, planner_filter 4 KB, planner_run and planner_run_lent 200 KB, planner_report 249 KB
- *   (KB: 1,000 bytes).
+ *   planner_filter 4 KB, planner_question 23 KB, planner_question_lent 49 KB, planner_run and planner_run_lent, with
+ *   pairs and a block or without, 226 KB, planner_report 276 KB (KB: 1,000 bytes).
  * With less the process ends by a fault at the guard page. A thread of PLANNER_STACK_BYTES is enough for
  * each; some systems give a thread less unless asked (musl: 128 KB). */
 #ifndef PLANNER_H

@@ -4,11 +4,12 @@ use planner::{report, run, run_lent, with_stack, Ending, STACK_BYTES};
 use std::thread;
 
 /// The sheet that goes deepest: 12 windows of 16 duties. Of two neighbours, a duty below 15 of the first has rows
-/// with the second's low duties by one rule and with its high ones by another, so each is tried and dead at once.
-fn deepest() -> Vec<u8> {
+/// with the second's low duties by one rule and with its high ones by another, so each is tried and dead at once. The
+/// first `ruled` windows have these rules with the next.
+fn deepest(ruled: u16) -> Vec<u8> {
     let (n, d) = (12, 16);
     let mut rules: Vec<u16> = Vec::new();
-    for window in 0..n - 1 {
+    for window in 0..ruled {
         for half in [0..8, 8..16] {
             let dead = (0..15).flat_map(|duty| half.clone().map(move |next| [duty, next]));
             let rows: Vec<[u16; 2]> = dead.chain((0..d).map(|next| [15, next])).collect();
@@ -18,7 +19,7 @@ fn deepest() -> Vec<u8> {
     }
     let second = 16 + 2 * n;
     let third = second + 2 * rules.len() as u16;
-    let mut sheet = vec![n, d, 2 * (n - 1), 0, 16, second, third, third];
+    let mut sheet = vec![n, d, 2 * ruled, 0, 16, second, third, third];
     sheet.extend(vec![0xffff; n as usize]);
     sheet.extend(rules);
     sheet.iter().flat_map(|word| word.to_le_bytes()).collect()
@@ -26,7 +27,7 @@ fn deepest() -> Vec<u8> {
 
 #[test]
 fn the_stack_is_enough() {
-    let sheet = deepest();
+    let sheet = deepest(11);
     let calls = move || {
         let mut list = vec![0; 16 * 12];
         let answer = run(&sheet, 1_000_000, &mut list).unwrap();
@@ -37,13 +38,16 @@ fn the_stack_is_enough() {
         let reverse: Vec<u8> = (1..12).rev().flat_map(|window| [window, window - 1]).collect();
         let answer = run_lent(&sheet, &reverse, &[], 1_000_000, &mut list).unwrap().answer;
         assert_eq!((answer.ending, answer.plans), (Ending::Finished, 16));
+        let mut list = vec![0; 4096 * 12];
+        let answer = run_lent(&deepest(9), &[0, 1], &[10, 2], 1_000_000, &mut list).unwrap().answer;
+        assert_eq!((answer.ending, answer.plans, answer.nodes), (Ending::Finished, 16 * 136, 2592));
     };
     thread::Builder::new().stack_size(STACK_BYTES).spawn(calls).unwrap().join().unwrap();
 }
 
 #[test]
 fn a_thread_of_its_own() {
-    let sheet = deepest();
+    let sheet = deepest(11);
     let mut list = vec![7; 5 * 12];
     let answer = with_stack(|| run(&sheet, 1_000_000, &mut list)).unwrap().unwrap();
     assert_eq!((answer.ending, answer.plans, answer.nodes), (Ending::Full, 5, 182));
@@ -55,7 +59,7 @@ fn a_thread_of_its_own() {
 
 #[test]
 fn several_threads_at_once() {
-    let sheet = deepest();
+    let sheet = deepest(11);
     let alone = report(&sheet);
     thread::scope(|scope| {
         for _ in 0..8 {
