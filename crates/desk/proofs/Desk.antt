@@ -1,0 +1,795 @@
+-- The desk of eight seats (specs/Desk): each hall's run is the run alone, every hall is served in time, and no seat touches another. Assumes nothing.
+use mathlib.Core.Path.{_≡_, refl, sym, ap, ap₂, _∙_, subst}
+use mathlib.Core.Bool.{Bool, true, false, not}
+use mathlib.Core.Logic.{_⊎_, inl, inr, ⊎-elim}
+use mathlib.Core.List.{List, [], _∷_, map, List·Memᴰ, List·Memᴰ·head, List·Memᴰ·tail, List·Memᴰ·not-nil, Memᴰ·map, Memᴰ·of-map}
+use Prim.Native.Nat.{ℕ, zero, suc, _+_, _-_, _*_, _%_, _≤_, _<_, _^_}
+use native.Mathlib.Omega.{arith}
+use lib.Dec.{T, leb, ltb, eqb, eqb→eq}
+use lib.ListN.{length, take, set, getD, replicate, length-set, List·getD-eq-default}
+use lib.Seq.{getD-set-same, getD-set-other, set-getD}
+use borrow.Author.Tests.{ltb-true, ltb-false, leb-false, eqb-true, eqb-false}
+use Rattle.model.specs.Lists.{both, all, ascending, rowsAscend, either, any, keep, flat, below, upFrom}
+use Rattle.model.specs.Problem.{Problem, respects}
+use Rattle.model.specs.Search.{nodes, isPlan}
+use Rattle.model.specs.Verdict.{Verdict, accepted, refused, ask}
+use Rattle.model.specs.Sheet.{word, Header, headerOf, scopeAt, rowsAt, afterAt, permutesPairs, problemOf, setsVerdict, constraintVerdict, constraintsVerdict, symmetriesVerdict, headerVerdict, formVerdict, verdictOf}
+use Rattle.model.specs.Run.{Ending, finished, spent, full, plansIn, nodesIn, Result, search, resultOf, ended, answerFor, answerOf, written, listFor, listOf}
+use Rattle.parts.specs.Parts.{nodesAfter, lastOf, Progress, start, progressAt, goOn, resumed}
+use Rattle.desk.specs.Desk.{Standing, running, over, goesOn, Hall, newcomer, deskRoom, turnLimit, standingAfter, hallAfter, hallTurned, turned, Seat, free, taken, isFree, waits, seatTurned, Desk, emptyDesk, seatAt, Found, none-found, seat, firstOf, lowestFree, toServe, DeskCall, sit, turn, leave, DeskReply, denied, seated, idle, served, left, servedAs, sitReply, sitDesk, turnReply, turnDesk, fits, leaveFor, leaveReply, leaveSeat, deskReply, deskAfter, deskEnd, deskReplies}
+use Rattle.desk.specs.Claims.{serves, turnsIn, timesServed, Throughout, Remains, Waits, Fair, alone, HoldsAs, Holds, As-alone, Same-as-run, Turn-of-64, Sixty-four-each, Turn-answers, Refused-same, Idle-exactly, Past-eighth, By-own-turns, Others-nothing, Leaves, Lowest-seat, Seats-taken, Keeps-seat}
+use Rattle.model.proofs.Lists.{T-of, of-T, of-not, any-cons, either-l, either-r, below-i, below-e}
+use Rattle.model.proofs.Room.{length-flat}
+use Rattle.model.proofs.Runs.{Ended, walk, rows-counted, rows-fit, rows-sized}
+use Rattle.parts.proofs.Resume.{stands, from-start, from-cut, in-parts, last-moves}
+
+-- ---- the first that passes a test
+number : Found → ℕ
+number none-found = 0
+number (seat k) = k
+
+isSeat : Found → Bool
+isSeat none-found = false
+isSeat (seat k) = true
+
+seat-is : (j k : ℕ) → seat j ≡ seat k → j ≡ k
+unfolding number
+seat-is j k e = ap number e
+
+none-not : (k : ℕ) → none-found ≡ seat k → ⊥
+unfolding isSeat
+none-not k e = subst T (sym (ap isSeat e)) tt
+
+pub first-in : (q : ℕ → Bool) (ks : List ℕ) (k : ℕ) → firstOf q ks ≡ seat k → T (q k) × List·Memᴰ k ks
+unfolding firstOf
+first-in q [] k e = absurd (none-not k e)
+first-in q (j ∷ ks) k e = go (q j) refl e (first-in q ks k)
+  where
+    go : (b : Bool) → q j ≡ b → elim b [ true ↦ seat j | false ↦ firstOf q ks ] ≡ seat k → (firstOf q ks ≡ seat k → T (q k) × List·Memᴰ k ks) → T (q k) × List·Memᴰ k (j ∷ ks)
+    go true f e ih = let i = seat-is j k e in (subst (λ (z : ℕ). T (q z)) i (T-of (q j) f), List·Memᴰ·head (sym i))
+    go false f e ih = let r = ih e in (r .0, List·Memᴰ·tail (r .1))
+
+pub first-none : (q : ℕ → Bool) (ks : List ℕ) → firstOf q ks ≡ none-found → (j : ℕ) → List·Memᴰ j ks → q j ≡ false
+unfolding firstOf
+first-none q [] e j m = absurd (List·Memᴰ·not-nil m)
+first-none q (i ∷ ks) e j m = go (q i) refl e (first-none q ks) m
+  where
+    go : (b : Bool) → q i ≡ b → elim b [ true ↦ seat i | false ↦ firstOf q ks ] ≡ none-found → (firstOf q ks ≡ none-found → (j : ℕ) → List·Memᴰ j ks → q j ≡ false) → List·Memᴰ j (i ∷ ks) → q j ≡ false
+    go true f e ih m = absurd (none-not i (sym e))
+    go false f e ih (List·Memᴰ·head r) = ap q r ∙ f
+    go false f e ih (List·Memᴰ·tail m) = ih e j m
+
+pub none-first : (q : ℕ → Bool) (ks : List ℕ) → ((j : ℕ) → List·Memᴰ j ks → q j ≡ false) → firstOf q ks ≡ none-found
+unfolding firstOf
+none-first q [] h = refl
+none-first q (i ∷ ks) h = go (q i) (h i (List·Memᴰ·head refl)) (none-first q ks (λ j m. h j (List·Memᴰ·tail m)))
+  where
+    go : (b : Bool) → b ≡ false → firstOf q ks ≡ none-found → elim b [ true ↦ seat i | false ↦ firstOf q ks ] ≡ none-found
+    go true f ih = absurd (subst T f tt)
+    go false f ih = ih
+
+first-lowest : (q : ℕ → Bool) (a n k : ℕ) → firstOf q (upFrom a n) ≡ seat k → (k < a + n) × ((j : ℕ) → a ≤ j → j < k → q j ≡ false)
+unfolding firstOf upFrom
+first-lowest q a zero k e = absurd (none-not k e)
+first-lowest q a (suc n) k e = go (q a) refl e (first-lowest q (suc a) n k)
+  where
+    go : (b : Bool) → q a ≡ b → elim b [ true ↦ seat a | false ↦ firstOf q (upFrom (suc a) n) ] ≡ seat k →
+        (firstOf q (upFrom (suc a) n) ≡ seat k → (k < suc a + n) × ((j : ℕ) → suc a ≤ j → j < k → q j ≡ false)) → (k < a + suc n) × ((j : ℕ) → a ≤ j → j < k → q j ≡ false)
+    go true f e ih = let i = seat-is a k e in (omega arith, λ j l m. absurd (omega arith))
+    go false f e ih = let r = ih e in (omega (arith, r .0), λ j l m. each j (eqb j a) refl l m (r .1 j))
+      where
+        each : (j : ℕ) (b : Bool) → eqb j a ≡ b → a ≤ j → j < k → (suc a ≤ j → j < k → q j ≡ false) → q j ≡ false
+        each j true g l m h = ap q (eqb-true j a g) ∙ f
+        each j false g l m h = let n = eqb-false j a g in h (omega arith) m
+
+pub first-round : (q : ℕ → Bool) (f : ℕ → ℕ) (a n i : ℕ) → a ≤ i → i < a + n → T (q (f i)) → (j : ℕ) × (j ≤ i) × (firstOf q (map f (upFrom a n)) ≡ seat (f j))
+unfolding firstOf upFrom
+first-round q f a zero i l m t = absurd (omega arith)
+first-round q f a (suc n) i l m t = go (q (f a)) refl (eqb a i) refl (first-round q f (suc a) n i)
+  where
+    go : (b : Bool) → q (f a) ≡ b → (c : Bool) → eqb a i ≡ c → (suc a ≤ i → i < suc a + n → T (q (f i)) → (j : ℕ) × (j ≤ i) × (firstOf q (map f (upFrom (suc a) n)) ≡ seat (f j))) →
+        (j : ℕ) × (j ≤ i) × (elim b [ true ↦ seat (f a) | false ↦ firstOf q (map f (upFrom (suc a) n)) ] ≡ seat (f j))
+    go true e c g ih = (a, l, refl)
+    go false e true g ih = absurd (of-not (q (f a)) e (subst (λ (z : ℕ). T (q (f z))) (sym (eqb-true a i g)) t))
+    go false e false g ih = let d = eqb-false a i g in ih (omega arith) (omega arith) t
+
+-- ---- seats
+taken-is : (g h : Hall) → taken g ≡ taken h → g ≡ h
+taken-is g h e = ap hall e
+  where
+    hall : Seat → Hall
+    hall free = g
+    hall (taken k) = k
+
+not-free : (s : Seat) (h : Hall) → s ≡ taken h → isFree s ≡ false
+not-free s h e = ap isFree e
+
+free-is : (s : Seat) → T (isFree s) → s ≡ free
+free-is free t = refl
+free-is (taken h) t = absurd t
+
+pub held-lt : (l : List Seat) (k : ℕ) (h : Hall) → getD l k free ≡ taken h → k < length l
+held-lt l k h e = go (ltb k (length l)) refl
+  where
+    go : (b : Bool) → ltb k (length l) ≡ b → k < length l
+    go true f = ltb-true k (length l) f
+    go false f = absurd (subst (λ (s : Seat). T (isFree s)) (sym (List·getD-eq-default l free (ltb-false k (length l) f)) ∙ e) tt)
+
+-- what holds of the seat stored, and of the others, holds of each
+set-seat : (P : Seat → Type 0) (l : List Seat) (k : ℕ) (s : Seat) (j : ℕ) → P s → P (getD l j free) → P (getD (set l k s) j free)
+set-seat P [] k s j a b = b
+set-seat P (x ∷ l) zero s zero a b = a
+set-seat P (x ∷ l) zero s (suc j) a b = b
+set-seat P (x ∷ l) (suc k) s zero a b = b
+set-seat P (x ∷ l) (suc k) s (suc j) a b = set-seat P l k s j a b
+
+no-seats : (n k : ℕ) → getD (replicate n free) k free ≡ free
+no-seats zero k = refl
+no-seats (suc n) zero = refl
+no-seats (suc n) (suc k) = no-seats n k
+
+-- ---- 1: every hall in time
+sit-next : (f : Found) (v : Verdict) (d : Desk) (h : Hall) → sitDesk f v d h .next ≡ d .next
+sit-next none-found v d h = refl
+sit-next (seat k) (refused number item) d h = refl
+sit-next (seat k) accepted d h = refl
+
+-- from behind the seat served, round to the same seat
+moved : (n j i : ℕ) → j < i → (((n + j) % 8 + 1) % 8 + (i - suc j)) % 8 ≡ (n + i) % 8
+moved n j i h = omega arith
+
+pub round-to : (n k : ℕ) → k < 8 → (n + (k + 8 - n % 8) % 8) % 8 ≡ k
+round-to n k h = omega arith
+
+-- the seat stands i further round, i ≤ m: it is served within m + 1 turns
+fair-from : (xs : List DeskCall) (d : Desk) (m i k : ℕ) → i ≤ m → i < 8 → (d .next + i) % 8 ≡ k → Throughout (Waits k) d xs → suc m ≤ turnsIn xs → T (any (serves k) (deskReplies d xs))
+unfolding deskReplies turnsIn below
+fair-from [] d m i k l o e w t = absurd (omega arith)
+fair-from (sit b allowance ∷ xs) d m i k l o e w t =
+    let d′ = deskAfter d (sit b allowance) in
+    let rest = any (serves k) (deskReplies d′ xs) in
+    let s = sit-next (lowestFree d) (verdictOf b) d (newcomer b allowance) in
+    subst T (sym (any-cons (serves k) (deskReply d (sit b allowance)) (deskReplies d′ xs)))
+    (either-r (serves k (deskReply d (sit b allowance))) rest (fair-from xs d′ m i k l o (ap (λ (n : ℕ). (n + i) % 8) s ∙ e) (w .1) t))
+fair-from (leave j room ∷ xs) d m i k l o e w t =
+    let d′ = deskAfter d (leave j room) in
+    let rest = any (serves k) (deskReplies d′ xs) in
+    subst T (sym (any-cons (serves k) (deskReply d (leave j room)) (deskReplies d′ xs)))
+    (either-r (serves k (deskReply d (leave j room))) rest (fair-from xs d′ m i k l o e (w .1) t))
+fair-from (turn ∷ xs) d m i k l o e w t =
+    let f : ℕ → ℕ = λ n. (d .next + n) % 8 in
+    let q : ℕ → Bool = λ n. waits (seatAt d n) in
+    let r = first-round q f 0 8 i (omega arith) (omega arith) (subst (λ (z : ℕ). T (waits (seatAt d z))) (sym e) (w .0)) in
+    subst T (sym (any-cons (serves k) (deskReply d turn) (deskReplies d′ xs)))
+    (go (r .0) (r .1) (r .2) (eqb (f (r .0)) k) refl (fair-from xs d′))
+  where
+    d′ : Desk
+    d′ = deskAfter d turn
+
+    rest : Bool
+    rest = any (serves k) (deskReplies d′ xs)
+
+    go : (j : ℕ) → j ≤ i → toServe d ≡ seat ((d .next + j) % 8) → (b : Bool) → eqb ((d .next + j) % 8) k ≡ b →
+        ((m i k : ℕ) → i ≤ m → i < 8 → (d′ .next + i) % 8 ≡ k → Throughout (Waits k) d′ xs → suc m ≤ turnsIn xs → T (any (serves k) (deskReplies d′ xs))) → T (either (serves k (deskReply d turn)) rest)
+    go j h s true g ih = either-l (serves k (deskReply d turn)) rest (T-of (serves k (deskReply d turn)) (ap (λ (x : Found). serves k (turnReply x d)) s ∙ g))
+    go j h s false g ih =
+        let a : j ≡ i → ⊥ = λ z. eqb-false ((d .next + j) % 8) k g (ap (λ (n : ℕ). (d .next + n) % 8) z ∙ e) in
+        let n : d′ .next ≡ ((d .next + j) % 8 + 1) % 8 = ap (λ (x : Found). turnDesk x d .next) s in
+        let c : (d′ .next + (i - suc j)) % 8 ≡ k = ap (λ (z : ℕ). (z + (i - suc j)) % 8) n ∙ moved (d .next) j i (omega arith) ∙ e in
+        either-r (serves k (deskReply d turn)) rest (ih (m - 1) (i - suc j) k (omega arith) (omega arith) c (w .1) (omega arith))
+
+pub fair : Fair
+fair before xs k h w t =
+    let d = deskEnd emptyDesk before in
+    let i = (k + 8 - d .next % 8) % 8 in
+    fair-from xs d 7 i k (omega arith) (omega arith) (round-to (d .next) k h) w t
+
+-- a turn serves a seat that waits
+to-serve-waits : (d : Desk) (k : ℕ) → toServe d ≡ seat k → T (waits (seatAt d k))
+to-serve-waits d k e = first-in (λ n. waits (seatAt d n)) (map (λ i. (d .next + i) % 8) (below 8)) k e .0
+
+-- ---- 2: each run is the run alone
+begun : (p : Problem) → start ≡ progressAt p 0
+unfolding keep lastOf
+begun p = refl
+
+newcomer-holds : (b : List ℕ) (allowance : ℕ) → Holds (newcomer b allowance)
+newcomer-holds b allowance = (begun (problemOf b), inl refl)
+
+-- the progress of a hall that goes on is what a run alone makes of it
+module _ (h : Hall) (H : HoldsAs h running) where
+  abbrev p : Problem
+  p = problemOf (h .sheet)
+
+  abbrev room : ℕ
+  room = deskRoom (problemOf (h .sheet))
+
+  abbrev made : ℕ
+  made = h .progress .made
+
+  abbrev limit : ℕ
+  limit = turnLimit h
+
+  made-allowed : made ≤ limit
+  made-allowed = go (H .1)
+    where
+      go : (made ≡ 0) ⊎ ((made < h .allowance) × (made < length (nodes p)) × (alone h made ≡ record { ending = spent (length (h .progress .rows)) made; rows = h .progress .rows })) → made ≤ limit
+      go (inl e) = omega arith
+      go (inr r) = omega (arith, r .0)
+
+  -- the turn, as the run alone up to the turn's limit
+  pub turn-alone : goOn p limit room (h .progress) ≡ alone h limit
+  turn-alone = ap (goOn p limit room) (H .0) ∙ go (H .1)
+    where
+      go : (made ≡ 0) ⊎ ((made < h .allowance) × (made < length (nodes p)) × (alone h made ≡ record { ending = spent (length (h .progress .rows)) made; rows = h .progress .rows })) →
+          goOn p limit room (progressAt p made) ≡ alone h limit
+      go (inl e) = ap (λ (k : ℕ). goOn p limit room (progressAt p k)) e ∙ ap (goOn p limit room) (sym (begun p)) ∙ from-start p limit room
+      go (inr r) = from-cut p limit room made (length (h .progress .rows)) made made-allowed (ap (λ (x : Result). x .ending) (r .2))
+
+  -- ended, or spent with the allowance made
+  ended-holds : (x : Ending) → alone h limit .ending ≡ x → (alone h (h .allowance) ≡ record { ending = x; rows = alone h limit .rows }) → HoldsAs (hallAfter h (alone h limit)) (over x)
+  ended-holds x e q = (q, ap nodesIn e, sym (rows-counted p limit room) ∙ ap plansIn e)
+
+  spent-holds : (plans total : ℕ) → alone h limit .ending ≡ spent plans total → total < h .allowance → HoldsAs (hallAfter h (alone h limit)) running
+  spent-holds plans total e l =
+      let r = alone h limit in
+      let s = stands p room limit plans total e in
+      let n = nodesIn (r .ending) in
+      let z : n ≡ limit = ap nodesIn e ∙ s .there in
+      let rows : r .rows ≡ progressAt p n .rows = s .listed ∙ ap (λ (k : ℕ). keep (isPlan p) (take k (nodes p))) (sym z) in
+      let a = made-allowed in
+      let last : lastOf (h .progress .last) (take (n - made) (nodesAfter p (h .progress .last))) ≡ lastOf [] (take n (nodes p)) =
+      ap (λ (x : Progress). lastOf (x .last) (take (n - made) (nodesAfter p (x .last)))) (H .0)
+      ∙ last-moves p made (n - made) ∙ ap (λ (k : ℕ). lastOf [] (take k (nodes p))) (let i : made + (n - made) ≡ n = omega arith in i) in
+      let c : r .ending ≡ spent (length (r .rows)) n = e ∙ ap₂ spent (sym (ap plansIn e) ∙ rows-counted p limit room) (sym (ap nodesIn e)) in
+      let d = s .due in
+      let t = s .there in (
+        ap₂ (λ (x : List (List ℕ)) (y : List ℕ). let w : Progress = record { made = n; rows = x; last = y } in w) rows last,
+        inr (
+          omega arith,
+          omega arith,
+          ap (alone h) z ∙ ap (λ (x : Ending). let w : Result = record { ending = x; rows = r .rows } in w) c,
+        ),
+      )
+
+  whole : (x : Ending) → alone h limit .ending ≡ x → alone h (h .allowance) ≡ resumed p (h .allowance) room x (alone h limit .rows)
+  whole x e = in-parts p (h .allowance) room limit (omega arith) ∙ ap (λ (y : Ending). resumed p (h .allowance) room y (alone h limit .rows)) e
+
+  after-holds : (x : Ending) → alone h limit .ending ≡ x → HoldsAs (hallAfter h (alone h limit)) (standingAfter (h .allowance) x)
+  after-holds (finished plans total) e = ended-holds (finished plans total) e (whole (finished plans total) e)
+  after-holds (full plans total) e = ended-holds (full plans total) e (whole (full plans total) e)
+  after-holds (spent plans total) e = go (ltb total (h .allowance)) refl
+    where
+      go : (b : Bool) → ltb total (h .allowance) ≡ b → HoldsAs (hallAfter h (alone h limit)) (elim b [ true ↦ running | false ↦ over (spent plans total) ])
+      go true f = spent-holds plans total e (ltb-true total (h .allowance) f)
+      go false f =
+          let t = stands p room limit plans total e .there in
+          let g = ltb-false total (h .allowance) f in
+          let z : h .allowance ≡ limit = omega arith in
+          ended-holds (spent plans total) e (ap (alone h) z ∙ ap (λ (x : Ending). let w : Result = record { ending = x; rows = alone h limit .rows } in w) e)
+
+  pub turned-holds : Holds (hallTurned h)
+  unfolding hallTurned
+  turned-holds = subst (λ (r : Result). Holds (hallAfter h r)) (sym turn-alone) (after-holds (alone h limit .ending) refl)
+
+-- ---- the same of each seat of the desk
+abbrev pub SeatHolds : Seat → Type 0
+SeatHolds free = Unit {0}
+SeatHolds (taken h) = Holds h × (verdictOf (h .sheet) ≡ accepted)
+
+goes-holds : (h : Hall) (x : Standing) → T (goesOn x) → HoldsAs h x → HoldsAs h running
+goes-holds h running t u = u
+goes-holds h (over e) t u = absurd t
+
+seat-turned : (s : Seat) → T (waits s) → SeatHolds s → SeatHolds (seatTurned s)
+unfolding hallTurned
+seat-turned free t u = tt
+seat-turned (taken h) t u = (turned-holds h (goes-holds h (h .standing) t (u .0)), u .1)
+
+leave-holds : (s : Seat) (room : List ℕ) → SeatHolds s → SeatHolds (leaveSeat s room)
+leave-holds free room u = tt
+leave-holds (taken h) room u = go (fits h room)
+  where
+    go : (b : Bool) → SeatHolds (elim b [ true ↦ free | false ↦ taken h ])
+    go true = tt
+    go false = u
+
+abbrev pub DeskHolds : Desk → Type 0
+DeskHolds d = (length (d .seats) ≡ 8) × ((k : ℕ) → SeatHolds (seatAt d k))
+
+sit-holds : (f : Found) (v : Verdict) (d : Desk) (b : List ℕ) (allowance : ℕ) → verdictOf b ≡ v → DeskHolds d → DeskHolds (sitDesk f v d (newcomer b allowance))
+sit-holds none-found v d b allowance e g = g
+sit-holds (seat k) (refused number item) d b allowance e g = g
+sit-holds (seat k) accepted d b allowance e g =
+    (length-set (d .seats) k (taken (newcomer b allowance)) ∙ g .0, λ j. set-seat SeatHolds (d .seats) k (taken (newcomer b allowance)) j (newcomer-holds b allowance, e) (g .1 j))
+
+turn-holds : (f : Found) (d : Desk) → toServe d ≡ f → DeskHolds d → DeskHolds (turnDesk f d)
+turn-holds none-found d e g = g
+turn-holds (seat k) d e g = (
+  length-set (d .seats) k (seatTurned (seatAt d k)) ∙ g .0,
+  λ j. set-seat SeatHolds (d .seats) k (seatTurned (seatAt d k)) j (seat-turned (seatAt d k) (to-serve-waits d k e) (g .1 k)) (g .1 j),
+)
+
+call-holds : (d : Desk) (x : DeskCall) → DeskHolds d → DeskHolds (deskAfter d x)
+call-holds d (sit b allowance) g = sit-holds (lowestFree d) (verdictOf b) d b allowance refl g
+call-holds d turn g = turn-holds (toServe d) d refl g
+call-holds d (leave k room) g = (
+  length-set (d .seats) k (leaveSeat (seatAt d k) room) ∙ g .0,
+  λ j. set-seat SeatHolds (d .seats) k (leaveSeat (seatAt d k) room) j (leave-holds (seatAt d k) room (g .1 k)) (g .1 j),
+)
+
+pub desk-holds : (d : Desk) (xs : List DeskCall) → DeskHolds d → DeskHolds (deskEnd d xs)
+unfolding deskEnd
+desk-holds d [] g = g
+desk-holds d (x ∷ xs) g = desk-holds (deskAfter d x) xs (call-holds d x g)
+
+pub empty-holds : DeskHolds emptyDesk
+empty-holds = (refl, λ k. subst SeatHolds (sym (no-seats 8 k)) tt)
+
+pub as-alone : As-alone
+as-alone xs k h e = subst SeatHolds e (desk-holds emptyDesk xs empty-holds .1 k) .0
+
+-- every hall at the desk has an accepted sheet
+pub seated-accepted : (xs : List DeskCall) (k : ℕ) (h : Hall) → seatAt (deskEnd emptyDesk xs) k ≡ taken h → verdictOf (h .sheet) ≡ accepted
+seated-accepted xs k h e = subst SeatHolds e (desk-holds emptyDesk xs empty-holds .1 k) .1
+
+-- ---- what a caller gets of an ended run
+pub same-as-run : Same-as-run
+unfolding answerOf answerFor listOf listFor
+same-as-run xs k h e out q s n = (
+  ap (λ (v : Verdict). answerFor v (h .sheet) (h .allowance) (length out)) c ∙ ap (λ (m : ℕ). ended (resultOf p (h .allowance) m .ending)) n ∙ ap (λ (r : Result). ended (r .ending)) (a .0),
+  ap (λ (x : Seat). leaveReply x out) q ∙ go (fits h out) refl
+      ∙ ap₂ left (sized ∙ ap (λ (m : ℕ). m * p .variables) (a .2)) (sym (ap (λ (v : Verdict). listFor v (h .sheet) (h .allowance) out) c ∙ ap (λ (m : ℕ). written (resultOf p (h .allowance) m .rows) out) n ∙ ap (λ (r : Result). written (r .rows) out) (a .0))),
+)
+  where
+    p : Problem
+    p = problemOf (h .sheet)
+
+    c : verdictOf (h .sheet) ≡ accepted
+    c = seated-accepted xs k h q
+
+    a : HoldsAs h (over e)
+    a = subst (HoldsAs h) s (as-alone xs k h q)
+
+    rows : alone h (h .allowance) .rows ≡ h .progress .rows
+    rows = ap (λ (r : Result). r .rows) (a .0)
+
+    sized : length (flat (h .progress .rows)) ≡ length (h .progress .rows) * p .variables
+    sized = length-flat (p .variables) (h .progress .rows) (λ r m. rows-sized p (h .allowance) (deskRoom p) r (subst (List·Memᴰ r) (sym rows) m))
+
+    enough : length (flat (h .progress .rows)) ≤ length out
+    enough =
+        let f : length (alone h (h .allowance) .rows) * p .variables ≤ deskRoom p = rows-fit p (h .allowance) (deskRoom p) in
+        let g : length (h .progress .rows) * p .variables ≤ deskRoom p = subst (λ (l : List (List ℕ)). length l * p .variables ≤ deskRoom p) rows f in
+        subst (λ (z : ℕ). z ≤ length out) (sym sized) (subst (λ (z : ℕ). length (h .progress .rows) * p .variables ≤ z) (sym n) g)
+
+    go : (b : Bool) → fits h out ≡ b → leaveFor b h out ≡ left (length (flat (h .progress .rows))) (written (h .progress .rows) out)
+    go true f = refl
+    go false f = absurd (let l = leb-false (length (flat (h .progress .rows))) (length out) f in let m = enough in omega arith)
+
+-- ---- 64 nodes a turn
+at-least : (p : Problem) (limit room : ℕ) (ts : List (List ℕ)) (made k : ℕ) (e : Ending) → Ended p limit room ts made k e → made ≤ nodesIn e
+at-least p limit room ts made k (finished plans total) q = omega (arith, q .1)
+at-least p limit room ts made k (spent plans total) q = omega (arith, q .1)
+at-least p limit room ts made k (full plans total) q = omega (arith, q .0)
+
+over-not : (e : Ending) → over e ≡ running → ⊥
+over-not e q = subst (λ (s : Standing). T (goesOn s)) (sym q) tt
+
+goes-on : (p : Problem) (allowance limit room : ℕ) (ts : List (List ℕ)) (made k : ℕ) (e : Ending) → Ended p limit room ts made k e → standingAfter allowance e ≡ running → (nodesIn e ≡ limit) × (nodesIn e < allowance)
+goes-on p allowance limit room ts made k (finished plans total) q s = absurd (over-not (finished plans total) s)
+goes-on p allowance limit room ts made k (full plans total) q s = absurd (over-not (full plans total) s)
+goes-on p allowance limit room ts made k (spent plans total) q s = (q .2, go (ltb total allowance) refl s)
+  where
+    go : (b : Bool) → ltb total allowance ≡ b → elim b [ true ↦ running | false ↦ over (spent plans total) ] ≡ running → total < allowance
+    go true f s = ltb-true total allowance f
+    go false f s = absurd (over-not (spent plans total) s)
+
+pub turn-of-64 : Turn-of-64
+unfolding hallTurned goOn
+turn-of-64 h u r =
+    let H = subst (HoldsAs h) r u in
+    let p = problemOf (h .sheet) in
+    let room = deskRoom p in
+    let ts = nodesAfter p (h .progress .last) in
+    let w = walk p (turnLimit h) room ts (h .progress .made) (h .progress .rows) in
+    let e = search p (turnLimit h) room ts (h .progress .made) (h .progress .rows) .ending in
+    let a = w .allowed (made-allowed h H) in (
+      at-least p (turnLimit h) room ts (h .progress .made) (w .passed) e (w .ended),
+      omega arith,
+      λ s. let g = goes-on p (h .allowance) (turnLimit h) room ts (h .progress .made) (w .passed) e (w .ended) s in omega (arith, g .0, g .1),
+    )
+
+-- ---- 3: by its own turns alone
+-- a seat that is not named stays as it is
+pub other-seat : (d : Desk) (j k : ℕ) (s : Seat) → (k ≡ j → ⊥) → getD (set (d .seats) j s) k free ≡ seatAt d k
+other-seat d j k s n = getD-set-other (d .seats) j k s free n
+
+abbrev oneTurn : Bool → Hall → Hall
+oneTurn true h = hallTurned h
+oneTurn false h = h
+
+sit-stays : (f : Found) (v : Verdict) (d : Desk) (g : Hall) (k : ℕ) (h : Hall) → lowestFree d ≡ f → seatAt d k ≡ taken h → seatAt (sitDesk f v d g) k ≡ taken (oneTurn (serves k (sitReply f v)) h)
+sit-stays none-found v d g k h e q = q
+sit-stays (seat j) (refused number item) d g k h e q = q
+sit-stays (seat j) accepted d g k h e q =
+    other-seat d j k (taken g) (λ z. of-not (isFree (seatAt d k)) (not-free (seatAt d k) h q) (subst (λ (n : ℕ). T (isFree (seatAt d n))) (sym z) (first-in (λ n. isFree (seatAt d n)) (below 8) j e .0))) ∙ q
+
+turn-stays : (f : Found) (d : Desk) (k : ℕ) (h : Hall) → seatAt d k ≡ taken h → seatAt (turnDesk f d) k ≡ taken (oneTurn (serves k (turnReply f d)) h)
+turn-stays none-found d k h q = q
+turn-stays (seat j) d k h q = go (eqb j k) refl
+  where
+    go : (b : Bool) → eqb j k ≡ b → getD (set (d .seats) j (seatTurned (seatAt d j))) k free ≡ taken (oneTurn b h)
+    go true e =
+        let z : j ≡ k = eqb-true j k e in
+        ap (λ (n : ℕ). getD (set (d .seats) n (seatTurned (seatAt d n))) k free) z
+        ∙ getD-set-same (d .seats) k (seatTurned (seatAt d k)) free (held-lt (d .seats) k h q) ∙ ap seatTurned q
+    go false e = let n = eqb-false j k e in other-seat d j k (seatTurned (seatAt d j)) (λ z. n (sym z)) ∙ q
+
+leave-silent : (k : ℕ) (s : Seat) (room : List ℕ) → serves k (leaveReply s room) ≡ false
+leave-silent k free room = refl
+leave-silent k (taken h) room = go (fits h room)
+  where
+    go : (b : Bool) → serves k (leaveFor b h room) ≡ false
+    go true = refl
+    go false = refl
+
+leave-stays : (d : Desk) (j : ℕ) (room : List ℕ) (k : ℕ) (h : Hall) → Remains k d (leave j room) → seatAt d k ≡ taken h → seatAt (deskAfter d (leave j room)) k ≡ taken h
+leave-stays d j room k h r q = go (eqb j k) refl
+  where
+    go : (b : Bool) → eqb j k ≡ b → getD (set (d .seats) j (leaveSeat (seatAt d j) room)) k free ≡ taken h
+    go true e = ap (λ (s : Seat). getD (set (d .seats) j s) k free) (r (eqb-true j k e)) ∙ ap (λ (l : List Seat). getD l k free) (set-getD (d .seats) j free) ∙ q
+    go false e = let n = eqb-false j k e in other-seat d j k (leaveSeat (seatAt d j) room) (λ z. n (sym z)) ∙ q
+
+pub one-call : (d : Desk) (x : DeskCall) (k : ℕ) (h : Hall) → Remains k d x → seatAt d k ≡ taken h → seatAt (deskAfter d x) k ≡ taken (oneTurn (serves k (deskReply d x)) h)
+one-call d (sit b allowance) k h r q = sit-stays (lowestFree d) (verdictOf b) d (newcomer b allowance) k h refl q
+one-call d turn k h r q = turn-stays (toServe d) d k h q
+one-call d (leave j room) k h r q = leave-stays d j room k h r q ∙ ap (λ (b : Bool). taken (oneTurn b h)) (sym (leave-silent k (seatAt d j) room))
+
+pub by-own-turns : By-own-turns
+unfolding deskEnd deskReplies timesServed
+by-own-turns d [] k h q r = q
+by-own-turns d (x ∷ xs) k h q r = go (serves k (deskReply d x)) refl (one-call d x k h (r .0) q) (λ g e. by-own-turns (deskAfter d x) xs k g e (r .1))
+  where
+    rest : ℕ
+    rest = timesServed k (deskReplies (deskAfter d x) xs)
+
+    go : (b : Bool) → serves k (deskReply d x) ≡ b → seatAt (deskAfter d x) k ≡ taken (oneTurn (serves k (deskReply d x)) h) →
+        ((g : Hall) → seatAt (deskAfter d x) k ≡ taken g → seatAt (deskEnd (deskAfter d x) xs) k ≡ taken (turned rest g)) →
+        seatAt (deskEnd (deskAfter d x) xs) k ≡ taken (turned (elim b [ true ↦ suc rest | false ↦ rest ]) h)
+    go true e s ih = ih (hallTurned h) (s ∙ ap (λ (b : Bool). taken (oneTurn b h)) e)
+    go false e s ih = ih h (s ∙ ap (λ (b : Bool). taken (oneTurn b h)) e)
+
+pub others-nothing : Others-nothing
+others-nothing d d′ xs ys k k′ h q q′ r r′ e = by-own-turns d xs k h q r ∙ ap (λ (m : ℕ). taken (turned m h)) e ∙ sym (by-own-turns d′ ys k′ h q′ r′)
+
+-- ---- 4: the lowest free seat, until it leaves
+turned-keeps : (m : ℕ) (h : Hall) → (turned m h .sheet ≡ h .sheet) × (turned m h .allowance ≡ h .allowance)
+unfolding hallTurned
+turned-keeps zero h = (refl, refl)
+turned-keeps (suc m) h = turned-keeps m (hallTurned h)
+
+pub keeps-seat : Keeps-seat
+keeps-seat d xs k h q r =
+    let m = timesServed k (deskReplies d xs) in
+    let t = turned-keeps m h in
+    (turned m h, by-own-turns d xs k h q r, t .0, t .1)
+
+sits : (f : Found) (v : Verdict) (k : ℕ) → sitReply f v ≡ seated k → (f ≡ seat k) × (v ≡ accepted)
+sits none-found v k e = absurd (subst (λ (r : DeskReply). T (isSeated r)) (sym e) tt)
+  where
+    isSeated : DeskReply → Bool
+    isSeated (denied number item) = false
+    isSeated (seated j) = true
+    isSeated idle = false
+    isSeated (served j s plans made) = false
+    isSeated (left count room) = false
+sits (seat j) (refused number item) k e = absurd (subst (λ (r : DeskReply). T (isSeated r)) (sym e) tt)
+  where
+    isSeated : DeskReply → Bool
+    isSeated (denied number item) = false
+    isSeated (seated j) = true
+    isSeated idle = false
+    isSeated (served j s plans made) = false
+    isSeated (left count room) = false
+sits (seat j) accepted k e = (ap seat (ap at-seat e), refl)
+  where
+    at-seat : DeskReply → ℕ
+    at-seat (denied number item) = 0
+    at-seat (seated j) = j
+    at-seat idle = 0
+    at-seat (served j s plans made) = 0
+    at-seat (left count room) = 0
+
+pub lowest-seat : Lowest-seat
+unfolding below
+lowest-seat xs b allowance k e =
+    let d = deskEnd emptyDesk xs in
+    let s = sits (lowestFree d) (verdictOf b) k e in
+    let f = first-in (λ n. isFree (seatAt d n)) (below 8) k (s .0) in
+    let l = first-lowest (λ n. isFree (seatAt d n)) 0 8 k (s .0) in
+    let g = desk-holds emptyDesk xs empty-holds .0 in
+    let i : k < 8 = omega (arith, l .0) in (
+      i,
+      free-is (seatAt d k) (f .0),
+      λ j m. l .1 j (omega arith) m,
+      ap₂ (λ (x : Found) (v : Verdict). seatAt (sitDesk x v d (newcomer b allowance)) k) (s .0) (s .1)
+          ∙ getD-set-same (d .seats) k (taken (newcomer b allowance)) free (omega arith),
+    )
+
+-- a sheet's refusals are 1 to 16
+pub record Range (v : Verdict) : Type 0 where
+  pub within : (number item : ℕ) → v ≡ refused number item → (1 ≤ number) × (number ≤ 16)
+
+ask-range : (q : Bool) (number item : ℕ) (later : Verdict) → 1 ≤ number → number ≤ 16 → Range later → Range (ask q number item later)
+ask-range true number item later a b r = r
+ask-range false number item later a b r = record { within = λ n i e. let z : number ≡ n = cc in (omega arith, omega arith) }
+
+accepted-range : Range accepted
+accepted-range = record { within = λ n i e. absurd (let z : _≡_ {A = ℕ} 0 1 = cc in omega arith) }
+
+sets-range : (b : List ℕ) (h : Header) (xs : List ℕ) (later : Verdict) → Range later → Range (setsVerdict b h xs later)
+unfolding setsVerdict
+sets-range b h [] later r = r
+sets-range b h (x ∷ xs) later r =
+    let s = word b (16 + 2 * x) in
+    ask-range (both (ltb s (2 ^ h .values)) (not (eqb s 0))) 8 x (setsVerdict b h xs later) (omega arith) (omega arith) (sets-range b h xs later r)
+
+constraints-range : (b : List ℕ) (h : Header) (k i o : ℕ) (later : Verdict) → Range later → Range (constraintsVerdict b h k i o later)
+unfolding constraintVerdict constraintsVerdict
+constraints-range b h zero i o later r = ask-range (eqb o (h .third)) 9 i later (omega arith) (omega arith) r
+constraints-range b h (suc k) i o later r =
+    ask-range (leb (o + 4) (h .third)) 9 i _ (omega arith) (omega arith)
+    (ask-range (both (both (leb 1 (word b o)) (leb (word b o) 3)) (leb (word b (o + 2)) 256)) 10 i _ (omega arith) (omega arith)
+    (ask-range (leb (afterAt b o) (h .third)) 9 i _ (omega arith) (omega arith)
+    (ask-range (both (all (λ x. ltb x (h .variables)) (scopeAt b o)) (ascending (scopeAt b o))) 11 i _ (omega arith) (omega arith)
+    (ask-range (all (all (λ w. ltb w (h .values))) (rowsAt b o)) 12 i _ (omega arith) (omega arith)
+    (ask-range (rowsAscend (rowsAt b o)) 13 i _ (omega arith) (omega arith)
+    (constraints-range b h k (suc i) (afterAt b o) later r))))))
+
+symmetries-range : (p : Problem) (i : ℕ) (gs : List (List ℕ)) → Range (symmetriesVerdict p i gs)
+unfolding symmetriesVerdict
+symmetries-range p i [] = accepted-range
+symmetries-range p i (g ∷ gs) =
+    ask-range (permutesPairs p g) 15 i _ (omega arith) (omega arith) (ask-range (respects p g) 16 i _ (omega arith) (omega arith) (symmetries-range p (suc i) gs))
+
+pub verdict-range : (b : List ℕ) → Range (verdictOf b)
+unfolding headerVerdict formVerdict verdictOf
+verdict-range b =
+    let h = headerOf b in
+    let n = h .variables in
+    let d = h .values in
+    ask-range (leb 16 (length b)) 1 0 _ (omega arith) (omega arith)
+    (ask-range (both (leb 1 n) (leb n 12)) 2 0 _ (omega arith) (omega arith)
+    (ask-range (both (leb 1 d) (leb d 16)) 3 0 _ (omega arith) (omega arith)
+    (ask-range (leb (h .constraints) 32) 4 0 _ (omega arith) (omega arith)
+    (ask-range (leb (h .symmetries) 16) 5 0 _ (omega arith) (omega arith)
+    (ask-range (eqb (h .size) (length b)) 6 0 _ (omega arith) (omega arith)
+    (ask-range (both (eqb (h .first) 16) (both (eqb (h .second) (16 + 2 * n)) (both (leb (h .second) (h .third)) (leb (h .third) (h .size))))) 7 0 _ (omega arith) (omega arith)
+    (sets-range b h (below n) _
+    (constraints-range b h (h .constraints) 0 (h .second) _
+    (ask-range (eqb (h .size) (h .third + 2 * (h .symmetries * (n * d)))) 14 0 _ (omega arith) (omega arith)
+    (symmetries-range (problemOf b) 0 (problemOf b .symmetries)))))))))))
+
+deniedBy : DeskReply → ℕ
+deniedBy (denied number item) = number
+deniedBy (seated j) = 0
+deniedBy idle = 0
+deniedBy (served j s plans made) = 0
+deniedBy (left count room) = 0
+
+deniedAt : DeskReply → ℕ
+deniedAt (denied number item) = item
+deniedAt (seated j) = 0
+deniedAt idle = 0
+deniedAt (served j s plans made) = 0
+deniedAt (left count room) = 0
+
+sit-refused : (f : Found) (v : Verdict) (number item : ℕ) → Range v → sitReply f v ≡ denied number item → ((number ≡ 37) × (f ≡ none-found)) ⊎ ((1 ≤ number) × (number ≤ 16) × (v ≡ refused number item))
+unfolding deniedBy deniedAt
+sit-refused none-found v number item r e = inl (sym (ap deniedBy e), refl)
+sit-refused (seat k) accepted number item r e = absurd (seated-not k number item e)
+  where
+    seated-not : (k number item : ℕ) → seated k ≡ denied number item → ⊥
+    seated-not k number item e = subst (λ (x : DeskReply). T (not (refusedReply x))) e tt
+      where
+        refusedReply : DeskReply → Bool
+        refusedReply (denied number item) = true
+        refusedReply (seated j) = false
+        refusedReply idle = false
+        refusedReply (served j s plans made) = false
+        refusedReply (left count room) = false
+sit-refused (seat k) (refused a b) number item r e =
+    let x : a ≡ number = ap deniedBy e in
+    let y : b ≡ item = ap deniedAt e in
+    let w = r .within number item (ap₂ refused x y) in
+    inr (w .0, w .1, ap₂ refused x y)
+
+pub seats-taken : Seats-taken
+seats-taken d b allowance = (
+  λ f. ap (λ (x : Found). sitReply x (verdictOf b)) (none-first (λ n. isFree (seatAt d n)) (below 8) (λ j m. f j (below-e 8 j m))),
+  λ number item e. ⊎-elim {C = ((number ≡ 37) × ((k : ℕ) → k < 8 → isFree (seatAt d k) ≡ false)) ⊎ ((1 ≤ number) × (number ≤ 16) × (verdictOf b ≡ refused number item))}
+      (λ r. inl (r .0, λ k l. first-none (λ n. isFree (seatAt d n)) (below 8) (r .1) k (below-i 8 k l))) inr (sit-refused (lowestFree d) (verdictOf b) number item (verdict-range b) e),
+)
+
+pub leaves : Leaves
+leaves d k h room q t = (
+  ap (λ (s : Seat). leaveReply s room) q ∙ ap (λ (b : Bool). leaveFor b h room) (of-T (fits h room) t),
+  getD-set-same (d .seats) k (leaveSeat (seatAt d k) room) free (held-lt (d .seats) k h q) ∙ ap (λ (s : Seat). leaveSeat s room) q ∙ go (fits h room) t,
+)
+  where
+    go : (b : Bool) → T b → _≡_ {A = Seat} (elim b [ true ↦ free | false ↦ taken h ]) free
+    go true t = refl
+    go false t = absurd t
+
+-- ---- 64 nodes for each turn
+turn-served : (f : Found) (d : Desk) (k : ℕ) → T (serves k (turnReply f d)) → f ≡ seat k
+turn-served none-found d k t = absurd t
+turn-served (seat j) d k t = ap seat (eqb→eq j k t)
+
+sit-silent : (k : ℕ) (f : Found) (v : Verdict) → serves k (sitReply f v) ≡ false
+sit-silent k none-found v = refl
+sit-silent k (seat j) (refused number item) = refl
+sit-silent k (seat j) accepted = refl
+
+-- only a hall that waits is served
+served-waits : (d : Desk) (x : DeskCall) (k : ℕ) → T (serves k (deskReply d x)) → T (waits (seatAt d k))
+served-waits d (sit b allowance) k t = absurd (of-not (serves k (sitReply (lowestFree d) (verdictOf b))) (sit-silent k (lowestFree d) (verdictOf b)) t)
+served-waits d turn k t = to-serve-waits d k (turn-served (toServe d) d k t)
+served-waits d (leave j room) k t = absurd (of-not (serves k (leaveReply (seatAt d j) room)) (leave-silent k (seatAt d j) room) t)
+
+is-running : (x : Standing) → T (goesOn x) → x ≡ running
+is-running running t = refl
+is-running (over e) t = absurd t
+
+count-from : (d : Desk) (xs : List DeskCall) (k : ℕ) (h : Hall) (c : ℕ) → Holds h → (h .standing ≡ running → h .progress .made ≡ 64 * c) → seatAt d k ≡ taken h → Throughout (Remains k) d xs →
+    (g : Hall) → seatAt (deskEnd d xs) k ≡ taken g → g .standing ≡ running → g .progress .made ≡ 64 * (c + timesServed k (deskReplies d xs))
+unfolding deskEnd deskReplies timesServed
+count-from d [] k h c u m q r g e s =
+    let z = taken-is h g (sym q ∙ e) in
+    subst (λ (x : Hall). x .progress .made ≡ 64 * (c + 0)) z (let y = m (ap (λ (x : Hall). x .standing) z ∙ s) in omega arith)
+count-from d (x ∷ xs) k h c u m q r g e s =
+    go (serves k (deskReply d x)) refl (one-call d x k h (r .0) q) (λ h′ c′ u′ m′ q′. count-from (deskAfter d x) xs k h′ c′ u′ m′ q′ (r .1) g e s)
+  where
+    rest : ℕ
+    rest = timesServed k (deskReplies (deskAfter d x) xs)
+
+    go : (b : Bool) → serves k (deskReply d x) ≡ b → seatAt (deskAfter d x) k ≡ taken (oneTurn (serves k (deskReply d x)) h) →
+        ((h′ : Hall) (c′ : ℕ) → Holds h′ → (h′ .standing ≡ running → h′ .progress .made ≡ 64 * c′) → seatAt (deskAfter d x) k ≡ taken h′ → g .progress .made ≡ 64 * (c′ + rest)) →
+        g .progress .made ≡ 64 * (c + elim b [ true ↦ suc rest | false ↦ rest ])
+    go true f y ih =
+        let w : T (waits (taken h)) = subst (λ (z : Seat). T (waits z)) q (served-waits d x k (T-of (serves k (deskReply d x)) f)) in
+        let o = is-running (h .standing) w in
+        let H = goes-holds h (h .standing) w u in
+        let t = turn-of-64 h u o in
+        let n = m o in
+        ih (hallTurned h) (suc c) (turned-holds h H) (λ v. let i = t .2 v in omega arith) (y ∙ ap (λ (b : Bool). taken (oneTurn b h)) f) ∙ (let i : 64 * (suc c + rest) ≡ 64 * (c + suc rest) = omega arith in i)
+    go false f y ih = ih h c u m (y ∙ ap (λ (b : Bool). taken (oneTurn b h)) f)
+
+pub sixty-four-each : Sixty-four-each
+sixty-four-each d xs k b allowance g q r e s =
+    count-from d xs k (newcomer b allowance) 0 (newcomer-holds b allowance) (λ v. omega arith) q r g e s
+    ∙ (let i : 64 * (0 + timesServed k (deskReplies d xs)) ≡ 64 * timesServed k (deskReplies d xs) = omega arith in i)
+
+-- ---- what a turn answers
+isServed : DeskReply → Bool
+isServed (denied number item) = false
+isServed (seated j) = false
+isServed idle = false
+isServed (served j s plans made) = true
+isServed (left count room) = false
+
+servedAt : DeskReply → ℕ
+servedAt (denied number item) = 0
+servedAt (seated j) = 0
+servedAt idle = 0
+servedAt (served j s plans made) = j
+servedAt (left count room) = 0
+
+servedHow : DeskReply → Standing
+servedHow (denied number item) = running
+servedHow (seated j) = running
+servedHow idle = running
+servedHow (served j s plans made) = s
+servedHow (left count room) = running
+
+servedPlans : DeskReply → ℕ
+servedPlans (denied number item) = 0
+servedPlans (seated j) = 0
+servedPlans idle = 0
+servedPlans (served j s plans made) = plans
+servedPlans (left count room) = 0
+
+servedNodes : DeskReply → ℕ
+servedNodes (denied number item) = 0
+servedNodes (seated j) = 0
+servedNodes idle = 0
+servedNodes (served j s plans made) = made
+servedNodes (left count room) = 0
+
+answered : (f : Found) (d : Desk) (k : ℕ) (s : Standing) (plans made : ℕ) → turnReply f d ≡ served k s plans made → (f ≡ seat k) × (servedAs k (seatTurned (seatAt d k)) ≡ served k s plans made)
+unfolding isServed servedAt
+answered none-found d k s plans made e = absurd (subst (λ (r : DeskReply). T (isServed r)) (sym e) tt)
+answered (seat j) d k s plans made e = let z : j ≡ k = ap servedAt e in (ap seat z, ap (λ (n : ℕ). servedAs n (seatTurned (seatAt d n))) (sym z) ∙ e)
+
+pub hall-of : (s : Seat) → T (waits s) → (h : Hall) × (s ≡ taken h)
+hall-of free t = absurd t
+hall-of (taken h) t = (h, refl)
+
+pub turn-answers : Turn-answers
+unfolding servedHow servedPlans servedNodes
+turn-answers d k s plans made e =
+    let a = answered (toServe d) d k s plans made e in
+    let h = hall-of (seatAt d k) (to-serve-waits d k (a .0)) in
+    let r : servedAs k (taken (hallTurned (h .0))) ≡ served k s plans made = sym (ap (λ (x : Seat). servedAs k (seatTurned x)) (h .1)) ∙ a .1 in (
+      h .0,
+      h .1,
+      ap (λ (f : Found). seatAt (turnDesk f d) k) (a .0) ∙ getD-set-same (d .seats) k (seatTurned (seatAt d k)) free (held-lt (d .seats) k (h .0) (h .1)) ∙ ap seatTurned (h .1),
+      ap servedHow r,
+      ap servedPlans r,
+      ap servedNodes r,
+    )
+
+-- ---- refusals
+isDenied : DeskReply → Bool
+isDenied (denied number item) = true
+isDenied (seated j) = false
+isDenied idle = false
+isDenied (served j s plans made) = false
+isDenied (left count room) = false
+
+sit-denied : (f : Found) (v : Verdict) (d : Desk) (h : Hall) → T (isDenied (sitReply f v)) → sitDesk f v d h ≡ d
+unfolding isDenied
+sit-denied none-found v d h t = refl
+sit-denied (seat k) (refused number item) d h t = refl
+sit-denied (seat k) accepted d h t = absurd t
+
+turn-denied : (f : Found) (d : Desk) → T (isDenied (turnReply f d)) → ⊥
+unfolding isDenied
+turn-denied none-found d t = t
+turn-denied (seat k) d t = t
+
+leave-denied : (s : Seat) (room : List ℕ) → T (isDenied (leaveReply s room)) → leaveSeat s room ≡ s
+unfolding isDenied
+leave-denied free room t = refl
+leave-denied (taken h) room t = go (fits h room) t
+  where
+    go : (b : Bool) → T (isDenied (leaveFor b h room)) → _≡_ {A = Seat} (elim b [ true ↦ free | false ↦ taken h ]) (taken h)
+    go true t = absurd t
+    go false t = refl
+
+pub refused-same : Refused-same
+unfolding isDenied
+refused-same d (sit b allowance) number item e = sit-denied (lowestFree d) (verdictOf b) d (newcomer b allowance) (subst (λ (r : DeskReply). T (isDenied r)) (sym e) tt)
+refused-same d turn number item e = absurd (turn-denied (toServe d) d (subst (λ (r : DeskReply). T (isDenied r)) (sym e) tt))
+refused-same d (leave k room) number item e =
+    ap (λ (l : List Seat). let x : Desk = record { seats = l; next = d .next } in x)
+    (ap (set (d .seats) k) (leave-denied (seatAt d k) room (subst (λ (r : DeskReply). T (isDenied r)) (sym e) tt)) ∙ set-getD (d .seats) k free)
+
+idle-none : (f : Found) (d : Desk) → turnReply f d ≡ idle → f ≡ none-found
+unfolding isServed
+idle-none none-found d e = refl
+idle-none (seat k) d e = absurd (subst (λ (r : DeskReply). T (isServed r)) e tt)
+
+pub idle-exactly : Idle-exactly
+idle-exactly d = (all-done, λ f. let z = nobody f in (ap (λ (x : Found). turnReply x d) z, ap (λ (x : Found). turnDesk x d) z))
+  where
+    round : ℕ → ℕ
+    round i = (d .next + i) % 8
+
+    all-done : deskReply d turn ≡ idle → (k : ℕ) → k < 8 → waits (seatAt d k) ≡ false
+    all-done e k h =
+        let i = (k + 8 - d .next % 8) % 8 in
+        let l : i < 8 = omega arith in
+        ap (λ (n : ℕ). waits (seatAt d n)) (sym (round-to (d .next) k h)) ∙ first-none (λ n. waits (seatAt d n)) (map round (below 8)) (idle-none (toServe d) d e) (round i) (Memᴰ·map round (below-i 8 i l))
+
+    nobody : ((k : ℕ) → k < 8 → waits (seatAt d k) ≡ false) → toServe d ≡ none-found
+    nobody f =
+        none-first (λ n. waits (seatAt d n)) (map round (below 8))
+        (λ j m. let r = Memᴰ·of-map round (below 8) m in let l : (d .next + r .0) % 8 < 8 = omega arith in ap (λ (n : ℕ). waits (seatAt d n)) (sym (r .2)) ∙ f (round (r .0)) l)
+
+pub past-eighth : Past-eighth
+past-eighth xs k room h =
+    let d = deskEnd emptyDesk xs in
+    let n = desk-holds emptyDesk xs empty-holds .0 in
+    ap (λ (s : Seat). leaveReply s room) (List·getD-eq-default (d .seats) free (omega arith))

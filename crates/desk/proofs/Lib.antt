@@ -1,0 +1,4 @@
+-- The laws, in the order of the argument.
+pub mod Desk
+pub mod Rounds
+pub mod Cases

@@ -1,0 +1,3 @@
+-- The desk and the claims.
+pub mod Desk
+pub mod Claims

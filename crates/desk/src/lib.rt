@@ -1,0 +1,1 @@
+// The desk of eight seats (paper 02, #113).

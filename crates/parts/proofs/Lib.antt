@@ -1,0 +1,5 @@
+-- The laws, in the order of the argument.
+pub mod Parts
+pub mod Resume
+pub mod Together
+pub mod Cases

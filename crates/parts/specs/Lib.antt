@@ -1,0 +1,3 @@
+-- A run in parts, and the claims.
+pub mod Parts
+pub mod Claims
