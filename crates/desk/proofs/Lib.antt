@@ -2,3 +2,5 @@
 pub mod Desk
 pub mod Rounds
 pub mod Cases
+pub mod Sheets
+pub mod Seats

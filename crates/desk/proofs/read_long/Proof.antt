@@ -1,0 +1,42 @@
+-- `read_long`: two words. Assumes nothing.
+use mathlib.Core.Path.{ap₂}
+use Prim.Native.Nat.{ℕ, _+_, _*_}
+use native.Mathlib.Omega.{arith}
+use Rattle.model.specs.Lists.{at}
+use Rattle.desk.specs.Layout.{long}
+use Rattle.desk.proofs.Seats.{word-small}
+use borrow.Author.Needs.{needs}
+use Rattle.desk.proofs.read_long.Statement.{statement}
+use Rattle.desk.proofs.read_long.Tie as tie
+
+read-word-requires : tie.Need-read-word-requires
+read-word-requires c κs = search needs
+
+add-read-word : tie.Need-add-read-word
+add-read-word c = search needs
+
+read-word-requires-2 : tie.Need-read-word-requires-2
+read-word-requires-2 c κs = search needs
+
+mul-result : tie.Need-mul-result
+unfolding at
+mul-result c =
+    let y = word-small (c .before .before .before .args .desk .now) (λ i. omega (arith, c .before .before .shared-slice-known .given i)) (c .before .before .before .args .at + 2) in
+    let z = c .read-word2 .ensures in
+    search (needs, y, z)
+
+add-result : tie.Need-add-result
+unfolding at
+add-result c =
+    let x = word-small (c .before .before .before .args .desk .now) (λ i. omega (arith, c .before .before .shared-slice-known .given i)) (c .before .before .before .args .at) in
+    let y = word-small (c .before .before .before .args .desk .now) (λ i. omega (arith, c .before .before .shared-slice-known .given i)) (c .before .before .before .args .at + 2) in
+    search (needs, x, y, c .before .read-word .ensures, c .read-word2 .ensures)
+
+returns : tie.Need-returns
+unfolding long
+returns c = ap₂ (λ (x y : ℕ). x + 65536 * y) (c .before .read-word .ensures) (c .read-word2 .ensures)
+
+pub read-long-spec : {M : Type 1} → statement M
+read-long-spec =
+    tie.close
+    (tie.spec read-word-requires add-read-word read-word-requires-2 mul-result add-result returns)

@@ -1,0 +1,139 @@
+-- The desk's bytes: eight seats of 104,835 bytes, and one byte for the seat where the next turn begins to look. A seat has, low bytes first:
+--   0 whether it is taken (0: free)   1 the sheet's length   3 the allowance, four bytes
+--   7 how the run stands (0 running, 1 finished, 2 spent, 3 full)   8 its nodes, four bytes   12 its plans   14 the length of the last node
+--   15 the last node's values, twelve bytes   27 the sheet, 55,656 bytes   55,683 the list, 49,152 bytes
+-- Any bytes of the desk's size are a desk; zeros are the empty one.
+use mathlib.Core.Bool.{Bool, true, false}
+use mathlib.Core.List.{List, [], _∷_, _++_, map}
+use Prim.Native.Nat.{ℕ, zero, suc, _+_, _-_, _*_, _%_, min}
+use lib.ListN.{length, take, drop, set, replicate}
+use lib.Dec.{eqb}
+use Rattle.model.specs.Lists.{all, at, choose, flat, below}
+use Rattle.model.specs.Verdict.{Verdict, accepted, refused, ask, isAccepted}
+use Rattle.model.specs.Sheet.{«word», problemOf, permutesPairs, formVerdict, verdictOf}
+use Rattle.model.specs.Bytes.{twoBytes, fourBytes}
+use Rattle.model.specs.Written.{placed}
+use Rattle.model.specs.Run.{finished, spent, full, listedPlans}
+use Rattle.desk.specs.Desk.{Standing, running, over, Hall, hallTurned, Seat, free, taken, Desk, seatAt, Found, none-found, seat, lowestFree, toServe, DeskCall, sit, turn, leave, DeskReply, denied, fits, deskReply, dueAt, seatGiven, roundsDesk, lookReply}
+
+abbrev pub size : ℕ
+size = 838681
+
+-- where seat k starts, and where the byte stands that says where to look
+abbrev pub seatPlace : ℕ → ℕ
+seatPlace k = 104835 * k
+
+abbrev pub nextPlace : ℕ
+nextPlace = 838680
+
+-- ---- what the bytes mean
+-- a number in four bytes
+unfoldable pub long : List ℕ → ℕ → ℕ
+long b o = «word» b o + 65536 * «word» b (o + 2)
+
+-- how a run stands, by its number and its figures
+abbrev pub standingBy : ℕ → ℕ → ℕ → Standing
+standingBy zero plans made = running
+standingBy (suc zero) plans made = over (finished plans made)
+standingBy (suc (suc zero)) plans made = over (spent plans made)
+standingBy (suc (suc (suc k))) plans made = over (full plans made)
+
+-- The numbers of the seat at p. One that is too large counts as the largest: 3 for how the run stands, 55,656 bytes of the sheet, 4,096 plans,
+-- twelve values of the last node, twelve variables; and the allowance for the nodes
+abbrev pub standingAt : List ℕ → ℕ → ℕ
+standingAt b p = min 3 (at b (p + 7))
+
+abbrev pub sheetLength : List ℕ → ℕ → ℕ
+sheetLength b p = min 55656 («word» b (p + 1))
+
+abbrev pub nodesAt : List ℕ → ℕ → ℕ
+nodesAt b p = min (long b (p + 3)) (long b (p + 8))
+
+abbrev pub plansAt : List ℕ → ℕ → ℕ
+plansAt b p = min 4096 («word» b (p + 12))
+
+-- a plan has as many bytes as the sheet's first number says
+abbrev pub widthAt : List ℕ → ℕ → ℕ
+widthAt b p = min 12 («word» b (p + 27))
+
+-- Bytes that questions 1 to 15 refuse count as the sheet of no bytes, which has no nodes: its run finishes at the next turn. Question 16 is asked
+-- only when a hall sits down: a turn needs none of it
+unfoldable pub turnable : List ℕ → Bool
+turnable b = isAccepted (formVerdict b (ask (all (permutesPairs (problemOf b)) (problemOf b .symmetries)) 15 0 accepted))
+
+unfoldable pub sheetAt : List ℕ → ℕ → List ℕ
+sheetAt b p =
+    let sheet = take (sheetLength b p) (drop (p + 27) b) in
+    choose (turnable sheet) sheet []
+
+unfoldable pub hallAt : List ℕ → ℕ → Hall
+hallAt b p =
+    record {
+      sheet = sheetAt b p;
+      allowance = long b (p + 3);
+      progress = record {
+        made = nodesAt b p;
+        rows = listedPlans (widthAt b p) (plansAt b p) (drop (p + 55683) b);
+        last = take (min 12 (at b (p + 14))) (drop (p + 15) b);
+      };
+      standing = standingBy (standingAt b p) (plansAt b p) (nodesAt b p);
+    }
+
+unfoldable pub seatOf : List ℕ → ℕ → Seat
+seatOf b k = choose (eqb (at b (seatPlace k)) 0) free (taken (hallAt b (seatPlace k)))
+
+abbrev pub deskOf : List ℕ → Desk
+deskOf b = record { seats = map (seatOf b) (below 8); next = at b nextPlace }
+
+-- ---- the bytes that a call leaves
+-- a newcomer's seat, up to the end of its sheet; the bytes after it stay
+unfoldable pub headBytes : ℕ → ℕ → List ℕ
+headBytes length allowance = (1 ∷ twoBytes length) ++ fourBytes allowance ++ replicate 20 0
+
+unfoldable pub seatBytes : List ℕ → ℕ → List ℕ
+seatBytes sheet allowance = headBytes (length sheet) allowance ++ sheet
+
+abbrev pub sitBytes : Found → Verdict → List ℕ → List ℕ → List ℕ
+sitBytes none-found v b t = b
+sitBytes (seat k) (refused number item) b t = b
+sitBytes (seat k) accepted b t = placed b (seatPlace k) t
+
+-- leaving clears the flag alone
+abbrev pub leaveBytes : Seat → List ℕ → ℕ → List ℕ → List ℕ
+leaveBytes free b k room = b
+leaveBytes (taken h) b k room = choose (fits h room) (set b (seatPlace k) 0) b
+
+-- how a run stands, as a number
+abbrev pub standingByte : Standing → ℕ
+standingByte running = 0
+standingByte (over (finished plans made)) = 1
+standingByte (over (spent plans made)) = 2
+standingByte (over (full plans made)) = 3
+
+-- a seat's bytes after a turn: how the run stands, its figures and its last node, and the list's rows
+unfoldable pub runBytes : Hall → List ℕ
+runBytes h =
+    standingByte (h .standing) ∷ fourBytes (h .progress .made) ++ twoBytes (length (h .progress .rows))
+    ++ (length (h .progress .last) ∷ h .progress .last) ++ replicate (12 - length (h .progress .last)) 0
+
+unfoldable pub withRun : List ℕ → ℕ → Hall → List ℕ
+withRun b p h = placed (placed b (p + 7) (runBytes h)) (p + 55683) (flat (h .progress .rows))
+
+abbrev pub turnBytes : Found → List ℕ → List ℕ
+turnBytes none-found b = b
+turnBytes (seat k) b = set (withRun b (seatPlace k) (hallTurned (hallAt b (seatPlace k)))) nextPlace ((k + 1) % 8)
+
+abbrev pub callBytes : List ℕ → DeskCall → List ℕ
+callBytes b (sit sheet allowance) = sitBytes (lowestFree (deskOf b)) (verdictOf sheet) b (seatBytes sheet allowance)
+callBytes b turn = turnBytes (toServe (deskOf b)) b
+callBytes b (leave k room) = leaveBytes (seatAt (deskOf b) k) b k room
+
+-- ---- a call on lent bytes of any length: asked first, refusal 255 where they have not the desk's size
+unfoldable pub replyOn : List ℕ → DeskCall → DeskReply
+replyOn b x = choose (eqb (length b) size) (deskReply (deskOf b) x) (denied 255 0)
+
+unfoldable pub lookOn : List ℕ → ℕ → DeskReply
+lookOn b k = choose (eqb (length b) size) (lookReply (deskOf b) k) (denied 255 0)
+
+unfoldable pub bytesAfter : List ℕ → DeskCall → List ℕ
+bytesAfter b x = choose (eqb (length b) size) (callBytes b x) b
