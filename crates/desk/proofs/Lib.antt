@@ -3,4 +3,11 @@ pub mod Desk
 pub mod Rounds
 pub mod Cases
 pub mod Sheets
+pub mod Bytes
 pub mod Seats
+pub mod Meaning
+pub mod Refines
+pub mod Turning
+pub mod Turned
+pub mod Calls
+pub mod RoundCalls

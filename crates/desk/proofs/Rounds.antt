@@ -73,7 +73,7 @@ behind w [] next = next
 behind w (k ∷ ks) next = behind w ks (choose (w k) ((k + 1) % 8) next)
 
 -- no seat twice
-abbrev Once : List ℕ → Type 0
+abbrev pub Once : List ℕ → Type 0
 Once [] = Unit {0}
 Once (k ∷ ks) = ((j : ℕ) → List·Memᴰ j ks → (j ≡ k → ⊥)) × Once ks
 
@@ -148,7 +148,7 @@ gap-serves d k g t =
     same j l u false e = let n = eqb-false j (g .gap) e in absurd (of-not (q (f j)) (g .quiet j (omega arith)) u)
 
 -- n seats from k on
-unfoldable positions : ℕ → ℕ → List ℕ
+unfoldable pub positions : ℕ → ℕ → List ℕ
 positions k zero = []
 positions k (suc n) = k % 8 ∷ positions (suc k) n
 
@@ -191,7 +191,7 @@ walk (suc n) k d g = go (waits (seatAt d (k % 8))) refl (walk n (suc k))
         each j l true y = ap (λ (i : ℕ). waits (seatAt d ((d .next + i) % 8))) (eqb-true j (g .gap) y) ∙ ap (λ (i : ℕ). waits (seatAt d i)) (g .ends) ∙ e
         each j l false y = let n = eqb-false j (g .gap) y in g .quiet j (omega arith)
 
-pos-e : (n k j : ℕ) → List·Memᴰ j (positions k n) → (i : ℕ) × (i < n) × (j ≡ (k + i) % 8)
+pub pos-e : (n k j : ℕ) → List·Memᴰ j (positions k n) → (i : ℕ) × (i < n) × (j ≡ (k + i) % 8)
 unfolding positions
 pos-e zero k j m = absurd (List·Memᴰ·not-nil m)
 pos-e (suc n) k j (List·Memᴰ·head e) = (0, omega arith, e ∙ (let z : k % 8 ≡ (k + 0) % 8 = omega arith in z))
@@ -207,7 +207,7 @@ pos-i (suc n) k zero l = List·Memᴰ·head (let z : (k + 0) % 8 ≡ k % 8 = ome
 pos-i (suc n) k (suc i) l =
     List·Memᴰ·tail (subst (λ (j : ℕ). List·Memᴰ (j % 8) (positions (suc k) n)) (let z : suc k + i ≡ k + suc i = omega arith in z) (pos-i n (suc k) i (omega arith)))
 
-pos-once : (n k : ℕ) → n ≤ 8 → Once (positions k n)
+pub pos-once : (n k : ℕ) → n ≤ 8 → Once (positions k n)
 unfolding positions
 pos-once zero k l = tt
 pos-once (suc n) k l = (λ j m e. let r = pos-e n (suc k) j m in let i = r .1 in let z = r .2 in omega arith, pos-once n (suc k) (omega arith))
@@ -219,11 +219,11 @@ pos-map (suc n) k a =
     ap (λ (l : List ℕ). (k + a) % 8 ∷ l) (ap (λ (i : ℕ). positions i n) (let z : suc (k + a) ≡ k + suc a = omega arith in z) ∙ pos-map n k (suc a))
 
 -- a round is the eight seats, each once
-round-is : (k : ℕ) → roundFrom k ≡ positions k 8
+pub round-is : (k : ℕ) → roundFrom k ≡ positions k 8
 unfolding below
 round-is k = sym (pos-map 8 k 0) ∙ ap (λ (i : ℕ). positions i 8) (let z : k + 0 ≡ k = omega arith in z)
 
-round-all : (k j : ℕ) → j < 8 → List·Memᴰ j (positions k 8)
+pub round-all : (k j : ℕ) → j < 8 → List·Memᴰ j (positions k 8)
 round-all k j l =
     let i = (j + 8 - k % 8) % 8 in
     subst (λ (z : ℕ). List·Memᴰ z (positions k 8)) (round-to k j l) (pos-i 8 k i (let z : (j + 8 - k % 8) % 8 < 8 = omega arith in z))

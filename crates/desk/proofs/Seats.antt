@@ -2,12 +2,12 @@
 use mathlib.Core.Path.{_≡_, refl, sym, ap, ap₂, _∙_, subst}
 use mathlib.Core.Bool.{Bool, true, false}
 use mathlib.Core.List.{List, _++_, map}
-use Prim.Native.Nat.{ℕ, zero, suc, _+_, _*_, _≤_, _<_}
+use Prim.Native.Nat.{ℕ, zero, suc, _+_, _*_, _^_, _≤_, _<_}
 use native.Mathlib.Nat.{zero-add, zero-mul, suc-mul}
 use native.Mathlib.Omega.{arith}
 use lib.Dec.{eqb}
 use lib.ListN.{length, take, drop, set, getD, length-drop, List·getD-eq-default}
-use lib.Seq.{length-take-le, take-add}
+use lib.Seq.{length-take-le, take-add, take-take}
 use borrow.Author.Tests.{lt-ltb, le-ltb, le-leb, lt-leb, eq-eqb, ne-eqb, eqb-true, eqb-false}
 use Rattle.model.specs.Lists.{at, choose, flat, below, upFrom}
 use Rattle.model.specs.Verdict.{Verdict, accepted, refused}
@@ -17,7 +17,7 @@ use Rattle.model.specs.Run.{listedPlans, written}
 use Rattle.model.proofs.Lists.{below-e}
 use Rattle.model.proofs.Room.{length-listed}
 use Rattle.desk.specs.Desk.{Hall, Seat, free, taken, isFree, seatAt, Found, none-found, seat, firstOf, lowestFree, DeskCall, sit, leave, DeskReply, denied, seated, served, left, sitReply, fits, leaveFor, leaveReply, deskReply, lookFor, lookReply}
-use Rattle.desk.specs.Layout.{size, seatPlace, plansAt, widthAt, nodesAt, standingAt, standingBy, hallAt, seatOf, deskOf, seatBytes, sitBytes, leaveBytes, callBytes, replyOn, lookOn, bytesAfter}
+use Rattle.desk.specs.Layout.{size, seatPlace, long, plansAt, widthAt, nodesAt, standingAt, standingBy, rowsAt, hallAt, seatOf, deskOf, seatBytes, sitBytes, leaveBytes, callBytes, replyOn, lookOn, bytesAfter}
 use Rattle.desk.specs.Meaning.{found, roomAfter}
 use Rattle.desk.proofs.Desk.{none-first}
 
@@ -26,6 +26,10 @@ pub word-small : (b : List ℕ) → ((i : ℕ) → at b i < 256) → (o : ℕ) �
 unfolding «word»
 word-small b h o = let x = h o in let y = h (o + 1) in omega arith
 
+pub long-small : (b : List ℕ) → ((i : ℕ) → at b i < 256) → (o : ℕ) → long b o < 2 ^ 32
+unfolding long
+long-small b h o = let x = word-small b h o in let y = word-small b h (o + 2) in omega arith
+
 -- ---- the seats of the desk that bytes mean
 row-at : {A : Type 0} (f : ℕ → A) (d : A) (n a k : ℕ) → k < n → getD (map f (upFrom a n)) k d ≡ f (a + k)
 unfolding upFrom
@@ -33,7 +37,7 @@ row-at f d zero a k h = absurd (omega arith)
 row-at f d (suc n) a zero h = ap f (let e : a ≡ a + 0 = omega arith in e)
 row-at f d (suc n) a (suc k) h = row-at f d n (suc a) k (omega arith) ∙ ap f (let e : suc a + k ≡ a + suc k = omega arith in e)
 
-row-length : {A : Type 0} (f : ℕ → A) (n a : ℕ) → length (map f (upFrom a n)) ≡ n
+pub row-length : {A : Type 0} (f : ℕ → A) (n a : ℕ) → length (map f (upFrom a n)) ≡ n
 unfolding upFrom
 row-length f zero a = refl
 row-length f (suc n) a = ap suc (row-length f n (suc a))
@@ -167,16 +171,16 @@ module _ (b : List ℕ) (k : ℕ) where
 
   pub look-yes : (s plans nodes : ℕ) → length b ≡ size → k < 8 → (at b (seatPlace k) ≡ 0 → ⊥) → s ≡ standingAt b (seatPlace k) → plans ≡ plansAt b (seatPlace k) → nodes ≡ nodesAt b (seatPlace k) →
       served k (standingBy s plans nodes) plans nodes ≡ lookOn b k
-  unfolding hallAt
+  unfolding hallAt rowsAt
   look-yes s plans nodes e h n x y z =
       let p = seatPlace k in
       ap (λ (i : ℕ). served k (standingBy i plans nodes) plans nodes) x ∙ ap₂ (λ (i j : ℕ). served k (standingBy (standingAt b p) i j) i j) y z
-      ∙ ap (λ (i : ℕ). served k (standingBy (standingAt b p) (plansAt b p) (nodesAt b p)) i (nodesAt b p)) (sym (length-listed (widthAt b p) (plansAt b p) (drop (p + 55683) b)))
+      ∙ ap (λ (i : ℕ). served k (standingBy (standingAt b p) (plansAt b p) (nodesAt b p)) i (nodesAt b p)) (sym (length-listed (widthAt b p) (plansAt b p) (take 49152 (drop (p + 55683) b))))
       ∙ sym (look-whole e ∙ ap (lookFor k) (seat-in b k h ∙ taken-at b k n))
 
 -- ---- leaving
 -- so many rows of n bytes, one behind the other
-flat-listed : (n k : ℕ) (l : List ℕ) → flat (listedPlans n k l) ≡ take (k * n) l
+pub flat-listed : (n k : ℕ) (l : List ℕ) → flat (listedPlans n k l) ≡ take (k * n) l
 unfolding flat listedPlans
 flat-listed n zero l = ap (λ (i : ℕ). take i l) (sym (zero-mul n))
 flat-listed n (suc k) l =
@@ -210,13 +214,12 @@ module _ (b : List ℕ) (k : ℕ) (room : List ℕ) where
       by-room : (t : Bool) → (at b (seatPlace k) ≡ 0 → ⊥) → fits hall room ≡ t → Leaving (leaveFor t hall room) (roomAfter (leaveFor t hall room) room) (choose t (set b (seatPlace k) 0) b)
       by-room t n e = subst (λ (x : Bool). Leaving (leaveFor x hall room) (roomAfter (leaveFor x hall room) room) (choose x (set b (seatPlace k) 0) b)) e (by-seat (taken hall) (seat-in b k h ∙ taken-at b k n))
 
-      text : flat (hall .progress .rows) ≡ take (plansAt b (seatPlace k) * widthAt b (seatPlace k)) (drop (seatPlace k + 55683) b)
-      unfolding hallAt
-      text = flat-listed (widthAt b (seatPlace k)) (plansAt b (seatPlace k)) (drop (seatPlace k + 55683) b)
-
       module _ (n : ℕ) (is : n ≡ plansAt b (seatPlace k) * widthAt b (seatPlace k)) (small : n ≤ 49152) where
         listed : flat (hall .progress .rows) ≡ take n (drop (seatPlace k + 55683) b)
-        listed = text ∙ ap (λ (i : ℕ). take i (drop (seatPlace k + 55683) b)) (sym is)
+        unfolding hallAt rowsAt
+        listed =
+            let list = drop (seatPlace k + 55683) b in
+            flat-listed (widthAt b (seatPlace k)) (plansAt b (seatPlace k)) (take 49152 list) ∙ ap (λ (i : ℕ). take i (take 49152 list)) (sym is) ∙ take-take n 49152 list small
 
         sized : length (flat (hall .progress .rows)) ≡ n
         sized = ap length listed ∙ length-take-le n (drop (seatPlace k + 55683) b) (let e = length-drop (seatPlace k + 55683) b in omega arith)

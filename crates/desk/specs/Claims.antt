@@ -3,17 +3,18 @@
 use mathlib.Core.Path.{_≡_}
 use mathlib.Core.Logic.{_⊎_}
 use mathlib.Core.Bool.{Bool, true, false}
-use mathlib.Core.List.{List, [], _∷_, _++_}
-use Prim.Native.Nat.{ℕ, suc, _+_, _*_, _≤_, _<_}
+use mathlib.Core.List.{List, [], _∷_, _++_, List·Memᴰ}
+use Prim.Native.Nat.{ℕ, suc, _+_, _*_, _^_, _≤_, _<_}
 use lib.ListN.{length, replicate}
 use lib.Dec.{T, eqb}
-use Rattle.model.specs.Lists.{any, flat}
+use Rattle.model.specs.Lists.{any, at, flat}
 use Rattle.model.specs.Verdict.{refused}
 use Rattle.model.specs.Search.{nodes}
 use Rattle.model.specs.Sheet.{verdictOf, problemOf}
 use Rattle.model.specs.Run.{Ending, spent, plansIn, nodesIn, Result, resultOf, ended, answerOf, written, listOf}
 use Rattle.parts.specs.Parts.{progressAt}
 use Rattle.desk.specs.Desk.{Standing, running, over, goesOn, Hall, newcomer, deskRoom, hallTurned, turned, free, taken, isFree, waits, Desk, emptyDesk, seatAt, DeskCall, sit, turn, leave, DeskReply, denied, seated, idle, served, left, fits, leaveSeat, deskReply, deskAfter, deskEnd, deskReplies, roundsDesk, turnsGiven, due}
+use Rattle.desk.specs.Layout.{size, deskOf, roundsBytes, replyOn, bytesAfter}
 
 -- ---- words
 -- the run alone: the hall's sheet, a limit, and room for 4,096 plans
@@ -180,3 +181,45 @@ oneByOne d (rounds r ∷ xs) = replicate (turnsGiven d r) turn ++ oneByOne (roun
 
 abbrev pub One-by-one : Type 0
 One-by-one = (xs : List Step) → stepsEnd emptyDesk xs ≡ deskEnd emptyDesk (oneByOne emptyDesk xs)
+
+-- ---- its bytes (specs/Layout)
+-- bytes of the desk's size, and calls whose sheet is bytes and whose allowance has 32 bits
+abbrev pub DeskBytes : List ℕ → Type 0
+DeskBytes b = (length b ≡ size) × ((i : ℕ) → at b i < 256)
+
+abbrev pub ByteCall : DeskCall → Type 0
+ByteCall (sit sheet allowance) = ((i : ℕ) → at sheet i < 256) × (allowance < 2 ^ 32)
+ByteCall turn = Unit {0}
+ByteCall (leave k room) = Unit {0}
+
+-- zeros are the empty desk
+abbrev pub Zeros-empty : Type 0
+Zeros-empty = (b : List ℕ) → ((i : ℕ) → at b i ≡ 0) → deskOf b ≡ emptyDesk
+
+-- each call on bytes is the call on the desk that they mean
+abbrev pub Each-call : Type 0
+Each-call =
+    (b : List ℕ) (x : DeskCall) → DeskBytes b → ByteCall x →
+    (replyOn b x ≡ deskReply (deskOf b) x) × (deskOf (bytesAfter b x) ≡ deskAfter (deskOf b) x) × DeskBytes (bytesAfter b x)
+
+-- calls one after another on bytes
+abbrev pub ByteCalls : List DeskCall → Type 0
+ByteCalls xs = (x : DeskCall) → List·Memᴰ x xs → ByteCall x
+
+unfoldable pub bytesEnd : List ℕ → List DeskCall → List ℕ
+bytesEnd b [] = b
+bytesEnd b (x ∷ xs) = bytesEnd (bytesAfter b x) xs
+
+unfoldable pub repliesOn : List ℕ → List DeskCall → List DeskReply
+repliesOn b [] = []
+repliesOn b (x ∷ xs) = replyOn b x ∷ repliesOn (bytesAfter b x) xs
+
+-- so all that is said of the desk above holds of its bytes
+abbrev pub All-calls : Type 0
+All-calls =
+    (b : List ℕ) (xs : List DeskCall) → DeskBytes b → ByteCalls xs →
+    (deskOf (bytesEnd b xs) ≡ deskEnd (deskOf b) xs) × (repliesOn b xs ≡ deskReplies (deskOf b) xs) × DeskBytes (bytesEnd b xs)
+
+-- and rounds on bytes are rounds on the desk that they mean
+abbrev pub Rounds-call : Type 0
+Rounds-call = (b : List ℕ) (r : ℕ) → DeskBytes b → (deskOf (roundsBytes b r) ≡ roundsDesk (deskOf b) r) × DeskBytes (roundsBytes b r)

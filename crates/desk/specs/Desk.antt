@@ -221,9 +221,12 @@ abbrev pub dueAt : ℕ → Seat → ℕ
 dueAt r free = 0
 dueAt r (taken h) = due r h
 
+abbrev pub given : ℕ → Hall → Hall
+given r h = turned (due r h) h
+
 abbrev pub seatGiven : ℕ → Seat → Seat
 seatGiven r free = free
-seatGiven r (taken h) = taken (turned (due r h) h)
+seatGiven r (taken h) = taken (given r h)
 
 -- Where the turn after them begins to look. The turns go round and round, so the seat served last is, of those that take the most turns, the last
 -- of the round: going round, each seat that takes a turn, and no fewer than those before it, is the last one served so far

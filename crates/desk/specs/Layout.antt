@@ -3,7 +3,7 @@
 --   7 how the run stands (0 running, 1 finished, 2 spent, 3 full)   8 its nodes, four bytes   12 its plans   14 the length of the last node
 --   15 the last node's values, twelve bytes   27 the sheet, 55,656 bytes   55,683 the list, 49,152 bytes
 -- Any bytes of the desk's size are a desk; zeros are the empty one.
-use mathlib.Core.Bool.{Bool, true, false}
+use mathlib.Core.Bool.{Bool}
 use mathlib.Core.List.{List, [], _∷_, _++_, map}
 use Prim.Native.Nat.{ℕ, zero, suc, _+_, _-_, _*_, _%_, min}
 use lib.ListN.{length, take, drop, set, replicate}
@@ -14,7 +14,7 @@ use Rattle.model.specs.Sheet.{«word», problemOf, permutesPairs, formVerdict, 
 use Rattle.model.specs.Bytes.{twoBytes, fourBytes}
 use Rattle.model.specs.Written.{placed}
 use Rattle.model.specs.Run.{finished, spent, full, listedPlans}
-use Rattle.desk.specs.Desk.{Standing, running, over, Hall, hallTurned, Seat, free, taken, Desk, seatAt, Found, none-found, seat, lowestFree, toServe, DeskCall, sit, turn, leave, DeskReply, denied, fits, deskReply, dueAt, seatGiven, roundsDesk, lookReply}
+use Rattle.desk.specs.Desk.{Standing, running, over, Hall, hallTurned, Seat, free, taken, Desk, seatAt, Found, none-found, seat, lowestFree, toServe, DeskCall, sit, turn, leave, DeskReply, denied, fits, deskReply, dueAt, given, roundFrom, roundsDesk, lookReply}
 
 abbrev pub size : ℕ
 size = 838681
@@ -56,6 +56,12 @@ plansAt b p = min 4096 («word» b (p + 12))
 abbrev pub widthAt : List ℕ → ℕ → ℕ
 widthAt b p = min 12 («word» b (p + 27))
 
+unfoldable pub rowsAt : List ℕ → ℕ → List (List ℕ)
+rowsAt b p = listedPlans (widthAt b p) (plansAt b p) (take 49152 (drop (p + 55683) b))
+
+unfoldable pub lastAt : List ℕ → ℕ → List ℕ
+lastAt b p = take (min 12 (at b (p + 14))) (drop (p + 15) b)
+
 -- Bytes that questions 1 to 15 refuse count as the sheet of no bytes, which has no nodes: its run finishes at the next turn. Question 16 is asked
 -- only when a hall sits down: a turn needs none of it
 unfoldable pub turnable : List ℕ → Bool
@@ -73,8 +79,8 @@ hallAt b p =
       allowance = long b (p + 3);
       progress = record {
         made = nodesAt b p;
-        rows = listedPlans (widthAt b p) (plansAt b p) (drop (p + 55683) b);
-        last = take (min 12 (at b (p + 14))) (drop (p + 15) b);
+        rows = rowsAt b p;
+        last = lastAt b p;
       };
       standing = standingBy (standingAt b p) (plansAt b p) (nodesAt b p);
     }
@@ -111,10 +117,11 @@ standingByte (over (spent plans made)) = 2
 standingByte (over (full plans made)) = 3
 
 -- a seat's bytes after a turn: how the run stands, its figures and its last node, and the list's rows
+unfoldable pub figureBytes : Hall → List ℕ
+figureBytes h = (standingByte (h .standing) ∷ fourBytes (h .progress .made)) ++ twoBytes (length (h .progress .rows)) ++ (length (h .progress .last) ∷ [])
+
 unfoldable pub runBytes : Hall → List ℕ
-runBytes h =
-    standingByte (h .standing) ∷ fourBytes (h .progress .made) ++ twoBytes (length (h .progress .rows))
-    ++ (length (h .progress .last) ∷ h .progress .last) ++ replicate (12 - length (h .progress .last)) 0
+runBytes h = figureBytes h ++ h .progress .last ++ replicate (12 - length (h .progress .last)) 0
 
 unfoldable pub withRun : List ℕ → ℕ → Hall → List ℕ
 withRun b p h = placed (placed b (p + 7) (runBytes h)) (p + 55683) (flat (h .progress .rows))
@@ -122,6 +129,14 @@ withRun b p h = placed (placed b (p + 7) (runBytes h)) (p + 55683) (flat (h .pro
 abbrev pub turnBytes : Found → List ℕ → List ℕ
 turnBytes none-found b = b
 turnBytes (seat k) b = set (withRun b (seatPlace k) (hallTurned (hallAt b (seatPlace k)))) nextPlace ((k + 1) % 8)
+
+-- rounds: of each seat to which a turn is due, going round; then where to look
+unfoldable pub roundBytes : ℕ → List ℕ → List ℕ → List ℕ
+roundBytes r [] b = b
+roundBytes r (k ∷ ks) b = roundBytes r ks (choose (eqb (dueAt r (seatOf b k)) 0) b (withRun b (seatPlace k) (given r (hallAt b (seatPlace k)))))
+
+unfoldable pub roundsBytes : List ℕ → ℕ → List ℕ
+roundsBytes b r = set (roundBytes r (roundFrom (at b nextPlace)) b) nextPlace (roundsDesk (deskOf b) r .next)
 
 abbrev pub callBytes : List ℕ → DeskCall → List ℕ
 callBytes b (sit sheet allowance) = sitBytes (lowestFree (deskOf b)) (verdictOf sheet) b (seatBytes sheet allowance)

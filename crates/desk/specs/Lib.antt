@@ -1,5 +1,5 @@
 -- The desk, its bytes, what the answers mean, and the claims.
 pub mod Desk
-pub mod Claims
 pub mod Layout
 pub mod Meaning
+pub mod Claims

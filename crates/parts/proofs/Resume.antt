@@ -253,7 +253,7 @@ module _ (p : Problem) where
       nodesAfter-levels t (subst (λ (z : List ℕ). length z ≤ p .variables) e (r .4)) (reached-along [] t (subst (λ (z : List ℕ). T (reached p [] z)) e (r .2)))
 
   -- ---- the last node made
-  last-in : (t : List ℕ) (l : List (List ℕ)) → (lastOf t l ≡ t) ⊎ List·Memᴰ (lastOf t l) l
+  pub last-in : (t : List ℕ) (l : List (List ℕ)) → (lastOf t l ≡ t) ⊎ List·Memᴰ (lastOf t l) l
   unfolding lastOf
   last-in t [] = inl refl
   last-in t (u ∷ l) = go (last-in u l)
@@ -262,7 +262,7 @@ module _ (p : Problem) where
       go (inl e) = inr (List·Memᴰ·head e)
       go (inr m) = inr (List·Memᴰ·tail m)
 
-  taken : {A : Type 0} (k : ℕ) (l : List A) (x : A) → List·Memᴰ x (take k l) → List·Memᴰ x l
+  pub taken : {A : Type 0} (k : ℕ) (l : List A) (x : A) → List·Memᴰ x (take k l) → List·Memᴰ x l
   taken zero l x m = absurd (List·Memᴰ·not-nil m)
   taken (suc k) [] x m = m
   taken (suc k) (y ∷ l) x (List·Memᴰ·head e) = List·Memᴰ·head e

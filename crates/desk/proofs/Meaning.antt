@@ -1,0 +1,203 @@
+-- What the desk's bytes mean after a hall sat down or left: its seat, and that the others mean what they did. Assumes nothing.
+use mathlib.Core.Path.{_≡_, refl, sym, ap, ap₂, _∙_, subst}
+use mathlib.Core.Bool.{Bool, true, false}
+use mathlib.Core.List.{List, []}
+use Prim.Native.Nat.{ℕ, _+_, _-_, _*_, _^_, _≤_, _<_, min}
+use native.Mathlib.Omega.{arith}
+use lib.Dec.{T, eqb, ltb}
+use lib.ListN.{length, take, drop, set, getD, length-set}
+use lib.Seq.{take-length, getD-set-same, getD-set-other, ext-getD}
+use borrow.Author.Tests.{ltb-true, ltb-false, eqb-true, eqb-false}
+use Rattle.model.specs.Lists.{at, choose, below}
+use Rattle.model.specs.Verdict.{Verdict, accepted, isAccepted}
+use Rattle.model.specs.Sheet.{«word», verdictOf}
+use Rattle.model.specs.Bytes.{fourBytes}
+use Rattle.model.specs.Written.{placed}
+use Rattle.model.specs.Run.{listedPlans}
+use Rattle.model.proofs.Lists.{of-T, at-append, at-skip}
+use Rattle.model.proofs.Written.{length-placed}
+use Rattle.desk.specs.Desk.{Standing, Hall, newcomer, Seat, free, taken, seatAt}
+use Rattle.desk.specs.Layout.{size, seatPlace, nextPlace, long, standingBy, standingAt, sheetLength, nodesAt, plansAt, widthAt, rowsAt, lastAt, turnable, sheetAt, hallAt, seatOf, deskOf, headBytes, seatBytes}
+use Rattle.desk.proofs.Sheets.{answered-length, accepted-turnable}
+use Rattle.desk.proofs.Bytes.{placed-before, placed-in, placed-after, part-is, word-of, long-of}
+use Rattle.desk.proofs.Seats.{seat-in, row-length, taken-at}
+
+-- ---- a hall by its parts
+abbrev pub hallOf : List ℕ → ℕ → ℕ → List (List ℕ) → List ℕ → Standing → Hall
+hallOf s a m r l t = record { sheet = s; allowance = a; progress = record { made = m; rows = r; last = l }; standing = t }
+
+pub hall-is : {s s′ : List ℕ} {a a′ m m′ : ℕ} {r r′ : List (List ℕ)} {l l′ : List ℕ} {t t′ : Standing} → s ≡ s′ → a ≡ a′ → m ≡ m′ → r ≡ r′ → l ≡ l′ → t ≡ t′ → hallOf s a m r l t ≡ hallOf s′ a′ m′ r′ l′ t′
+hall-is {s} {s′} {a} {a′} {m} {m′} {r} {r′} {l} {l′} {t} {t′} e f g h i j =
+    ap₂ (λ (x : List ℕ) (y : ℕ). hallOf x y m r l t) e f ∙ ap₂ (λ (x : ℕ) (y : List (List ℕ)). hallOf s′ a′ x y l t) g h ∙ ap₂ (λ (x : List ℕ) (y : Standing). hallOf s′ a′ m′ r′ x y) i j
+
+-- ---- parts of a seat with the same bytes
+abbrev pub Same : List ℕ → List ℕ → ℕ → ℕ → Type 0
+Same b c p n = (i : ℕ) → i < n → at c (p + i) ≡ at b (p + i)
+
+pub at-same : (b c : List ℕ) (p n : ℕ) → Same b c p n → (o : ℕ) → p ≤ o → o < p + n → at c o ≡ at b o
+at-same b c p n same o g h = let z : p + (o - p) ≡ o = omega arith in ap (at c) (sym z) ∙ same (o - p) (omega arith) ∙ ap (at b) z
+
+module _ (b c : List ℕ) (p : ℕ) (e : length c ≡ length b) (room : p + 104835 ≤ length b) where
+  pub word-same : (o : ℕ) → at c o ≡ at b o → at c (o + 1) ≡ at b (o + 1) → «word» c o ≡ «word» b o
+  unfolding «word»
+  word-same o f g = ap₂ (λ (x y : ℕ). x + 256 * y) f g
+
+  pub long-same : (o : ℕ) → ((i : ℕ) → o ≤ i → i < o + 4 → at c i ≡ at b i) → long c o ≡ long b o
+  unfolding long
+  long-same o f =
+      ap₂ (λ (x y : ℕ). x + 65536 * y) (word-same o (f o (omega arith) (omega arith)) (f (o + 1) (omega arith) (omega arith)))
+      (word-same (o + 2) (f (o + 2) (omega arith) (omega arith)) (f (o + 2 + 1) (omega arith) (omega arith)))
+
+  -- the sheet and the allowance need the flag, the first seven bytes and the sheet
+  pub sheet-same : ((i : ℕ) → p + 1 ≤ i → i < p + 3 → at c i ≡ at b i) → ((i : ℕ) → p + 27 ≤ i → i < p + 55683 → at c i ≡ at b i) → sheetAt c p ≡ sheetAt b p
+  unfolding sheetAt
+  sheet-same f g =
+      let w = word-same (p + 1) (f (p + 1) (omega arith) (omega arith)) (f (p + 1 + 1) (omega arith) (omega arith)) in
+      let n = sheetLength b p in
+      let l : n ≤ 55656 = omega arith in
+      ap (λ (s : List ℕ). choose (turnable s) s [])
+      (ap (λ (k : ℕ). take (min 55656 k) (drop (p + 27) c)) w ∙ part-is c b (p + 27) (p + 27) n (omega arith) (omega arith) (λ i h. g (p + 27 + i) (omega arith) (omega arith)))
+
+  pub width-same : ((i : ℕ) → p + 27 ≤ i → i < p + 55683 → at c i ≡ at b i) → widthAt c p ≡ widthAt b p
+  width-same g = ap (min 12) (word-same (p + 27) (g (p + 27) (omega arith) (omega arith)) (g (p + 27 + 1) (omega arith) (omega arith)))
+
+  pub hall-same : Same b c p 104835 → hallAt c p ≡ hallAt b p
+  unfolding hallAt rowsAt lastAt
+  hall-same same =
+      let at-o : (o : ℕ) → p ≤ o → o < p + 104835 → at c o ≡ at b o = at-same b c p 104835 same in
+      let a = long-same (p + 3) (λ i g h. at-o i (omega arith) (omega arith)) in
+      let m : nodesAt c p ≡ nodesAt b p = ap₂ min a (long-same (p + 8) (λ i g h. at-o i (omega arith) (omega arith))) in
+      let k : plansAt c p ≡ plansAt b p = ap (min 4096) (word-same (p + 12) (at-o (p + 12) (omega arith) (omega arith)) (at-o (p + 12 + 1) (omega arith) (omega arith))) in
+      let w = width-same (λ i g h. at-o i (omega arith) (omega arith)) in
+      let list = part-is c b (p + 55683) (p + 55683) 49152 (omega arith) (omega arith) (λ i h. at-o (p + 55683 + i) (omega arith) (omega arith)) in
+      let n = min 12 (at b (p + 14)) in
+      let l : n ≤ 12 = omega arith in
+      hall-is (sheet-same (λ i g h. at-o i (omega arith) (omega arith)) (λ i g h. at-o i (omega arith) (omega arith))) a m
+      (ap₂ (λ (x y : ℕ). listedPlans x y (take 49152 (drop (p + 55683) c))) w k ∙ ap (listedPlans (widthAt b p) (plansAt b p)) list)
+      (ap (λ (x : ℕ). take (min 12 x) (drop (p + 15) c)) (at-o (p + 14) (omega arith) (omega arith)) ∙ part-is c b (p + 15) (p + 15) n (omega arith) (omega arith) (λ i h. at-o (p + 15 + i) (omega arith) (omega arith)))
+      (ap (λ (x : ℕ). standingBy (min 3 x) (plansAt c p) (nodesAt c p)) (at-o (p + 7) (omega arith) (omega arith)) ∙ ap₂ (standingBy (standingAt b p)) k m)
+
+pub seat-same : (b c : List ℕ) (k : ℕ) → length c ≡ length b → k < 8 → length b ≡ size → Same b c (seatPlace k) 104835 → seatOf c k ≡ seatOf b k
+unfolding seatOf
+seat-same b c k e h w same =
+    ap₂ (λ (x : ℕ) (y : Hall). choose (eqb x 0) free (taken y)) (at-same b c (seatPlace k) 104835 same (seatPlace k) (omega arith) (omega arith))
+    (hall-same b c (seatPlace k) e (omega arith) same)
+
+-- ---- one seat changed
+pub seats-set : (b c : List ℕ) (k : ℕ) (s : Seat) → seatOf c k ≡ s → ((j : ℕ) → j < 8 → (j ≡ k → ⊥) → seatOf c j ≡ seatOf b j) → deskOf c .seats ≡ set (deskOf b .seats) k s
+unfolding below
+seats-set b c k s own others = ext-getD free (deskOf c .seats) (set (deskOf b .seats) k s) (lc ∙ sym (length-set (deskOf b .seats) k s ∙ lb)) each
+  where
+    lc : length (deskOf c .seats) ≡ 8
+    lc = row-length (seatOf c) 8 0
+
+    lb : length (deskOf b .seats) ≡ 8
+    lb = row-length (seatOf b) 8 0
+
+    each : (j : ℕ) → j < length (deskOf c .seats) → seatAt (deskOf c) j ≡ getD (set (deskOf b .seats) k s) j free
+    each j h = let l = lc in seat-in c j (omega arith) ∙ go (eqb j k) refl (omega arith)
+      where
+        go : (t : Bool) → eqb j k ≡ t → j < 8 → seatOf c j ≡ getD (set (deskOf b .seats) k s) j free
+        go true e l =
+            let z = eqb-true j k e in
+            let m = lb in
+            ap (seatOf c) z ∙ own ∙ sym (ap (λ (i : ℕ). getD (set (deskOf b .seats) k s) i free) z ∙ getD-set-same (deskOf b .seats) k s free (omega arith))
+        go false e l =
+            let n = eqb-false j k e in
+            others j l n ∙ sym (getD-set-other (deskOf b .seats) k j s free n ∙ seat-in b j l)
+
+-- bytes put into a seat leave the others
+pub others-placed : (b : List ℕ) (k o : ℕ) (t : List ℕ) → length b ≡ size → k < 8 → o + length t ≤ 104835 → (j : ℕ) → j < 8 → (j ≡ k → ⊥) → Same b (placed b (seatPlace k + o) t) (seatPlace j) 104835
+others-placed b k o t w h f j l n i m = go (ltb j k) refl
+  where
+    go : (x : Bool) → ltb j k ≡ x → at (placed b (seatPlace k + o) t) (seatPlace j + i) ≡ at b (seatPlace j + i)
+    go true e = let z = ltb-true j k e in placed-before b (seatPlace k + o) t (omega arith) (seatPlace j + i) (omega arith)
+    go false e = let z = ltb-false j k e in placed-after b (seatPlace k + o) t (omega arith) (seatPlace j + i) (omega arith)
+
+-- ---- a newcomer's seat
+module _ (b sheet : List ℕ) (allowance k : ℕ) (whole : length b ≡ size) (h : k < 8) (ok : accepted ≡ verdictOf sheet) (narrow : allowance < 2 ^ 32) where
+  abbrev p : ℕ
+  p = seatPlace k
+
+  abbrev t : List ℕ
+  t = seatBytes sheet allowance
+
+  abbrev c : List ℕ
+  c = placed b p t
+
+  long-t : length t ≡ 27 + length sheet
+  unfolding seatBytes headBytes fourBytes
+  long-t = omega arith
+
+  short : length sheet ≤ 55656
+  short = answered-length sheet ok
+
+  fits-t : p + length t ≤ length b
+  fits-t = let e = long-t in let s = short in omega arith
+
+  pub sat-length : length c ≡ length b
+  sat-length = length-placed b p t fits-t
+
+  head-byte : (i : ℕ) → i < 27 → at c (p + i) ≡ at (headBytes (length sheet) allowance) i
+  unfolding seatBytes headBytes fourBytes
+  head-byte i l = let e = long-t in placed-in b p t fits-t i (omega arith) ∙ at-append (headBytes (length sheet) allowance) sheet i (omega arith)
+
+  head-0 : at c p ≡ 1
+  unfolding headBytes fourBytes at
+  head-0 = ap (at c) (let z : p ≡ p + 0 = omega arith in z) ∙ head-byte 0 (omega arith)
+
+  length-read : «word» c (p + 1) ≡ length sheet
+  unfolding headBytes fourBytes at
+  length-read = word-of c (p + 1) (length sheet) (head-byte 1 (omega arith)) (ap (at c) (let z : p + 1 + 1 ≡ p + 2 = omega arith in z) ∙ head-byte 2 (omega arith))
+
+  allowance-read : long c (p + 3) ≡ allowance
+  unfolding headBytes fourBytes at
+  allowance-read =
+      long-of c (p + 3) allowance (head-byte 3 (omega arith)) (ap (at c) (let z : p + 3 + 1 ≡ p + 4 = omega arith in z) ∙ head-byte 4 (omega arith))
+      (ap (at c) (let z : p + 3 + 2 ≡ p + 5 = omega arith in z) ∙ head-byte 5 (omega arith)) (ap (at c) (let z : p + 3 + 2 + 1 ≡ p + 6 = omega arith in z) ∙ head-byte 6 (omega arith))
+
+  sheet-part : take (sheetLength c p) (drop (p + 27) c) ≡ sheet
+  unfolding seatBytes headBytes fourBytes
+  sheet-part =
+      let n = length sheet in
+      let s = short in
+      let e = long-t in
+      let l = sat-length in
+      ap (λ (k : ℕ). take (min 55656 k) (drop (p + 27) c)) length-read ∙ ap (λ (k : ℕ). take k (drop (p + 27) c)) (let z : min 55656 n ≡ n = omega arith in z)
+      ∙ part-is c sheet (p + 27) 0 n (omega arith) (omega arith) (λ i g. each i g) ∙ take-length sheet
+    where
+      each : (i : ℕ) → i < length sheet → at c (p + 27 + i) ≡ at sheet (0 + i)
+      each i g =
+          let e = long-t in
+          ap (at c) (let z : p + 27 + i ≡ p + (27 + i) = omega arith in z) ∙ placed-in b p t fits-t (27 + i) (omega arith) ∙ at-skip (headBytes (length sheet) allowance) sheet 27 (27 + i) refl (omega arith)
+          ∙ ap (at sheet) (let z : 27 + i - 27 ≡ 0 + i = omega arith in z)
+
+  sheet-read : sheetAt c p ≡ sheet
+  unfolding sheetAt
+  sheet-read =
+      ap (λ (s : List ℕ). choose (turnable s) s []) sheet-part
+      ∙ ap (λ (x : Bool). choose x sheet []) (of-T (turnable sheet) (accepted-turnable sheet (subst (λ (v : Verdict). T (isAccepted v)) ok tt)))
+
+  pub sat-hall : hallAt c p ≡ newcomer sheet allowance
+  unfolding hallAt rowsAt lastAt listedPlans headBytes fourBytes at
+  sat-hall =
+      let zero : (o i : ℕ) → p + i ≡ o → at c (p + i) ≡ 0 → at c o ≡ 0 = λ o i z e. ap (at c) (sym z) ∙ e in
+      let made = long-of c (p + 8) 0 (head-byte 8 (omega arith)) (zero (p + 8 + 1) 9 (omega arith) (head-byte 9 (omega arith))) (zero (p + 8 + 2) 10 (omega arith) (head-byte 10 (omega arith))) (zero (p + 8 + 2 + 1) 11 (omega arith) (head-byte 11 (omega arith))) in
+      let plans = word-of c (p + 12) 0 (head-byte 12 (omega arith)) (zero (p + 12 + 1) 13 (omega arith) (head-byte 13 (omega arith))) in
+      let k : plansAt c p ≡ 0 = ap (min 4096) plans in
+      let m : nodesAt c p ≡ 0 = ap (min (long c (p + 3))) made ∙ (let z : min (long c (p + 3)) 0 ≡ 0 = omega arith in z) in
+      hall-is sheet-read allowance-read m (ap (λ (x : ℕ). listedPlans (widthAt c p) x (take 49152 (drop (p + 55683) c))) k)
+      (ap (λ (x : ℕ). take (min 12 x) (drop (p + 15) c)) (head-byte 14 (omega arith))) (ap (λ (x : ℕ). standingBy (min 3 x) (plansAt c p) (nodesAt c p)) (head-byte 7 (omega arith)))
+
+  pub sat-seat : seatOf c k ≡ taken (newcomer sheet allowance)
+  sat-seat = taken-at c k (λ z. let e = head-0 in omega arith) ∙ ap taken sat-hall
+
+  pub sat-others : (j : ℕ) → j < 8 → (j ≡ k → ⊥) → seatOf c j ≡ seatOf b j
+  sat-others j l n =
+      let e = long-t in
+      let s = short in
+      let z : p + 0 ≡ p = omega arith in
+      seat-same b c j sat-length l whole (subst (λ (o : ℕ). Same b (placed b o t) (seatPlace j) 104835) z (others-placed b k 0 t whole h (omega arith) j l n))
+
+  pub sat-next : at c nextPlace ≡ at b nextPlace
+  sat-next = let e = long-t in let s = short in placed-after b p t fits-t nextPlace (omega arith)

@@ -1,0 +1,234 @@
+-- A hall that a seat's bytes can hold, and that a turn makes such a hall of it (specs/Layout). Assumes nothing.
+use mathlib.Core.Path.{_≡_, refl, sym, ap, ap₂, _∙_, subst}
+use mathlib.Core.Bool.{Bool, true, false}
+use mathlib.Core.Logic.{_⊎_, inl, inr, ⊎-elim}
+use mathlib.Core.List.{List, [], _∷_, _++_, List·Memᴰ, List·Memᴰ·head, List·Memᴰ·tail, append-nil}
+use Prim.Native.Nat.{ℕ, zero, suc, _+_, _-_, _*_, _≤_, min}
+use native.Mathlib.Nat.{mul-le-mul, suc-mul}
+use native.Mathlib.Omega.{arith}
+use lib.Dec.{T, ltb, leb, eqb, eqb→eq}
+use lib.ListN.{length, take, drop, length-take, length-drop}
+use lib.Seq.{getD-drop, length-take-le, take-nil}
+use borrow.Author.Tests.{leb-true, leb-false}
+use Rattle.model.specs.Lists.{any, at, choose, flat, keep, below}
+use Rattle.model.specs.ValueSets.{has, members}
+use Rattle.model.specs.Problem.{Problem}
+use Rattle.model.specs.Search.{setsAt, nodesBelow, nodes, isPlan}
+use Rattle.model.specs.Sheet.{«word», headerOf, problemOf, formVerdict}
+use Rattle.model.specs.Run.{Ending, finished, spent, full, plansIn, nodesIn, search, listedPlans}
+use Rattle.model.proofs.Accepted.{HeaderPassed, header-e}
+use Rattle.model.proofs.Lists.{T-of, at-take, both-l, both-r, among-e, keep-e, below-e, flat-append}
+use Rattle.model.proofs.Room.{Wide, length-listed, listed-wide}
+use Rattle.model.proofs.Runs.{walk}
+use Rattle.parts.specs.Parts.{after, nodesAfter, candidatesAt, reached, lastOf, goOn}
+use Rattle.parts.proofs.Resume.{node-reached, last-in, taken}
+use Rattle.desk.specs.Desk.{Standing, running, over, Hall, deskRoom, turnLimit, standingAfter, hallTurned}
+use Rattle.desk.specs.Layout.{long, standingBy, standingAt, sheetLength, nodesAt, plansAt, widthAt, rowsAt, lastAt, turnable, sheetAt, hallAt, standingByte}
+use Rattle.desk.proofs.Bytes.{Small, small-cons, small-nil, small-append, small-take, small-drop}
+use Rattle.desk.proofs.Seats.{flat-listed}
+
+-- how a run stands, told by its number and its figures
+abbrev pub Figured : Standing → ℕ → ℕ → Type 0
+Figured s plans made = standingBy (min 3 (standingByte s)) plans made ≡ s
+
+pub record Fits (b : List ℕ) (p : ℕ) (h : Hall) : Type 0 where
+  pub sheeted : h .sheet ≡ sheetAt b p
+  pub limited : h .allowance ≡ long b (p + 3)
+  pub allowed : h .progress .made ≤ h .allowance
+  pub few : length (h .progress .rows) ≤ 4096
+  pub wide : Wide (widthAt b p) (h .progress .rows)
+  pub short : length (h .progress .last) ≤ 12
+  pub figured : Figured (h .standing) (length (h .progress .rows)) (h .progress .made)
+  pub row-bytes : Small (flat (h .progress .rows))
+  pub last-bytes : Small (h .progress .last)
+
+-- ---- the hall that a seat's bytes mean
+standing-figured : (s plans made : ℕ) → Figured (standingBy s plans made) plans made
+standing-figured zero plans made = refl
+standing-figured (suc zero) plans made = refl
+standing-figured (suc (suc zero)) plans made = refl
+standing-figured (suc (suc (suc s))) plans made = refl
+
+pub at-fits : (b : List ℕ) (p : ℕ) → p + 104835 ≤ length b → Small b → Fits b p (hallAt b p)
+unfolding hallAt rowsAt lastAt
+at-fits b p room small = record {
+  sheeted = refl;
+  limited = refl;
+  allowed = omega arith;
+  few = let e = counted in omega arith;
+  wide = listed-wide (widthAt b p) (plansAt b p) list (let e = area in let z = most in omega arith);
+  short = let e = length-take (min 12 (at b (p + 14))) (drop (p + 15) b) in omega arith;
+  figured = subst (λ (k : ℕ). Figured (standingBy (standingAt b p) (plansAt b p) (nodesAt b p)) k (nodesAt b p)) (sym counted) (standing-figured (standingAt b p) (plansAt b p) (nodesAt b p));
+  row-bytes = subst Small (sym (flat-listed (widthAt b p) (plansAt b p) list)) (small-take (plansAt b p * widthAt b p) list (small-take 49152 (drop (p + 55683) b) (small-drop (p + 55683) b small)));
+  last-bytes = small-take (min 12 (at b (p + 14))) (drop (p + 15) b) (small-drop (p + 15) b small);
+}
+  where
+    list : List ℕ
+    list = take 49152 (drop (p + 55683) b)
+
+    counted : length (listedPlans (widthAt b p) (plansAt b p) list) ≡ plansAt b p
+    counted = length-listed (widthAt b p) (plansAt b p) list
+
+    area : length list ≡ 49152
+    area = length-take-le 49152 (drop (p + 55683) b) (let e = length-drop (p + 55683) b in omega arith)
+
+    most : plansAt b p * widthAt b p ≤ 4096 * 12
+    most = let x : plansAt b p ≤ 4096 = omega arith in let y : widthAt b p ≤ 12 = omega arith in mul-le-mul x y
+
+-- ---- nodes are short, and their values bytes
+reached-small : (q : Problem) (prefix path : List ℕ) → T (reached q prefix path) → Small path
+unfolding reached members
+reached-small q prefix [] t = small-nil
+reached-small q prefix (v ∷ path) t =
+    let c = any (eqb v) (candidatesAt q prefix) in
+    let m = among-e v (candidatesAt q prefix) (both-l c (reached q (prefix ++ (v ∷ [])) path) t) in
+    let l = below-e 16 v (keep-e (has (at (setsAt q prefix) (length prefix))) (below 16) v m .0) in
+    small-cons v path (omega arith) (reached-small q (prefix ++ (v ∷ [])) path (both-r c (reached q (prefix ++ (v ∷ [])) path) t))
+
+node-small : (q : Problem) (t : List ℕ) → List·Memᴰ t (nodes q) → Small t × (length t ≤ q .variables)
+unfolding nodes
+node-small q t m =
+    let r = node-reached q (q .variables) [] t m in
+    let e : r .0 ≡ t = sym (r .1) in
+    subst (λ (z : List ℕ). Small z × (length z ≤ q .variables)) e (reached-small q [] (r .0) (r .2), r .4)
+
+-- ---- the problem of a seat: its plans have the seat's width, or it has no nodes
+abbrev pub Known : List ℕ → ℕ → Problem → Type 0
+Known b p q = ((q .variables ≡ widthAt b p) × (1 ≤ q .variables) × (q .variables ≤ 12)) ⊎ (nodes q ≡ [])
+
+header-known : (s : List ℕ) → T (turnable s) → HeaderPassed (headerOf s) (length s)
+unfolding turnable formVerdict
+header-known s t = header-e (headerOf s) (length s) _ t .0
+
+empty-nodes : nodes (problemOf []) ≡ []
+unfolding nodes nodesBelow problemOf headerOf «word» at
+empty-nodes = refl
+
+pub seat-known : (b : List ℕ) (p : ℕ) → Known b p (problemOf (sheetAt b p))
+unfolding sheetAt problemOf headerOf «word» at
+seat-known b p = go (turnable raw) refl
+  where
+    raw : List ℕ
+    raw = take (sheetLength b p) (drop (p + 27) b)
+
+    go : (t : Bool) → turnable raw ≡ t → Known b p (problemOf (choose t raw []))
+    go false e = inr empty-nodes
+    go true e =
+        let h = header-known raw (T-of (turnable raw) e) in
+        let l = length-take (sheetLength b p) (drop (p + 27) b) in
+        let o = h .long in
+        let n : 16 ≤ sheetLength b p = omega arith in
+        let x : at raw 0 ≡ at b (p + 27) = at-take (sheetLength b p) (drop (p + 27) b) 0 (omega arith) ∙ getD-drop (p + 27) b 0 0 ∙ ap (at b) (let z : p + 27 + 0 ≡ p + 27 = omega arith in z) in
+        let y : at raw 1 ≡ at b (p + 27 + 1) = at-take (sheetLength b p) (drop (p + 27) b) 1 (omega arith) ∙ getD-drop (p + 27) b 1 0 in
+        let w : «word» raw 0 ≡ «word» b (p + 27) = ap₂ (λ (i j : ℕ). i + 256 * j) x y in
+        let few : «word» raw 0 ≤ 12 = h .few in
+        let some : 1 ≤ «word» raw 0 = h .some in
+        inl ((let z : «word» raw 0 ≡ min 12 («word» b (p + 27)) = omega arith in z), some, few)
+
+-- ---- lists of rows
+wide-append : {n : ℕ} (xs ys : List (List ℕ)) → Wide n xs → Wide n ys → Wide n (xs ++ ys)
+wide-append [] ys f g t m = g t m
+wide-append (x ∷ xs) ys f g t (List·Memᴰ·head e) = f t (List·Memᴰ·head e)
+wide-append (x ∷ xs) ys f g t (List·Memᴰ·tail m) = wide-append xs ys (λ s i. f s (List·Memᴰ·tail i)) g t m
+
+small-flat : (rows : List (List ℕ)) → ((t : List ℕ) → List·Memᴰ t rows → Small t) → Small (flat rows)
+unfolding flat
+small-flat [] f = small-nil
+small-flat (r ∷ rows) f = small-append r (flat rows) (f r (List·Memᴰ·head refl)) (small-flat rows (λ t m. f t (List·Memᴰ·tail m)))
+
+few-of : (a c n : ℕ) → 1 ≤ n → a * n ≤ c * n → a ≤ c
+few-of a c n o h = go (leb a c) refl
+  where
+    go : (t : Bool) → leb a c ≡ t → a ≤ c
+    go true e = leb-true a c e
+    go false e =
+        let l : suc c ≤ a = (let z = leb-false a c e in omega arith) in
+        let r : n ≤ n = omega arith in
+        let m : suc c * n ≤ a * n = mul-le-mul l r in
+        let s = suc-mul c n in
+        absurd (omega arith)
+
+-- ---- a turn
+after-figured : (allowance : ℕ) (e : Ending) (plans made : ℕ) → plansIn e ≡ plans → nodesIn e ≡ made → Figured (standingAfter allowance e) plans made
+after-figured allowance (finished a m) plans made f g = ap₂ (λ (x y : ℕ). over (finished x y)) (sym f) (sym g)
+after-figured allowance (full a m) plans made f g = ap₂ (λ (x y : ℕ). over (full x y)) (sym f) (sym g)
+after-figured allowance (spent a m) plans made f g = go (ltb m allowance)
+  where
+    go : (t : Bool) → Figured (elim t [ true ↦ running | false ↦ over (spent a m) ]) plans made
+    go true = refl
+    go false = ap₂ (λ (x y : ℕ). over (spent x y)) (sym f) (sym g)
+
+module _ (b : List ℕ) (p : ℕ) (h : Hall) (f : Fits b p h) where
+  abbrev q : Problem
+  q = problemOf (h .sheet)
+
+  abbrev ts : List (List ℕ)
+  ts = nodesAfter q (h .progress .last)
+
+  known : Known b p q
+  known = subst (λ (s : List ℕ). Known b p (problemOf s)) (sym (f .sheeted)) (seat-known b p)
+
+  of-nodes : (t : List ℕ) → List·Memᴰ t ts → List·Memᴰ t (nodes q)
+  unfolding nodesAfter
+  of-nodes t m = keep-e (after (h .progress .last)) (nodes q) t m .0
+
+  no-nodes : nodes q ≡ [] → ts ≡ []
+  unfolding nodesAfter keep
+  no-nodes e = ap (keep (after (h .progress .last))) e
+
+  new-in : (k : ℕ) (t : List ℕ) → List·Memᴰ t (keep (isPlan q) (take k ts)) → List·Memᴰ t (nodes q) × (length t ≡ q .variables)
+  unfolding isPlan
+  new-in k t m =
+      let r = keep-e (isPlan q) (take k ts) t m in
+      (of-nodes t (taken q k ts t (r .0)), eqb→eq (length t) (q .variables) (both-l (eqb (length t) (q .variables)) _ (r .1)))
+
+  pub turned-fits : Fits b p (hallTurned h)
+  unfolding hallTurned goOn keep lastOf
+  turned-fits =
+      let limit = turnLimit h in
+      let room = deskRoom q in
+      let w = walk q limit room ts (h .progress .made) (h .progress .rows) in
+      let r = search q limit room ts (h .progress .made) (h .progress .rows) in
+      let a = f .allowed in
+      let n = w .allowed (omega arith) in
+      let k = few-wide (w .passed) (r .rows) (w .listed) (λ g. w .roomy g) known in
+      record {
+        sheeted = f .sheeted;
+        limited = f .limited;
+        allowed = omega arith;
+        few = k .0;
+        wide = k .1;
+        short = last-short (nodesIn (r .ending) - h .progress .made) known;
+        figured = after-figured (h .allowance) (r .ending) (length (r .rows)) (nodesIn (r .ending)) (w .counted) refl;
+        row-bytes = subst (λ (l : List (List ℕ)). Small (flat l)) (sym (w .listed)) (rows-small (w .passed));
+        last-bytes = last-small (nodesIn (r .ending) - h .progress .made);
+      }
+    where
+      few-wide : (k : ℕ) (rows : List (List ℕ)) → rows ≡ h .progress .rows ++ keep (isPlan q) (take k ts) → (length (h .progress .rows) * q .variables ≤ deskRoom q → length rows * q .variables ≤ deskRoom q) →
+          Known b p q → (length rows ≤ 4096) × Wide (widthAt b p) rows
+      few-wide k rows e roomy (inl s) =
+          let o = f .few in
+          let z : q .variables ≤ q .variables = omega arith in
+          let u = roomy (mul-le-mul o z) in (
+            few-of (length rows) 4096 (q .variables) (s .1) u,
+            subst (Wide (widthAt b p)) (sym e) (wide-append (h .progress .rows) (keep (isPlan q) (take k ts)) (f .wide) (λ t m. new-in k t m .1 ∙ s .0)),
+          )
+      few-wide k rows e roomy (inr s) =
+          let same : rows ≡ h .progress .rows = e ∙ ap (λ (l : List (List ℕ)). h .progress .rows ++ keep (isPlan q) (take k l)) (no-nodes s) ∙ ap (λ (l : List (List ℕ)). h .progress .rows ++ keep (isPlan q) l) (take-nil k) ∙ append-nil (h .progress .rows) in
+          (subst (λ (l : List (List ℕ)). length l ≤ 4096) (sym same) (f .few), subst (Wide (widthAt b p)) (sym same) (f .wide))
+
+      rows-small : (k : ℕ) → Small (flat (h .progress .rows ++ keep (isPlan q) (take k ts)))
+      rows-small k =
+          subst Small (sym (flat-append (h .progress .rows) (keep (isPlan q) (take k ts))))
+          (small-append (flat (h .progress .rows)) (flat (keep (isPlan q) (take k ts))) (f .row-bytes) (small-flat (keep (isPlan q) (take k ts)) (λ t m. node-small q t (new-in k t m .0) .0)))
+
+      last-small : (k : ℕ) → Small (lastOf (h .progress .last) (take k ts))
+      last-small k =
+          ⊎-elim {C = Small (lastOf (h .progress .last) (take k ts))} (λ e. subst Small (sym e) (f .last-bytes)) (λ m. node-small q _ (of-nodes _ (taken q k ts _ m)) .0) (last-in q (h .progress .last) (take k ts))
+
+      last-short : (k : ℕ) → Known b p q → length (lastOf (h .progress .last) (take k ts)) ≤ 12
+      last-short k (inl s) =
+          ⊎-elim {C = length (lastOf (h .progress .last) (take k ts)) ≤ 12} (λ e. subst (λ (l : List ℕ). length l ≤ 12) (sym e) (f .short))
+          (λ m. let z = node-small q _ (of-nodes _ (taken q k ts _ m)) .1 in let y = s .2 in omega arith) (last-in q (h .progress .last) (take k ts))
+      last-short k (inr s) =
+          subst (λ (l : List (List ℕ)). length (lastOf (h .progress .last) l) ≤ 12) (sym (ap (take k) (no-nodes s) ∙ take-nil k)) (f .short)
