@@ -2,15 +2,15 @@
 -- of one of the runs.
 use mathlib.Core.Bool.{Bool, true, false}
 use mathlib.Core.List.{List, [], _∷_, map}
-use Prim.Native.Nat.{ℕ, zero, suc, _+_, _-_, _*_, _%_, min}
-use lib.ListN.{length, take, set, getD, replicate}
+use Prim.Native.Nat.{ℕ, zero, suc, _+_, _*_, _%_, min}
+use lib.ListN.{length, set, getD, replicate}
 use lib.Dec.{leb, ltb}
 use Rattle.model.specs.Lists.{both, choose, flat, below, total}
 use Rattle.model.specs.Problem.{Problem}
 use Rattle.model.specs.Verdict.{Verdict, accepted, refused}
 use Rattle.model.specs.Sheet.{verdictOf, problemOf}
 use Rattle.model.specs.Run.{Ending, finished, spent, full, nodesIn, Result, written}
-use Rattle.parts.specs.Parts.{nodesAfter, lastOf, Progress, start, goOn}
+use Rattle.parts.specs.Parts.{Progress, start, goOn, lastAfter}
 
 -- ---- a hall at its seat
 pub data Standing : Type 0 where
@@ -49,11 +49,7 @@ abbrev pub hallAfter : Hall → Result → Hall
 hallAfter h r = record {
   sheet = h .sheet;
   allowance = h .allowance;
-  progress = record {
-    made = nodesIn (r .ending);
-    rows = r .rows;
-    last = lastOf (h .progress .last) (take (nodesIn (r .ending) - h .progress .made) (nodesAfter (problemOf (h .sheet)) (h .progress .last)));
-  };
+  progress = record { made = nodesIn (r .ending); rows = r .rows; last = lastAfter (problemOf (h .sheet)) (h .progress) r };
   standing = standingAfter (h .allowance) (r .ending);
 }
 

@@ -11,7 +11,7 @@ use Rattle.model.specs.Lists.{any, keep, flat, at, both}
 use Rattle.model.specs.ValueSets.{members}
 use Rattle.model.specs.Problem.{Problem}
 use Rattle.model.specs.Search.{setsAt, isLive, nodesBelow, nodes, isPlan}
-use Rattle.model.specs.Run.{Ending, finished, spent, full, Result, search}
+use Rattle.model.specs.Run.{Ending, finished, spent, full, nodesIn, Result, search}
 
 -- ---- the order of the search
 -- t comes after the path: the path is a proper first part of t, or t has the larger value at the first difference
@@ -99,6 +99,10 @@ progressAt p k = record { made = k; rows = keep (isPlan p) (take k (nodes p)); l
 -- the rest of a run, from where it stands
 unfoldable pub goOn : Problem → ℕ → ℕ → Progress → Result
 goOn p limit room s = search p limit room (nodesAfter p (s .last)) (s .made) (s .rows)
+
+-- the last node made then
+abbrev pub lastAfter : Problem → Progress → Result → List ℕ
+lastAfter p s r = lastOf (s .last) (take (nodesIn (r .ending) - s .made) (nodesAfter p (s .last)))
 
 -- a run that was spent goes on from its last node; another one has ended
 abbrev pub resumed : Problem → ℕ → ℕ → Ending → List (List ℕ) → Result
