@@ -2,8 +2,7 @@
 use mathlib.Core.Path.{_≡_, refl, sym, ap₂, _∙_, subst}
 use mathlib.Core.List.{List}
 use Prim.Native.Nat.{ℕ, suc, _+_, _*_, _≤_, _<_}
-use native.Mathlib.Nat.{mul-le-mul-right, mul-le-mul-left}
-use native.Mathlib.Decide.{decLe}
+use native.Mathlib.Nat.{mul-le-mul-right}
 use native.Mathlib.Numerals.{add-one}
 use native.Mathlib.Omega.{arith}
 use lib.ListN.{length, set, length-set}
@@ -11,49 +10,34 @@ use Rattle.model.specs.Lists.{at}
 use Rattle.model.proofs.Lists.{at-set, at-set-other}
 use Rattle.order.specs.Reordered.{write}
 use Rattle.layout.specs.Places.{PLANS, ALL, FULL}
-use Rattle.search.specs.Walk.{overwritten, listed}
+use Rattle.search.specs.Walk.{noted, listed}
 use Rattle.search.specs.Pair.{prefixOf, ListRoom, Listed, stateOf}
 use Rattle.search.proofs.Walk.{listed-full, listed-kept}
 
-module _ (n room : ℕ) (list : List ℕ) (plans : ℕ) (h : ListRoom n room list plans) where
-  pub listed-within : plans ≤ room
-  listed-within = go (decLe plans room)
-    where
-      go : Dec (plans ≤ room) → plans ≤ room
-      go (yes d) = d
-      go (no d) =
-          let m : suc room * n ≤ plans * n = mul-le-mul-right n (omega arith) in
-          let a = h .most in let b = h .listed in absurd (omega arith)
+module _ (n room : ℕ) (list : List ℕ) (plans : ℕ) (h : ListRoom n room list plans) (e : plans ≡ room → ⊥) where
+  pub one-more : suc plans ≤ room
+  one-more = let l = h .listed in omega arith
 
-  pub fits-one : (plans ≡ room → ⊥) → suc plans * n ≤ length list
-  fits-one e =
-      let l = listed-within in
-      let m : suc plans * n ≤ room * n = mul-le-mul-right n (omega arith) in
-      let a = h .fits in omega arith
-
-  pub fits-bytes : (plans ≡ room → ⊥) → plans * n + n ≤ length list
-  fits-bytes e = let l = fits-one e in omega arith
-
-  pub fits-counted : (plans ≡ room → ⊥) → plans + 1 ≤ length list
-  fits-counted e =
-      let l = fits-one e in
-      let m : suc plans * 1 ≤ suc plans * n = mul-le-mul-left (suc plans) (h .some) in omega arith
+  pub fits-bytes : (length list ≡ 0 → ⊥) → plans * n + n ≤ length list
+  fits-bytes o =
+      let m : suc plans * n ≤ room * n = mul-le-mul-right n one-more in
+      let a = h .fits o in omega arith
 
 module _ (n room : ℕ) (order work list : List ℕ) (h : ListRoom n room list (at work PLANS)) where
-  pub full-now : at work PLANS ≡ room → Listed n order work list work list FULL
+  pub full-now : at work PLANS ≡ room → Listed n room order work list work list FULL
   full-now e = record {
-    state = λ tally. sym (listed-full n (write order (prefixOf work n)) (stateOf tally work ALL list) (subst (λ (k : ℕ). length list < suc k * n) (sym e) (h .most)));
+    state = λ tally. sym (listed-full n room (write order (prefixOf work n)) (stateOf tally work ALL list) (omega arith));
     known = omega arith;
     others = λ i o. refl;
     work-length = refl;
   }
 
-  pub kept-now : (list′ : List ℕ) → length work ≡ 256 → (at work PLANS ≡ room → ⊥) → list′ ≡ overwritten (at work PLANS * n) (write order (prefixOf work n)) list →
-      Listed n order work list (set work PLANS (at work PLANS + 1)) list′ ALL
+  pub kept-now : (list′ : List ℕ) → length work ≡ 256 → (at work PLANS ≡ room → ⊥) → list′ ≡ noted (at work PLANS * n) (write order (prefixOf work n)) list →
+      Listed n room order work list (set work PLANS (at work PLANS + 1)) list′ ALL
   kept-now list′ w e q = record {
     state = λ tally.
         ap₂ (λ (k : ℕ) (l : List ℕ). record { tally = tally; plans = k; stop = ALL; list = l }) (at-set work PLANS (at work PLANS + 1) (omega arith) ∙ add-one (at work PLANS)) q
-        ∙ sym (listed-kept n (write order (prefixOf work n)) (stateOf tally work ALL list) (fits-one n room list (at work PLANS) h e));
+        ∙ sym (listed-kept n room (write order (prefixOf work n)) (stateOf tally work ALL list) (one-more n room list (at work PLANS) h e));
     known = omega arith;
     others = λ i o. at-set-other work PLANS (at work PLANS + 1) i o;
     work-length = length-set work PLANS (at work PLANS + 1);

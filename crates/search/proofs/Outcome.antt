@@ -4,14 +4,16 @@
 use mathlib.Core.Path.{_≡_, refl, sym, ap, ap₂, _∙_, subst}
 use mathlib.Core.Bool.{Bool, true, false}
 use mathlib.Core.List.{List, [], _∷_, _++_, map, append-nil}
-use Prim.Native.Nat.{ℕ, zero, suc, _+_, _*_, _≤_}
+use Prim.Native.Nat.{ℕ, zero, suc, _+_, _*_, _≤_, _<_}
+use native.Mathlib.Nat.{mul-le-mul-right}
+use native.Mathlib.Decide.{decLt}
 use native.Mathlib.Numerals.{add-one}
 use native.Mathlib.Omega.{arith}
 use lib.Dec.{eqb, leb}
 use lib.ListN.{length, take, drop, length-append, length-drop}
 use lib.Seq.{take-at, drop-append-add, drop-drop}
-use borrow.Author.Tests.{leb-true, leb-false, eqb-true, eqb-false}
-use Rattle.model.specs.Lists.{flat, keep, tabulate, at}
+use borrow.Author.Tests.{leb-true, leb-false, eqb-true, eqb-false, eq-eqb, ne-eqb}
+use Rattle.model.specs.Lists.{flat, keep, choose, tabulate, at}
 use Rattle.model.specs.Problem.{Problem}
 use Rattle.model.specs.Search.{isPlan, nodes}
 use Rattle.model.specs.Run.{spent, full, plansIn, nodesIn, Result, search, resultOf, written, Tally, settledBy, countsBy}
@@ -20,8 +22,8 @@ use Rattle.model.proofs.Runs.{turn, search-turn}
 use Rattle.model.proofs.Tally.{counts-snoc}
 use Rattle.order.specs.Reordered.{write}
 use Rattle.layout.specs.Places.{ALL}
-use Rattle.search.specs.Walk.{withNode, noNodes, State, overwritten, listed, counted, visit, walk, stopIn, tallyBy}
-use Rattle.search.proofs.Walk.{listed-full, listed-kept, visit-spent, visit-other, visit-plan, walk-stopped, length-write}
+use Rattle.search.specs.Walk.{withNode, noNodes, State, overwritten, noted, kept, listed, counted, visit, walk, stopIn, tallyBy}
+use Rattle.search.proofs.Walk.{listed-full, listed-kept, noted-none, noted-over, visit-spent, visit-other, visit-plan, walk-stopped, length-write}
 
 -- rows of n bytes
 flat-one : (t : List ℕ) → flat (t ∷ []) ≡ t
@@ -46,6 +48,26 @@ length-written : (rows : List (List ℕ)) (out : List ℕ) → length (flat rows
 unfolding written
 length-written rows out h = simp (length-append, length-drop) (omega arith)
 
+pub kept-none : (rows : List (List ℕ)) (out : List ℕ) → length out ≡ 0 → kept rows out ≡ out
+unfolding kept
+kept-none rows out e = rw (eq-eqb (length out) 0 e)
+
+pub kept-over : (rows : List (List ℕ)) (out : List ℕ) → (length out ≡ 0 → ⊥) → kept rows out ≡ written rows out
+unfolding kept
+kept-over rows out n = rw (ne-eqb (length out) 0 n)
+
+kept-snoc : (rows : List (List ℕ)) (t out : List ℕ) (n : ℕ) → length (flat rows) ≡ n → ((length out ≡ 0 → ⊥) → n ≤ length out) → noted n t (kept rows out) ≡ kept (rows ++ (t ∷ [])) out
+kept-snoc rows t out n e h = go (eqb (length out) 0) refl
+  where
+    go : (b : Bool) → eqb (length out) 0 ≡ b → noted n t (kept rows out) ≡ kept (rows ++ (t ∷ [])) out
+    go true z =
+        let o = eqb-true (length out) 0 z in
+        ap (noted n t) (kept-none rows out o) ∙ noted-none n t out o ∙ sym (kept-none (rows ++ (t ∷ [])) out o)
+    go false z =
+        let o = eqb-false (length out) 0 z in
+        let l = length-written rows out (let k = h o in omega arith) in
+        ap (noted n t) (kept-over rows out o) ∙ noted-over n t (written rows out) (λ g. o (sym l ∙ g)) ∙ written-snoc rows t out n e ∙ sym (kept-over (rows ++ (t ∷ [])) out o)
+
 -- the next node of a list
 take-next : {A : Type 0} (k : ℕ) (l : List A) (a : A) (rest : List A) → drop k l ≡ a ∷ rest → take (suc k) l ≡ take k l ++ (a ∷ [])
 take-next zero [] a rest e = absurd (let z = ap length e in omega arith)
@@ -56,16 +78,16 @@ take-next {A} (suc k) (x ∷ l) a rest e = ap (λ (r : List A). x ∷ r) (take-n
 drop-next : {A : Type 0} (k : ℕ) (l : List A) (a : A) (rest : List A) → drop k l ≡ a ∷ rest → drop (suc k) l ≡ rest
 drop-next {A} k l a rest e = ap (λ (n : ℕ). drop n l) (sym (add-one k)) ∙ sym (drop-drop 1 k l) ∙ ap (drop 1) e
 
-module _ (p : Problem) (order : List ℕ) (sized : length order ≡ p .variables) (limit : ℕ) (out : List ℕ) where
+module _ (p : Problem) (order : List ℕ) (sized : length order ≡ p .variables) (limit room bytes : ℕ) (out : List ℕ) (fits : room * p .variables ≤ bytes) (most : bytes < suc room * p .variables) (same : (length out ≡ 0 → ⊥) → bytes ≡ length out) where
   abbrev by : List (List ℕ) → List (List ℕ)
   by rows = map (write order) rows
 
   -- the state after nodes that listed these rows
   abbrev from : ℕ → List (List ℕ) → State
-  from made rows = record { tally = tallyBy order p made; plans = length rows; stop = ALL; list = written (by rows) out }
+  from made rows = record { tally = tallyBy order p made; plans = length rows; stop = ALL; list = kept (by rows) out }
 
   abbrev to : Result → State
-  to r = record { tally = tallyBy order p (nodesIn (r .ending)); plans = plansIn (r .ending); stop = stopIn (r .ending); list = written (by (r .rows)) out }
+  to r = record { tally = tallyBy order p (nodesIn (r .ending)); plans = plansIn (r .ending); stop = stopIn (r .ending); list = kept (by (r .rows)) out }
 
   -- the tally of the nodes made, and of the next
   tally-next : (made : ℕ) (t : List ℕ) (ts : List (List ℕ)) → drop made (nodes p) ≡ t ∷ ts → withNode (at order (settledBy t)) (tallyBy order p made) ≡ tallyBy order p (suc made)
@@ -78,14 +100,14 @@ module _ (p : Problem) (order : List ℕ) (sized : length order ≡ p .variables
   unfolding tallyBy
   nodes-by made = refl
 
-  walk-search : (ts : List (List ℕ)) (made : ℕ) (rows : List (List ℕ)) → drop made (nodes p) ≡ ts → length (flat (by rows)) ≡ length rows * p .variables → length rows * p .variables ≤ length out →
-      walk p order limit ts (from made rows) ≡ to (search p limit (length out) ts made rows)
+  walk-search : (ts : List (List ℕ)) (made : ℕ) (rows : List (List ℕ)) → drop made (nodes p) ≡ ts → length (flat (by rows)) ≡ length rows * p .variables → length rows * p .variables ≤ bytes →
+      walk p order limit room ts (from made rows) ≡ to (search p limit bytes ts made rows)
   unfolding walk search
   walk-search [] made rows d z h = refl
   walk-search (t ∷ ts) made rows d z h =
       go (walk-search ts (suc made) rows (drop-next made (nodes p) t ts d) z h) (walk-search ts (suc made) (rows ++ (t ∷ [])) (drop-next made (nodes p) t ts d))
-      (eqb made limit) refl (isPlan p t) refl (leb (suc (length rows) * p .variables) (length out)) refl
-      ∙ ap to (sym (search-turn p limit (length out) t ts made rows))
+      (eqb made limit) refl (isPlan p t) refl (leb (suc (length rows) * p .variables) bytes) refl
+      ∙ ap to (sym (search-turn p limit bytes t ts made rows))
     where
       s : State
       s = from made rows
@@ -97,52 +119,77 @@ module _ (p : Problem) (order : List ℕ) (sized : length order ≡ p .variables
       S = record { ending = spent (length rows) made; rows = rows }
 
       N : Result
-      N = search p limit (length out) ts (suc made) rows
+      N = search p limit bytes ts (suc made) rows
 
       F : Result
       F = record { ending = full (length rows) (suc made); rows = rows }
 
       Y : Result
-      Y = search p limit (length out) ts (suc made) (rows ++ (t ∷ []))
-
-      same : length (written (by rows) out) ≡ length out
-      same = length-written (by rows) out (omega arith)
+      Y = search p limit bytes ts (suc made) (rows ++ (t ∷ []))
 
       next : counted x (from made rows) ≡ from (suc made) rows
-      next = ap (λ (a : Tally). record { tally = a; plans = length rows; stop = ALL; list = written (by rows) out }) (tally-next made t ts d)
+      next = ap (λ (a : Tally). record { tally = a; plans = length rows; stop = ALL; list = kept (by rows) out }) (tally-next made t ts d)
 
       due : eqb made limit ≡ false → from made rows .tally .nodes ≡ limit → ⊥
       due e q = eqb-false made limit e (sym (nodes-by made) ∙ q)
 
-      go : walk p order limit ts (from (suc made) rows) ≡ to (search p limit (length out) ts (suc made) rows) →
-          (length (flat (by (rows ++ (t ∷ [])))) ≡ length (rows ++ (t ∷ [])) * p .variables → length (rows ++ (t ∷ [])) * p .variables ≤ length out →
-          walk p order limit ts (from (suc made) (rows ++ (t ∷ []))) ≡ to (search p limit (length out) ts (suc made) (rows ++ (t ∷ [])))) →
-          (b : Bool) → eqb made limit ≡ b → (c : Bool) → isPlan p t ≡ c → (d : Bool) → leb (suc (length rows) * p .variables) (length out) ≡ d →
-          walk p order limit ts (visit p order limit t s) ≡ to (turn b c d S N F Y)
+      more : bytes < suc (length rows) * p .variables → room < suc (length rows)
+      more l = go′ (decLt room (suc (length rows)))
+        where
+          go′ : Dec (room < suc (length rows)) → room < suc (length rows)
+          go′ (yes d) = d
+          go′ (no d) = let k : suc (length rows) * p .variables ≤ room * p .variables = mul-le-mul-right (p .variables) (omega arith) in absurd (omega arith)
+
+      less : suc (length rows) * p .variables ≤ bytes → suc (length rows) ≤ room
+      less l = go′ (decLt (length rows) room)
+        where
+          go′ : Dec (length rows < room) → suc (length rows) ≤ room
+          go′ (yes d) = d
+          go′ (no d) = let k : suc room * p .variables ≤ suc (length rows) * p .variables = mul-le-mul-right (p .variables) (omega arith) in absurd (omega arith)
+
+      go : walk p order limit room ts (from (suc made) rows) ≡ to (search p limit bytes ts (suc made) rows) →
+          (length (flat (by (rows ++ (t ∷ [])))) ≡ length (rows ++ (t ∷ [])) * p .variables → length (rows ++ (t ∷ [])) * p .variables ≤ bytes →
+          walk p order limit room ts (from (suc made) (rows ++ (t ∷ []))) ≡ to (search p limit bytes ts (suc made) (rows ++ (t ∷ [])))) →
+          (b : Bool) → eqb made limit ≡ b → (c : Bool) → isPlan p t ≡ c → (d : Bool) → leb (suc (length rows) * p .variables) bytes ≡ d →
+          walk p order limit room ts (visit p order limit room t s) ≡ to (turn b c d S N F Y)
       go ih jh true e c e′ d′ e″ =
-          ap (walk p order limit ts) (visit-spent p order limit t s refl (nodes-by made ∙ eqb-true made limit e))
-          ∙ walk-stopped p order limit ts _ (λ q. omega arith)
+          ap (walk p order limit room ts) (visit-spent p order limit room t s refl (nodes-by made ∙ eqb-true made limit e))
+          ∙ walk-stopped p order limit room ts _ (λ q. omega arith)
       go ih jh false e false e′ d′ e″ =
-          ap (walk p order limit ts) (visit-other p order limit t s refl (due e) e′ ∙ next) ∙ ih
+          ap (walk p order limit room ts) (visit-other p order limit room t s refl (due e) e′ ∙ next) ∙ ih
       go ih jh false e true e′ false e″ =
-          let l = leb-false (suc (length rows) * p .variables) (length out) e″ in
-          ap (walk p order limit ts)
-          (visit-plan p order limit t s refl (due e) e′ ∙ ap (listed (p .variables) (write order t)) next ∙ listed-full (p .variables) (write order t) _ (let q = same in omega arith))
-          ∙ walk-stopped p order limit ts _ (λ q. omega arith)
+          let l = leb-false (suc (length rows) * p .variables) bytes e″ in
+          ap (walk p order limit room ts)
+          (visit-plan p order limit room t s refl (due e) e′ ∙ ap (listed (p .variables) room (write order t)) next ∙ listed-full (p .variables) room (write order t) _ (more l))
+          ∙ walk-stopped p order limit room ts _ (λ q. omega arith)
       go ih jh false e true e′ true e″ =
-          let l = leb-true (suc (length rows) * p .variables) (length out) e″ in
+          let l = leb-true (suc (length rows) * p .variables) bytes e″ in
           let g : length (rows ++ (t ∷ [])) ≡ suc (length rows) = length-append rows (t ∷ []) ∙ omega arith in
           let m : by (rows ++ (t ∷ [])) ≡ by rows ++ (write order t ∷ []) = map-append (write order) rows (t ∷ []) in
           let f : length (flat (by (rows ++ (t ∷ [])))) ≡ length (flat (by rows)) + length (write order t) =
           ap (λ (l : List (List ℕ)). length (flat l)) m ∙ ap length (flat-snoc (by rows) (write order t)) ∙ length-append (flat (by rows)) (write order t) in
           let z′ : length (write order t) ≡ p .variables = length-write order t ∙ sized in
           let q : suc (length rows) * p .variables ≡ length rows * p .variables + p .variables = omega arith in
-          ap (walk p order limit ts)
-          (visit-plan p order limit t s refl (due e) e′ ∙ ap (listed (p .variables) (write order t)) next ∙ listed-kept (p .variables) (write order t) _ (let q = same in omega arith)
-          ∙ ap₂ (λ (k : ℕ) (l : List ℕ). record { tally = tallyBy order p (suc made); plans = k; stop = ALL; list = l }) (sym g) (written-snoc (by rows) (write order t) out (length rows * p .variables) z ∙ ap (λ (l : List (List ℕ)). written l out) (sym m)))
-          ∙ jh (f ∙ (omega arith) ∙ ap (λ (k : ℕ). k * p .variables) (sym g)) (subst (λ (k : ℕ). k * p .variables ≤ length out) (sym g) l)
+          ap (walk p order limit room ts)
+          (visit-plan p order limit room t s refl (due e) e′ ∙ ap (listed (p .variables) room (write order t)) next ∙ listed-kept (p .variables) room (write order t) _ (less l)
+          ∙ ap₂ (λ (k : ℕ) (l : List ℕ). record { tally = tallyBy order p (suc made); plans = k; stop = ALL; list = l }) (sym g) (kept-snoc (by rows) (write order t) out (length rows * p .variables) z (λ o. let s = same o in omega arith) ∙ ap (λ (l : List (List ℕ)). kept l out) (sym m)))
+          ∙ jh (f ∙ (omega arith) ∙ ap (λ (k : ℕ). k * p .variables) (sym g)) (subst (λ (k : ℕ). k * p .variables ≤ bytes) (sym g) l)
+
+  nothing-kept : kept [] out ≡ out
+  unfolding kept written flat
+  nothing-kept = go (eqb (length out) 0)
+    where
+      go : (b : Bool) → choose b out out ≡ out
+      go true = refl
+      go false = refl
+
+  nothing-flat : length (flat (by [])) ≡ 0
+  unfolding flat
+  nothing-flat = refl
 
   -- the whole tree, from nothing counted and nothing listed
-  pub outcome : walk p order limit (nodes p) (record { tally = noNodes; plans = 0; stop = ALL; list = out }) ≡ to (resultOf p limit (length out))
-  unfolding resultOf written flat tallyBy countsBy tabulate keep
-  outcome = walk-search (nodes p) 0 [] refl (omega arith) (omega arith)
+  pub outcome : walk p order limit room (nodes p) (record { tally = noNodes; plans = 0; stop = ALL; list = out }) ≡ to (resultOf p limit bytes)
+  unfolding resultOf tallyBy countsBy tabulate keep
+  outcome =
+      ap (λ (l : List ℕ). walk p order limit room (nodes p) (record { tally = noNodes; plans = 0; stop = ALL; list = l })) (sym nothing-kept)
+      ∙ walk-search (nodes p) 0 [] refl (nothing-flat ∙ omega arith) (omega arith)

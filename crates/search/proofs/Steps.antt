@@ -37,10 +37,10 @@ pub below-is : (p : Problem) (k : ℕ) (prefix : List ℕ) → nodesBelow p (suc
 unfolding nodesBelow nodesFor
 below-is p k prefix = refl
 
-module _ (p : Problem) (order : List ℕ) (limit k : ℕ) (prefix : List ℕ) where
-  pub step-none : (s : State) → walk p order limit (nodesFor p k prefix 0) s ≡ s
+module _ (p : Problem) (order : List ℕ) (limit room k : ℕ) (prefix : List ℕ) where
+  pub step-none : (s : State) → walk p order limit room (nodesFor p k prefix 0) s ≡ s
   unfolding walk nodesFor flat
-  step-none s = ap (λ (l : List ℕ). walk p order limit (flat (map (λ v. (prefix ++ (v ∷ [])) ∷ nodesBelow p k (prefix ++ (v ∷ []))) l)) s) members-of-none
+  step-none s = ap (λ (l : List ℕ). walk p order limit room (flat (map (λ v. (prefix ++ (v ∷ [])) ∷ nodesBelow p k (prefix ++ (v ∷ []))) l)) s) members-of-none
 
   module _ (m : ℕ) (some : 0 < m) (small : m < 2 ^ 16) (s : State) (going : s .stop ≡ ALL) where
     abbrev pub node : List ℕ
@@ -54,25 +54,25 @@ module _ (p : Problem) (order : List ℕ) (limit k : ℕ) (prefix : List ℕ) wh
     first = ap (λ (l : List ℕ). flat (map (λ v. (prefix ++ (v ∷ [])) ∷ nodesBelow p k (prefix ++ (v ∷ []))) l)) (members-lowest m small (λ e. omega arith))
 
     -- one value: its node, the nodes below, then the other values
-    pub step : walk p order limit (nodesFor p k prefix m) s ≡ walk p order limit more (walk p order limit (node ∷ nodesBelow p k node) s)
-    step = ap (λ (l : List (List ℕ)). walk p order limit l s) first ∙ walk-append p order limit (node ∷ nodesBelow p k node) more s
+    pub step : walk p order limit room (nodesFor p k prefix m) s ≡ walk p order limit room more (walk p order limit room (node ∷ nodesBelow p k node) s)
+    step = ap (λ (l : List (List ℕ)). walk p order limit room l s) first ∙ walk-append p order limit room (node ∷ nodesBelow p k node) more s
 
-    pub step-spent : s .tally .nodes ≡ limit → walk p order limit (nodesFor p k prefix m) s ≡ exhausted s
+    pub step-spent : s .tally .nodes ≡ limit → walk p order limit room (nodesFor p k prefix m) s ≡ exhausted s
     unfolding walk
     step-spent e =
-        ap (λ (l : List (List ℕ)). walk p order limit l s) first ∙ ap (walk p order limit (nodesBelow p k node ++ more)) (visit-spent p order limit node s going e)
-        ∙ walk-stopped p order limit (nodesBelow p k node ++ more) (exhausted s) (λ q. omega arith)
+        ap (λ (l : List (List ℕ)). walk p order limit room l s) first ∙ ap (walk p order limit room (nodesBelow p k node ++ more)) (visit-spent p order limit room node s going e)
+        ∙ walk-stopped p order limit room (nodesBelow p k node ++ more) (exhausted s) (λ q. omega arith)
 
   -- ---- a node and those below it: dead, a plan, or neither
   module _ (t : List ℕ) (s : State) (going : s .stop ≡ ALL) (allowed : s .tally .nodes ≡ limit → ⊥) where
-    pub node-dead : isLive p t ≡ false → walk p order limit (t ∷ nodesBelow p k t) s ≡ counted (at order (settledBy t)) s
+    pub node-dead : isLive p t ≡ false → walk p order limit room (t ∷ nodesBelow p k t) s ≡ counted (at order (settledBy t)) s
     unfolding walk
-    node-dead d = ap₂ (walk p order limit) (dead-below p k t d) (visit-other p order limit t s going allowed (dead-no-plan p t d))
+    node-dead d = ap₂ (walk p order limit room) (dead-below p k t d) (visit-other p order limit room t s going allowed (dead-no-plan p t d))
 
-    pub node-plan : isLive p t ≡ true → length t ≡ p .variables → k ≡ 0 → walk p order limit (t ∷ nodesBelow p k t) s ≡ listed (p .variables) (write order t) (counted (at order (settledBy t)) s)
+    pub node-plan : isLive p t ≡ true → length t ≡ p .variables → k ≡ 0 → walk p order limit room (t ∷ nodesBelow p k t) s ≡ listed (p .variables) room (write order t) (counted (at order (settledBy t)) s)
     unfolding walk nodesBelow
-    node-plan l n z = ap₂ (λ (j : ℕ) (u : State). walk p order limit (nodesBelow p j t) u) z (visit-plan p order limit t s going allowed (is-plan p t n l))
+    node-plan l n z = ap₂ (λ (j : ℕ) (u : State). walk p order limit room (nodesBelow p j t) u) z (visit-plan p order limit room t s going allowed (is-plan p t n l))
 
-    pub node-inner : (length t ≡ p .variables → ⊥) → walk p order limit (t ∷ nodesBelow p k t) s ≡ walk p order limit (nodesBelow p k t) (counted (at order (settledBy t)) s)
+    pub node-inner : (length t ≡ p .variables → ⊥) → walk p order limit room (t ∷ nodesBelow p k t) s ≡ walk p order limit room (nodesBelow p k t) (counted (at order (settledBy t)) s)
     unfolding walk
-    node-inner n = ap (walk p order limit (nodesBelow p k t)) (visit-other p order limit t s going allowed (short-no-plan p t n))
+    node-inner n = ap (walk p order limit room (nodesBelow p k t)) (visit-other p order limit room t s going allowed (short-no-plan p t n))

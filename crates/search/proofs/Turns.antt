@@ -68,6 +68,9 @@ module _ (p : Problem) (stack work supports tables numbers list : List ℕ) (tal
   abbrev limit : ℕ
   limit = at numbers LIMIT
 
+  abbrev room : ℕ
+  room = at numbers ROOM
+
   abbrev order : List ℕ
   order = orderIn numbers (p .variables)
 
@@ -79,7 +82,7 @@ module _ (p : Problem) (stack work supports tables numbers list : List ℕ) (tal
 
   pub turn-none : m ≡ 0 → Walked p (tried p work k m) stack work numbers list tally k stack work list tally ALL
   turn-none e = record {
-    state = sym (ap (λ (s : ℕ). walk p order limit (nodesFor p left pre s) now-at) e ∙ step-none p order limit left pre now-at);
+    state = sym (ap (λ (s : ℕ). walk p order limit room (nodesFor p left pre s) now-at) e ∙ step-none p order limit room left pre now-at);
     summed = h .prefix .summed;
     sets = λ i l. refl;
     values = λ i l. refl;
@@ -97,7 +100,7 @@ module _ (p : Problem) (stack work supports tables numbers list : List ℕ) (tal
 
     pub turn-spent : tally .nodes ≡ limit → Walked p (tried p work k m) stack work numbers list tally k stack work list tally SPENT
     turn-spent e = record {
-      state = sym (step-spent p order limit left pre m some small now-at refl e);
+      state = sym (step-spent p order limit room left pre m some small now-at refl e);
       summed = h .prefix .summed;
       sets = λ i l. refl;
       values = λ i l. refl;
@@ -112,9 +115,9 @@ module _ (p : Problem) (stack work supports tables numbers list : List ℕ) (tal
 
       pub turn-stops : (stop ≡ ALL → ⊥) → Walked p (tried p work k m) stack work numbers list tally k stack′ work′ list′ tally′ stop
       turn-stops n = record {
-        state = sym (step p order limit left pre m some small now-at refl
-            ∙ ap (walk p order limit (nodesFor p left pre more)) (sym (d .state))
-            ∙ walk-stopped p order limit (nodesFor p left pre more) (stateOf tally′ work′ stop list′) n);
+        state = sym (step p order limit room left pre m some small now-at refl
+            ∙ ap (walk p order limit room (nodesFor p left pre more)) (sym (d .state))
+            ∙ walk-stopped p order limit room (nodesFor p left pre more) (stateOf tally′ work′ stop list′) n);
         summed = d .summed;
         sets = d .sets;
         values = d .values;
@@ -123,10 +126,10 @@ module _ (p : Problem) (stack work supports tables numbers list : List ℕ) (tal
         work-length = d .work-length;
       }
 
-      fits : Fits p limit (length list) (stateOf tally′ work′ stop list′)
+      fits : Fits p limit room (length list) (stateOf tally′ work′ stop list′)
       fits =
-          subst (Fits p limit (length list)) (sym (d .state))
-          (walk-fits p order (length-order numbers (p .variables)) limit (length list) (lowestTried p work k m) now-at record { allowed = h .prefix .allowed; sized = refl; roomy = h .prefix .room .listed })
+          subst (Fits p limit room (length list)) (sym (d .state))
+          (walk-fits p order (length-order numbers (p .variables)) limit room (length list) (h .prefix .room .fits) (lowestTried p work k m) now-at record { allowed = h .prefix .allowed; sized = refl; roomy = h .prefix .room .listed })
 
       pub turn-asks : AtValues p stack′ work′ supports tables numbers list′ tally′ k more
       turn-asks = record {
@@ -142,9 +145,9 @@ module _ (p : Problem) (stack work supports tables numbers list : List ℕ) (tal
           order = h .prefix .order;
           room = record {
             some = h .prefix .room .some;
-            fits = subst (λ (n : ℕ). at numbers ROOM * p .variables ≤ n) (sym (fits .sized)) (h .prefix .room .fits);
-            most = subst (λ (n : ℕ). n < suc (at numbers ROOM) * p .variables) (sym (fits .sized)) (h .prefix .room .most);
-            listed = subst (λ (n : ℕ). at work′ PLANS * p .variables ≤ n) (sym (fits .sized)) (fits .roomy);
+            fits = subst (λ (n : ℕ). (n ≡ 0 → ⊥) → room * p .variables ≤ n) (sym (fits .sized)) (h .prefix .room .fits);
+            listed = fits .roomy;
+            small = h .prefix .room .small;
           };
         };
         inside = λ v t.
@@ -155,8 +158,8 @@ module _ (p : Problem) (stack work supports tables numbers list : List ℕ) (tal
       pub turn-goes : stop ≡ ALL → (stack″ work″ list″ : List ℕ) (tally″ : Tally) (stop″ : ℕ) → Walked p (tried p work′ k more) stack′ work′ numbers list′ tally′ k stack″ work″ list″ tally″ stop″ →
           Walked p (tried p work k m) stack work numbers list tally k stack″ work″ list″ tally″ stop″
       turn-goes g stack″ work″ list″ tally″ stop″ w = record {
-        state = w .state ∙ ap₂ (λ (q : List ℕ) (s : State). walk p order limit (nodesFor p left q more) s) same (ap (λ (s : ℕ). stateOf tally′ work′ s list′) (sym g) ∙ d .state)
-            ∙ sym (step p order limit left pre m some small now-at refl);
+        state = w .state ∙ ap₂ (λ (q : List ℕ) (s : State). walk p order limit room (nodesFor p left q more) s) same (ap (λ (s : ℕ). stateOf tally′ work′ s list′) (sym g) ∙ d .state)
+            ∙ sym (step p order limit room left pre m some small now-at refl);
         summed = w .summed;
         sets = λ i l. w .sets i l ∙ d .sets i l;
         values = λ i l. w .values i l ∙ d .values i l;
@@ -281,7 +284,7 @@ module _ (p : Problem) (stack work supports tables numbers list : List ℕ) (tal
     pub entered-dead : dead ≡ true → Out stack₂ work₂ list ALL
     entered-dead e = record {
       walked = λ n. record {
-        state = state₂ ∙ sym (node-dead p (orderIn numbers (p .variables)) (at numbers LIMIT) (p .variables - (k + 1)) (prefixOf work k) here (stateOf tally work ALL list) refl (g .due) (dead₂ e));
+        state = state₂ ∙ sym (node-dead p (orderIn numbers (p .variables)) (at numbers LIMIT) (at numbers ROOM) (p .variables - (k + 1)) (prefixOf work k) here (stateOf tally work ALL list) refl (g .due) (dead₂ e));
         summed = summed₂;
         sets = sets₂;
         values = before₂;
@@ -313,13 +316,13 @@ module _ (p : Problem) (stack work supports tables numbers list : List ℕ) (tal
     pub plan-sized : length work₂ ≡ 256
     plan-sized = work-length₂ ∙ h .ready .work-length
 
-    pub entered-plan : dead ≡ false → k + 1 ≡ p .variables → (work₃ list₃ : List ℕ) (stop : ℕ) → Listed (at numbers VARIABLES) (orderIn numbers (at numbers VARIABLES)) work₂ list work₃ list₃ stop → Out stack₂ work₃ list₃ stop
+    pub entered-plan : dead ≡ false → k + 1 ≡ p .variables → (work₃ list₃ : List ℕ) (stop : ℕ) → Listed (at numbers VARIABLES) (at numbers ROOM) (orderIn numbers (at numbers VARIABLES)) work₂ list work₃ list₃ stop → Out stack₂ work₃ list₃ stop
     entered-plan e n work₃ list₃ stop w = record {
       walked = λ z. record {
         state = w .state next
-            ∙ ap (λ (j : ℕ). listed j (write (orderIn numbers j) (prefixOf work₂ j)) (stateOf next work₂ ALL list)) (h .ready .indexed .numbered .variables)
-            ∙ ap₂ (λ (t : List ℕ) (s : State). listed (p .variables) (write (orderIn numbers (p .variables)) t) s) (ap (prefixOf work₂) (sym n) ∙ node₂) state₂
-            ∙ sym (node-plan p (orderIn numbers (p .variables)) (at numbers LIMIT) (p .variables - (k + 1)) (prefixOf work k) here (stateOf tally work ALL list) refl (g .due) (live₂ e) (length-node ∙ n) (omega arith));
+            ∙ ap (λ (j : ℕ). listed j (at numbers ROOM) (write (orderIn numbers j) (prefixOf work₂ j)) (stateOf next work₂ ALL list)) (h .ready .indexed .numbered .variables)
+            ∙ ap₂ (λ (t : List ℕ) (s : State). listed (p .variables) (at numbers ROOM) (write (orderIn numbers (p .variables)) t) s) (ap (prefixOf work₂) (sym n) ∙ node₂) state₂
+            ∙ sym (node-plan p (orderIn numbers (p .variables)) (at numbers LIMIT) (at numbers ROOM) (p .variables - (k + 1)) (prefixOf work k) here (stateOf tally work ALL list) refl (g .due) (live₂ e) (length-node ∙ n) (omega arith));
         summed = summed₂;
         sets = sets₂;
         values = λ i l. w .others i (let f = h .ready .wellFormed .few in let z = h .inner in λ e. omega arith) ∙ before₂ i l;
@@ -351,9 +354,9 @@ module _ (p : Problem) (stack work supports tables numbers list : List ℕ) (tal
       walked = λ z. absurd (z refl);
       next = λ z. next₂ e n;
       then = λ z stack₃ work₃ list₃ tally₃ stop w. record {
-        state = w .state ∙ ap (λ (ts : List (List ℕ)). walk p (orderIn numbers (p .variables)) (at numbers LIMIT) ts (stateOf next work₂ ALL list)) (tried-all p stack₂ work₂ supports tables numbers list next (k + 1) (next₂ e n))
-            ∙ ap₂ (λ (t : List ℕ) (s : State). walk p (orderIn numbers (p .variables)) (at numbers LIMIT) (nodesBelow p (p .variables - (k + 1)) t) s) node₂ state₂
-            ∙ sym (node-inner p (orderIn numbers (p .variables)) (at numbers LIMIT) (p .variables - (k + 1)) (prefixOf work k) here (stateOf tally work ALL list) refl (g .due) (λ z. n (sym length-node ∙ z)));
+        state = w .state ∙ ap (λ (ts : List (List ℕ)). walk p (orderIn numbers (p .variables)) (at numbers LIMIT) (at numbers ROOM) ts (stateOf next work₂ ALL list)) (tried-all p stack₂ work₂ supports tables numbers list next (k + 1) (next₂ e n))
+            ∙ ap₂ (λ (t : List ℕ) (s : State). walk p (orderIn numbers (p .variables)) (at numbers LIMIT) (at numbers ROOM) (nodesBelow p (p .variables - (k + 1)) t) s) node₂ state₂
+            ∙ sym (node-inner p (orderIn numbers (p .variables)) (at numbers LIMIT) (at numbers ROOM) (p .variables - (k + 1)) (prefixOf work k) here (stateOf tally work ALL list) refl (g .due) (λ z. n (sym length-node ∙ z)));
         summed = w .summed;
         sets = λ i l. w .sets i (omega arith) ∙ sets₂ i l;
         values = λ i l. w .values i (omega arith) ∙ before₂ i l;

@@ -2,49 +2,55 @@
 -- run's answer, list and tally. Assumes nothing.
 use mathlib.Core.Path.{_≡_, refl, sym, ap, ap₂, _∙_, subst, subst₂}
 use mathlib.Core.Bool.{Bool, true, false}
-use mathlib.Core.List.{List, []}
-use Prim.Native.Nat.{ℕ, zero, suc, _+_, _*_, _/_, _%_, _^_, _≤_, _<_}
+use mathlib.Core.List.{List, [], _∷_, map, List·Memᴰ·not-nil}
+use Prim.Native.Nat.{ℕ, zero, suc, _+_, _-_, _*_, _/_, _%_, _^_, _≤_, _<_}
 use native.Mathlib.Nat.{div-add-mod', mod-lt, sub-zero, not-suc-le-zero}
-use native.Mathlib.Decide.{decLt}
+use native.Mathlib.Decide.{decLt, ℕ-discrete}
 use native.Mathlib.Omega.{arith}
-use lib.Dec.{T, eqb, ltb}
-use borrow.Author.Tests.{not-true, not-false, eqb-true, eqb-false, ltb-true, lt-ltb}
+use lib.Dec.{T, eqb}
+use borrow.Author.Tests.{not-true, not-false, eqb-true, eqb-false, ne-eqb}
 use lib.ListN.{length, set, take, length-set, length-replicate}
-use Rattle.model.specs.Lists.{both, at, choose, total}
+use Rattle.model.specs.Lists.{any, flat, both, at, choose, below, total}
+use lib.Seq.{length-take-le}
 use Rattle.model.specs.ValueSets.{has}
 use Rattle.model.specs.Problem.{Problem}
 use Rattle.model.specs.Search.{isLive, setsAt, nodes, nodesBelow}
 use Rattle.model.specs.Verdict.{Verdict, accepted, refused, isAccepted}
-use Rattle.model.specs.Run.{finished, spent, full, ended, resultOf, Tally, plansIn, nodesIn}
+use Rattle.model.specs.Run.{finished, spent, full, refusal, ended, Result, resultOf, written, Tally, plansIn, nodesIn}
 use Rattle.model.specs.Run as Run
 use Rattle.model.specs.Filling.{Gathered}
 use Rattle.model.specs.Sheet.{problemOf}
-use Rattle.model.proofs.Lists.{T-of, of-T, both-l, at-set, at-set-other, at-take}
+use Rattle.model.proofs.Lists.{T-of, of-not, at-set, at-set-other, at-ext, at-take}
+use Rattle.model.proofs.Sets.{has-none}
+use Rattle.model.proofs.Runs.{rows-fit}
+use Rattle.model.specs.WellFormed.{WellFormed}
 use Rattle.order.specs.Order.{Ordering}
-use Rattle.order.specs.Reordered.{reordered}
+use Rattle.order.specs.Reordered.{write, reordered}
 use Rattle.order.specs.RunBy.{resultBy, placeCounts}
+use Rattle.order.proofs.LeadersBy.{ordering-below, below-at}
 use Rattle.block.specs.Block.{inLent}
+use Rattle.block.specs.BlockSets.{BlockIn}
 use Rattle.lent.specs.Lent.{verdictLent, orderLent, problemLent, answerLentFor, answerLent, listLentFor, listLent, tallyLentFor, tallyLent}
 use Rattle.lent.specs.Compile.{WithinLimits, CompiledLent}
-use Rattle.lent.proofs.Lent.{passed-all, ordering-lent}
+use Rattle.lent.proofs.Lent.{passed-all, well-sheet, ordering-lent}
+use Rattle.block.proofs.Tables.{well-formed-with}
 use Rattle.lent.proofs.Blocked.{own-first, block-walked, block-inside}
-use Rattle.lent.proofs.LentQuestions.{refused-lent}
-use Rattle.layout.specs.Places.{VARIABLES, VALUES, CONSTRAINTS, SYMMETRIES, LIMIT, ROOM, LINKED, BY-ROWS, OTHERS, LOOSE, ORDER, BLOCK, LANES, PLANS, NUMBER, ITEM, ALL, SPENT, DEEPER, REFUSED}
-use Rattle.layout.specs.Layout.{Numbers, Compiled}
+use Rattle.layout.specs.Places.{INITIAL, SCOPES, VARIABLES, VALUES, CONSTRAINTS, SYMMETRIES, LIMIT, ROOM, LINKED, BY-ROWS, OTHERS, LOOSE, ORDER, BLOCK, LANES, PLANS, NUMBER, ITEM, ALL, SPENT, DEEPER, REFUSED}
+use Rattle.layout.specs.Layout.{constraintAt, Numbers, Compiled}
 use Rattle.layout.specs.Tables.{Linked, Indexed}
 use Rattle.sheet.specs.Form.{Zeros}
 use Rattle.sheet.specs.Meaning as S
 use Rattle.sheet.specs.declared.Answer.{Answer as Verdicts}
 use Rattle.sheet.specs.declared.Answer.the-variants.{Accepted}
 use Rattle.index.specs.Index.{Compact, Made}
-use Rattle.prune.specs.Node.{blockOf, Ready, Holds, Marked, Reached}
-use Rattle.search.specs.Walk.{noNodes, Summed, State, walk, stopIn, tallyBy}
+use Rattle.prune.specs.Node.{withOrderings, Ready, Holds, Marked, Reached}
+use Rattle.search.specs.Walk.{noNodes, Summed, State, kept, walk, stopIn, tallyBy}
 use Rattle.search.specs.Pair.{prefixOf, orderIn, ownIn, Cleared, stateOf, ListRoom, AtPrefix, AtValues, Walked, tried}
 use Rattle.search.specs.Meaning.{means}
-use Rattle.search.specs.Whole.{ordered, Prepared, RunTo, Explored, Stopped, Answered}
+use Rattle.search.specs.Whole.{BARE, WANTED, treeOf, orderOf, roomFor, bytesFor, resultFor, Arranged, ordered, Prepared, RunTo, Explored, Stopped, Answered}
 use Rattle.search.specs.declared.Answer.{Answer}
 use Rattle.search.proofs.Laws.{dead-below}
-use Rattle.search.proofs.Outcome.{outcome}
+use Rattle.search.proofs.Outcome.{kept-none, kept-over, outcome}
 use Rattle.search.proofs.Turns.{values-ask, tried-all}
 use Rattle.search.proofs.Prefix.{prefix-zero}
 use Rattle.search.proofs.Written.{order-taken}
@@ -112,160 +118,335 @@ pub none-summed : Summed noNodes
 unfolding total
 none-summed = record { twelve = length-replicate {A = ℕ} 12 0; sum = refl }
 
--- `compile` has answered, and no question with "no": p is the problem whose tree the run walks, own the one that the arrays hold, and the bytes begin
--- with the order
-module _ (b pairs block : List ℕ) (numbers supports images bytes : List ℕ) (r : Verdicts) (left : CompiledLent b pairs block numbers supports images bytes r) where
-  module _ (is : r ≡ Accepted) where
-    abbrev p : Problem
-    p = problemLent b pairs block
+-- with the number of symmetries set to 0 the arrays hold the problem without symmetries
+compiled-bare : (p : Problem) (numbers numbers′ supports images : List ℕ) → p .variables ≤ 12 → Compiled p numbers supports images → length (p .constraints) ≤ 32 →
+    ((i : ℕ) → (i ≡ SYMMETRIES → ⊥) → at numbers′ i ≡ at numbers i) → at numbers′ SYMMETRIES ≡ 0 → Compiled (withOrderings p []) numbers′ supports images
+compiled-bare p numbers numbers′ supports images f c few same none = record {
+  numbered = record {
+    touching = λ x k l h. subst (λ (s : ℕ). has s k ≡ any (eqb x) (constraintAt p k .scope)) (sym (same x (λ e. omega arith))) (c .numbered .touching x k l h);
+    touching-few = λ x l. subst (λ (s : ℕ). s < 2 ^ length (p .constraints)) (sym (same x (λ e. omega arith))) (c .numbered .touching-few x l);
+    initial = λ x l. same (INITIAL + x) (λ e. omega arith) ∙ c .numbered .initial x l;
+    unused = λ x l h. same (INITIAL + x) (λ e. omega arith) ∙ c .numbered .unused x l h;
+    arity = λ k l. ap (λ (s : ℕ). s % 256) (same (SCOPES + k) (λ e. omega arith)) ∙ c .numbered .arity k l;
+    scope = λ k i l h. ap (λ (s : ℕ). s / 256 ^ suc i % 256) (same (SCOPES + k) (λ e. omega arith)) ∙ c .numbered .scope k i l h;
+    variables = same VARIABLES (λ e. omega arith) ∙ c .numbered .variables;
+    values = same VALUES (λ e. omega arith) ∙ c .numbered .values;
+    constraints = same CONSTRAINTS (λ e. omega arith) ∙ c .numbered .constraints;
+    symmetries = none;
+  };
+  supported = c .supported;
+  imaged = λ e x v l. absurd (omega arith);
+}
 
-    abbrev order : List ℕ
-    order = orderLent b pairs
+-- the first k numbers stand at their places, and the next is put
+pub placed-next : (k : ℕ) (list : List ℕ) → k < length list → ((j : ℕ) → j < k → at list j ≡ j) → (j : ℕ) → j < k + 1 → at (set list k k) j ≡ j
+placed-next k list l h j m = go (ℕ-discrete j k)
+  where
+    go : Dec (j ≡ k) → at (set list k k) j ≡ j
+    go (yes e) = subst (λ (i : ℕ). at (set list k k) i ≡ i) (sym e) (at-set list k k l)
+    go (no e) = at-set-other list k k j e ∙ h j (omega arith)
 
-    abbrev own : Problem
-    own = reordered order (problemOf b)
+below-taken : (n : ℕ) (bytes : List ℕ) → n ≤ length bytes → ((k : ℕ) → k < n → at bytes k ≡ k) → take n bytes ≡ below n
+below-taken n bytes l h =
+    at-ext (take n bytes) (below n) (length-take-le n bytes l ∙ sym (ordering-below n .sized))
+    (λ k m. let j : k < n = omega (arith, length-take-le n bytes l) in at-take n bytes k j ∙ h k j ∙ sym (below-at n k j))
 
-    accepts : verdictLent b pairs block ≡ accepted
-    accepts = sym (left .answers) ∙ ap S.means is
+-- what stands in the arrays before the search's tables are made: own, the first of p's symmetries with it, and the bytes begin with p's order
+pub record Laid (p own : Problem) (order numbers supports images bytes : List ℕ) (positions : ℕ) : Type 0 where
+  pub compiled : Compiled own numbers supports images
+  pub limits : WithinLimits own
+  pub long : length numbers ≡ 384
+  pub bytes-length : length bytes ≡ 16
+  pub order-is : take (p .variables) bytes ≡ order
+  pub ordering : Ordering (p .variables) order
+  pub own-is : withOrderings p (take (length (own .symmetries)) (p .symmetries)) ≡ own
+  pub block : BlockIn own (has positions) (p .symmetries)
+  pub block-few : (x : ℕ) → T (has positions x) → x < own .variables
 
-    abbrev fits : WithinLimits own
-    fits = left .limits is
+-- `compile` has answered, and no question with "no"
+module _ (b pairs block : List ℕ) (numbers supports images bytes : List ℕ) (r : Verdicts) (left : CompiledLent b pairs block numbers supports images bytes r) (is : r ≡ Accepted) where
+  abbrev sheets : Problem
+  sheets = reordered (orderLent b pairs) (problemOf b)
 
-    abbrev h : Compiled own numbers supports images
-    h = left .compiled is
+  accepts : verdictLent b pairs block ≡ accepted
+  accepts = sym (left .answers) ∙ ap S.means is
 
-    long : length numbers ≡ 384
-    long = left .sizes is .numbers-length
+  abbrev fits₀ : WithinLimits sheets
+  fits₀ = left .limits is
 
-    pub some-variables : 0 < at numbers VARIABLES
-    some-variables = subst (λ (n : ℕ). 0 < n) (sym (h .numbered .variables)) (fits .wellFormed .some)
+  abbrev h₀ : Compiled sheets numbers supports images
+  h₀ = left .compiled is
 
-    pub few-variables : at numbers VARIABLES ≤ 16
-    few-variables = let e = h .numbered .variables in let f = fits .wellFormed .few in omega arith
+  pub some-variables : 0 < at numbers VARIABLES
+  some-variables = subst (λ (n : ℕ). 0 < n) (sym (h₀ .numbered .variables)) (fits₀ .wellFormed .some)
 
-    module _ (limit : ℕ) (small : limit < 2 ^ 32) (size room : ℕ) (rooms : room ≡ size / at numbers VARIABLES) (bounded : List ℕ) (put : bounded ≡ set (set numbers LIMIT limit) ROOM room) where
-      kept : (i : ℕ) → i < 68 → at bounded i ≡ at numbers i
-      kept i l = ap (λ (l : List ℕ). at l i) put ∙ at-set-other (set numbers LIMIT limit) ROOM room i (λ e. omega arith) ∙ at-set-other numbers LIMIT limit i (λ e. omega arith)
+  pub few-variables : at numbers VARIABLES ≤ 16
+  few-variables = let e = h₀ .numbered .variables in let f = fits₀ .wellFormed .few in omega arith
 
-      at-limit : at bounded LIMIT ≡ limit
-      at-limit = ap (λ (l : List ℕ). at l LIMIT) put ∙ at-set-other (set numbers LIMIT limit) ROOM room LIMIT (λ e. omega arith) ∙ at-set numbers LIMIT limit (let e = long in omega arith)
+  good : T (isAccepted (verdictLent b pairs block))
+  good = passed-all (verdictLent b pairs block) accepts
 
-      at-room : at bounded ROOM ≡ room
-      at-room = ap (λ (l : List ℕ). at l ROOM) put ∙ at-set (set numbers LIMIT limit) ROOM room (let l = length-set numbers LIMIT limit in let e = long in omega arith)
+  module _ (limit room : ℕ) (bounded : List ℕ) (put : bounded ≡ set (set numbers LIMIT limit) ROOM room) where
+    kept₀ : (i : ℕ) → i < 68 → at bounded i ≡ at numbers i
+    kept₀ i l = ap (λ (l : List ℕ). at l i) put ∙ at-set-other (set numbers LIMIT limit) ROOM room i (λ e. omega arith) ∙ at-set-other numbers LIMIT limit i (λ e. omega arith)
 
-      pub compact : (tables : List ℕ) → length tables ≡ 55296 → Compact own bounded supports images tables
-      compact tables lt = record {
-        compiled = record { numbered = numbers-kept own numbers bounded (fits .wellFormed .few) (fits .constraints) kept (h .numbered); supported = h .supported; imaged = h .imaged };
-        wellFormed = fits .wellFormed;
-        constraints = fits .constraints;
-        symmetries = fits .symmetries;
-        numbers-length = ap length put ∙ length-set (set numbers LIMIT limit) ROOM room ∙ length-set numbers LIMIT limit ∙ long;
-        tables-length = lt;
-      }
+    pub long-bounded : length bounded ≡ 384
+    long-bounded = ap length put ∙ length-set (set numbers LIMIT limit) ROOM room ∙ length-set numbers LIMIT limit ∙ left .sizes is .numbers-length
 
-      module _ (tables indexed tables′ : List ℕ) (made : Made own bounded supports tables indexed tables′) (positions : ℕ) (gathered : Gathered (λ i. inLent block (at bytes i)) (at numbers VARIABLES) positions)
-          (numbers′ : List ℕ) (orders : numbers′ ≡ set (ordered bytes 12 indexed) BLOCK positions) where
-        other : (i : ℕ) → (i ≡ BLOCK → ⊥) → at numbers′ i ≡ at (ordered bytes 12 indexed) i
-        other i d = ap (λ (m : List ℕ). at m i) orders ∙ at-set-other (ordered bytes 12 indexed) BLOCK positions i d
+    at-limit : at bounded LIMIT ≡ limit
+    at-limit = ap (λ (l : List ℕ). at l LIMIT) put ∙ at-set-other (set numbers LIMIT limit) ROOM room LIMIT (λ e. omega arith) ∙ at-set numbers LIMIT limit (let e = left .sizes is .numbers-length in omega arith)
 
-        low : (i : ℕ) → i < ORDER → at numbers′ i ≡ at indexed i
-        low i l = other i (λ e. omega arith) ∙ ordered-other bytes 12 i indexed (λ j m e. omega arith)
+    at-room : at bounded ROOM ≡ room
+    at-room = ap (λ (l : List ℕ). at l ROOM) put ∙ at-set (set numbers LIMIT limit) ROOM room (let l = length-set numbers LIMIT limit in let e = left .sizes is .numbers-length in omega arith)
 
-        high : (i : ℕ) → LANES ≤ i → at numbers′ i ≡ at indexed i
-        high i l = other i (λ e. omega arith) ∙ ordered-other bytes 12 i indexed (λ j m e. omega arith)
+    compiled₀ : Compiled sheets bounded supports images
+    compiled₀ = record { numbered = numbers-kept sheets numbers bounded (fits₀ .wellFormed .few) (fits₀ .constraints) kept₀ (h₀ .numbered); supported = h₀ .supported; imaged = h₀ .imaged }
 
-        indexed-length : length indexed ≡ 384
-        indexed-length = made .numbers-length ∙ ap length put ∙ length-set (set numbers LIMIT limit) ROOM room ∙ length-set numbers LIMIT limit ∙ long
+    module _ (bare : ℕ) (arranged bytes′ : List ℕ) (positions : ℕ) (put-by : Arranged bare block (at numbers VARIABLES) bounded bytes arranged bytes′ positions) where
+      -- the problem that the arrays hold
+      abbrev pub ownOf : Problem
+      ownOf = withOrderings sheets (choose (eqb bare 0) (sheets .symmetries) [])
 
-        order-put : orderIn numbers′ (p .variables) ≡ order
-        order-put = order-taken numbers′ bytes (p .variables) (let f = fits .wellFormed .few in let e = left .order-length in omega arith) (λ k l. other (ORDER + k) (λ e. let f = fits .wellFormed .few in omega arith) ∙ ordered-at bytes 12 k indexed (let e = indexed-length in omega arith) (let f = fits .wellFormed .few in omega arith)) ∙ left .order-is is
-
-        at-block : at numbers′ BLOCK ≡ positions
-        at-block = ap (λ (m : List ℕ). at m BLOCK) orders ∙ at-set (ordered bytes 12 indexed) BLOCK positions (let e = indexed-length in let l = length-ordered bytes 12 indexed in omega arith)
-
-        few : Gathered (λ i. inLent block (at bytes i)) (problemOf b .variables) (at numbers′ BLOCK)
-        few = subst₂ (Gathered (λ i. inLent block (at bytes i))) (h .numbered .variables) (sym at-block) gathered
-
-        good : T (isAccepted (verdictLent b pairs block))
-        good = passed-all (verdictLent b pairs block) accepts
-
-        -- the arrays hold the first of the tree's symmetries
-        own-is : ownIn p numbers′ ≡ own
-        own-is = λ j. record { variables = own .variables; values = own .values; initial = own .initial; constraints = own .constraints; symmetries = same j }
-          where
-            same : take (at numbers′ SYMMETRIES) (p .symmetries) ≡ own .symmetries
-            same =
-                ap (λ (n : ℕ). take n (p .symmetries)) (low SYMMETRIES (omega arith) ∙ made .kept SYMMETRIES (omega arith) ∙ kept SYMMETRIES (omega arith) ∙ h .numbered .symmetries)
-                ∙ own-first b pairs block
-
-        pub ready : (stack work : List ℕ) → length stack ≡ 208 → length work ≡ 256 → Ready (ownIn p numbers′) (p .symmetries) stack work supports tables′ numbers′
-        ready stack work ls lw = subst (λ (r : Problem). Ready r (p .symmetries) stack work supports tables′ numbers′) (sym own-is) record {
-          indexed = indexed-kept own indexed numbers′ supports tables′ (fits .wellFormed .few) (fits .constraints) low high (made .indexed);
-          wellFormed = fits .wellFormed;
-          block = block-walked b pairs block good bytes (left .order-is is) (at numbers′ BLOCK) few;
-          block-few = block-inside b pairs block good bytes (left .order-is is) (at numbers′ BLOCK) few;
-          constraints = fits .constraints;
-          symmetries = fits .symmetries;
-          stack-length = ls;
-          work-length = lw;
-        }
-
-        empty-room : (list : List ℕ) → length list ≡ size → ListRoom (p .variables) room list 0
-        empty-room list same =
-            let n = fits .wellFormed .some in
-            let e : room ≡ length list / p .variables = rooms ∙ ap₂ _/_ (sym same) (h .numbered .variables) in
-            let d : room * p .variables + length list % p .variables ≡ length list = ap (λ (k : ℕ). k * p .variables + length list % p .variables) e ∙ div-add-mod' (length list) (p .variables) in
-            let m : length list % p .variables < p .variables = mod-lt (length list) n in
-            record { some = n; fits = omega arith; most = omega arith; listed = omega arith }
-
-        module _ (stack work stack′ work′ : List ℕ) (dead : Bool) (ls : length stack ≡ 208) (blank : Zeros 256 work) (q : Reached (ownIn p numbers′) (p .symmetries) [] 0 stack work stack′ work′ dead) where
-          plans-none : at work′ PLANS ≡ 0
-          plans-none = q .kept PLANS (omega arith) ∙ blank .blank PLANS
-
-          limited : at numbers′ LIMIT ≡ limit
-          limited = low LIMIT (omega arith) ∙ made .kept LIMIT (omega arith) ∙ at-limit
-
-          start : dead ≡ false → (list : List ℕ) → length list ≡ size → AtPrefix p stack′ work′ supports tables′ numbers′ list noNodes 0
-          start e list same = record {
-            ready = ready stack′ work′ (q .stack-length ∙ ls) (q .work-length ∙ blank .sized);
-            inner = fits .wellFormed .some;
-            live = T-of (isLive p (prefixOf work′ 0)) (ap (isLive p) (prefix-zero work′) ∙ not-false (isLive p []) (sym (q .answers) ∙ e));
-            held = subst (λ (t : List ℕ). Holds (ownIn p numbers′) stack′ 0 (setsAt p t)) (sym (prefix-zero work′)) (q .holds e);
-            marked = subst (λ (t : List ℕ). Marked (ownIn p numbers′) (p .symmetries) work′ t 0) (sym (prefix-zero work′)) (q .marked e);
-            limited = subst (λ (k : ℕ). k < 2 ^ 32) (sym limited) small;
-            allowed = omega arith;
-            summed = none-summed;
-            order = subst (Ordering (p .variables)) (sym order-put) (left .ordering is);
-            room = subst (ListRoom (p .variables) (at numbers′ ROOM) list) (sym plans-none) (subst (λ (k : ℕ). ListRoom (p .variables) k list 0) (sym (low ROOM (omega arith) ∙ made .kept ROOM (omega arith) ∙ at-room)) (empty-room list same));
+      laid-whole : bare ≡ 0 → Laid (problemLent b pairs block) sheets (orderLent b pairs) arranged supports images bytes′ positions
+      laid-whole z =
+          let a = put-by .whole z in
+          let g : Gathered (λ i. inLent block (at bytes i)) (problemOf b .variables) positions = subst (λ (n : ℕ). Gathered (λ i. inLent block (at bytes i)) n positions) (h₀ .numbered .variables) (a .2) in
+          subst₂ (λ (u v : List ℕ). Laid (problemLent b pairs block) sheets (orderLent b pairs) u supports images v positions) (sym (a .0)) (sym (a .1)) record {
+            compiled = compiled₀;
+            limits = fits₀;
+            long = long-bounded;
+            bytes-length = left .order-length;
+            order-is = left .order-is is;
+            ordering = left .ordering is;
+            own-is = ap (withOrderings sheets) (own-first b pairs block);
+            block = block-walked b pairs block good bytes (left .order-is is) positions g;
+            block-few = block-inside b pairs block good bytes (left .order-is is) positions g;
           }
 
-          pub prepared-dead : dead ≡ true → Prepared b pairs block limit size stack′ work′ supports tables′ numbers′ ALL
-          prepared-dead e = record {
-            refused = λ z. absurd (omega arith);
-            accepted = λ z. accepts;
-            begun = λ z. plans-none;
-            dead = λ z. not-true (isLive p []) (sym (q .answers) ∙ e);
-            known = λ z y. absurd (y refl);
-            bounded = λ z. absurd (omega arith);
-            order = λ z. absurd (omega arith);
-            live = λ z. absurd (omega arith);
+      laid-bare : (bare ≡ 0 → ⊥) → Laid (withOrderings (problemLent b pairs block) []) (withOrderings sheets []) (below (problemOf b .variables)) arranged supports images bytes′ positions
+      laid-bare z =
+          let a = put-by .bared z in
+          let none : (x : ℕ) → T (has positions x) → ⊥ = λ x t. of-not (has 0 x) (has-none x) (subst (λ (s : ℕ). T (has s x)) (a .3) t) in
+          let w : WellFormed (withOrderings sheets []) = well-formed-with sheets [] (fits₀ .wellFormed) (λ g m. absurd (List·Memᴰ·not-nil m)) in
+          record {
+            compiled = compiled-bare sheets bounded arranged supports images (fits₀ .wellFormed .few) compiled₀ (fits₀ .constraints)
+                (λ i n. ap (λ (l : List ℕ). at l i) (a .0) ∙ at-set-other bounded SYMMETRIES 0 i n)
+                (ap (λ (l : List ℕ). at l SYMMETRIES) (a .0) ∙ at-set bounded SYMMETRIES 0 (let e = long-bounded in omega arith));
+            limits = record { wellFormed = w; constraints = fits₀ .constraints; symmetries = omega arith };
+            long = ap length (a .0) ∙ length-set bounded SYMMETRIES 0 ∙ long-bounded;
+            bytes-length = a .1;
+            order-is = below-taken (problemOf b .variables) bytes′ (let f = fits₀ .wellFormed .few in omega (arith, a .1)) (λ k l. a .2 k (let f = fits₀ .wellFormed .few in omega arith));
+            ordering = ordering-below (problemOf b .variables);
+            own-is = refl;
+            block = record {
+              equal = λ x y l m t u. absurd (none x t);
+              own = λ g m. absurd (List·Memᴰ·not-nil m);
+              each = λ g m. absurd (List·Memᴰ·not-nil m);
+              trade = λ x y l m o t u. absurd (none x t);
+            };
+            block-few = λ x t. absurd (none x t);
           }
 
-          pub prepared-live : dead ≡ false → Prepared b pairs block limit size stack′ work′ supports tables′ numbers′ DEEPER
-          prepared-live e = record {
-            refused = λ z. absurd (omega arith);
-            accepted = λ z. accepts;
-            begun = λ z. plans-none;
-            dead = λ z. absurd (omega arith);
-            known = λ z y. refl;
-            bounded = λ z. limited;
-            order = λ z. order-put;
-            live = λ z. start e;
-          }
+      pub laid : Laid (treeOf bare b pairs block) ownOf (orderOf bare b pairs) arranged supports images bytes′ positions
+      laid = go (eqb bare 0) refl
+        where
+          go : (c : Bool) → eqb bare 0 ≡ c →
+              Laid (withOrderings (problemLent b pairs block) (choose c (problemLent b pairs block .symmetries) [])) (withOrderings sheets (choose c (sheets .symmetries) [])) (choose c (orderLent b pairs) (below (problemOf b .variables))) arranged supports images bytes′ positions
+          go true e = laid-whole (eqb-true bare 0 e)
+          go false e = laid-bare (eqb-false bare 0 e)
 
-pub prepared-refused : (b pairs block : List ℕ) (limit size number item : ℕ) (stack work supports tables numbers : List ℕ) → verdictLent b pairs block ≡ refused number item → number < 2 ^ 8 → length work ≡ 256 →
-    Prepared b pairs block limit size stack (set (set work NUMBER number) ITEM item) supports tables numbers REFUSED
-prepared-refused b pairs block limit size number item stack work supports tables numbers v small long =
+      arranged-other : (i : ℕ) → (i ≡ SYMMETRIES → ⊥) → at arranged i ≡ at bounded i
+      arranged-other i n = go (eqb bare 0) refl
+        where
+          go : (c : Bool) → eqb bare 0 ≡ c → at arranged i ≡ at bounded i
+          go true e = ap (λ (l : List ℕ). at l i) (put-by .whole (eqb-true bare 0 e) .0)
+          go false e = ap (λ (l : List ℕ). at l i) (put-by .bared (eqb-false bare 0 e) .0) ∙ at-set-other bounded SYMMETRIES 0 i n
+
+      pub limit-laid : at arranged LIMIT ≡ limit
+      limit-laid = arranged-other LIMIT (λ e. omega arith) ∙ at-limit
+
+      pub room-laid : at arranged ROOM ≡ room
+      room-laid = arranged-other ROOM (λ e. omega arith) ∙ at-room
+
+-- the search's tables are made
+module _ (p own : Problem) (order numbers supports images bytes : List ℕ) (positions : ℕ) (h : Laid p own order numbers supports images bytes positions) where
+  abbrev fits : WithinLimits own
+  fits = h .limits
+
+  same-variables : p .variables ≡ own .variables
+  same-variables = ap (λ (q : Problem). q .variables) (h .own-is)
+
+  pub compact : (tables : List ℕ) → length tables ≡ 55296 → Compact own numbers supports images tables
+  compact tables lt = record {
+    compiled = h .compiled;
+    wellFormed = fits .wellFormed;
+    constraints = fits .constraints;
+    symmetries = fits .symmetries;
+    numbers-length = h .long;
+    tables-length = lt;
+  }
+
+  module _ (tables indexed tables′ : List ℕ) (made : Made own numbers supports tables indexed tables′) (numbers′ : List ℕ) (orders : numbers′ ≡ set (ordered bytes 12 indexed) BLOCK positions) where
+    other : (i : ℕ) → (i ≡ BLOCK → ⊥) → at numbers′ i ≡ at (ordered bytes 12 indexed) i
+    other i d = ap (λ (m : List ℕ). at m i) orders ∙ at-set-other (ordered bytes 12 indexed) BLOCK positions i d
+
+    low : (i : ℕ) → i < ORDER → at numbers′ i ≡ at indexed i
+    low i l = other i (λ e. omega arith) ∙ ordered-other bytes 12 i indexed (λ j m e. omega arith)
+
+    high : (i : ℕ) → LANES ≤ i → at numbers′ i ≡ at indexed i
+    high i l = other i (λ e. omega arith) ∙ ordered-other bytes 12 i indexed (λ j m e. omega arith)
+
+    pub first : (i : ℕ) → i < LINKED → at numbers′ i ≡ at numbers i
+    first i l = low i (omega arith) ∙ made .kept i l
+
+    indexed-length : length indexed ≡ 384
+    indexed-length = made .numbers-length ∙ h .long
+
+    few : p .variables ≤ 12
+    few = let f = fits .wellFormed .few in let e = same-variables in omega arith
+
+    pub order-put : orderIn numbers′ (p .variables) ≡ order
+    order-put = order-taken numbers′ bytes (p .variables) (let f = few in let e = h .bytes-length in omega arith) (λ k l. other (ORDER + k) (λ e. let f = few in omega arith) ∙ ordered-at bytes 12 k indexed (let e = indexed-length in omega arith) (let f = few in omega arith)) ∙ h .order-is
+
+    at-block : positions ≡ at numbers′ BLOCK
+    at-block = sym (ap (λ (m : List ℕ). at m BLOCK) orders ∙ at-set (ordered bytes 12 indexed) BLOCK positions (let e = indexed-length in let l = length-ordered bytes 12 indexed in omega arith))
+
+    -- the arrays hold the first of the tree's symmetries
+    own-in : ownIn p numbers′ ≡ own
+    own-in = ap (λ (n : ℕ). withOrderings p (take n (p .symmetries))) (first SYMMETRIES (omega arith) ∙ h .compiled .numbered .symmetries) ∙ h .own-is
+
+    pub ready : (stack work : List ℕ) → length stack ≡ 208 → length work ≡ 256 → Ready (ownIn p numbers′) (p .symmetries) stack work supports tables′ numbers′
+    ready stack work ls lw = subst (λ (r : Problem). Ready r (p .symmetries) stack work supports tables′ numbers′) (sym own-in) record {
+      indexed = indexed-kept own indexed numbers′ supports tables′ (fits .wellFormed .few) (fits .constraints) low high (made .indexed);
+      wellFormed = fits .wellFormed;
+      block = subst (λ (s : ℕ). BlockIn own (has s) (p .symmetries)) at-block (h .block);
+      block-few = subst (λ (s : ℕ). (x : ℕ) → T (has s x) → x < own .variables) at-block (h .block-few);
+      constraints = fits .constraints;
+      symmetries = fits .symmetries;
+      stack-length = ls;
+      work-length = lw;
+    }
+
+    -- the search may begin where the empty prefix is live
+    pub start : (limit room : ℕ) → limit < 2 ^ 32 → at numbers LIMIT ≡ limit → at numbers ROOM ≡ room → (stack work stack′ work′ : List ℕ) (dead : Bool) → length stack ≡ 208 → length work ≡ 256 → at work PLANS ≡ 0 →
+        Reached (ownIn p numbers′) (p .symmetries) [] 0 stack work stack′ work′ dead → dead ≡ false → (list : List ℕ) → ListRoom (p .variables) room list 0 → AtPrefix p stack′ work′ supports tables′ numbers′ list noNodes 0
+    start limit room small l m stack work stack′ work′ dead ls lw none q e list roomy = record {
+      ready = ready stack′ work′ (q .stack-length ∙ ls) (q .work-length ∙ lw);
+      inner = subst (λ (n : ℕ). 0 < n) (sym same-variables) (fits .wellFormed .some);
+      live = T-of (isLive p (prefixOf work′ 0)) (ap (isLive p) (prefix-zero work′) ∙ not-false (isLive p []) (sym (q .answers) ∙ e));
+      held = subst (λ (t : List ℕ). Holds (ownIn p numbers′) stack′ 0 (setsAt p t)) (sym (prefix-zero work′)) (q .holds e);
+      marked = subst (λ (t : List ℕ). Marked (ownIn p numbers′) (p .symmetries) work′ t 0) (sym (prefix-zero work′)) (q .marked e);
+      limited = subst (λ (k : ℕ). k < 2 ^ 32) (sym (first LIMIT (omega arith) ∙ l)) small;
+      allowed = omega arith;
+      summed = none-summed;
+      order = subst (Ordering (p .variables)) (sym order-put) (h .ordering);
+      room = subst₂ (λ (r k : ℕ). ListRoom (p .variables) r list k) (sym (first ROOM (omega arith) ∙ m)) (sym (q .kept PLANS (omega arith) ∙ none)) roomy;
+    }
+
+-- the room for plans of n bytes: in bytes, and in the list
+pub room-fits : (wanted n size : ℕ) → 0 < n → roomFor wanted n size * n ≤ bytesFor wanted n size
+room-fits wanted n size s = go (eqb wanted 0)
+  where
+    go : (c : Bool) → choose c (size / n) (wanted - 1) * n ≤ choose c size ((wanted - 1) * n)
+    go true = let d = div-add-mod' size n in omega arith
+    go false = omega arith
+
+pub room-most : (wanted n size : ℕ) → 0 < n → bytesFor wanted n size < suc (roomFor wanted n size) * n
+room-most wanted n size s = go (eqb wanted 0)
+  where
+    go : (c : Bool) → choose c size ((wanted - 1) * n) < suc (choose c (size / n) (wanted - 1)) * n
+    go true = let d = div-add-mod' size n in let m : size % n < n = mod-lt size s in omega arith
+    go false = omega arith
+
+pub room-listed : (wanted n size : ℕ) → wanted ≡ 0 → size / n ≡ roomFor wanted n size
+room-listed wanted n size e = ap (λ (w : ℕ). choose (eqb w 0) (size / n) (wanted - 1)) (sym e)
+
+pub room-wanted : (wanted n size : ℕ) → (wanted ≡ 0 → ⊥) → wanted - 1 ≡ roomFor wanted n size
+room-wanted wanted n size o = ap (λ (c : Bool). choose c (size / n) (wanted - 1)) (sym (ne-eqb wanted 0 o))
+
+pub room-lent : (wanted n size : ℕ) → ((wanted ≡ 0 → ⊥) → size ≡ 0) → (size ≡ 0 → ⊥) → bytesFor wanted n size ≡ size
+room-lent wanted n size u o = go (eqb wanted 0) refl
+  where
+    go : (c : Bool) → eqb wanted 0 ≡ c → choose c size ((wanted - 1) * n) ≡ size
+    go true e = refl
+    go false e = absurd (o (u (eqb-false wanted 0 e)))
+
+-- all that the search reads is made of an accepted lending
+module _ (b pairs block : List ℕ) (numbers supports images bytes : List ℕ) (r : Verdicts) (left : CompiledLent b pairs block numbers supports images bytes r) (is : r ≡ Accepted) (limit : ℕ) (small : limit < 2 ^ 32) (task : List ℕ) (size room : ℕ)
+    (rooms : room ≡ roomFor (at task WANTED) (at numbers VARIABLES) size) (narrow : room < 2 ^ 64) (unlisted : (at task WANTED ≡ 0 → ⊥) → size ≡ 0) (bounded : List ℕ) (put : bounded ≡ set (set numbers LIMIT limit) ROOM room) (arranged bytes′ : List ℕ) (positions : ℕ)
+    (put-by : Arranged (at task BARE) block (at numbers VARIABLES) bounded bytes arranged bytes′ positions) where
+  abbrev bare : ℕ
+  bare = at task BARE
+
+  abbrev p : Problem
+  p = treeOf bare b pairs block
+
+  abbrev pub own : Problem
+  own = ownOf b pairs block numbers supports images bytes r left is limit room bounded put bare arranged bytes′ positions put-by
+
+  abbrev pub lies : Laid (treeOf (at task BARE) b pairs block) own (orderOf (at task BARE) b pairs) arranged supports images bytes′ positions
+  lies = laid b pairs block numbers supports images bytes r left is limit room bounded put bare arranged bytes′ positions put-by
+
+  abbrev n : ℕ
+  n = problemOf b .variables
+
+  some : 0 < n
+  some = left .limits is .wellFormed .some
+
+  rooms-is : room ≡ roomFor (at task WANTED) n size
+  rooms-is = rooms ∙ ap (λ (k : ℕ). roomFor (at task WANTED) k size) (left .compiled is .numbered .variables)
+
+  empty-room : (list : List ℕ) → length list ≡ size → ListRoom n room list 0
+  empty-room list same = record {
+    some = some;
+    fits = λ o. subst₂ (λ (k m : ℕ). k * n ≤ m) (sym rooms-is) (room-lent (at task WANTED) n size unlisted (λ g. o (same ∙ g)) ∙ sym same) (room-fits (at task WANTED) n size some);
+    listed = omega arith;
+    small = narrow;
+  }
+
+  module _ (tables indexed tables′ : List ℕ) (made : Made own arranged supports tables indexed tables′) (numbers′ : List ℕ) (orders : numbers′ ≡ set (ordered bytes′ 12 indexed) BLOCK positions)
+      (stack stack′ work′ : List ℕ) (dead : Bool) (ls : length stack ≡ 208) (lw : length task ≡ 256) (none : at task PLANS ≡ 0) (q : Reached (ownIn (treeOf (at task BARE) b pairs block) numbers′) (treeOf (at task BARE) b pairs block .symmetries) [] 0 stack task stack′ work′ dead) where
+    plans-none : at work′ PLANS ≡ 0
+    plans-none = q .kept PLANS (omega arith) ∙ none
+
+    abbrev at-first : (i : ℕ) → i < LINKED → at numbers′ i ≡ at arranged i
+    at-first = first p own (orderOf bare b pairs) arranged supports images bytes′ positions lies tables indexed tables′ made numbers′ orders
+
+    limit-is : at arranged LIMIT ≡ limit
+    limit-is = limit-laid b pairs block numbers supports images bytes r left is limit room bounded put bare arranged bytes′ positions put-by
+
+    room-is : at arranged ROOM ≡ room
+    room-is = room-laid b pairs block numbers supports images bytes r left is limit room bounded put bare arranged bytes′ positions put-by
+
+    pub prepared-dead : dead ≡ true → Prepared task b pairs block limit size stack′ work′ supports tables′ numbers′ ALL
+    prepared-dead e = record {
+      refused = λ z. absurd (omega arith);
+      accepted = λ z. accepts b pairs block numbers supports images bytes r left is;
+      begun = λ z. plans-none;
+      dead = λ z. not-true (isLive p []) (sym (q .answers) ∙ e);
+      known = λ z y. absurd (y refl);
+      bounded = λ z. absurd (omega arith);
+      roomy = λ z. absurd (omega arith);
+      order = λ z. absurd (omega arith);
+      live = λ z. absurd (omega arith);
+    }
+
+    pub prepared-live : dead ≡ false → Prepared task b pairs block limit size stack′ work′ supports tables′ numbers′ DEEPER
+    prepared-live e = record {
+      refused = λ z. absurd (omega arith);
+      accepted = λ z. accepts b pairs block numbers supports images bytes r left is;
+      begun = λ z. plans-none;
+      dead = λ z. absurd (omega arith);
+      known = λ z y. refl;
+      bounded = λ z. at-first LIMIT (omega arith) ∙ limit-is;
+      roomy = λ z. at-first ROOM (omega arith) ∙ room-is ∙ rooms-is;
+      order = λ z. order-put p own (orderOf bare b pairs) arranged supports images bytes′ positions lies tables indexed tables′ made numbers′ orders;
+      live = λ z list same. start p own (orderOf bare b pairs) arranged supports images bytes′ positions lies tables indexed tables′ made numbers′ orders limit room small limit-is room-is stack task stack′ work′ dead ls lw none q e list (empty-room list same);
+    }
+
+pub prepared-refused : (task b pairs block : List ℕ) (limit size number item : ℕ) (stack work supports tables numbers : List ℕ) → verdictLent b pairs block ≡ refused number item → number < 2 ^ 8 → length work ≡ 256 →
+    Prepared task b pairs block limit size stack (set (set work NUMBER number) ITEM item) supports tables numbers REFUSED
+prepared-refused task b pairs block limit size number item stack work supports tables numbers v small long =
     let l = length-set work NUMBER number in
     let e : at (set (set work NUMBER number) ITEM item) NUMBER ≡ number = at-set-other (set work NUMBER number) ITEM item NUMBER (λ z. omega arith) ∙ at-set work NUMBER number (omega arith) in
     let f : at (set (set work NUMBER number) ITEM item) ITEM ≡ item = at-set (set work NUMBER number) ITEM item (omega arith) in
@@ -276,6 +457,7 @@ prepared-refused b pairs block limit size number item stack work supports tables
       dead = λ z. absurd (omega arith);
       known = λ z. absurd (z refl);
       bounded = λ z. absurd (omega arith);
+      roomy = λ z. absurd (omega arith);
       order = λ z. absurd (omega arith);
       live = λ z. absurd (omega arith);
     }
@@ -290,10 +472,10 @@ stop-in (spent k u) = omega arith
 stop-in (full k u) = omega arith
 
 -- a walk along all nodes is the run
-run-to : (p : Problem) (order : List ℕ) → length order ≡ p .variables → (limit : ℕ) (list work′ list′ : List ℕ) (tally′ : Tally) (stop : ℕ) →
-    stateOf tally′ work′ stop list′ ≡ walk p order limit (nodes p) (zeroth list) → RunTo p order (resultOf p limit (length list)) list work′ list′ tally′ stop
-run-to p order sized limit list work′ list′ tally′ stop h =
-    let s = h ∙ outcome p order sized limit list in
+run-to : (p : Problem) (order : List ℕ) → length order ≡ p .variables → (limit room bytes : ℕ) (list work′ list′ : List ℕ) (tally′ : Tally) (stop : ℕ) → room * p .variables ≤ bytes → bytes < suc room * p .variables → ((length list ≡ 0 → ⊥) → bytes ≡ length list) →
+    stateOf tally′ work′ stop list′ ≡ walk p order limit room (nodes p) (zeroth list) → RunTo p order (resultOf p limit bytes) list work′ list′ tally′ stop
+run-to p order sized limit room bytes list work′ list′ tally′ stop fits most same h =
+    let s = h ∙ outcome p order sized limit room bytes list fits most same in
     record {
       tally = ap (λ (x : State). x .tally) s;
       plans = ap (λ (x : State). x .plans) s;
@@ -301,8 +483,8 @@ run-to p order sized limit list work′ list′ tally′ stop h =
       wrote = ap (λ (x : State). x .list) s;
     }
 
-module _ (b pairs block : List ℕ) (limit : ℕ) (list stack work supports tables numbers : List ℕ) (step : ℕ) (h : Prepared b pairs block limit (length list) stack work supports tables numbers step) where
-  pub explored-refused : (tally : Tally) (stop : ℕ) → step ≡ REFUSED → stop ≡ REFUSED → Explored b pairs block limit list tally work list tally stop
+module _ (task b pairs block : List ℕ) (limit : ℕ) (list stack work supports tables numbers : List ℕ) (step : ℕ) (unlisted : (at task WANTED ≡ 0 → ⊥) → length list ≡ 0) (h : Prepared task b pairs block limit (length list) stack work supports tables numbers step) where
+  pub explored-refused : (tally : Tally) (stop : ℕ) → step ≡ REFUSED → stop ≡ REFUSED → Explored task b pairs block limit list tally work list tally stop
   explored-refused tally stop e s = record {
     refused = λ z. (h .refused e, refl, refl);
     accepted = λ z. absurd (z s);
@@ -312,29 +494,42 @@ module _ (b pairs block : List ℕ) (limit : ℕ) (list stack work supports tabl
   }
 
   abbrev tree : Problem
-  tree = problemLent b pairs block
+  tree = treeOf (at task BARE) b pairs block
 
   abbrev by : List ℕ
-  by = orderLent b pairs
+  by = orderOf (at task BARE) b pairs
+
+  abbrev room : ℕ
+  room = roomFor (at task WANTED) (problemOf b .variables) (length list)
 
   sized : (step ≡ REFUSED → ⊥) → length by ≡ tree .variables
-  sized n = ordering-lent b pairs block (passed-all (verdictLent b pairs block) (h .accepted n)) .sized
+  sized n = go (eqb (at task BARE) 0)
+    where
+      go : (c : Bool) → length (choose c (orderLent b pairs) (below (problemOf b .variables))) ≡ problemOf b .variables
+      go true = ordering-lent b pairs block (passed-all (verdictLent b pairs block) (h .accepted n)) .sized
+      go false = ordering-below (problemOf b .variables) .sized
 
-  pub explored-dead : (tally tally′ : Tally) (stop : ℕ) → step ≡ ALL → stop ≡ ALL → Cleared tally′ → Explored b pairs block limit list tally work list tally′ stop
+  ran : (step ≡ REFUSED → ⊥) → (work′ list′ : List ℕ) (tally′ : Tally) (stop : ℕ) → stateOf tally′ work′ stop list′ ≡ walk tree by limit room (nodes tree) (zeroth list) → RunTo tree by (resultFor task b pairs block limit (length list)) list work′ list′ tally′ stop
+  ran n work′ list′ tally′ stop =
+      let some = well-sheet b pairs block (passed-all (verdictLent b pairs block) (h .accepted n)) .some in
+      run-to tree by (sized n) limit room (bytesFor (at task WANTED) (problemOf b .variables) (length list)) list work′ list′ tally′ stop (room-fits (at task WANTED) (problemOf b .variables) (length list) some) (room-most (at task WANTED) (problemOf b .variables) (length list) some)
+      (room-lent (at task WANTED) (problemOf b .variables) (length list) unlisted)
+
+  pub explored-dead : (tally tally′ : Tally) (stop : ℕ) → step ≡ ALL → stop ≡ ALL → Cleared tally′ → Explored task b pairs block limit list tally work list tally′ stop
   unfolding nodes walk
   explored-dead tally tally′ stop e s t = record {
     refused = λ z. absurd (omega arith);
     accepted = λ z. h .accepted (λ f. omega arith);
-    ended = λ z. run-to tree by (sized (λ f. omega arith)) limit list work list tally′ stop none;
+    ended = λ z. ran (λ f. omega arith) work list tally′ stop none;
     summed = λ z. t .summed;
     known = λ z. omega arith;
   }
     where
-      none : stateOf tally′ work stop list ≡ walk tree by limit (nodes tree) (zeroth list)
+      none : stateOf tally′ work stop list ≡ walk tree by limit room (nodes tree) (zeroth list)
       none =
           ap₂ (λ (a : Tally) (k : ℕ). record { tally = a; plans = k; stop = stop; list = list }) (t .is) (h .begun (λ f. omega arith))
           ∙ ap (λ (k : ℕ). record { tally = noNodes; plans = 0; stop = k; list = list }) s
-          ∙ sym (ap (λ (ts : List (List ℕ)). walk tree by limit ts (zeroth list)) (dead-below tree (tree .variables) [] (h .dead e)))
+          ∙ sym (ap (λ (ts : List (List ℕ)). walk tree by limit room ts (zeroth list)) (dead-below tree (tree .variables) [] (h .dead e)))
 
   module _ (e : step ≡ DEEPER) (count : Tally) (none : Cleared count) (values : ℕ) (all : values ≡ at stack (17 * 0)) where
     abbrev given : AtPrefix tree stack work supports tables numbers list count 0
@@ -344,22 +539,22 @@ module _ (b pairs block : List ℕ) (limit : ℕ) (list stack work supports tabl
     start-asks = subst (AtValues tree stack work supports tables numbers list count 0) (sym all) (values-ask tree stack work supports tables numbers list count 0 given)
 
     module _ (tally : Tally) (stack′ work′ list′ : List ℕ) (tally′ : Tally) (stop : ℕ) (w : Walked tree (tried tree work 0 values) stack work numbers list count 0 stack′ work′ list′ tally′ stop) where
-      whole : stateOf tally′ work′ stop list′ ≡ walk tree by limit (nodes tree) (zeroth list)
+      whole : stateOf tally′ work′ stop list′ ≡ walk tree by limit room (nodes tree) (zeroth list)
       unfolding nodes
       whole =
           w .state
-          ∙ ap₂ (λ (k : ℕ) (ts : List (List ℕ)). walk tree (orderIn numbers (tree .variables)) k ts (stateOf count work ALL list)) (h .bounded e)
+          ∙ ap₂ (λ (k : ℕ) (ts : List (List ℕ)). walk tree (orderIn numbers (tree .variables)) k (at numbers ROOM) ts (stateOf count work ALL list)) (h .bounded e)
           (ap (tried tree work 0) all ∙ tried-all tree stack work supports tables numbers list count 0 given ∙ ap₂ (nodesBelow tree) (sub-zero (tree .variables)) (prefix-zero work))
-          ∙ ap₂ (λ (a : Tally) (k : ℕ). walk tree (orderIn numbers (tree .variables)) limit (nodesBelow tree (tree .variables) []) (record { tally = a; plans = k; stop = ALL; list = list })) (none .is) (h .begun (λ f. omega arith))
-          ∙ ap (λ (o : List ℕ). walk tree o limit (nodesBelow tree (tree .variables) []) (zeroth list)) (h .order e)
+          ∙ ap₂ (λ (a : Tally) (k : ℕ). walk tree (orderIn numbers (tree .variables)) limit (at numbers ROOM) (nodesBelow tree (tree .variables) []) (record { tally = a; plans = k; stop = ALL; list = list })) (none .is) (h .begun (λ f. omega arith))
+          ∙ ap₂ (λ (o : List ℕ) (k : ℕ). walk tree o limit k (nodesBelow tree (tree .variables) []) (zeroth list)) (h .order e) (h .roomy e)
 
-      abbrev ended-so : RunTo tree by (resultOf tree limit (length list)) list work′ list′ tally′ stop
-      ended-so = run-to tree by (sized (λ f. omega arith)) limit list work′ list′ tally′ stop whole
+      abbrev ended-so : RunTo tree by (resultFor task b pairs block limit (length list)) list work′ list′ tally′ stop
+      ended-so = ran (λ f. omega arith) work′ list′ tally′ stop whole
 
       stop-known : stop < DEEPER
-      stop-known = let s = stop-in (resultOf tree limit (length list) .ending) in let q = ended-so .stopped in omega arith
+      stop-known = let s = stop-in (resultFor task b pairs block limit (length list) .ending) in let q = ended-so .stopped in omega arith
 
-      pub explored : Explored b pairs block limit list tally work′ list′ tally′ stop
+      pub explored : Explored task b pairs block limit list tally work′ list′ tally′ stop
       explored = record {
         refused = λ z. absurd (let k = stop-known in omega arith);
         accepted = λ z. h .accepted (λ f. omega arith);
@@ -369,8 +564,8 @@ module _ (b pairs block : List ℕ) (limit : ℕ) (list stack work supports tabl
       }
 
 -- ---- the answer
-pub stopped : (b pairs block : List ℕ) (limit : ℕ) (list : List ℕ) (tally : Tally) (work′ list′ : List ℕ) (tally′ : Tally) (stop : ℕ) → Explored b pairs block limit list tally work′ list′ tally′ stop → Stopped work′ stop
-stopped b pairs block limit list tally work′ list′ tally′ stop h = record { number = λ z. h .refused z .0 .number; known = h .known }
+pub stopped : (task b pairs block : List ℕ) (limit : ℕ) (list : List ℕ) (tally : Tally) (work′ list′ : List ℕ) (tally′ : Tally) (stop : ℕ) → Explored task b pairs block limit list tally work′ list′ tally′ stop → Stopped work′ stop
+stopped task b pairs block limit list tally work′ list′ tally′ stop h = record { number = λ z. h .refused z .0 .number; known = h .known }
 
 -- an ending is known by its figures and how it stopped
 abbrev endingBy : ℕ → ℕ → ℕ → Run.Ending
@@ -381,40 +576,114 @@ ending-by (finished k u) = refl
 ending-by (spent k u) = refl
 ending-by (full k u) = refl
 
--- what the contract of a run says
+-- a verdict is one
+abbrev numberIn : Verdict → ℕ
+numberIn accepted = 0
+numberIn (refused number item) = suc number
+
+abbrev itemIn : Verdict → ℕ
+itemIn accepted = 0
+itemIn (refused number item) = item
+
+refused-not : {number item : ℕ} → refused number item ≡ accepted → ⊥
+refused-not e = let z = ap numberIn e in omega arith
+
+refused-same : {number item number′ item′ : ℕ} → refused number item ≡ refused number′ item′ → (number ≡ number′) × (item ≡ item′)
+refused-same e = (let z = ap numberIn e in omega arith, ap itemIn e)
+
+-- what is known of a run that carried out a task
+pub record Ran (task b pairs block : List ℕ) (limit : ℕ) (list : List ℕ) (tally : Tally) (list′ : List ℕ) (tally′ : Tally) (r : Answer) : Type 0 where
+  pub refused : (number item : ℕ) → verdictLent b pairs block ≡ refused number item → (means r ≡ refusal number item) × (list′ ≡ list) × (tally′ ≡ tally)
+  pub ended : verdictLent b pairs block ≡ accepted →
+      (means r ≡ ended (resultFor task b pairs block limit (length list) .ending))
+      × (list′ ≡ kept (map (write (orderOf (at task BARE) b pairs)) (resultFor task b pairs block limit (length list) .rows)) list)
+      × (tally′ ≡ tallyBy (orderOf (at task BARE) b pairs) (treeOf (at task BARE) b pairs block) (nodesIn (resultFor task b pairs block limit (length list) .ending)))
+
+module _ (task b pairs block : List ℕ) (limit : ℕ) (list : List ℕ) (tally : Tally) (work′ list′ : List ℕ) (tally′ : Tally) (stop : ℕ) (h : Explored task b pairs block limit list tally work′ list′ tally′ stop) (made : ℕ) (is : made ≡ tally′ .nodes) (r : Answer) (a : Answered work′ made stop r) where
+  abbrev x : Result
+  x = resultFor task b pairs block limit (length list)
+
+  same-ending : (stop ≡ REFUSED → ⊥) → means r ≡ ended (x .ending)
+  unfolding tallyBy
+  same-ending n =
+      let f = a .ended n in
+      let o = h .ended n in
+      let m : nodesIn (f .0) ≡ nodesIn (x .ending) = f .3 ∙ is ∙ ap (λ (t : Tally). t .nodes) (o .tally) in
+      let s : endingBy (plansIn (f .0)) (nodesIn (f .0)) (stopIn (f .0)) ≡ endingBy (plansIn (x .ending)) (nodesIn (x .ending)) (stopIn (x .ending)) =
+      ap₂ (λ (i j : ℕ). endingBy i j (stopIn (f .0))) (f .2 ∙ o .plans) m ∙ ap (endingBy (plansIn (x .ending)) (nodesIn (x .ending))) (f .4 ∙ o .stopped) in
+      f .1 ∙ ap ended (sym (ending-by (f .0)) ∙ s ∙ ending-by (x .ending))
+
+  pub ran-so : Ran task b pairs block limit list tally list′ tally′ r
+  ran-so = go (eqb stop REFUSED) refl
+    where
+      go : (c : Bool) → eqb stop REFUSED ≡ c → Ran task b pairs block limit list tally list′ tally′ r
+      go true e =
+          let z = eqb-true stop REFUSED e in
+          let f = h .refused z in
+          record {
+            refused = λ number item v. let w = refused-same (sym (f .0 .verdict) ∙ v) in (a .refused z ∙ ap₂ refusal (w .0) (w .1), f .1, f .2);
+            ended = λ v. absurd (refused-not (sym (f .0 .verdict) ∙ v));
+          }
+      go false e =
+          let n = eqb-false stop REFUSED e in
+          let o = h .ended n in
+          record {
+            refused = λ number item v. absurd (refused-not (sym v ∙ h .accepted n));
+            ended = λ v. (same-ending n, o .wrote, o .tally);
+          }
+
+-- ---- a run that lists
+-- what its contract says
 pub record Said (b pairs block : List ℕ) (limit : ℕ) (list : List ℕ) (tally : Tally) (list′ : List ℕ) (tally′ : Tally) (r : Answer) : Type 0 where
   pub answer : means r ≡ answerLent b pairs block limit list
   pub lists : list′ ≡ listLent b pairs block limit list
   pub counts : tally′ ≡ tallyLent b pairs block limit list tally
 
-module _ (b pairs block : List ℕ) (limit : ℕ) (list : List ℕ) (tally : Tally) (work′ list′ : List ℕ) (tally′ : Tally) (stop : ℕ) (h : Explored b pairs block limit list tally work′ list′ tally′ stop) (made : ℕ) (is : made ≡ tally′ .nodes) (r : Answer) (a : Answered work′ made stop r) where
-  said-refused : stop ≡ REFUSED → Said b pairs block limit list tally list′ tally′ r
-  said-refused e =
-      let f = h .refused e in
-      let q = refused-lent b pairs block limit list tally (at work′ NUMBER) (at work′ ITEM) (f .0 .verdict) in
-      record { answer = a .refused e ∙ sym (q .0); lists = f .1 ∙ sym (q .1); counts = f .2 ∙ sym (q .2) }
+-- in a list of no byte there are no rows
+no-rows : (p : Problem) (limit : ℕ) → 0 < p .variables → resultOf p limit 0 .rows ≡ []
+no-rows p limit s = none-of (resultOf p limit 0 .rows) (nothing-of (length (resultOf p limit 0 .rows)) (rows-fit p limit 0))
+  where
+    nothing-of : (k : ℕ) → k * p .variables ≤ 0 → k ≡ 0
+    nothing-of zero l = refl
+    nothing-of (suc k) l = absurd (omega arith)
 
-  said-ended : (stop ≡ REFUSED → ⊥) → Said b pairs block limit list tally list′ tally′ r
-  unfolding answerLent answerLentFor listLent listLentFor tallyLent resultBy placeCounts tallyBy
-  said-ended n =
-      let x = resultOf (problemLent b pairs block) limit (length list) in
-      let f = a .ended n in
-      let o = h .ended n in
-      let v = h .accepted n in
-      let m : nodesIn (f .0) ≡ nodesIn (x .ending) = f .3 ∙ is ∙ ap (λ (t : Tally). t .nodes) (o .tally) in
-      let s : endingBy (plansIn (f .0)) (nodesIn (f .0)) (stopIn (f .0)) ≡ endingBy (plansIn (x .ending)) (nodesIn (x .ending)) (stopIn (x .ending)) =
-      ap₂ (λ (i j : ℕ). endingBy i j (stopIn (f .0))) (f .2 ∙ o .plans) m ∙ ap (endingBy (plansIn (x .ending)) (nodesIn (x .ending))) (f .4 ∙ o .stopped) in
-      let e : f .0 ≡ x .ending = sym (ending-by (f .0)) ∙ s ∙ ending-by (x .ending) in
-      let q : ended (x .ending) ≡ answerLent b pairs block limit list = ap (λ (u : Verdict). answerLentFor u b pairs block limit (length list)) (sym v) in
-      record {
-        answer = f .1 ∙ ap ended e ∙ q;
-        lists = o .wrote ∙ ap (λ (u : Verdict). listLentFor u b pairs block limit list) (sym v);
-        counts = o .tally ∙ ap (λ (u : Run.Answer). tallyLentFor u b pairs block tally) q;
-      }
+    none-of : {A : Type 0} (l : List A) → length l ≡ 0 → l ≡ []
+    none-of [] e = refl
+    none-of (y ∷ l) e = absurd (omega arith)
+
+kept-listed : (p : Problem) (order : List ℕ) (limit : ℕ) (list : List ℕ) → 0 < p .variables →
+    kept (map (write order) (resultOf p limit (length list) .rows)) list ≡ written (map (write order) (resultOf p limit (length list) .rows)) list
+unfolding written flat
+kept-listed p order limit list s = go (eqb (length list) 0) refl
+  where
+    go : (c : Bool) → eqb (length list) 0 ≡ c → kept (map (write order) (resultOf p limit (length list) .rows)) list ≡ written (map (write order) (resultOf p limit (length list) .rows)) list
+    go true e =
+        let z = eqb-true (length list) 0 e in
+        kept-none (map (write order) (resultOf p limit (length list) .rows)) list z
+        ∙ sym (ap (λ (rows : List (List ℕ)). written (map (write order) rows) list) (ap (λ (k : ℕ). resultOf p limit k .rows) z ∙ no-rows p limit s))
+    go false e = kept-over (map (write order) (resultOf p limit (length list) .rows)) list (eqb-false (length list) 0 e)
+
+module _ (task b pairs block : List ℕ) (limit : ℕ) (list : List ℕ) (tally : Tally) (list′ : List ℕ) (tally′ : Tally) (r : Answer) (h : Ran task b pairs block limit list tally list′ tally′ r) (whole : at task BARE ≡ 0) (lists : at task WANTED ≡ 0) where
+  abbrev y : Result
+  y = resultOf (problemLent b pairs block) limit (length list)
+
+  same-result : resultFor task b pairs block limit (length list) ≡ y
+  same-result = ap₂ (λ (i j : ℕ). resultOf (treeOf i b pairs block) limit (bytesFor j (problemOf b .variables) (length list))) whole lists
+
+  abbrev Told : Verdict → Type 0
+  Told v = (means r ≡ answerLentFor v b pairs block limit (length list)) × (list′ ≡ listLentFor v b pairs block limit list) × (tally′ ≡ tallyLentFor (answerLentFor v b pairs block limit (length list)) b pairs block tally)
+
+  told : (v : Verdict) → verdictLent b pairs block ≡ v → Told v
+  unfolding answerLentFor listLentFor resultBy placeCounts tallyBy
+  told (refused number item) v = h .refused number item v
+  told accepted v =
+      let f = h .ended v in
+      let some = well-sheet b pairs block (passed-all (verdictLent b pairs block) v) .some in (
+        f .0 ∙ ap (λ (z : Result). ended (z .ending)) same-result,
+        f .1 ∙ ap₂ (λ (i : ℕ) (z : Result). kept (map (write (orderOf i b pairs)) (z .rows)) list) whole same-result ∙ kept-listed (problemLent b pairs block) (orderLent b pairs) limit list some,
+        f .2 ∙ ap₂ (λ (i : ℕ) (z : Result). tallyBy (orderOf i b pairs) (treeOf i b pairs block) (nodesIn (z .ending))) whole same-result,
+      )
 
   pub said : Said b pairs block limit list tally list′ tally′ r
-  said = go (eqb stop REFUSED) refl
-    where
-      go : (c : Bool) → eqb stop REFUSED ≡ c → Said b pairs block limit list tally list′ tally′ r
-      go true e = said-refused (eqb-true stop REFUSED e)
-      go false e = said-ended (eqb-false stop REFUSED e)
+  unfolding answerLent listLent tallyLent
+  said = let t = told (verdictLent b pairs block) refl in record { answer = t .0; lists = t .1; counts = t .2 }

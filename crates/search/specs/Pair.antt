@@ -47,16 +47,16 @@ pub record Cleared (t : Tally) : Type 0 where
 abbrev pub stateOf : Tally → List ℕ → ℕ → List ℕ → State
 stateOf tally work stop list = record { tally = tally; plans = at work PLANS; stop = stop; list = list }
 
--- the list has room for so many plans of n bytes, as the numbers say, and those listed so far are among them
+-- there is room for so many plans of n bytes, in a list that isn't empty too, and those found so far are among them
 pub record ListRoom (n room : ℕ) (list : List ℕ) (plans : ℕ) : Type 0 where
   pub some : 0 < n
-  pub fits : room * n ≤ length list
-  pub most : length list < suc room * n
-  pub listed : plans * n ≤ length list
+  pub fits : (length list ≡ 0 → ⊥) → room * n ≤ length list
+  pub listed : plans ≤ room
+  pub small : room < 2 ^ 64
 
 -- a plan was found: the answer is FULL where it has no room, else it is listed by variable number, and counted in `work`
-pub record Listed (n : ℕ) (order work list work′ list′ : List ℕ) (stop : ℕ) : Type 0 where
-  pub state : (tally : Tally) → stateOf tally work′ stop list′ ≡ listed n (write order (prefixOf work n)) (stateOf tally work ALL list)
+pub record Listed (n room : ℕ) (order work list work′ list′ : List ℕ) (stop : ℕ) : Type 0 where
+  pub state : (tally : Tally) → stateOf tally work′ stop list′ ≡ listed n room (write order (prefixOf work n)) (stateOf tally work ALL list)
   pub known : stop < DEEPER
   pub others : (i : ℕ) → (i ≡ PLANS → ⊥) → at work′ i ≡ at work i
   pub work-length : length work′ ≡ length work
@@ -92,7 +92,7 @@ pub record AtValue (p : Problem) (stack work supports tables numbers list : List
 
 -- a walk along the nodes ts, after which the counts still add up; no set and no mark of a depth up to k and no value of the prefix is changed
 pub record Walked (p : Problem) (ts : List (List ℕ)) (stack work numbers list : List ℕ) (tally : Tally) (k : ℕ) (stack′ work′ list′ : List ℕ) (tally′ : Tally) (stop : ℕ) : Type 0 where
-  pub state : stateOf tally′ work′ stop list′ ≡ walk p (orderIn numbers (p .variables)) (at numbers LIMIT) ts (stateOf tally work ALL list)
+  pub state : stateOf tally′ work′ stop list′ ≡ walk p (orderIn numbers (p .variables)) (at numbers LIMIT) (at numbers ROOM) ts (stateOf tally work ALL list)
   pub summed : Summed tally′
   pub sets : (i : ℕ) → i < 16 * suc k → at stack′ i ≡ at stack i
   pub values : (i : ℕ) → i < k → at work′ i ≡ at work i

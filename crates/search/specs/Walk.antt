@@ -10,7 +10,7 @@ use Rattle.model.specs.Lists.{flat, choose, at, total}
 use Rattle.model.specs.ValueSets.{members}
 use Rattle.model.specs.Problem.{Problem}
 use Rattle.model.specs.Search.{isPlan, nodesBelow, nodes}
-use Rattle.model.specs.Run.{Ending, finished, spent, full, Tally, settledBy, countsBy}
+use Rattle.model.specs.Run.{Ending, finished, spent, full, written, Tally, settledBy, countsBy}
 use Rattle.order.specs.Reordered.{write}
 use Rattle.layout.specs.Places.{ALL, SPENT, FULL}
 
@@ -38,11 +38,19 @@ pub record State : Type 0 where
 unfoldable pub overwritten : ℕ → List ℕ → List ℕ → List ℕ
 overwritten i row list = take i list ++ row ++ drop (i + length row) list
 
--- a plan was found: full where n bytes more have no room, else it is listed
-unfoldable pub listed : ℕ → List ℕ → State → State
-listed n row s =
-    choose (leb (suc (s .plans) * n) (length (s .list)))
-    (record { tally = s .tally; plans = suc (s .plans); stop = ALL; list = overwritten (s .plans * n) row (s .list) })
+-- the same, but a list of no byte stays as it is: its run counts plans alone
+unfoldable pub noted : ℕ → List ℕ → List ℕ → List ℕ
+noted i row list = choose (eqb (length list) 0) list (overwritten i row list)
+
+-- and so of all rows at its front
+unfoldable pub kept : List (List ℕ) → List ℕ → List ℕ
+kept rows list = choose (eqb (length list) 0) list (written rows list)
+
+-- a plan of n bytes was found: full where there is room for no plan more, else it is listed
+unfoldable pub listed : ℕ → ℕ → List ℕ → State → State
+listed n room row s =
+    choose (leb (suc (s .plans)) room)
+    (record { tally = s .tally; plans = suc (s .plans); stop = ALL; list = noted (s .plans * n) row (s .list) })
     (record { tally = s .tally; plans = s .plans; stop = FULL; list = s .list })
 
 abbrev pub counted : ℕ → State → State
@@ -54,17 +62,17 @@ exhausted s = record { tally = s .tally; plans = s .plans; stop = SPENT; list = 
 -- one node: nothing once the run has stopped; spent where the nodes made equal the limit; else one node more, and a plan is listed.
 -- p's variables are a sheet's in an order: a node that settles p's variable j is counted as one of variable order[j], and a plan is written by
 -- variable number
-unfoldable pub visit : Problem → List ℕ → ℕ → List ℕ → State → State
-visit p order limit t s =
+unfoldable pub visit : Problem → List ℕ → ℕ → ℕ → List ℕ → State → State
+visit p order limit room t s =
     let s′ = counted (at order (settledBy t)) s in
     choose (eqb (s .stop) ALL)
     (choose (eqb (s .tally .nodes) limit) (exhausted s)
-    (choose (isPlan p t) (listed (p .variables) (write order t) s′) s′))
+    (choose (isPlan p t) (listed (p .variables) room (write order t) s′) s′))
     s
 
-unfoldable pub walk : Problem → List ℕ → ℕ → List (List ℕ) → State → State
-walk p order limit [] s = s
-walk p order limit (t ∷ ts) s = walk p order limit ts (visit p order limit t s)
+unfoldable pub walk : Problem → List ℕ → ℕ → ℕ → List (List ℕ) → State → State
+walk p order limit room [] s = s
+walk p order limit room (t ∷ ts) s = walk p order limit room ts (visit p order limit room t s)
 
 -- the nodes of the values in a set, k variables left to settle after this one: for each value its node and the nodes below
 unfoldable pub nodesFor : Problem → ℕ → List ℕ → ℕ → List (List ℕ)

@@ -11,6 +11,7 @@ use layout::PLANS;
 use layout::REFUSED;
 use layout::ROOM;
 use layout::SPENT;
+use layout::SYMMETRIES;
 use layout::VARIABLES;
 use model::ValueSet;
 ghost use mathlib.Core.Path.{_≡_};
@@ -25,10 +26,15 @@ ghost use Rattle.order.specs.Order.{Ordering};
 ghost use Rattle.order.specs.Reordered.{write};
 ghost use Rattle.lent.specs.Lent.{answerLent, listLent, tallyLent};
 ghost use Rattle.layout.specs.Places.{VARIABLES, LIMIT, ROOM, ORDER, PLANS, BLOCK};
-ghost use Rattle.search.specs.Walk.{noNodes, overwritten};
+ghost use Rattle.search.specs.Walk.{noNodes, overwritten, noted};
 ghost use Rattle.search.specs.Pair.{prefixOf, settling, orderIn, Countable, Counted, Cleared, ListRoom, Listed, AtValues, AtValue, Walked, Entered, tried, lowestTried};
 ghost use Rattle.search.specs.Meaning.{means, tallyIn};
-ghost use Rattle.search.specs.Whole.{ordered, Blank, Prepared, Explored, Stopped, Answered};
+ghost use Rattle.search.specs.Whole.{BARE, WANTED, roomFor, Arranged, ordered, Blank, Prepared, Explored, Stopped, Answered};
+
+// The task of a run, in `work` before it: whether the symmetries are left out, and how many plans are asked for, 0 where they are listed.
+const BARE: usize = 224;
+
+const WANTED: usize = 225;
 
 // What a run counts (the paper's tally): the nodes made (its trials), and of these the nodes that settle each of twelve variables.
 pub struct Tally {
@@ -114,18 +120,30 @@ fn keep(list: &mut [u8], work: &[u64], numbers: &[u64; 384], n: usize, start: us
     }
 }
 
-// A plan was found: FULL where its bytes have no room, else the plan is listed and counted.
+// Lists the plan after so many others; a list of no byte stays as it is.
+fn note(list: &mut [u8], work: &[u64], numbers: &[u64; 384], plans: usize)
+    requires { ⌜ ListRoom (at (now numbers) VARIABLES) (at (now numbers) ROOM) (now list) plans × (plans ≡ at (now numbers) ROOM → ⊥) ⌝ }
+    requires { ⌜ (at (now numbers) VARIABLES ≤ 12) × (at (now numbers) VARIABLES ≤ length (now work)) × ((i : ℕ) → i < at (now numbers) VARIABLES → at (now work) i < 256) × Ordering (at (now numbers) VARIABLES) (orderIn (now numbers) (at (now numbers) VARIABLES)) ⌝ }
+    ensures { λ _. ⌜ now (list .exit) ≡ noted (plans * at (now (numbers .entry)) VARIABLES) (write (orderIn (now (numbers .entry)) (at (now (numbers .entry)) VARIABLES)) (prefixOf (now (work .entry)) (at (now (numbers .entry)) VARIABLES))) (now (list .entry)) ⌝ }
+{
+    if list.len() == 0 {
+        return;
+    }
+    let n = numbers[VARIABLES] as usize;
+    keep(list, work, numbers, n, plans * n);
+}
+
+// A plan was found: FULL where it has no room, else it is counted, and listed in a list that isn't empty.
 fn list_plan(work: &mut [u64; 256], numbers: &[u64; 384], list: &mut [u8]) -> u8
     requires { ⌜ ListRoom (at (now numbers) VARIABLES) (at (now numbers) ROOM) (now list) (at (now work) PLANS) ⌝ }
     requires { ⌜ (at (now numbers) VARIABLES ≤ 12) × ((i : ℕ) → i < at (now numbers) VARIABLES → at (now work) i < 256) × (length (now work) ≡ 256) × Ordering (at (now numbers) VARIABLES) (orderIn (now numbers) (at (now numbers) VARIABLES)) ⌝ }
-    ensures { λ r. ⌜ Listed (at (now (numbers .entry)) VARIABLES) (orderIn (now (numbers .entry)) (at (now (numbers .entry)) VARIABLES)) (now (work .entry)) (now (list .entry)) (now (work .exit)) (now (list .exit)) r ⌝ }
+    ensures { λ r. ⌜ Listed (at (now (numbers .entry)) VARIABLES) (at (now (numbers .entry)) ROOM) (orderIn (now (numbers .entry)) (at (now (numbers .entry)) VARIABLES)) (now (work .entry)) (now (list .entry)) (now (work .exit)) (now (list .exit)) r ⌝ }
 {
     let plans = work[PLANS] as usize;
     if plans == numbers[ROOM] as usize {
         return FULL;
     }
-    let n = numbers[VARIABLES] as usize;
-    keep(list, work, numbers, n, plans * n);
+    note(list, work, numbers, plans);
     work[PLANS] = (plans + 1) as u64;
     ALL
 }
@@ -299,6 +317,49 @@ fn put_block(numbers: &mut [u64], positions: u64)
     numbers[BLOCK] = positions;
 }
 
+// The number of plans that there is room for, with n variables: the list's, else one less than are asked for.
+fn room_for(work: &[u64; 256], n: usize, size: usize) -> u64
+    requires { ⌜ 0 < n ⌝ }
+    ensures { λ r. ⌜ r ≡ roomFor (at (now (work .entry)) WANTED) n size ⌝ }
+{
+    let wanted = work[WANTED];
+    if wanted == 0 {
+        return (size / n) as u64;
+    }
+    wanted - 1
+}
+
+// The order 0, 1, ..
+fn by_position(order: &mut [u8; 16])
+    requires { ⌜ length (now order) ≡ 16 ⌝ }
+    ensures { λ _. ⌜ (length (now (order .exit)) ≡ 16) × ((k : ℕ) → k < 16 → at (now (order .exit)) k ≡ k) ⌝ }
+{
+    let mut k = 0;
+    while k < 16 {
+        order[k] = k as u8;
+        k += 1;
+    }
+}
+
+// The set of the positions of the block's variables. A bare run has none, no symmetries, and writes by position.
+fn arrange(
+    work: &[u64; 256],
+    numbers: &mut [u64; 384],
+    order: &mut [u8; 16],
+    block: &[u8],
+    n: usize,
+) -> u64
+    requires { ⌜ (n ≤ 16) × (length (now numbers) ≡ 384) × (length (now order) ≡ 16) ⌝ }
+    ensures { λ r. ⌜ Arranged (at (now (work .entry)) BARE) (now (block .entry)) n (now (numbers .entry)) (now (order .entry)) (now (numbers .exit)) (now (order .exit)) r ⌝ }
+{
+    if work[BARE] == 0 {
+        return orderings::positions(block, n, order);
+    }
+    numbers[SYMMETRIES] = 0;
+    by_position(order);
+    0
+}
+
 // Puts the questions to what is lent, and makes of it all that the search reads: REFUSED where it is, and its number and item then stand in `work`;
 // ALL where the empty prefix is dead, else DEEPER.
 fn prepare(
@@ -313,8 +374,8 @@ fn prepare(
     limit: u32,
     size: usize,
 ) -> u8
-    requires { ⌜ Blank (now stack) (now work) (now supports) (now tables) (now numbers) ⌝ }
-    ensures { λ r. ⌜ Prepared (now (sheet .entry)) (now (pairs .entry)) (now (block .entry)) limit size (now (stack .exit)) (now (work .exit)) (now (supports .exit)) (now (tables .exit)) (now (numbers .exit)) r ⌝ }
+    requires { ⌜ Blank (now stack) (now work) (now supports) (now tables) (now numbers) size ⌝ }
+    ensures { λ r. ⌜ Prepared (now (work .entry)) (now (sheet .entry)) (now (pairs .entry)) (now (block .entry)) limit size (now (stack .exit)) (now (work .exit)) (now (supports .exit)) (now (tables .exit)) (now (numbers .exit)) r ⌝ }
 {
     let mut images = [0u8; 26112];
     let mut order = [0u8; 16];
@@ -330,11 +391,11 @@ fn prepare(
     match verdict {
         sheet::Answer::Accepted => {
             let n = numbers[VARIABLES] as usize;
-            let room = size / n;
-            put_bounds(numbers, limit as u64, room as u64);
+            let room = room_for(work, n, size);
+            put_bounds(numbers, limit as u64, room);
+            let positions = arrange(work, numbers, &mut order, block, n);
             index::index(numbers, supports, &images, tables);
             put_order(numbers, &order);
-            let positions = orderings::positions(block, n, &order);
             put_block(numbers, positions);
             if prune::root(stack, work, supports, tables, numbers) {
                 ALL
@@ -386,8 +447,8 @@ fn explore(
     list: &mut [u8],
     tally: &mut Tally,
 ) -> u8
-    requires { ⌜ Blank (now stack) (now work) (now supports) (now tables) (now numbers) ⌝ }
-    ensures { λ r. ⌜ Explored (now (sheet .entry)) (now (pairs .entry)) (now (block .entry)) limit (now (list .entry)) (tallyIn (now (tally .entry))) (now (work .exit)) (now (list .exit)) (tallyIn (now (tally .exit))) r ⌝ }
+    requires { ⌜ Blank (now stack) (now work) (now supports) (now tables) (now numbers) (length (now list)) ⌝ }
+    ensures { λ r. ⌜ Explored (now (work .entry)) (now (sheet .entry)) (now (pairs .entry)) (now (block .entry)) limit (now (list .entry)) (tallyIn (now (tally .entry))) (now (work .exit)) (now (list .exit)) (tallyIn (now (tally .exit))) r ⌝ }
 {
     let step = prepare(
         stack,

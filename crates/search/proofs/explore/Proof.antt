@@ -40,10 +40,9 @@ use denote.Triple.Table.{entered, cited}
 use denote.Triple.Walked.{says, needs, Stays, stay-ref, stay-slice, stay-dropped, walkOf, Walks, ends-at, walked, goes-dropped, goes-slice, goes-ref, walk-meets}
 use Rattle.model.specs.Lists.{at}
 use Rattle.model.specs.Problem.{Problem}
-use Rattle.lent.specs.Lent.{problemLent}
 use Rattle.search.specs.Pair.{Cleared, AtValues, Walked, tried}
 use Rattle.search.specs.Meaning.{tallyIn}
-use Rattle.search.specs.Whole.{Blank, Prepared, Explored}
+use Rattle.search.specs.Whole.{BARE, treeOf, Blank, Prepared, Explored}
 use Rattle.search.specs.declared.Tally.{Tally}
 use Rattle.search.proofs.Tally as T
 use Rattle.search.proofs.Whole.{explored-refused, explored-dead, start-asks, explored}
@@ -256,7 +255,7 @@ module _ {M : Type 1} (𝓤 : URA M) (H : Heap 𝓤) (A : Atoms 𝓤) (W : Given
       abbrev Post : Val → SProp 𝓤
       Post = walkOf 𝓤 H A explore.ended stayed (explore.clauses 𝓤 H A mem run) .post at-explore
 
-      exits : (r : ℕ) (st′ wk′ su′ tb′ nu′ ls′ : List ℕ) (ta′ : Tally) → r < 2 ^ 8 → length ls′ ≡ length ls → Explored (s₅ .now) (s₆ .now) (s₇ .now) a ls (tallyIn ta) wk′ ls′ (tallyIn ta′) r → ent 𝓤 (sem 𝓤 H A (Held st′ wk′ su′ tb′ nu′ ls′ ta′)) (Post (vint w8 r))
+      exits : (r : ℕ) (st′ wk′ su′ tb′ nu′ ls′ : List ℕ) (ta′ : Tally) → r < 2 ^ 8 → length ls′ ≡ length ls → Explored wk (s₅ .now) (s₆ .now) (s₇ .now) a ls (tallyIn ta) wk′ ls′ (tallyIn ta′) r → ent 𝓤 (sem 𝓤 H A (Held st′ wk′ su′ tb′ nu′ ls′ ta′)) (Post (vint w8 r))
       exits r st′ wk′ su′ tb′ nu′ ls′ ta′ gr l e =
           qed W (‵ (Held st′ wk′ su′ tb′ nu′ ls′ ta′) ∷ []) ∵ suffices ! _ (ends-at 𝓤 H A explore.ended stayed (explore.clauses 𝓤 H A mem run) W at-explore (vint w8 r) r (st′, (wk′, (su′, (tb′, (nu′, (tt, (tt, (tt, (tt, (ls′, (ta′, tt))))))))))) (tt, (tt, (tt, (tt, (tt, (tt, (tt, (tt, (tt, (l, (tt, tt)))))))))))) $ says ! e $
           fsplit ! $ move ! (1 ∷ []) $ fsplit ! $ move ! (1 ∷ []) $ fsplit ! $ move ! (1 ∷ []) $ fsplit ! $ move ! (1 ∷ []) $ fsplit ! $ move ! (1 ∷ []) $ fsplit ! $ move ! (1 ∷ []) $ fsplit ! $ move ! (1 ∷ []) $ fsplit ! $ move ! (1 ∷ []) $ fsplit ! $ move ! (1 ∷ []) $ fsplit ! $ move ! (10 ∷ []) $ fsplit ! $ move ! (11 ∷ []) $ fsplit ! $ move ! (12 ∷ []) $ fsplit ! $ move ! (13 ∷ []) $ fsplit ! $ move ! (14 ∷ []) $ fsplit ! $ move ! (15 ∷ []) $ fsplit ! $ move ! (16 ∷ []) $ fsplit ! $ move ! (17 ∷ []) $ fsplit ! $ move ! (18 ∷ []) $ fsplit ! $ move ! (18 ∷ []) $ fsplit ! $ move ! (1 ∷ 20 ∷ []) $ join ! $ move ! (3 ∷ 0 ∷ []) $ join ! $ move ! (4 ∷ 0 ∷ []) $ join ! $ move ! (5 ∷ 0 ∷ []) $ join ! $ move ! (6 ∷ 0 ∷ []) $ join ! $ move ! (7 ∷ 0 ∷ []) $ join ! $ move ! (8 ∷ 0 ∷ []) $ join ! $ move ! (9 ∷ 0 ∷ []) $ join ! $ move ! (10 ∷ 0 ∷ []) $ join ! $ move ! (11 ∷ 0 ∷ []) $ join ! $ frame ! $ nothing ! $ move ! (1 ∷ 0 ∷ []) $ fjoin ! $ move ! (1 ∷ 0 ∷ []) $ fjoin ! $ nothing ! $ fjoin ! $ nothing ! $ fjoin ! $ nothing ! $ fjoin ! $ nothing ! $ fjoin ! $ move ! (4 ∷ 0 ∷ []) $ fjoin ! $ move ! (4 ∷ 0 ∷ []) $ fjoin ! $ move ! (4 ∷ 0 ∷ []) $ fjoin ! $ move ! (4 ∷ 0 ∷ []) $ fjoin ! $ move ! (4 ∷ 0 ∷ []) $ fjoin ! $
@@ -265,7 +264,7 @@ module _ {M : Type 1} (𝓤 : URA M) (H : Heap 𝓤) (A : Atoms 𝓤) (W : Given
       abbrev En : (l₀ l₁ l₂ l₃ l₄ l₅ l₆ k₁ k₂ l₇ l₈ l₉ m₀ m₁ m₂ m₃ m₄ m₅ m₆ m₇ m₈ m₉ n₀ n₁ n₂ n₃ n₄ n₅ n₆ n₇ n₈ n₉ : ℕ) → Env 𝓤 H
       En l₀ l₁ l₂ l₃ l₄ l₅ l₆ k₁ k₂ l₇ l₈ l₉ m₀ m₁ m₂ m₃ m₄ m₅ m₆ m₇ m₈ m₉ n₀ n₁ n₂ n₃ n₄ n₅ n₆ n₇ n₈ n₉ = (tyInt w8, l₀) ∷ (tyRef (named 0) mutable (tyArray (tyInt w16) 208), l₁) ∷ (tyRef (named 1) mutable (tyArray (tyInt w64) 256), l₂) ∷ (tyRef (named 2) mutable (tyArray (tyInt w16) 8192), l₃) ∷ (tyRef (named 3) mutable (tyArray (tyInt w16) 55296), l₄) ∷ (tyRef (named 4) mutable (tyArray (tyInt w64) 384), l₅) ∷ (sliceTy (tyRef (named 5) imm (tyInt w8)), l₆) ∷ (sliceTy (tyRef (named 6) imm (tyInt w8)), k₁) ∷ (sliceTy (tyRef (named 7) imm (tyInt w8)), k₂) ∷ (tyInt w32, l₇) ∷ (list-ty (named 8), l₈) ∷ (ref-ty (named 9), l₉) ∷ (tyInt w8, m₀) ∷ (tyInt w16, m₁) ∷ (tyRef erased mutable (tyArray (tyInt w16) 208), m₂) ∷ (tyRef erased mutable (tyArray (tyInt w64) 256), m₃) ∷ (tyRef erased mutable (tyArray (tyInt w16) 8192), m₄) ∷ (tyRef erased mutable (tyArray (tyInt w16) 55296), m₅) ∷ (tyRef erased mutable (tyArray (tyInt w64) 384), m₆) ∷ (tyInt w64, m₇) ∷ (tyBool, m₈) ∷ (tyUnit, m₉) ∷ (ref-ty erased, n₀) ∷ (tyRef erased imm (tyArray (tyInt w16) 208), n₁) ∷ (tyRef erased mutable (tyArray (tyInt w16) 208), n₂) ∷ (tyRef erased mutable (tyArray (tyInt w64) 256), n₃) ∷ (tyRef erased imm (tyArray (tyInt w16) 8192), n₄) ∷ (tyRef erased imm (tyArray (tyInt w16) 55296), n₅) ∷ (tyRef erased imm (tyArray (tyInt w64) 384), n₆) ∷ (byte-ref, n₇) ∷ (list-ty erased, n₈) ∷ (ref-ty erased, n₉) ∷ []
 
-      walk : Blank st wk su tb nu → ent 𝓤 Entry (WpFn 𝓤 H C Λ code.function (vptr b₀ o₀ ∷ vptr b₁ o₁ ∷ vptr b₂ o₂ ∷ vptr b₃ o₃ ∷ vptr b₄ o₄ ∷ v₅ ∷ v₆ ∷ v₇ ∷ vint w32 a ∷ vl ∷ vptr b₉ o₉ ∷ []) Post)
+      walk : Blank st wk su tb nu (length ls) → ent 𝓤 Entry (WpFn 𝓤 H C Λ code.function (vptr b₀ o₀ ∷ vptr b₁ o₁ ∷ vptr b₂ o₂ ∷ vptr b₃ o₃ ∷ vptr b₄ o₄ ∷ v₅ ∷ v₆ ∷ v₇ ∷ vint w32 a ∷ vl ∷ vptr b₉ o₉ ∷ []) Post)
       walk ok =
           qed W (raw Entry ∷ []) ∵ use1 W (‵ (Held st wk su tb nu ls ta)) comes-in $ enter ! C Λ code.function (vptr b₀ o₀ ∷ vptr b₁ o₁ ∷ vptr b₂ o₂ ∷ vptr b₃ o₃ ∷ vptr b₄ o₄ ∷ v₅ ∷ v₆ ∷ v₇ ∷ vint w32 a ∷ vl ∷ vptr b₉ o₉ ∷ []) _ $
           alloc1 ! (λ l₀. alloc1 ! (λ l₁. alloc1 ! (λ l₂. alloc1 ! (λ l₃. alloc1 ! (λ l₄. alloc1 ! (λ l₅. alloc1 ! (λ l₆. alloc1 ! (λ k₁. alloc1 ! (λ k₂. alloc1 ! (λ l₇. alloc1 ! (λ l₈. alloc1 ! (λ l₉. alloc1 ! (λ m₀. alloc1 ! (λ m₁. alloc1 ! (λ m₂. alloc1 ! (λ m₃. alloc1 ! (λ m₄. alloc1 ! (λ m₅. alloc1 ! (λ m₆. alloc1 ! (λ m₇. alloc1 ! (λ m₈. alloc1 ! (λ m₉. alloc1 ! (λ n₀. alloc1 ! (λ n₁. alloc1 ! (λ n₂. alloc1 ! (λ n₃. alloc1 ! (λ n₄. alloc1 ! (λ n₅. alloc1 ! (λ n₆. alloc1 ! (λ n₇. alloc1 ! (λ n₈. alloc1 ! (λ n₉. alloc0 ! $ params1 ! $
@@ -275,17 +274,17 @@ module _ {M : Type 1} (𝓤 : URA M) (H : Heap 𝓤) (A : Atoms 𝓤) (W : Given
           assigns ! (addr ! (from ! (hop ! (look ! 61 refl) (stop !)))) (from ! (stop !)) (init ! 35 refl (tt, tt)) $ assigns ! (addr ! (from ! (hop ! (look ! 59 refl) (stop !)))) (from ! (stop !)) (init ! 33 refl (tt, tt)) $ assigns ! (addr ! (from ! (hop ! (look ! 57 refl) (stop !)))) (from ! (stop !)) (init ! 31 refl (tt, tt)) $ assigns ! (addr ! (from ! (hop ! (look ! 55 refl) (stop !)))) (from ! (stop !)) (init ! 29 refl (tt, tt)) $ assigns ! (addr ! (from ! (hop ! (look ! 53 refl) (stop !)))) (from ! (stop !)) (init ! 27 refl (tt, tt)) $
           assigns ! (of-opd ! (load ! (from ! (fld ! refl (stop !))) (look-in ! 43 (sub ! 1 refl (whole !))))) (from ! (stop !)) (init ! 25 refl (tt, record { fits = gn })) $
           calls-lent ! fm (to-prepare st wk su tb nu ls ta a ga gn) (vptr b₀ o₀ ∷ vptr b₁ o₁ ∷ vptr b₂ o₂ ∷ vptr b₃ o₃ ∷ vptr b₄ o₄ ∷ v₅ ∷ v₆ ∷ v₇ ∷ vint w32 a ∷ vint w64 n ∷ []) u8 (vint w8) (λ r v is. ap only (is .0))
-          (fact 𝓤 (Blank st wk su tb nu)) (asks _ ok) (λ r w. Prepared (s₅ .now) (s₆ .now) (s₇ .now) a n (w .0) (w .1 .0) (w .1 .1 .0) (w .1 .1 .1 .0) (w .1 .1 .1 .1 .0) r)
+          (fact 𝓤 (Blank st wk su tb nu n)) (asks _ (subst (Blank st wk su tb nu) e₀ ok)) (λ r w. Prepared wk (s₅ .now) (s₆ .now) (s₇ .now) a n (w .0) (w .1 .0) (w .1 .1 .0) (w .1 .1 .1 .0) (w .1 .1 .1 .1 .0) r)
           (λ x. known-prepare (((x .0 .0 ∷ [], (x .1 .0 .0 ∷ [], (x .1 .1 .0 .0 ∷ [], (x .1 .1 .1 .0 .0 ∷ [], (x .1 .1 .1 .1 .0 .0 ∷ [], (κ₅, (κ₆, (κ₇, tt)))))))), (fullShare, (fullShare, (fullShare, (fullShare, (fullShare, (q₅, (q₆, (q₇, tt)))))))), tt, (to b₀ o₀ (x .0 .1) st, (to b₁ o₁ (x .1 .0 .1) wk, (to b₂ o₂ (x .1 .1 .0 .1) su, (to b₃ o₃ (x .1 .1 .1 .0 .1) tb, (to b₄ o₄ (x .1 .1 .1 .1 .0 .1) nu, (s₅, (s₆, (s₇, (a, (n, tt)))))))))), (vptr b₀ o₀ ∷ [], (vptr b₁ o₁ ∷ [], (vptr b₂ o₂ ∷ [], (vptr b₃ o₃ ∷ [], (vptr b₄ o₄ ∷ [], (v₅ ∷ [], (v₆ ∷ [], (v₇ ∷ [], (vint w32 a ∷ [], (vint w64 n ∷ [], tt))))))))))), tt)) (λ x. (and-then ! (load ! (from ! (stop !)) (look ! 35 refl)) (and-then ! (load ! (from ! (stop !)) (look ! 33 refl)) (and-then ! (load ! (from ! (stop !)) (look ! 31 refl)) (and-then ! (load ! (from ! (stop !)) (look ! 29 refl)) (and-then ! (load ! (from ! (stop !)) (look ! 27 refl)) (and-then ! (load ! (from ! (stop !)) (look ! 51 refl)) (and-then ! (load ! (from ! (stop !)) (look ! 49 refl)) (and-then ! (load ! (from ! (stop !)) (look ! 47 refl)) (and-then ! (load ! (from ! (stop !)) (look ! 45 refl)) (and-then ! (load ! (from ! (stop !)) (look ! 25 refl)) (no-more !)))))))))))) (λ r₁ w₁ is₁ f₁ said₁.
           let st₁ : List ℕ = w₁ .0 in let wk₁ : List ℕ = w₁ .1 .0 in let su₁ : List ℕ = w₁ .1 .1 .0 in let tb₁ : List ℕ = w₁ .1 .1 .1 .0 in let nu₁ : List ℕ = w₁ .1 .1 .1 .1 .0 in
-          let h : Prepared (s₅ .now) (s₆ .now) (s₇ .now) a (length ls) st₁ wk₁ su₁ tb₁ nu₁ r₁ = subst (λ (j : ℕ). Prepared (s₅ .now) (s₆ .now) (s₇ .now) a j st₁ wk₁ su₁ tb₁ nu₁ r₁) (sym e₀) said₁ in
+          let h : Prepared wk (s₅ .now) (s₆ .now) (s₇ .now) a (length ls) st₁ wk₁ su₁ tb₁ nu₁ r₁ = subst (λ (j : ℕ). Prepared wk (s₅ .now) (s₆ .now) (s₇ .now) a j st₁ wk₁ su₁ tb₁ nu₁ r₁) (sym e₀) said₁ in
           land ! (from ! (stop !)) (init ! 39 refl (tt, record { fits = is₁ .1 })) $
           assigns ! (bin ! (load ! (from ! (stop !)) (look ! 39 refl)) (lit ! tt) tt) (from ! (stop !)) (init ! 23 refl (tt, tt)) $
           first ! $ branches ! (load ! (from ! (stop !)) (look ! 23 refl))
           (λ z. assigns ! (of-opd ! (load ! (from ! (stop !)) (look ! 39 refl))) (from ! (stop !)) (init ! 63 refl (tt, record { fits = is₁ .1 })) $ returns-within ! Post refl (look ! 63 refl) $
           forget ! 63 refl $ forget ! 61 refl $ forget ! 59 refl $ forget ! 57 refl $ forget ! 55 refl $ forget ! 53 refl $ forget ! 51 refl $ forget ! 49 refl $ forget ! 47 refl $ forget ! 45 refl $ forget ! 43 refl $ forget ! 41 refl $ forget ! 39 refl $ forget ! 35 refl $ forget ! 33 refl $ forget ! 31 refl $ forget ! 29 refl $ forget ! 27 refl $ forget ! 25 refl $ forget ! 23 refl $
           move ! (63 ∷ 64 ∷ []) $ free1 ! $ move ! (61 ∷ 62 ∷ []) $ free1 ! $ move ! (59 ∷ 60 ∷ []) $ free1 ! $ move ! (57 ∷ 58 ∷ []) $ free1 ! $ move ! (55 ∷ 56 ∷ []) $ free1 ! $ move ! (53 ∷ 54 ∷ []) $ free1 ! $ move ! (51 ∷ 52 ∷ []) $ free1 ! $ move ! (49 ∷ 50 ∷ []) $ free1 ! $ move ! (47 ∷ 48 ∷ []) $ free1 ! $ move ! (45 ∷ 46 ∷ []) $ free1 ! $ move ! (43 ∷ 44 ∷ []) $ free1 ! $ move ! (41 ∷ 42 ∷ []) $ free1 ! $ move ! (39 ∷ 40 ∷ []) $ free1 ! $ move ! (37 ∷ 38 ∷ []) $ free1 ! $ move ! (35 ∷ 36 ∷ []) $ free1 ! $ move ! (33 ∷ 34 ∷ []) $ free1 ! $ move ! (31 ∷ 32 ∷ []) $ free1 ! $ move ! (29 ∷ 30 ∷ []) $ free1 ! $ move ! (27 ∷ 28 ∷ []) $ free1 ! $ move ! (25 ∷ 26 ∷ []) $ free1 ! $ move ! (23 ∷ 24 ∷ []) $ free1 ! $ move ! (21 ∷ 22 ∷ []) $ free1 ! $ move ! (19 ∷ 20 ∷ []) $ free1 ! $ move ! (17 ∷ 18 ∷ []) $ free1 ! $ move ! (15 ∷ 16 ∷ []) $ free1 ! $ move ! (13 ∷ 14 ∷ []) $ free1 ! $ move ! (11 ∷ 12 ∷ []) $ free1 ! $ move ! (9 ∷ 10 ∷ []) $ free1 ! $ move ! (7 ∷ 8 ∷ []) $ free1 ! $ move ! (5 ∷ 6 ∷ []) $ free1 ! $ move ! (3 ∷ 4 ∷ []) $ free1 ! $ move ! (1 ∷ 2 ∷ []) $ free1 ! $ free0 ! $
-          keep ! (0 ∷ []) $ by ! (exits r₁ _ _ _ _ _ ls ta (is₁ .1) refl (explored-refused (s₅ .now) (s₆ .now) (s₇ .now) a ls _ _ _ _ _ r₁ h (tallyIn ta) r₁ (eqb→eq r₁ 4 z) (eqb→eq r₁ 4 z))))
+          keep ! (0 ∷ []) $ by ! (exits r₁ _ _ _ _ _ ls ta (is₁ .1) refl (explored-refused wk (s₅ .now) (s₆ .now) (s₇ .now) a ls _ _ _ _ _ r₁ (ok .unlisted) h (tallyIn ta) r₁ (eqb→eq r₁ 4 z) (eqb→eq r₁ 4 z))))
           (λ z. let on : r₁ ≡ 4 → ⊥ = ne-of r₁ 4 z in
           skips ! $ exec ! C Λ (En l₀ l₁ l₂ l₃ l₄ l₅ l₆ k₁ k₂ l₇ l₈ l₉ m₀ m₁ m₂ m₃ m₄ m₅ m₆ m₇ m₈ m₉ n₀ n₁ n₂ n₃ n₄ n₅ n₆ n₇ n₈ n₉) mir′.t-10 (atRet (En l₀ l₁ l₂ l₃ l₄ l₅ l₆ k₁ k₂ l₇ l₈ l₉ m₀ m₁ m₂ m₃ m₄ m₅ m₆ m₇ m₈ m₉ n₀ n₁ n₂ n₃ n₄ n₅ n₆ n₇ n₈ n₉) Post) $
           -- reset(tally)
@@ -299,7 +298,7 @@ module _ {M : Type 1} (𝓤 : URA M) (H : Heap 𝓤) (A : Atoms 𝓤) (W : Given
           (λ z′. assigns ! (of-opd ! (load ! (from ! (stop !)) (look ! 39 refl))) (from ! (stop !)) (init ! 63 refl (tt, record { fits = is₁ .1 })) $ returns-within ! Post refl (look ! 63 refl) $
           forget ! 63 refl $ forget ! 61 refl $ forget ! 59 refl $ forget ! 57 refl $ forget ! 55 refl $ forget ! 53 refl $ forget ! 51 refl $ forget ! 49 refl $ forget ! 47 refl $ forget ! 45 refl $ forget ! 43 refl $ forget ! 41 refl $ forget ! 39 refl $ forget ! 35 refl $ forget ! 33 refl $ forget ! 31 refl $ forget ! 29 refl $ forget ! 27 refl $ forget ! 25 refl $ forget ! 23 refl $ forget ! 21 refl $ forget ! 19 refl $
           move ! (63 ∷ 64 ∷ []) $ free1 ! $ move ! (61 ∷ 62 ∷ []) $ free1 ! $ move ! (59 ∷ 60 ∷ []) $ free1 ! $ move ! (57 ∷ 58 ∷ []) $ free1 ! $ move ! (55 ∷ 56 ∷ []) $ free1 ! $ move ! (53 ∷ 54 ∷ []) $ free1 ! $ move ! (51 ∷ 52 ∷ []) $ free1 ! $ move ! (49 ∷ 50 ∷ []) $ free1 ! $ move ! (47 ∷ 48 ∷ []) $ free1 ! $ move ! (45 ∷ 46 ∷ []) $ free1 ! $ move ! (43 ∷ 44 ∷ []) $ free1 ! $ move ! (41 ∷ 42 ∷ []) $ free1 ! $ move ! (39 ∷ 40 ∷ []) $ free1 ! $ move ! (37 ∷ 38 ∷ []) $ free1 ! $ move ! (35 ∷ 36 ∷ []) $ free1 ! $ move ! (33 ∷ 34 ∷ []) $ free1 ! $ move ! (31 ∷ 32 ∷ []) $ free1 ! $ move ! (29 ∷ 30 ∷ []) $ free1 ! $ move ! (27 ∷ 28 ∷ []) $ free1 ! $ move ! (25 ∷ 26 ∷ []) $ free1 ! $ move ! (23 ∷ 24 ∷ []) $ free1 ! $ move ! (21 ∷ 22 ∷ []) $ free1 ! $ move ! (19 ∷ 20 ∷ []) $ free1 ! $ move ! (17 ∷ 18 ∷ []) $ free1 ! $ move ! (15 ∷ 16 ∷ []) $ free1 ! $ move ! (13 ∷ 14 ∷ []) $ free1 ! $ move ! (11 ∷ 12 ∷ []) $ free1 ! $ move ! (9 ∷ 10 ∷ []) $ free1 ! $ move ! (7 ∷ 8 ∷ []) $ free1 ! $ move ! (5 ∷ 6 ∷ []) $ free1 ! $ move ! (3 ∷ 4 ∷ []) $ free1 ! $ move ! (1 ∷ 2 ∷ []) $ free1 ! $ free0 ! $
-          keep ! (0 ∷ []) $ by ! (exits r₁ _ _ _ _ _ ls ta₁ (is₁ .1) refl (explored-dead (s₅ .now) (s₆ .now) (s₇ .now) a ls _ _ _ _ _ r₁ h (tallyIn ta) (tallyIn ta₁) r₁ (eqb→eq r₁ 0 z′) (eqb→eq r₁ 0 z′) said₂)))
+          keep ! (0 ∷ []) $ by ! (exits r₁ _ _ _ _ _ ls ta₁ (is₁ .1) refl (explored-dead wk (s₅ .now) (s₆ .now) (s₇ .now) a ls _ _ _ _ _ r₁ (ok .unlisted) h (tallyIn ta) (tallyIn ta₁) r₁ (eqb→eq r₁ 0 z′) (eqb→eq r₁ 0 z′) said₂)))
           (λ z′. let live : r₁ ≡ 3 = h .known on (ne-of r₁ 0 z′) in
           skips ! $ exec ! C Λ (En l₀ l₁ l₂ l₃ l₄ l₅ l₆ k₁ k₂ l₇ l₈ l₉ m₀ m₁ m₂ m₃ m₄ m₅ m₆ m₇ m₈ m₉ n₀ n₁ n₂ n₃ n₄ n₅ n₆ n₇ n₈ n₉) mir′.t-14 (atRet (En l₀ l₁ l₂ l₃ l₄ l₅ l₆ k₁ k₂ l₇ l₈ l₉ m₀ m₁ m₂ m₃ m₄ m₅ m₆ m₇ m₈ m₉ n₀ n₁ n₂ n₃ n₄ n₅ n₆ n₇ n₈ n₉) Post) $
           -- candidates(stack, 0)
@@ -307,27 +306,27 @@ module _ {M : Type 1} (𝓤 : URA M) (H : Heap 𝓤) (A : Atoms 𝓤) (W : Given
           calls-lent ! fm (to-candidates st₁ wk₁ su₁ tb₁ nu₁ ls ta₁ g₀) (vptr b₀ o₀ ∷ vint w64 0 ∷ []) u16 (vint w16) (λ r v is. ap only (is .0)) (fact 𝓤 (0 < 12)) (asks _ (omega arith)) (λ r w. r ≡ at st₁ (17 * 0))
           (λ x. known-candidates ((((x .0 .0 ∷ [], tt), (fullShare, tt), tt, (to b₀ o₀ (x .0 .1) st₁, (0, tt)), (vptr b₀ o₀ ∷ [], (vint w64 0 ∷ [], tt)))), tt)) (λ x. (and-then ! (load ! (from ! (stop !)) (look ! 17 refl)) (and-then ! (lit ! tt) (no-more !)))) (λ r₃ w₃ is₃ f₃ said₃.
           land ! (from ! (stop !)) (init ! 37 refl (tt, record { fits = is₃ .1 })) $
-          let begin : AtValues (problemLent (s₅ .now) (s₆ .now) (s₇ .now)) st₁ wk₁ su₁ tb₁ nu₁ ls (tallyIn ta₁) 0 r₃ = start-asks (s₅ .now) (s₆ .now) (s₇ .now) a ls _ _ _ _ _ r₁ h live (tallyIn ta₁) said₂ r₃ said₃ in
+          let begin : AtValues (treeOf (at wk BARE) (s₅ .now) (s₆ .now) (s₇ .now)) st₁ wk₁ su₁ tb₁ nu₁ ls (tallyIn ta₁) 0 r₃ = start-asks wk (s₅ .now) (s₆ .now) (s₇ .now) a ls _ _ _ _ _ r₁ (ok .unlisted) h live (tallyIn ta₁) said₂ r₃ said₃ in
           -- settle(stack, work, supports, tables, numbers, list, tally, 0, values)
           assigns ! (addr ! (from ! (hop ! (look ! 61 refl) (stop !)))) (from ! (stop !)) (init ! 15 refl (tt, tt)) $ assigns ! (addr ! (from ! (hop ! (look ! 59 refl) (stop !)))) (from ! (stop !)) (init ! 13 refl (tt, tt)) $ assigns ! (addr ! (from ! (hop ! (look ! 57 refl) (stop !)))) (from ! (stop !)) (init ! 11 refl (tt, tt)) $ assigns ! (addr ! (from ! (hop ! (look ! 55 refl) (stop !)))) (from ! (stop !)) (init ! 9 refl (tt, tt)) $ assigns ! (addr ! (from ! (hop ! (look ! 53 refl) (stop !)))) (from ! (stop !)) (init ! 7 refl (tt, tt)) $
           assigns ! (addr ! (from ! (fld ! refl (hop ! (look-in ! 43 (sub ! 0 refl (whole !))) (stop !))))) (from ! (stop !)) (init ! 5 refl (tt, tt)) $
           assigns ! (agg ! (and-then ! (load ! (from ! (stop !)) (look ! 5 refl)) (and-then ! (load ! (from ! (fld ! refl (stop !))) (look-in ! 43 (sub ! 1 refl (whole !)))) (no-more !)))) (from ! (stop !)) (init ! 3 refl (tt, (tt, (record { fits = room .0 }, tt)))) $
           assigns ! (addr ! (from ! (hop ! (look ! 41 refl) (stop !)))) (from ! (stop !)) (init ! 1 refl (tt, tt)) $
           calls-lent ! fm (to-settle st₁ wk₁ su₁ tb₁ nu₁ ls e₀ ta₁ g₀ r₃ (is₃ .1)) (vptr b₀ o₀ ∷ vptr b₁ o₁ ∷ vptr b₂ o₂ ∷ vptr b₃ o₃ ∷ vptr b₄ o₄ ∷ vl ∷ vptr b₉ o₉ ∷ vint w64 0 ∷ vint w16 r₃ ∷ []) u8 (vint w8) (λ r v is. ap only (is .0))
-          (fact 𝓤 ((p : Problem) × AtValues p st₁ wk₁ su₁ tb₁ nu₁ ls (tallyIn ta₁) 0 r₃)) (asks _ (problemLent (s₅ .now) (s₆ .now) (s₇ .now), begin))
+          (fact 𝓤 ((p : Problem) × AtValues p st₁ wk₁ su₁ tb₁ nu₁ ls (tallyIn ta₁) 0 r₃)) (asks _ (treeOf (at wk BARE) (s₅ .now) (s₆ .now) (s₇ .now), begin))
           (λ r w. (p : Problem) → AtValues p st₁ wk₁ su₁ tb₁ nu₁ ls (tallyIn ta₁) 0 r₃ → Walked p (tried p wk₁ 0 r₃) st₁ wk₁ nu₁ ls (tallyIn ta₁) 0 (w .0) (w .1 .0) (w .1 .1 .1 .1 .1 .0) (tallyIn (w .1 .1 .1 .1 .1 .1 .0)) r)
           (λ x. known-settle (((x .0 .0 ∷ [], (x .1 .0 .0 ∷ [], (x .1 .1 .0 .0 ∷ [], (x .1 .1 .1 .0 .0 ∷ [], (x .1 .1 .1 .1 .0 .0 ∷ [], (x .1 .1 .1 .1 .1 .0 .0 ∷ [], (x .1 .1 .1 .1 .1 .1 .0 .0 ∷ [], tt))))))), (fullShare, (fullShare, (fullShare, (fullShare, (fullShare, (fullShare, (fullShare, tt))))))), tt, (to b₀ o₀ (x .0 .1) st₁, (to b₁ o₁ (x .1 .0 .1) wk₁, (to b₂ o₂ (x .1 .1 .0 .1) su₁, (to b₃ o₃ (x .1 .1 .1 .0 .1) tb₁, (to b₄ o₄ (x .1 .1 .1 .1 .0 .1) nu₁, (to lb lo (x .1 .1 .1 .1 .1 .0 .1) ls, (to b₉ o₉ (x .1 .1 .1 .1 .1 .1 .0 .1) ta₁, (0, (r₃, tt))))))))), (vptr b₀ o₀ ∷ [], (vptr b₁ o₁ ∷ [], (vptr b₂ o₂ ∷ [], (vptr b₃ o₃ ∷ [], (vptr b₄ o₄ ∷ [], (vl ∷ [], (vptr b₉ o₉ ∷ [], (vint w64 0 ∷ [], (vint w16 r₃ ∷ [], tt)))))))))), tt)) (λ x. (and-then ! (load ! (from ! (stop !)) (look ! 15 refl)) (and-then ! (load ! (from ! (stop !)) (look ! 13 refl)) (and-then ! (load ! (from ! (stop !)) (look ! 11 refl)) (and-then ! (load ! (from ! (stop !)) (look ! 9 refl)) (and-then ! (load ! (from ! (stop !)) (look ! 7 refl)) (and-then ! (load ! (from ! (stop !)) (look ! 3 refl)) (and-then ! (load ! (from ! (stop !)) (look ! 1 refl)) (and-then ! (lit ! tt) (and-then ! (load ! (from ! (stop !)) (look ! 37 refl)) (no-more !))))))))))) (λ r₄ w₄ is₄ f₄ said₄.
           land ! (from ! (stop !)) (init ! 63 refl (tt, record { fits = is₄ .1 })) $ returns ! (look ! 63 refl) $
           forget ! 63 refl $ forget ! 61 refl $ forget ! 59 refl $ forget ! 57 refl $ forget ! 55 refl $ forget ! 53 refl $ forget ! 51 refl $ forget ! 49 refl $ forget ! 47 refl $ forget ! 45 refl $ forget ! 43 refl $ forget ! 41 refl $ forget ! 39 refl $ forget ! 37 refl $ forget ! 35 refl $ forget ! 33 refl $ forget ! 31 refl $ forget ! 29 refl $ forget ! 27 refl $ forget ! 25 refl $ forget ! 23 refl $ forget ! 21 refl $ forget ! 19 refl $ forget ! 17 refl $ forget ! 15 refl $ forget ! 13 refl $ forget ! 11 refl $ forget ! 9 refl $ forget ! 7 refl $ forget ! 5 refl $ forget ! 3 refl $ forget ! 1 refl $
           move ! (63 ∷ 64 ∷ []) $ free1 ! $ move ! (61 ∷ 62 ∷ []) $ free1 ! $ move ! (59 ∷ 60 ∷ []) $ free1 ! $ move ! (57 ∷ 58 ∷ []) $ free1 ! $ move ! (55 ∷ 56 ∷ []) $ free1 ! $ move ! (53 ∷ 54 ∷ []) $ free1 ! $ move ! (51 ∷ 52 ∷ []) $ free1 ! $ move ! (49 ∷ 50 ∷ []) $ free1 ! $ move ! (47 ∷ 48 ∷ []) $ free1 ! $ move ! (45 ∷ 46 ∷ []) $ free1 ! $ move ! (43 ∷ 44 ∷ []) $ free1 ! $ move ! (41 ∷ 42 ∷ []) $ free1 ! $ move ! (39 ∷ 40 ∷ []) $ free1 ! $ move ! (37 ∷ 38 ∷ []) $ free1 ! $ move ! (35 ∷ 36 ∷ []) $ free1 ! $ move ! (33 ∷ 34 ∷ []) $ free1 ! $ move ! (31 ∷ 32 ∷ []) $ free1 ! $ move ! (29 ∷ 30 ∷ []) $ free1 ! $ move ! (27 ∷ 28 ∷ []) $ free1 ! $ move ! (25 ∷ 26 ∷ []) $ free1 ! $ move ! (23 ∷ 24 ∷ []) $ free1 ! $ move ! (21 ∷ 22 ∷ []) $ free1 ! $ move ! (19 ∷ 20 ∷ []) $ free1 ! $ move ! (17 ∷ 18 ∷ []) $ free1 ! $ move ! (15 ∷ 16 ∷ []) $ free1 ! $ move ! (13 ∷ 14 ∷ []) $ free1 ! $ move ! (11 ∷ 12 ∷ []) $ free1 ! $ move ! (9 ∷ 10 ∷ []) $ free1 ! $ move ! (7 ∷ 8 ∷ []) $ free1 ! $ move ! (5 ∷ 6 ∷ []) $ free1 ! $ move ! (3 ∷ 4 ∷ []) $ free1 ! $ move ! (1 ∷ 2 ∷ []) $ free1 ! $ free0 ! $
-          keep ! (0 ∷ []) $ by ! (exits r₄ _ _ _ _ _ _ (w₄ .1 .1 .1 .1 .1 .1 .0) (is₄ .1) (f₄ .1 .1 .1 .1 .1 .0) (explored (s₅ .now) (s₆ .now) (s₇ .now) a ls _ _ _ _ _ r₁ h live (tallyIn ta₁) said₂ r₃ said₃ (tallyIn ta) _ _ _ _ r₄ (said₄ (problemLent (s₅ .now) (s₆ .now) (s₇ .now)) begin)))))))))))))))))))))))))))))))))))))))))
+          keep ! (0 ∷ []) $ by ! (exits r₄ _ _ _ _ _ _ (w₄ .1 .1 .1 .1 .1 .1 .0) (is₄ .1) (f₄ .1 .1 .1 .1 .1 .0) (explored wk (s₅ .now) (s₆ .now) (s₇ .now) a ls _ _ _ _ _ r₁ (ok .unlisted) h live (tallyIn ta₁) said₂ r₃ said₃ (tallyIn ta) _ _ _ _ r₄ (said₄ (treeOf (at wk BARE) (s₅ .now) (s₆ .now) (s₇ .now)) begin)))))))))))))))))))))))))))))))))))))))))
 
 module _ {M : Type 1} (𝓤 : URA M) (H : Heap 𝓤) (A : Atoms 𝓤) (W : Given 𝓤 H A) (mem : Memory → SProp 𝓤) (run : Routine → Fun 𝓤) where
   explore-walks : (C : Calls 𝓤 H) (Λ : Loops 𝓤 H) → FmC 𝓤 H (W .laws) C → Triple 𝓤 (C #search·prepare) (Prepare 𝓤 H A W mem run) → Triple 𝓤 (C #search·reset) (Reset 𝓤 H A W mem run) → Triple 𝓤 (C #search·candidates) (Candidates 𝓤 H A W mem run) → Triple 𝓤 (C #search·settle) (Settle 𝓤 H A W mem run) → Walks 𝓤 H A explore.ended stayed (WpFn 𝓤 H C Λ code.function) (explore.clauses 𝓤 H A mem run)
   explore-walks C Λ fm p r c s =
       walked 𝓤 H A explore.ended stayed (explore.clauses 𝓤 H A mem run) (WpFn 𝓤 H C Λ code.function) (λ κs. (ptr-vals, (ptr-vals, (ptr-vals, (ptr-vals, (ptr-vals, (slice-vals, (slice-vals, (slice-vals, (uint-vals w32, (slice-vals, (ptr-vals, tt))))))))))))
       (λ κs. (mut-tells (named 0) (κs .0) (Array u16 208), (mut-tells (named 1) (κs .1 .0) (Array u64 256), (mut-tells (named 2) (κs .1 .1 .0) (Array u16 8192), (mut-tells (named 3) (κs .1 .1 .1 .0) (Array u16 55296), (mut-tells (named 4) (κs .1 .1 .1 .1 .0) (Array u64 384), (shr-slice-tells (named 5) (κs .1 .1 .1 .1 .1 .0) u8, (shr-slice-tells (named 6) (κs .1 .1 .1 .1 .1 .1 .0) u8, (shr-slice-tells (named 7) (κs .1 .1 .1 .1 .1 .1 .1 .0) u8, (uint-tells w32, (mut-slice-tells (named 8) (κs .1 .1 .1 .1 .1 .1 .1 .1 .0) u8, (mut-tells (named 9) (κs .1 .1 .1 .1 .1 .1 .1 .1 .1 .0) T.the-row, tt))))))))))))
-      (λ κs qs bounds a _ are. needs 𝓤 (Blank (a .0 .now) (a .1 .0 .now) (a .1 .1 .0 .now) (a .1 .1 .1 .0 .now) (a .1 .1 .1 .1 .0 .now)) _
+      (λ κs qs bounds a _ are. needs 𝓤 (Blank (a .0 .now) (a .1 .0 .now) (a .1 .1 .0 .now) (a .1 .1 .1 .0 .now) (a .1 .1 .1 .1 .0 .now) (length (a .1 .1 .1 .1 .1 .1 .1 .1 .1 .0 .now))) _
       (walk 𝓤 H A W mem run (κs .0) (κs .1 .0) (κs .1 .1 .0) (κs .1 .1 .1 .0) (κs .1 .1 .1 .1 .0) (κs .1 .1 .1 .1 .1 .0) (κs .1 .1 .1 .1 .1 .1 .0) (κs .1 .1 .1 .1 .1 .1 .1 .0) (κs .1 .1 .1 .1 .1 .1 .1 .1 .0) (κs .1 .1 .1 .1 .1 .1 .1 .1 .1 .0) (qs .0) (qs .1 .0) (qs .1 .1 .0) (qs .1 .1 .1 .0) (qs .1 .1 .1 .1 .0) (qs .1 .1 .1 .1 .1 .0) (qs .1 .1 .1 .1 .1 .1 .0) (qs .1 .1 .1 .1 .1 .1 .1 .0) (qs .1 .1 .1 .1 .1 .1 .1 .1 .0) (qs .1 .1 .1 .1 .1 .1 .1 .1 .1 .0) (a .1 .1 .1 .1 .1 .0) (a .1 .1 .1 .1 .1 .1 .0) (a .1 .1 .1 .1 .1 .1 .1 .0) (a .0 .ptr .0) (a .0 .ptr .1) (a .1 .0 .ptr .0) (a .1 .0 .ptr .1) (a .1 .1 .0 .ptr .0) (a .1 .1 .0 .ptr .1) (a .1 .1 .1 .0 .ptr .0) (a .1 .1 .1 .0 .ptr .1) (a .1 .1 .1 .1 .0 .ptr .0) (a .1 .1 .1 .1 .0 .ptr .1) (a .1 .1 .1 .1 .1 .1 .1 .1 .1 .0 .ptr .0) (a .1 .1 .1 .1 .1 .1 .1 .1 .1 .0 .ptr .1) (length (a .1 .1 .1 .1 .1 .1 .1 .1 .1 .0 .now)) (a .1 .1 .1 .1 .1 .1 .1 .1 .1 .1 .0 .ptr .0) (a .1 .1 .1 .1 .1 .1 .1 .1 .1 .1 .0 .ptr .1)
       (a .0 .name) (a .1 .0 .name) (a .1 .1 .0 .name) (a .1 .1 .1 .0 .name) (a .1 .1 .1 .1 .0 .name) (a .1 .1 .1 .1 .1 .1 .1 .1 .1 .0 .name) (a .1 .1 .1 .1 .1 .1 .1 .1 .1 .1 .0 .name) (are .1 .1 .1 .1 .1 .0 .0 .1) (are .1 .1 .1 .1 .1 .1 .0 .0 .1) (are .1 .1 .1 .1 .1 .1 .1 .0 .0 .1) (are .1 .1 .1 .1 .1 .1 .1 .1 .1 .0 .0 .1) C Λ fm p r c s
       (a .0 .now) (a .1 .0 .now) (a .1 .1 .0 .now) (a .1 .1 .1 .0 .now) (a .1 .1 .1 .1 .0 .now) (a .1 .1 .1 .1 .1 .1 .1 .1 .1 .0 .now) refl (a .1 .1 .1 .1 .1 .1 .1 .1 .1 .1 .0 .now) (a .1 .1 .1 .1 .1 .1 .1 .1 .0) (are .1 .1 .1 .1 .1 .1 .1 .1 .0 .1) (are .1 .1 .1 .1 .1 .1 .1 .1 .1 .0 .0 .1 .0) (omega arith)))

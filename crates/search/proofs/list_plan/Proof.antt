@@ -1,7 +1,7 @@
 -- `search::list_plan` meets its contract: proofs/Listing. Assumes nothing.
 use native.Mathlib.Omega.{arith}
 use Rattle.model.specs.Lists.{at}
-use Rattle.search.proofs.Listing.{fits-counted, fits-bytes, full-now, kept-now}
+use Rattle.search.proofs.Listing.{one-more, full-now, kept-now}
 use borrow.Author.Needs.{needs}
 use Rattle.search.proofs.list_plan.Statement.{statement}
 use Rattle.search.proofs.list_plan.Tie as tie
@@ -16,27 +16,17 @@ returns : tie.Need-returns
 unfolding at
 returns c = let a = c .before .before .before .before in full-now _ _ _ _ _ (a .pre .0) (c .if1 .taken)
 
-element-copy-out-n : tie.Need-element-copy-out-n
-element-copy-out-n c = search needs
-
-mul-keep : tie.Need-mul-keep
+note-requires : tie.Need-note-requires
 unfolding at
-mul-keep c = let a = c .before .before .before .before .before .before .before .before in omega (arith, a .pre .0 .listed, a .good .1 .1 .0 .0)
-
-keep-requires : tie.Need-keep-requires
-unfolding at
-keep-requires c κs =
-    let a = c .before .before .before .before .before .before .before .before in (
-      (a .pre .1 .0, omega (arith, a .pre .1 .0, a .pre .1 .2), fits-bytes _ _ _ _ (a .pre .0) (c .before .before .before .before .if1 .left)),
-      (a .pre .1 .1, a .pre .1 .3),
+note-requires c κs =
+    let a = c .before .before .before .before .before .before .before in (
+      (a .pre .0, c .before .before .before .if1 .left),
+      (a .pre .1 .0, omega (arith, a .pre .1 .0, a .pre .1 .2), a .pre .1 .1, a .pre .1 .3),
     )
 
 add-work : tie.Need-add-work
 unfolding at
-add-work c =
-    let a = c .before .before .before .before .before .before .before .before .before .before .before in
-    let l = fits-counted _ _ _ _ (a .pre .0) (c .before .before .before .before .before .before .before .if1 .left) in
-    omega (arith, a .good .1 .1 .0 .0)
+add-work c = let a = c .before .before .before .before .before .before .before .before .before .before in omega (arith, one-more _ _ _ _ (a .pre .0) (c .before .before .before .before .before .before .if1 .left), a .pre .0 .small)
 
 element-write-work : tie.Need-element-write-work
 element-write-work c = search needs
@@ -47,20 +37,9 @@ same-length c = search needs
 returns-2 : tie.Need-returns-2
 unfolding at
 returns-2 c =
-    let a = c .before .before .before .before .before .before .before .before .before .before .before in
-    kept-now _ _ _ _ _ (a .pre .0) _ (a .pre .1 .2) (c .before .before .before .before .before .before .before .if1 .left) (c .before .before .keep .ensures)
+    let a = c .before .before .before .before .before .before .before .before .before .before in
+    kept-now _ _ _ _ _ (a .pre .0) _ (a .pre .1 .2) (c .before .before .before .before .before .before .if1 .left) (c .before .before .note .ensures)
 
 pub list-plan-spec : {M : Type 1} → statement M
 list-plan-spec =
-    tie.close
-    (tie.spec
-    element-copy-out-plans
-    element-copy-out-if1
-    returns
-    element-copy-out-n
-    mul-keep
-    keep-requires
-    add-work
-    element-write-work
-    same-length
-    returns-2)
+    tie.close (tie.spec element-copy-out-plans element-copy-out-if1 returns note-requires add-work element-write-work same-length returns-2)

@@ -39,15 +39,16 @@ use denote.Triple.Walked.{says, Stays, stay-ref, stay-slice, stay-dropped, walkO
 use denote.Memory.{mem as in-memory}
 use denote.Enum.Laws as EL
 use Rattle.lent.specs.Lent.{answerLent, listLent, tallyLent}
+use Rattle.layout.specs.Places.{PLANS}
 use Rattle.search.specs.Meaning.{means, tallyIn}
-use Rattle.search.specs.Whole.{Blank, Explored, Stopped, Answered}
+use Rattle.search.specs.Whole.{BARE, WANTED, Blank, Explored, Stopped, Answered}
 use Rattle.search.specs.declared.Tally.{Tally}
 use Rattle.search.specs.declared.Answer.{Answer}
 use Rattle.search.proofs.Tally as T
 use Rattle.search.proofs.Answer as O
 use Rattle.search.proofs.Answer.Laws as O′
 use Rattle.sheet.proofs.Whole.{zeros}
-use Rattle.search.proofs.Whole.{stopped, said}
+use Rattle.search.proofs.Whole.{stopped, ran-so, said}
 use Rattle.search.proofs.Locals.{zeros-typed, zeros-in, array-out}
 use Rattle.search.proofs.Loans as loan
 use Rattle.search.proofs.Loans.{One, Loans, at-ref, at-sl, calls-lent}
@@ -82,13 +83,15 @@ abbrev mach : Answer → Val
 mach r = only (EL.vals O.the-type O′.the-laws r)
 
 -- new arrays
-blank : Blank (replicate 208 0) (replicate 256 0) (replicate 8192 0) (replicate 55296 0) (replicate 384 0)
-blank = record {
+blank : (size : ℕ) → Blank (replicate 208 0) (replicate 256 0) (replicate 8192 0) (replicate 55296 0) (replicate 384 0) size
+blank size = record {
   stack-length = zeros 208 .sized;
-  work-blank = zeros 256;
+  work-length = zeros 256 .sized;
+  none-listed = zeros 256 .blank PLANS;
   supports-blank = zeros 8192;
   tables-length = zeros 55296 .sized;
   numbers-blank = zeros 384;
+  unlisted = λ n. absurd (n (zeros 256 .blank WANTED));
 }
 
 module _ {M : Type 1} (𝓤 : URA M) (H : Heap 𝓤) (A : Atoms 𝓤) (W : Given 𝓤 H A) (mem : Memory → SProp 𝓤) (run : Routine → Fun 𝓤) where
@@ -267,7 +270,7 @@ module _ {M : Type 1} (𝓤 : URA M) (H : Heap 𝓤) (A : Atoms 𝓤) (W : Given
           assigns ! (agg ! (and-then ! (load ! (from ! (stop !)) (look ! 11 refl)) (and-then ! (load ! (from ! (fld ! refl (stop !))) (look-in ! 32 (sub ! 1 refl (whole !)))) (no-more !)))) (from ! (stop !)) (init ! 9 refl (tt, (tt, (record { fits = room .0 }, tt)))) $
           assigns ! (addr ! (from ! (hop ! (look ! 30 refl) (stop !)))) (from ! (stop !)) (init ! 7 refl (tt, tt)) $
           calls-lent ! fm (to-explore l₅ l₆ l₇ l₈ l₉ (replicate 208 0) (replicate 256 0) (replicate 8192 0) (replicate 55296 0) (replicate 384 0) a ga ls e₀ ta) (vptr l₅ 0 ∷ vptr l₆ 0 ∷ vptr l₇ 0 ∷ vptr l₈ 0 ∷ vptr l₉ 0 ∷ v₀ ∷ v₁ ∷ v₂ ∷ vint w32 a ∷ vl ∷ vptr b o ∷ []) u8 (vint w8) (λ r v is. ap only (is .0))
-          (fact 𝓤 (Blank (replicate 208 0) (replicate 256 0) (replicate 8192 0) (replicate 55296 0) (replicate 384 0))) (asks _ blank) (λ r w. Explored (s₀ .now) (s₁ .now) (s₂ .now) a ls (tallyIn ta) (w .1 .0) (w .1 .1 .1 .1 .1 .1 .1 .1 .1 .0) (tallyIn (w .1 .1 .1 .1 .1 .1 .1 .1 .1 .1 .0)) r)
+          (fact 𝓤 (Blank (replicate 208 0) (replicate 256 0) (replicate 8192 0) (replicate 55296 0) (replicate 384 0) (length ls))) (asks _ (blank (length ls))) (λ r w. Explored (replicate 256 0) (s₀ .now) (s₁ .now) (s₂ .now) a ls (tallyIn ta) (w .1 .0) (w .1 .1 .1 .1 .1 .1 .1 .1 .1 .0) (tallyIn (w .1 .1 .1 .1 .1 .1 .1 .1 .1 .1 .0)) r)
           (λ x. known-explore (((x .0 .0 ∷ [], (x .1 .0 .0 ∷ [], (x .1 .1 .0 .0 ∷ [], (x .1 .1 .1 .0 .0 ∷ [], (x .1 .1 .1 .1 .0 .0 ∷ [], (κ₀, (κ₁, (κ₂, (x .1 .1 .1 .1 .1 .1 .1 .1 .0 .0 ∷ [], (x .1 .1 .1 .1 .1 .1 .1 .1 .1 .0 .0 ∷ [], tt)))))))))), (fullShare, (fullShare, (fullShare, (fullShare, (fullShare, (q₀, (q₁, (q₂, (fullShare, (fullShare, tt)))))))))), tt, (to l₅ 0 (x .0 .1) (replicate 208 0), (to l₆ 0 (x .1 .0 .1) (replicate 256 0), (to l₇ 0 (x .1 .1 .0 .1) (replicate 8192 0), (to l₈ 0 (x .1 .1 .1 .0 .1) (replicate 55296 0), (to l₉ 0 (x .1 .1 .1 .1 .0 .1) (replicate 384 0), (s₀, (s₁, (s₂, (a, (to lb lo (x .1 .1 .1 .1 .1 .1 .1 .1 .0 .1) ls, (to b o (x .1 .1 .1 .1 .1 .1 .1 .1 .1 .0 .1) ta, tt))))))))))), (vptr l₅ 0 ∷ [], (vptr l₆ 0 ∷ [], (vptr l₇ 0 ∷ [], (vptr l₈ 0 ∷ [], (vptr l₉ 0 ∷ [], (v₀ ∷ [], (v₁ ∷ [], (v₂ ∷ [], (vint w32 a ∷ [], (vl ∷ [], (vptr b o ∷ [], tt)))))))))))), tt)) (λ x. (and-then ! (load ! (from ! (stop !)) (look ! 21 refl)) (and-then ! (load ! (from ! (stop !)) (look ! 19 refl)) (and-then ! (load ! (from ! (stop !)) (look ! 17 refl)) (and-then ! (load ! (from ! (stop !)) (look ! 15 refl)) (and-then ! (load ! (from ! (stop !)) (look ! 13 refl)) (and-then ! (load ! (from ! (stop !)) (look ! 40 refl)) (and-then ! (load ! (from ! (stop !)) (look ! 38 refl)) (and-then ! (load ! (from ! (stop !)) (look ! 36 refl)) (and-then ! (load ! (from ! (stop !)) (look ! 34 refl)) (and-then ! (load ! (from ! (stop !)) (look ! 9 refl)) (and-then ! (load ! (from ! (stop !)) (look ! 7 refl)) (no-more !))))))))))))) (λ r₁ w₁ is₁ f₁ said₁.
           let st₁ : List ℕ = w₁ .0 in let wk₁ : List ℕ = w₁ .1 .0 in let su₁ : List ℕ = w₁ .1 .1 .0 in let tb₁ : List ℕ = w₁ .1 .1 .1 .0 in let nu₁ : List ℕ = w₁ .1 .1 .1 .1 .0 in
           let ls₁ : List ℕ = w₁ .1 .1 .1 .1 .1 .1 .1 .1 .1 .0 in let ta₁ : Tally = w₁ .1 .1 .1 .1 .1 .1 .1 .1 .1 .1 .0 in let l₁′ : length ls₁ ≡ length ls = f₁ .1 .1 .1 .1 .1 .1 .1 .1 .0 in
@@ -279,7 +282,7 @@ module _ {M : Type 1} (𝓤 : URA M) (H : Heap 𝓤) (A : Atoms 𝓤) (W : Given
           (λ x. known-nodes-made ((((x .0 .0 ∷ [], tt), (fullShare, tt), tt, (to b o (x .0 .1) ta₁, tt), (vptr b o ∷ [], tt))), tt)) (λ x. (and-then ! (load ! (from ! (stop !)) (look ! 1 refl)) (no-more !))) (λ r₂ w₂ is₂ f₂ said₂.
           land ! (from ! (stop !)) (init ! 3 refl (tt, record { fits = is₂ .1 })) $
           calls-lent ! fm (to-answered l₅ l₆ l₇ l₈ l₉ st₁ wk₁ su₁ tb₁ nu₁ ls₁ ta₁ r₂ (is₂ .1) r₁ (is₁ .1)) (vptr l₆ 0 ∷ vint w32 r₂ ∷ vint w8 r₁ ∷ []) O.the-row mach (λ r v is. ap only (EL.tells O.the-type O′.the-laws r _ is))
-          (fact 𝓤 (Stopped wk₁ r₁)) (asks _ (stopped (s₀ .now) (s₁ .now) (s₂ .now) a ls (tallyIn ta) wk₁ ls₁ (tallyIn ta₁) r₁ said₁)) (λ r w. Answered wk₁ r₂ r₁ r)
+          (fact 𝓤 (Stopped wk₁ r₁)) (asks _ (stopped (replicate 256 0) (s₀ .now) (s₁ .now) (s₂ .now) a ls (tallyIn ta) wk₁ ls₁ (tallyIn ta₁) r₁ said₁)) (λ r w. Answered wk₁ r₂ r₁ r)
           (λ x. known-answered ((((x .0 .0 ∷ [], tt), (fullShare, tt), tt, (to l₆ 0 (x .0 .1) wk₁, (r₂, (r₁, tt))), (vptr l₆ 0 ∷ [], (vint w32 r₂ ∷ [], (vint w8 r₁ ∷ [], tt))))), tt)) (λ x. (and-then ! (load ! (from ! (stop !)) (look ! 5 refl)) (and-then ! (load ! (from ! (stop !)) (look ! 3 refl)) (and-then ! (load ! (from ! (stop !)) (look ! 23 refl)) (no-more !))))) (λ r₃ w₃ is₃ f₃ said₃.
           land ! (from ! (stop !)) (init ! 42 refl (EL.lawful O.the-type O′.the-laws 𝓤 H A W tt .typed r₃ _ is₃ .0)) $
           -- the arrays are freed
@@ -291,7 +294,7 @@ module _ {M : Type 1} (𝓤 : URA M) (H : Heap 𝓤) (A : Atoms 𝓤) (W : Given
           returns ! (look ! 47 refl) $
           forget ! 47 refl $ forget ! 45 refl $ forget ! 43 refl $ forget ! 41 refl $ forget ! 39 refl $ forget ! 37 refl $ forget ! 35 refl $ forget ! 5 refl $ forget ! 4 refl $ forget ! 3 refl $ forget ! 2 refl $ forget ! 0 refl $ forget ! 28 refl $ forget ! 26 refl $ forget ! 24 refl $ forget ! 22 refl $ forget ! 20 refl $ forget ! 18 refl $ forget ! 16 refl $ forget ! 14 refl $ forget ! 12 refl $ forget ! 10 refl $ forget ! 8 refl $ forget ! 6 refl $
           move ! (47 ∷ 48 ∷ []) $ free1 ! $ move ! (45 ∷ 46 ∷ []) $ free1 ! $ move ! (43 ∷ 44 ∷ []) $ free1 ! $ move ! (41 ∷ 42 ∷ []) $ free1 ! $ move ! (39 ∷ 40 ∷ []) $ free1 ! $ move ! (37 ∷ 38 ∷ []) $ free1 ! $ move ! (35 ∷ 36 ∷ []) $ free1 ! $ move ! (5 ∷ 34 ∷ []) $ free1 ! $ move ! (4 ∷ 32 ∷ []) $ free1 ! $ move ! (3 ∷ 30 ∷ []) $ free1 ! $ move ! (2 ∷ 28 ∷ []) $ free1 ! $ move ! (0 ∷ 26 ∷ []) $ free1 ! $ move ! (23 ∷ 24 ∷ []) $ free1 ! $ move ! (21 ∷ 22 ∷ []) $ free1 ! $ move ! (19 ∷ 20 ∷ []) $ free1 ! $ move ! (17 ∷ 18 ∷ []) $ free1 ! $ move ! (15 ∷ 16 ∷ []) $ free1 ! $ move ! (13 ∷ 14 ∷ []) $ free1 ! $ move ! (11 ∷ 12 ∷ []) $ free1 ! $ move ! (9 ∷ 10 ∷ []) $ free1 ! $ move ! (7 ∷ 8 ∷ []) $ free1 ! $ move ! (5 ∷ 6 ∷ []) $ free1 ! $ move ! (3 ∷ 4 ∷ []) $ free1 ! $ move ! (1 ∷ 2 ∷ []) $ free1 ! $ free0 ! $
-          keep ! (0 ∷ []) $ by ! (exits r₃ is₃ ls₁ ta₁ l₁′ (let e = said (s₀ .now) (s₁ .now) (s₂ .now) a ls (tallyIn ta) wk₁ ls₁ (tallyIn ta₁) r₁ said₁ r₂ said₂ r₃ said₃ in (e .answer, e .lists, e .counts)))))))))))))))))))))))))))))))))))
+          keep ! (0 ∷ []) $ by ! (exits r₃ is₃ ls₁ ta₁ l₁′ (let e = said (replicate 256 0) (s₀ .now) (s₁ .now) (s₂ .now) a ls (tallyIn ta) ls₁ (tallyIn ta₁) r₃ (ran-so (replicate 256 0) (s₀ .now) (s₁ .now) (s₂ .now) a ls (tallyIn ta) wk₁ ls₁ (tallyIn ta₁) r₁ said₁ r₂ said₂ r₃ said₃) (zeros 256 .blank BARE) (zeros 256 .blank WANTED) in (e .answer, e .lists, e .counts)))))))))))))))))))))))))))))))))))
 
 module _ {M : Type 1} (𝓤 : URA M) (H : Heap 𝓤) (A : Atoms 𝓤) (W : Given 𝓤 H A) (mem : Memory → SProp 𝓤) (run : Routine → Fun 𝓤) where
   run-lent-walks : (C : Calls 𝓤 H) (Λ : Loops 𝓤 H) → FmC 𝓤 H (W .laws) C → Triple 𝓤 (C #search·explore) (Explore 𝓤 H A W mem run) → Triple 𝓤 (C #search·nodes-made) (NodesMade 𝓤 H A W mem run) → Triple 𝓤 (C #search·answered) (Answers 𝓤 H A W mem run) → Walks 𝓤 H A run-lent.ended stayed (WpFn 𝓤 H C Λ code.function) (run-lent.clauses 𝓤 H A mem run)
