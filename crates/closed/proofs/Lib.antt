@@ -1,0 +1,3 @@
+-- The laws, in the order of the argument.
+pub mod Open
+pub mod Codes

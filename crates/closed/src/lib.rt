@@ -1,0 +1,120 @@
+// Whether a run's exchanges are closed, or the first two that aren't (paper 02, #112), on the images of the compiled problem.
+ghost use mathlib.Core.Path.{_≡_};
+ghost use Prim.Native.Nat.{_+_, _*_, _≤_, _<_};
+ghost use lib.ListN.{length};
+ghost use Rattle.model.specs.Lists.{at};
+ghost use Rattle.model.specs.Problem.{Problem};
+ghost use Rattle.layout.specs.Layout.{symmetryAt, pairCode};
+ghost use Rattle.families.specs.Families.{makes, movesNothing};
+ghost use Rattle.closed.specs.Open.{made, firstMissing};
+ghost use Rattle.closed.specs.Held.{Held};
+
+// The code of number q: 16 times its variable and its value.
+fn code(values: usize, q: usize) -> usize
+    requires { ⌜ (1 ≤ values) × (q < 192) ⌝ }
+    ensures { λ r. ⌜ r ≡ pairCode values q ⌝ }
+{
+    16 * (q / values) + q % values
+}
+
+// The code to which symmetry e takes a code.
+fn goes(images: &[u8; 26112], e: usize, code: usize) -> usize
+    requires { ⌜ (e < 136) × (code < 192) × (at (now images) (192 * e + code) < 192) ⌝ }
+    ensures { λ r. ⌜ r ≡ at (now (images .entry)) (192 * e + code) ⌝ }
+{
+    images[192 * e + code] as usize
+}
+
+// Whether symmetry a and then symmetry b take each number to where symmetry c takes it.
+fn makes_one(
+    images: &[u8; 26112],
+    variables: usize,
+    values: usize,
+    a: usize,
+    b: usize,
+    c: usize,
+) -> bool
+    requires { ⌜ ((p : Problem) × Held p (now images) variables values × (a < length (p .symmetries)) × (b < length (p .symmetries)) × (c < length (p .symmetries))) ⌝ }
+    ensures { λ r. ⌜ ((p : Problem) → Held p (now (images .entry)) variables values → a < length (p .symmetries) → b < length (p .symmetries) → c < length (p .symmetries) → r ≡ makes p (symmetryAt p a) (symmetryAt p b) (symmetryAt p c)) ⌝ }
+{
+    let size = variables * values;
+    let mut q = 0;
+    while q < size {
+        let place = code(values, q);
+        if goes(images, b, goes(images, a, place)) != goes(images, c, place) {
+            return false;
+        }
+        q += 1;
+    }
+    true
+}
+
+// Whether symmetry a and then symmetry b leave each number where it is.
+fn moves_none(images: &[u8; 26112], variables: usize, values: usize, a: usize, b: usize) -> bool
+    requires { ⌜ ((p : Problem) × Held p (now images) variables values × (a < length (p .symmetries)) × (b < length (p .symmetries))) ⌝ }
+    ensures { λ r. ⌜ ((p : Problem) → Held p (now (images .entry)) variables values → a < length (p .symmetries) → b < length (p .symmetries) → r ≡ movesNothing p (symmetryAt p a) (symmetryAt p b)) ⌝ }
+{
+    let size = variables * values;
+    let mut q = 0;
+    while q < size {
+        let place = code(values, q);
+        if goes(images, b, goes(images, a, place)) != place {
+            return false;
+        }
+        q += 1;
+    }
+    true
+}
+
+// Whether symmetry a and then symmetry b make one of the symmetries, or move nothing.
+fn is_made(
+    images: &[u8; 26112],
+    variables: usize,
+    values: usize,
+    symmetries: usize,
+    a: usize,
+    b: usize,
+) -> bool
+    requires { ⌜ ((p : Problem) × Held p (now images) variables values × (symmetries ≡ length (p .symmetries)) × (a < symmetries) × (b < symmetries)) ⌝ }
+    ensures { λ r. ⌜ ((p : Problem) → Held p (now (images .entry)) variables values → symmetries ≡ length (p .symmetries) → a < symmetries → b < symmetries → r ≡ made p a b) ⌝ }
+{
+    if moves_none(images, variables, values, a, b) {
+        return true;
+    }
+    let mut c = 0;
+    while c < symmetries {
+        if makes_one(images, variables, values, a, b, c) {
+            return true;
+        }
+        c += 1;
+    }
+    false
+}
+
+// The number k of the first two symmetries, by k / g and then k % g for g symmetries, that make none of them one after the other; g * g where there are none.
+pub fn first_missing(
+    images: &[u8; 26112],
+    variables: usize,
+    values: usize,
+    symmetries: usize,
+) -> usize
+    requires { ⌜ ((p : Problem) × Held p (now images) variables values × (symmetries ≡ length (p .symmetries))) ⌝ }
+    ensures { λ r. ⌜ ((p : Problem) → Held p (now (images .entry)) variables values → symmetries ≡ length (p .symmetries) → r ≡ firstMissing p) ⌝ }
+{
+    let all = symmetries * symmetries;
+    let mut k = 0;
+    while k < all {
+        if !is_made(
+            images,
+            variables,
+            values,
+            symmetries,
+            k / symmetries,
+            k % symmetries,
+        ) {
+            return k;
+        }
+        k += 1;
+    }
+    k
+}
