@@ -108,7 +108,7 @@ pub fn case(rng: &mut Rng, tally: &mut Tally) {
     }
 }
 
-fn question(lent: &Lent, tally: &mut Tally) {
+pub fn question(lent: &Lent, tally: &mut Tally) {
     let expected = question_lent(&lent.sheet, &lent.pairs, &lent.block);
     let after = lent.clone();
     let status = after.question();
@@ -118,7 +118,7 @@ fn question(lent: &Lent, tally: &mut Tally) {
 }
 
 /// Compares one run with the oracle: the status, and every byte lent.
-fn run(lent: &Lent, limit: u32, room: usize, rng: &mut Rng, tally: &mut Tally) {
+pub fn run(lent: &Lent, limit: u32, room: usize, rng: &mut Rng, tally: &mut Tally) {
     let mut list = Guarded::new(room, rng.word() as u8);
     let mut answer = Guarded::new(ANSWER_BYTES, rng.word() as u8);
     let (mut expected_list, mut expected_answer) = (list.clone(), answer.clone());

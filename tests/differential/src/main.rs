@@ -3,6 +3,7 @@
 //! ../shared/bench beside the repository. Case i of a part draws from SEED + i, so that a difference comes
 //! back with that seed and one case. Every refusal number must be reached by its part, and every ending of the filter.
 
+mod block;
 mod columns;
 mod filter;
 mod lent;
@@ -93,6 +94,7 @@ fn test(part: &str, seed: usize, cases: usize, tally: &mut Tally) {
     }
     if part == "lent" {
         lent::examples(tally);
+        block::examples(tally);
     }
     if part == "columns" {
         columns::all_shapes(tally);

@@ -1,7 +1,7 @@
 //! Blocks of alike places (paper 02, #111), tried on the oracle.
 
 use oracle::block::{orderings, with_block};
-use oracle::lent::{run_lent, search_in};
+use oracle::lent::{question_lent, run_lent, search_in};
 use oracle::listing::solutions;
 use oracle::order::{reading, settling_order};
 use oracle::sheet::Constraint;
@@ -49,6 +49,100 @@ fn refused() {
     assert_eq!(with_block(unlike.clone(), &[0, 2]), refused(16, 1));
     unlike.symmetries = vec![(0..6).collect(); 3];
     assert_eq!(with_block(unlike, &[0, 2]), refused(16, 4));
+}
+
+/// A hall of alike places, all different or free of rules.
+fn hall(places: usize, values: usize, different: bool) -> Problem {
+    let mut constraints = Vec::new();
+    for second in (1..places).filter(|_| different) {
+        let rows = (0..values * values).map(|number| vec![number / values, number % values]);
+        let rows: Vec<Vec<usize>> = rows.filter(|row| row[0] != row[1]).collect();
+        constraints
+            .extend((0..second).map(|first| Constraint { scope: vec![first, second], rows: rows.clone() }));
+    }
+    let initial = vec![((1u32 << values) - 1) as u16; places];
+    Problem { variables: places, values, initial, constraints, symmetries: Vec::new() }
+}
+
+/// A run with room for so many plans: its ending, the plans, and the trials by place.
+fn listed(hall: &Problem, pairs: &[u8], block: &[u8], room: usize) -> (Ending, Vec<Vec<u8>>, Vec<u32>) {
+    let n = hall.variables;
+    let mut list = vec![99; room * n];
+    let tallied = run_lent(&encode(hall), pairs, block, 1_000_000, &mut list).unwrap();
+    let plans = list.chunks(n).take(tallied.outcome.plans as usize).map(|row| row.to_vec()).collect();
+    assert_eq!(tallied.outcome.nodes, tallied.counts.iter().sum::<u32>());
+    (tallied.outcome.ending, plans, tallied.counts[..n].to_vec())
+}
+
+/// Worked by hand: the plans ascend in the block, as it is settled.
+#[test]
+fn worked_by_hand() {
+    let plans = |rows: &[&[u8]]| rows.iter().map(|row| row.to_vec()).collect::<Vec<_>>();
+    let (three, bits) = (hall(3, 3, true), hall(3, 2, false));
+    let expected = (Ending::Finished, plans(&[&[0, 1, 2]]), vec![3, 2, 1]);
+    assert_eq!(listed(&three, &[], &[0, 3], 9), expected);
+    let expected = (Ending::Finished, plans(&[&[2, 1, 0]]), vec![1, 2, 3]);
+    assert_eq!(listed(&three, &[2, 1, 1, 0], &[0, 3], 9), expected);
+    let expected = (Ending::Finished, plans(&[&[1, 0, 2]]), vec![2, 3, 1]);
+    assert_eq!(listed(&three, &[1, 0], &[0, 3], 9), expected);
+    let ascending = plans(&[&[0, 0, 0], &[0, 0, 1], &[0, 1, 1], &[1, 1, 1]]);
+    assert_eq!(listed(&bits, &[], &[0, 3], 9), (Ending::Finished, ascending, vec![2, 3, 4]));
+    let last_two = plans(&[&[0, 0, 0], &[0, 0, 1], &[0, 1, 1], &[1, 0, 0], &[1, 0, 1], &[1, 1, 1]]);
+    assert_eq!(listed(&bits, &[], &[1, 2], 9), (Ending::Finished, last_two, vec![2, 4, 6]));
+    let backwards = plans(&[&[0, 0, 0], &[0, 1, 0], &[0, 1, 1], &[1, 0, 0], &[1, 1, 0], &[1, 1, 1]]);
+    assert_eq!(listed(&bits, &[2, 1], &[1, 2], 9), (Ending::Finished, backwards, vec![2, 6, 4]));
+    let sixteen = plans(&[&[0, 1, 2, 3, 4], &[0, 1, 2, 3, 5], &[0, 1, 2, 3, 6]]);
+    assert_eq!(listed(&hall(5, 16, true), &[], &[0, 5], 3), (Ending::Full, sixteen, vec![1, 1, 1, 1, 4]));
+}
+
+/// With an exchange of its own, of the two values, the first place hasn't 1; of 0 0 and 0 1 the block leaves both.
+#[test]
+fn beside_an_exchange() {
+    let mut bits = hall(2, 2, false);
+    bits.symmetries = vec![vec![1, 0, 3, 2]];
+    let plans = vec![vec![0, 0], vec![0, 1]];
+    assert_eq!(listed(&bits, &[], &[0, 2], 4), (Ending::Finished, plans, vec![2, 2]));
+}
+
+/// Free places of two values: the plans are so many for the other places, times one more than the block has places.
+#[test]
+fn at_each_first_place() {
+    for (places, count) in [(2, 2), (5, 2), (5, 3), (5, 4), (5, 5), (7, 3), (7, 4), (7, 5)] {
+        for first in 0..=places - count {
+            let (ending, plans, _) = listed(&hall(places, 2, false), &[], &[first as u8, count as u8], 200);
+            assert_eq!((ending, plans.len()), (Ending::Finished, (count + 1) << (places - count)));
+        }
+    }
+    for (places, count, plans) in [(2, 2, 120), (3, 3, 560)] {
+        let (ending, listed, _) = listed(&hall(places, 16, true), &[], &[0, count], 600);
+        assert_eq!((ending, listed.len()), (Ending::Finished, plans));
+    }
+}
+
+/// The first ordering that moves a place has the item: 24, 6, 2, 1, 1 for the places of a block of five, the last 4, 3, 2
+/// of these for smaller ones, counted on from the sheet's exchanges.
+#[test]
+fn items() {
+    for (own, first, count) in [(0, 0, 5), (3, 2, 5), (0, 1, 4), (16, 3, 4), (1, 0, 3), (2, 5, 2)] {
+        let items = &[24, 6, 2, 1, 1][5 - count..];
+        for (place, item) in (first..).zip(items) {
+            let mut alike = hall(7, 2, false);
+            alike.symmetries = vec![(0..14).collect(); own];
+            let (mut set, mut rule) = (alike.clone(), alike);
+            set.initial[place] = 2;
+            rule.constraints.push(Constraint { scope: vec![place], rows: vec![vec![0]] });
+            let block = [first as u8, count as u8];
+            let item = own as u32 + item;
+            assert_eq!(question_lent(&encode(&set), &[], &block), Err(Refusal { number: 15, item }));
+            assert_eq!(question_lent(&encode(&rule), &[], &block), Err(Refusal { number: 16, item }));
+        }
+    }
+    let bits = encode(&hall(7, 2, false));
+    for block in
+        [&[6, 2][..], &[3, 5], &[7, 2], &[255, 2], &[0, 0], &[0, 1], &[0, 6], &[0, 255], &[0], &[0, 2, 0]]
+    {
+        assert_eq!(question_lent(&bits, &[1, 0], block), Err(Refusal { number: 36, item: 0 }));
+    }
 }
 
 /// Without exchanges of its own a sheet with a block has the solutions whose values in the block ascend in the order.
