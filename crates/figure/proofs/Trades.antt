@@ -1,5 +1,5 @@
 -- The trades of a block's neighbours join what all its orderings join (specs/Trades). Assumes nothing.
-use mathlib.Core.Path.{_≡_, sym, ap, _∙_, subst}
+use mathlib.Core.Path.{_≡_, sym, ap, ap₂, _∙_, subst}
 use mathlib.Core.Logic.{⊎-elim}
 use mathlib.Core.List.{List, [], _∷_, _++_, List·Memᴰ, List·Memᴰ·not-nil, List·Memᴰ·append-cases, Memᴰ·append-left, Memᴰ·append-right, Memᴰ·cast, Memᴰ·map, Memᴰ·of-map}
 use Prim.Native.Nat.{ℕ, zero, suc, _+_, _-_, _≤_, _<_}
@@ -7,6 +7,7 @@ use native.Mathlib.Omega.{arith}
 use lib.Dec.{T}
 use lib.ListN.{length, length-map, length-append}
 use Rattle.model.specs.Lists.{below, at}
+use Rattle.model.specs.ValueSets.{has}
 use Rattle.model.specs.Problem.{Problem, pair, isPair, pairsOf, takes, isSolution, respects}
 use Rattle.model.specs.Verdict.{isAccepted}
 use Rattle.model.specs.Sheet.{problemOf}
@@ -17,11 +18,15 @@ use Rattle.model.proofs.Leaders.{takes-in, takes-on}
 use Rattle.model.proofs.Image.{image}
 use Rattle.model.proofs.More.{withSymmetries}
 use Rattle.model.proofs.Pairs as P
-use Rattle.order.specs.Reordered.{symmetryIn}
-use Rattle.block.specs.Block.{factorial, andThen, orderingTable, variableTable, blockTables, tablesLent, blockVerdict, blockLent}
+use Rattle.model.proofs.Symmetry as S
+use Rattle.order.specs.Order.{Ordering}
+use Rattle.order.specs.Reordered.{position, read, symmetryIn, reordered}
+use Rattle.order.proofs.Reordered as R
+use Rattle.block.specs.Block.{ordering, factorial, andThen, imageOf, orderingTable, variableTable, blockTables, tablesLent, blockVerdict, blockLent}
 use Rattle.block.proofs.Orderings.{Few, generated, at-andThen, factorial-up}
 use Rattle.block.proofs.Tables.{well-formed-with, respected-with}
 use Rattle.block.proofs.Block.{table-andThen, row-pair, image-zero, length-table, block-e}
+use Rattle.block.proofs.BlockReordered.{moved-in}
 use Rattle.block.proofs.BlockLent.{is-accepted, tables-pass}
 use Rattle.lent.specs.Lent.{verdictLent, problemWith, orderLent}
 use Rattle.lent.proofs.Lent.{lent-passed, well-sheet, well-lent, respected-lent}
@@ -146,3 +151,19 @@ traded-many b pairs block good =
     let p = problemOf b in
     let ts = tradesLent p block in
     omega (arith, length-map (p .symmetries ++ ts) (symmetryIn (orderLent b pairs) (problemTraded b block)), length-append (p .symmetries) ts, trades-few p (well-sheet b pairs block good) block (lent-passed b pairs block good .blocked))
+
+-- ---- the images of a row, by position: the value stays, the variable goes where the row takes it; what is no pair stays put
+module _ (p : Problem) (w : WellFormed p) (order : List ℕ) (o : Ordering (p .variables) order) (first m : ℕ) (few : Few m) (inside : first + m ≤ p .variables) (row x v : ℕ) (l : x < p .variables) where
+  pub row-there : T (has (at (read order (p .initial)) x) v) →
+      at (symmetryIn order p (orderingTable p first m row)) (pair (reordered order p) x v) ≡ pair (reordered order p) (position order (imageOf first m (ordering row) (at order x))) v
+  row-there t =
+      moved-in p w order o (orderingTable p first m row) x (imageOf first m (ordering row) (at order x)) v l t
+      (row-pair p w first m few inside row (at order x) v (R.place-lt p order o x l) (subst (λ (s : ℕ). T (has s v)) (R.set-at p order o w x l) t))
+
+  pub row-still : GoodSymmetry (reordered order p) (symmetryIn order p (orderingTable p first m row)) → v < p .values → (T (has (at (read order (p .initial)) x) v) → ⊥) →
+      at (symmetryIn order p (orderingTable p first m row)) (pair (reordered order p) x v) ≡ pair (reordered order p) x v
+  row-still good k n =
+      let q = reordered order p in
+      let u = R.well-reordered p order o w in
+      S.to-self q u (symmetryIn order p (orderingTable p first m row)) good (pair q x v) (P.pair-lt q u x v l k)
+      (λ t. n (subst T (ap₂ (λ (y z : ℕ). has (at (read order (p .initial)) y) z) (P.pair-div q u x v k) (P.pair-mod q u x v k)) (P.isPair-has q u (pair q x v) t)))
