@@ -1,43 +1,16 @@
--- A buffer with a text at a place, byte by byte; numbers read back. Assumes nothing.
-use mathlib.Core.Path.{_≡_, sym, ap, ap₂, _∙_, subst}
+-- Parts of a buffer, numbers read back, and lists of bytes. Assumes nothing.
+use mathlib.Core.Path.{_≡_, sym, ap₂, _∙_, subst}
 use mathlib.Core.List.{List, [], _∷_, _++_}
-use Prim.Native.Nat.{ℕ, zero, suc, _+_, _-_, _*_, _/_, _%_, _^_, _≤_, _<_}
+use Prim.Native.Nat.{ℕ, zero, suc, _+_, _*_, _/_, _%_, _^_, _≤_, _<_}
 use native.Mathlib.Omega.{arith}
-use lib.ListN.{length, take, drop, set, replicate, length-append, length-take, length-drop}
+use lib.ListN.{length, take, drop, set, replicate, length-take, length-drop}
 use lib.Seq.{getD-drop, length-take-le}
 use Rattle.model.specs.Lists.{at}
 use Rattle.model.specs.Sheet.{«word»}
 use Rattle.model.specs.Bytes.{twoBytes, fourBytes}
 use Rattle.model.specs.Written.{placed}
-use Rattle.model.proofs.Lists.{at-append, at-skip, at-take, at-ext}
+use Rattle.model.proofs.Lists.{at-take, at-ext}
 use Rattle.desk.specs.Layout.{long}
-
-module _ (b : List ℕ) (p : ℕ) (t : List ℕ) (fits : p + length t ≤ length b) where
-  front : length (take p b) ≡ p
-  front = length-take-le p b (omega arith)
-
-  head : length (take p b ++ t) ≡ p + length t
-  head = let e = length-append (take p b) t in let f = front in omega arith
-
-  pub placed-before : (i : ℕ) → i < p → at (placed b p t) i ≡ at b i
-  unfolding placed
-  placed-before i h =
-      let e = head in
-      let f = front in
-      at-append (take p b ++ t) (drop (p + length t) b) i (omega arith) ∙ at-append (take p b) t i (omega arith) ∙ at-take p b i h
-
-  pub placed-in : (i : ℕ) → i < length t → at (placed b p t) (p + i) ≡ at t i
-  unfolding placed
-  placed-in i h =
-      let e = head in
-      let z : p + i - p ≡ i = omega arith in
-      at-append (take p b ++ t) (drop (p + length t) b) (p + i) (omega arith) ∙ at-skip (take p b) t p (p + i) front (omega arith) ∙ ap (at t) z
-
-  pub placed-after : (i : ℕ) → p + length t ≤ i → at (placed b p t) i ≡ at b i
-  unfolding placed at
-  placed-after i h =
-      let z : p + length t + (i - (p + length t)) ≡ i = omega arith in
-      at-skip (take p b ++ t) (drop (p + length t) b) (p + length t) i head h ∙ getD-drop (p + length t) b (i - (p + length t)) 0 ∙ ap (at b) z
 
 -- a part with the same bytes
 pub part-is : (c d : List ℕ) (from at-d n : ℕ) → from + n ≤ length c → at-d + n ≤ length d → ((i : ℕ) → i < n → at c (from + i) ≡ at d (at-d + i)) → take n (drop from c) ≡ take n (drop at-d d)

@@ -123,7 +123,7 @@ set-seat P (x ∷ l) zero s (suc j) a b = b
 set-seat P (x ∷ l) (suc k) s zero a b = b
 set-seat P (x ∷ l) (suc k) s (suc j) a b = set-seat P l k s j a b
 
-no-seats : (n k : ℕ) → getD (replicate n free) k free ≡ free
+pub no-seats : (n k : ℕ) → getD (replicate n free) k free ≡ free
 no-seats zero k = refl
 no-seats (suc n) zero = refl
 no-seats (suc n) (suc k) = no-seats n k

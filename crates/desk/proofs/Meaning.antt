@@ -15,11 +15,11 @@ use Rattle.model.specs.Bytes.{fourBytes}
 use Rattle.model.specs.Written.{placed}
 use Rattle.model.specs.Run.{listedPlans}
 use Rattle.model.proofs.Lists.{of-T, at-append, at-skip}
-use Rattle.model.proofs.Written.{length-placed}
+use Rattle.model.proofs.Written.{length-placed, placed-before, placed-in, placed-after}
 use Rattle.desk.specs.Desk.{Standing, Hall, newcomer, Seat, free, taken, seatAt}
 use Rattle.desk.specs.Layout.{size, seatPlace, nextPlace, long, standingBy, standingAt, sheetLength, nodesAt, plansAt, widthAt, rowsAt, lastAt, turnable, sheetAt, hallAt, seatOf, deskOf, headBytes, seatBytes}
 use Rattle.desk.proofs.Sheets.{answered-length, accepted-turnable}
-use Rattle.desk.proofs.Bytes.{placed-before, placed-in, placed-after, part-is, word-of, long-of}
+use Rattle.desk.proofs.Bytes.{part-is, word-of, long-of}
 use Rattle.desk.proofs.Seats.{seat-in, row-length, taken-at}
 
 -- ---- a hall by its parts

@@ -2,7 +2,7 @@
 use mathlib.Core.Path.{_≡_, refl, sym, ap, ap₂, _∙_, subst}
 use mathlib.Core.Bool.{Bool, true, false}
 use mathlib.Core.List.{List, _∷_, _++_}
-use Prim.Native.Nat.{ℕ, zero, suc, _+_, _^_, _<_}
+use Prim.Native.Nat.{ℕ, _+_, _^_, _<_}
 use native.Mathlib.Omega.{arith}
 use lib.Dec.{T, ltb}
 use lib.ListN.{length, set, getD, replicate, length-set}
@@ -17,7 +17,7 @@ use Rattle.model.proofs.Lists.{below-e, at-set, at-set-other}
 use Rattle.desk.specs.Desk.{newcomer, Hall, Seat, free, taken, isFree, Desk, seatAt, Found, none-found, seat, lowestFree, sit, leave, sitDesk, fits, leaveSeat, deskAfter}
 use Rattle.desk.specs.Layout.{seatPlace, nextPlace, seatOf, deskOf, headBytes, seatBytes, sitBytes, leaveBytes, callBytes}
 use Rattle.desk.specs.Claims.{DeskBytes, Zeros-empty}
-use Rattle.desk.proofs.Desk.{first-in}
+use Rattle.desk.proofs.Desk.{first-in, no-seats}
 use Rattle.desk.proofs.Sheets.{answered-length}
 use Rattle.desk.proofs.Bytes.{Small, small-cons, small-append, small-replicate, small-placed, small-set, small-four, small-two}
 use Rattle.desk.proofs.Seats.{row-length, seat-in, seat-out, free-at}
@@ -28,11 +28,6 @@ pub desk-is : {l m : List Seat} {i j : ℕ} → l ≡ m → i ≡ j → _≡_ {A
 desk-is e f = ap₂ (λ (x : List Seat) (y : ℕ). let d : Desk = record { seats = x; next = y } in d) e f
 
 -- ---- zeros
-no-seats : (n k : ℕ) → getD (replicate n free) k free ≡ free
-no-seats zero k = refl
-no-seats (suc n) zero = refl
-no-seats (suc n) (suc k) = no-seats n k
-
 pub zeros-empty : Zeros-empty
 unfolding below
 zeros-empty b zeros = desk-is (ext-getD free (deskOf b .seats) (replicate 8 free) (row-length (seatOf b) 8 0) each) (zeros nextPlace)

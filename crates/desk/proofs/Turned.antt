@@ -12,11 +12,11 @@ use Rattle.model.specs.Written.{placed}
 use Rattle.model.specs.Run.{finished, spent, full, listedPlans}
 use Rattle.model.proofs.Lists.{at-append, at-skip}
 use Rattle.model.proofs.Room.{Wide, wide-tail, length-flat}
-use Rattle.model.proofs.Written.{length-placed}
+use Rattle.model.proofs.Written.{length-placed, placed-before, placed-in, placed-after}
 use Rattle.desk.specs.Desk.{Standing, running, over, Hall, taken}
 use Rattle.desk.specs.Layout.{seatPlace, nextPlace, long, standingBy, nodesAt, plansAt, widthAt, rowsAt, lastAt, hallAt, seatOf, standingByte, figureBytes, runBytes, withRun}
 use Rattle.desk.specs.Claims.{DeskBytes}
-use Rattle.desk.proofs.Bytes.{Small, placed-before, placed-in, placed-after, part-is, word-of, long-of, small-cons, small-nil, small-append, small-replicate, small-placed, small-four, small-two}
+use Rattle.desk.proofs.Bytes.{Small, part-is, word-of, long-of, small-cons, small-nil, small-append, small-replicate, small-placed, small-four, small-two}
 use Rattle.desk.proofs.Seats.{taken-at, long-small}
 use Rattle.desk.proofs.Meaning.{hall-is, sheet-same, width-same, long-same, seat-same, others-placed}
 use Rattle.desk.proofs.Turning.{Fits}

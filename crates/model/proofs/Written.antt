@@ -1,13 +1,15 @@
 -- Texts put into a buffer one after the other: the buffer keeps its length, and two texts are one. Assumes nothing.
 use mathlib.Core.Path.{_≡_, refl, sym, ap, _∙_}
 use mathlib.Core.List.{List, [], _∷_, _++_, append-assoc, append-nil}
-use Prim.Native.Nat.{ℕ, _+_, _≤_, _<_}
+use Prim.Native.Nat.{ℕ, _+_, _-_, _≤_, _<_}
 use native.Mathlib.Nat.{add-zero, zero-add}
 use native.Mathlib.Numerals.{add-one}
 use native.Mathlib.Omega.{arith}
 use lib.ListN.{length, take, drop, set, length-append, length-drop, take-append-drop}
-use lib.Seq.{length-take-le, take-at, drop-at, drop-drop, set-split, paste, take-length}
+use lib.Seq.{getD-drop, length-take-le, take-at, drop-at, drop-drop, set-split, paste, take-length}
+use Rattle.model.specs.Lists.{at}
 use Rattle.model.specs.Written.{placed, Written, Fronted}
+use Rattle.model.proofs.Lists.{at-append, at-skip, at-take}
 
 module _ (d : List ℕ) (at : ℕ) (t : List ℕ) (fits : at + length t ≤ length d) where
   -- the bytes up to the end of the text
@@ -33,6 +35,34 @@ module _ (d : List ℕ) (at : ℕ) (t : List ℕ) (fits : at + length t ≤ leng
       (sym (drop-drop (length u) n (p ++ q)) ∙ ap (drop (length u)) (drop-at p q n length-head) ∙ drop-drop (length u) n d)
       ∙ ap (λ (l : List ℕ). l ++ drop (n + length u) d) (append-assoc (take at d) t u)
       ∙ ap (λ (k : ℕ). take at d ++ (t ++ u) ++ drop k d) (sym e)
+
+-- ---- byte by byte
+module _ (b : List ℕ) (p : ℕ) (t : List ℕ) (fits : p + length t ≤ length b) where
+  front : length (take p b) ≡ p
+  front = length-take-le p b (omega arith)
+
+  head : length (take p b ++ t) ≡ p + length t
+  head = let e = length-append (take p b) t in let f = front in omega arith
+
+  pub placed-before : (i : ℕ) → i < p → at (placed b p t) i ≡ at b i
+  unfolding placed
+  placed-before i h =
+      let e = head in
+      let f = front in
+      at-append (take p b ++ t) (drop (p + length t) b) i (omega arith) ∙ at-append (take p b) t i (omega arith) ∙ at-take p b i h
+
+  pub placed-in : (i : ℕ) → i < length t → at (placed b p t) (p + i) ≡ at t i
+  unfolding placed
+  placed-in i h =
+      let e = head in
+      let z : p + i - p ≡ i = omega arith in
+      at-append (take p b ++ t) (drop (p + length t) b) (p + i) (omega arith) ∙ at-skip (take p b) t p (p + i) front (omega arith) ∙ ap (at t) z
+
+  pub placed-after : (i : ℕ) → p + length t ≤ i → at (placed b p t) i ≡ at b i
+  unfolding placed at
+  placed-after i h =
+      let z : p + length t + (i - (p + length t)) ≡ i = omega arith in
+      at-skip (take p b ++ t) (drop (p + length t) b) (p + length t) i head h ∙ getD-drop (p + length t) b (i - (p + length t)) 0 ∙ ap (at b) z
 
 -- the empty text changes nothing
 pub placed-none : (d : List ℕ) (at : ℕ) → placed d at [] ≡ d

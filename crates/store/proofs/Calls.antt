@@ -12,12 +12,12 @@ use Rattle.model.specs.Lists.{both, either, choose, at}
 use Rattle.model.specs.Verdict.{Verdict, accepted, refused, ask, isAccepted}
 use Rattle.model.specs.Written.{placed}
 use Rattle.model.proofs.Lists.{of-T, at-replicate, set-each}
-use Rattle.model.proofs.Written.{length-placed}
+use Rattle.model.proofs.Written.{length-placed, placed-before, placed-in, placed-after}
 use Rattle.store.specs.Store.{isTable, Store, keysOf, Action, put, fetch, remove, Call, call, actionVerdict, callVerdict, entryAfter, storeAfter, Reply, replyOf, replyTo, storeEnd, ownerOf, repliesTo}
 use Rattle.store.specs.Layout.{size, slotAt, holds, slotWith, storeOf, slotFor, slotBytes, freed, changed, verdictOn, replyOn, bytesAfter}
 use Rattle.store.specs.Claims.{StoreBytes, ByteCall, ByteCalls, Zeros-empty, Each-call, bytesEnd, repliesOn, All-calls, Isolated-bytes}
 use Rattle.store.proofs.Store.{here-after, there-after, refused-same, ask-e, isolated}
-use Rattle.store.proofs.Slots.{placed-before, placed-in, placed-after, holds-free, with-is, entry-none, put-here, put-there, put-elsewhere, remove-here, remove-there, remove-elsewhere, freed-length}
+use Rattle.store.proofs.Slots.{holds-free, with-is, entry-none, put-here, put-there, put-elsewhere, remove-here, remove-there, remove-elsewhere, freed-length}
 use Rattle.store.proofs.Free.{room-left}
 
 -- ---- what the bytes mean after a call

@@ -3,50 +3,22 @@ use mathlib.Core.Path.{_≡_, refl, sym, ap, ap₂, _∙_, subst}
 use mathlib.Core.Bool.{Bool, true, false, not}
 use mathlib.Core.Logic.{_⊎_, ⊎-elim}
 use mathlib.Core.List.{List, _∷_, _++_, append-assoc}
-use Prim.Native.Nat.{ℕ, zero, suc, _+_, _-_, _*_, _/_, _%_, _≤_, _<_, min}
+use Prim.Native.Nat.{ℕ, zero, suc, _+_, _*_, _/_, _%_, _≤_, _<_, min}
 use native.Mathlib.Numerals.{add-one}
 use native.Mathlib.Omega.{arith}
 use lib.Dec.{T-not, ltb, eqb, eqb→eq}
-use lib.ListN.{length, take, drop, set, length-append, length-take, length-drop, length-set}
+use lib.ListN.{length, take, drop, set, length-take, length-drop, length-set}
 use lib.Seq.{getD-drop, length-take-le, take-append-seam, drop-at}
 use borrow.Author.Tests.{ltb-true, ltb-false, lt-ltb, le-ltb, eq-eqb, ne-eqb, eqb-true, eqb-false}
 use Rattle.model.specs.Lists.{both, either, choose, at}
 use Rattle.model.specs.Sheet.{«word»}
 use Rattle.model.specs.Bytes.{twoBytes}
 use Rattle.model.specs.Written.{placed}
-use Rattle.model.proofs.Lists.{T-of, of-T, not-of, both-l, both-r, either-e, at-append, at-skip, at-take, at-ext, at-set, at-set-other}
-use Rattle.model.proofs.Written.{length-placed, placed-then}
+use Rattle.model.proofs.Lists.{T-of, of-T, not-of, both-l, both-r, either-e, at-take, at-ext, at-set, at-set-other}
+use Rattle.model.proofs.Written.{length-placed, placed-then, placed-before, placed-in, placed-after}
 use Rattle.store.specs.Store.{Entry, none, table}
 use Rattle.store.specs.Layout.{size, slotAt, holds, tableAt, firstOf, slotWith, storeOf, isFree, slotFor, slotBytes, freed}
 use Rattle.store.proofs.First.{first-is, first-most, first-no, first-yes, first-before, first-same}
-
--- ---- the bytes of a buffer with a text in it
-module _ (b : List ℕ) (p : ℕ) (t : List ℕ) (fits : p + length t ≤ length b) where
-  front : length (take p b) ≡ p
-  front = length-take-le p b (omega arith)
-
-  head : length (take p b ++ t) ≡ p + length t
-  head = let e = length-append (take p b) t in let f = front in omega arith
-
-  pub placed-before : (i : ℕ) → i < p → at (placed b p t) i ≡ at b i
-  unfolding placed
-  placed-before i h =
-      let e = head in
-      let f = front in
-      at-append (take p b ++ t) (drop (p + length t) b) i (omega arith) ∙ at-append (take p b) t i (omega arith) ∙ at-take p b i h
-
-  pub placed-in : (i : ℕ) → i < length t → at (placed b p t) (p + i) ≡ at t i
-  unfolding placed
-  placed-in i h =
-      let e = head in
-      let z : p + i - p ≡ i = omega arith in
-      at-append (take p b ++ t) (drop (p + length t) b) (p + i) (omega arith) ∙ at-skip (take p b) t p (p + i) front (omega arith) ∙ ap (at t) z
-
-  pub placed-after : (i : ℕ) → p + length t ≤ i → at (placed b p t) i ≡ at b i
-  unfolding placed at
-  placed-after i h =
-      let z : p + length t + (i - (p + length t)) ≡ i = omega arith in
-      at-skip (take p b ++ t) (drop (p + length t) b) (p + length t) i head h ∙ getD-drop (p + length t) b (i - (p + length t)) 0 ∙ ap (at b) z
 
 -- a text put at the front is read back
 pub read-back : (b t c : List ℕ) → c ≡ placed b 0 t → take (length t) c ≡ t
