@@ -146,6 +146,14 @@ module _ (p : Problem) where
   dead-below zero prefix e = refl
   dead-below (suc k) prefix e = ap (λ (l : List ℕ). flat (map (branch p k prefix) l)) (dead-candidates prefix e)
 
+  -- so going down a path ends at a dead prefix
+  pub dead-left : (k : ℕ) (prefix path : List ℕ) → isLive p prefix ≡ false → nodesLeft p k prefix path ≡ []
+  unfolding nodesLeft nodesOf any keep flat
+  dead-left k prefix [] e = dead-below k prefix e
+  dead-left zero prefix (v ∷ path) e = refl
+  dead-left (suc k) prefix (v ∷ path) e =
+      ap (λ (l : List ℕ). given (any (eqb v) l) (nodesLeft p k (prefix ++ (v ∷ [])) path) ++ nodesOf p k prefix (keep (ltb v) l)) (dead-candidates prefix e)
+
   -- ---- as a loop over the path's variables, from the last back to the first
   along-here : (prefix : List ℕ) (v : ℕ) (path : List ℕ) (k : ℕ) → Along p prefix (v ∷ path) → given (any (eqb v) (candidatesAt p prefix)) (nodesLeft p k (prefix ++ (v ∷ [])) path) ≡ nodesLeft p k (prefix ++ (v ∷ [])) path
   unfolding nodesLeft
