@@ -12,7 +12,7 @@ use Rattle.model.specs.Search.{entriesAt, nogoodsOf, rowWith, supported, pruned
 use Rattle.model.specs.Run.{finished, spent, search, resultOf, written}
 use Rattle.model.specs.Examples.{sheetA}
 use Rattle.parts.specs.Parts.{after, nodesAfter, nodesBetween, nodesOf, nodesLeft, lastOf, goOn}
-use Rattle.desk.specs.Desk.{over, hallTurned, firstOf, emptyDesk, Desk, sit, turn, leave, denied, seated, idle, served, left, deskEnd, deskReplies, due, behindLast, roundsDesk, turnsGiven, lookReply}
+use Rattle.desk.specs.Desk.{over, hallTurned, firstOf, emptyDesk, Desk, sit, turn, leave, denied, seated, idle, served, left, deskEnd, deskReplies, due, behindLast, roundsDesk, turnsGiven, endedIn, goingOn, lookReply}
 
 -- every definition that computes
 opened : ℕ
@@ -30,6 +30,6 @@ desk-case = refl
 abbrev two : Desk
 two = deskEnd emptyDesk (sit sheetA 1000000 ∷ sit sheetA 2 ∷ [])
 
-pub rounds-case : (turnsGiven two 3 ≡ 2) × (roundsDesk two 3 .next ≡ 2) × (lookReply (roundsDesk two 3) 1 ≡ served 1 (over (spent 1 2)) 1 2)
+pub rounds-case : (turnsGiven two 3 ≡ 2) × (roundsDesk two 3 .next ≡ 2) × (endedIn two 3 ≡ 3) × (goingOn two 3 ≡ 0) × (lookReply (roundsDesk two 3) 1 ≡ served 1 (over (spent 1 2)) 1 2)
 unfolding opened
-rounds-case = (refl, refl, refl)
+rounds-case = (refl, refl, refl, refl, refl)

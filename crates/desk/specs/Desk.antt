@@ -1,11 +1,12 @@
 -- A desk with eight seats (paper 02, #113): each holds a hall's sheet, its allowance and its run so far; a turn makes 64 nodes (the paper's trials)
 -- of one of the runs.
-use mathlib.Core.Bool.{Bool, true, false}
+use mathlib.Core.Bool.{Bool, true, false, not}
 use mathlib.Core.List.{List, [], _∷_, map}
 use Prim.Native.Nat.{ℕ, zero, suc, _+_, _*_, _%_, min}
 use lib.ListN.{length, set, getD, replicate}
 use lib.Dec.{leb, ltb}
 use Rattle.model.specs.Lists.{both, choose, flat, below, total}
+use Rattle.model.specs.ValueSets.{maskOf}
 use Rattle.model.specs.Problem.{Problem}
 use Rattle.model.specs.Verdict.{Verdict, accepted, refused}
 use Rattle.model.specs.Sheet.{verdictOf, problemOf}
@@ -237,3 +238,10 @@ roundsDesk d r = record { seats = map (seatGiven r) (d .seats); next = behindLas
 -- how many turns that are
 abbrev pub turnsGiven : Desk → ℕ → ℕ
 turnsGiven d r = total (map (λ k. dueAt r (seatAt d k)) (roundFrom (d .next)))
+
+-- what rounds answer: the seats whose run ended in them, and those whose run goes on, as sets of seats
+abbrev pub endedIn : Desk → ℕ → ℕ
+endedIn d r = maskOf (λ k. both (waits (seatAt d k)) (not (waits (seatGiven r (seatAt d k)))))
+
+abbrev pub goingOn : Desk → ℕ → ℕ
+goingOn d r = maskOf (λ k. waits (seatGiven r (seatAt d k)))
