@@ -1,24 +1,26 @@
 -- Pairs by their index, and the order one place after another. Assumes nothing.
 use mathlib.Core.Path.{_≡_, refl, sym, ap, ap₂, _∙_, subst}
-use mathlib.Core.Bool.{Bool, true, false, not}
+use mathlib.Core.Bool.{Bool, true, false}
+use mathlib.Core.Logic.{_⊎_, inl, inr}
 use mathlib.Core.List.{List, [], _∷_, _++_, List·Memᴰ, List·Memᴰ·head, List·Memᴰ·tail, List·Memᴰ·not-nil}
-use Prim.Native.Nat.{ℕ, zero, suc, _+_, _*_, _%_, _≤_, _<_}
+use Prim.Native.Nat.{ℕ, zero, suc, _+_, _*_, _/_, _%_, _^_, _≤_, _<_}
 use native.Mathlib.Nat.{not-suc-le-zero}
 use native.Mathlib.Decide.{ℕ-discrete}
 use native.Mathlib.Omega.{arith}
-use lib.Bits.{bitOr}
-use lib.Dec.{T, ltb, eqb, ltb→lt, lt→ltb, T-not}
+use lib.Bits.{bitOr, or-lt}
+use lib.Dec.{T, ltb, eqb, ltb→lt, lt→ltb, eqb-refl}
 use lib.ListN.{length, take, set, length-set}
 use borrow.Author.Tests.{le-leb, lt-leb, eq-eqb, ne-eqb, eqb-true}
 use Rattle.model.specs.Lists.{all, any, at, both, either}
 use Rattle.model.specs.ValueSets.{has, least}
 use Rattle.model.specs.Verdict.{Verdict, accepted, ask, isAccepted}
 use Rattle.order.specs.Order.{pairsIn, Before, canFollow, settledFirst, settlingOrder, settlesAll, orderVerdict, Settling}
-use Rattle.model.proofs.Lists.{T-of, of-T, not-of, of-not, both-l, both-r, all-i, all-e, any-cons, among-i, among-e, mem-at, at-mem, at-ext, at-take, at-set, at-set-other}
+use Rattle.model.proofs.Lists.{T-of, of-T, not-of, of-not, all-i, all-e, any-cons, among-i, among-e, mem-at, at-mem, at-ext, at-take, at-set, at-set-other}
 use Rattle.model.proofs.Masks.{has-or}
-use Rattle.model.proofs.Sets.{has-none}
+use Rattle.model.proofs.Sets.{has-none, mask-ext}
+use Rattle.model.proofs.Members.{or-i, or-e}
 use Rattle.order.proofs.Order.{follow-i, follow-e, first-length, first-at, order-passed}
-use Rattle.order.specs.Settled.{Holds, Settled, Ordered}
+use Rattle.order.specs.Settled.{Holds, Befores, Settled, Ordered}
 
 -- ---- pairs by their index
 pub before-at : (pairs : List ℕ) (i : ℕ) → 2 * i + 1 < length pairs → Before pairs (at pairs (2 * i)) (at pairs (2 * i + 1))
@@ -71,6 +73,9 @@ pub below-all : (pairs : List ℕ) (n : ℕ) → ((i : ℕ) → i < length pairs
 below-all pairs n h =
     sym (of-T (all (λ x. ltb x n) pairs) (all-i (λ x. ltb x n) pairs (λ x m. let r = at-mem pairs x m in lt→ltb x n (subst (λ (z : ℕ). z < n) (r .2) (h (r .0) (r .1))))))
 
+pub below-each : (pairs : List ℕ) (n : ℕ) → n ≤ 12 → all (λ x. ltb x n) pairs ≡ true → (i : ℕ) → i < length pairs → at pairs i < 16
+below-each pairs n h e i l = let k = ltb→lt (at pairs i) n (all-e (λ x. ltb x n) pairs (T-of (all (λ x. ltb x n) pairs) e) (at pairs i) (mem-at pairs i l)) in omega arith
+
 pub below-not : (pairs : List ℕ) (n i : ℕ) → i < length pairs → n ≤ at pairs i → false ≡ all (λ x. ltb x n) pairs
 below-not pairs n i h l =
     sym (not-of (all (λ x. ltb x n) pairs) (λ t. let k = ltb→lt (at pairs i) n (all-e (λ x. ltb x n) pairs t (at pairs i) (mem-at pairs i h)) in omega arith))
@@ -86,21 +91,99 @@ module _ (pairs l : List ℕ) (settled y : ℕ) (h : Holds settled l) where
   pub settled-not : T (has settled y) → false ≡ canFollow pairs l y
   settled-not t = sym (not-of (canFollow pairs l y) (λ c. follow-e pairs l y c .0 (member y t)))
 
-  pub waits-not : (i : ℕ) → 2 * i + 1 < length pairs → T (both (eqb (at pairs (2 * i + 1)) y) (not (has settled (at pairs (2 * i))))) → false ≡ canFollow pairs l y
-  waits-not i k t =
-      let e : at pairs (2 * i + 1) ≡ y = eqb-true (at pairs (2 * i + 1)) y (of-T _ (both-l (eqb (at pairs (2 * i + 1)) y) (not (has settled (at pairs (2 * i)))) t)) in
-      let n : T (has settled (at pairs (2 * i))) → ⊥ = T-not (has settled (at pairs (2 * i))) (both-r (eqb (at pairs (2 * i + 1)) y) (not (has settled (at pairs (2 * i)))) t) in
-      sym (not-of (canFollow pairs l y) (λ c. n (member-has (at pairs (2 * i)) (follow-e pairs l y c .1 (at pairs (2 * i)) (subst (λ (z : ℕ). Before pairs (at pairs (2 * i)) z) e (before-at pairs i k))))))
+  module _ (befores : List ℕ) (b : Befores pairs (length pairs / 2) befores) where
+    all-settled : has settled y ≡ false → bitOr (at befores y) settled ≡ settled → true ≡ canFollow pairs l y
+    all-settled n e = sym (of-T (canFollow pairs l y) (follow-i pairs l y (λ m. of-not (has settled y) n (member-has y m)) (λ x f. into x (before-index pairs x y f))))
+      where
+        into : (x : ℕ) → Indexed pairs x y → List·Memᴰ x l
+        into x r =
+            let i : r .index < length pairs / 2 = omega (arith, r .inside) in
+            let t : T (has (at befores y) x) = subst (λ (z : ℕ). T (has (at befores y) z)) (r .first) (subst (λ (z : ℕ). T (has (at befores z) (at pairs (2 * r .index)))) (r .second) (b .within (r .index) i)) in
+            member x (subst (λ (z : ℕ). T (has z x)) e (or-i (at befores y) settled x (inl t)))
 
-  pub follows : has settled y ≡ false → ((i : ℕ) → 2 * i + 1 < length pairs → both (eqb (at pairs (2 * i + 1)) y) (not (has settled (at pairs (2 * i)))) ≡ false) → true ≡ canFollow pairs l y
-  follows n w = sym (of-T (canFollow pairs l y) (follow-i pairs l y (λ m. of-not (has settled y) n (member-has y m)) (λ x b. into x (before-index pairs x y b))))
+    some-wait : settled < 2 ^ 64 → (bitOr (at befores y) settled ≡ settled → ⊥) → false ≡ canFollow pairs l y
+    some-wait s n = sym (not-of (canFollow pairs l y) (λ c. n (mask-ext 64 (bitOr (at befores y) settled) settled (or-lt 64 (at befores y) settled (b .few y) s) s (λ v k. has-or (at befores y) settled v ∙ go (has (at befores y) v) (has settled v) (here c v)))))
+      where
+        go : (p q : Bool) → (T p → T q) → either p q ≡ q
+        go true true f = refl
+        go true false f = absurd (f tt)
+        go false q f = refl
+
+        here : T (canFollow pairs l y) → (v : ℕ) → T (has (at befores y) v) → T (has settled v)
+        here c v t =
+            let r = b .alone v y t in
+            member-has v (follow-e pairs l y c .1 v (subst (λ (z : ℕ). Before pairs v z) (r .3) (subst (λ (z : ℕ). Before pairs z (at pairs (2 * r .0 + 1))) (r .2) (before-at pairs (r .0) (omega (arith, r .1))))))
+
+    pub follows : has settled y ≡ false → settled < 2 ^ 64 → eqb (bitOr (at befores y) settled) settled ≡ canFollow pairs l y
+    follows n s = go (ℕ-discrete (bitOr (at befores y) settled) settled)
+      where
+        go : Dec (bitOr (at befores y) settled ≡ settled) → eqb (bitOr (at befores y) settled) settled ≡ canFollow pairs l y
+        go (yes e) = eq-eqb (bitOr (at befores y) settled) settled e ∙ all-settled n e
+        go (no m) = ne-eqb (bitOr (at befores y) settled) settled m ∙ some-wait s m
+
+-- ---- forerunners, one pair after another
+pub below-64 : (x : ℕ) → x < 16 → x < 64
+below-64 x h = omega arith
+
+pub befores-begin : (pairs befores : List ℕ) → length befores ≡ 16 → ((y : ℕ) → at befores y ≡ 0) → Befores pairs 0 befores
+befores-begin pairs befores h z = record {
+  within = λ i l. absurd (omega arith);
+  alone = λ x y t. absurd (of-not (has (at befores y) x) (ap (λ (s : ℕ). has s x) (z y) ∙ has-none x) t);
+  few = λ y. (let e = z y in omega arith);
+  size = h;
+}
+
+module _ (pairs befores : List ℕ) (i one : ℕ) (b : Befores pairs i befores) (h : at pairs (2 * i + 1) < 16) (f : one < 2 ^ 64) (o : (y : ℕ) → has one y ≡ eqb y (at pairs (2 * i))) where
+  abbrev first : ℕ
+  first = at pairs (2 * i)
+
+  abbrev second : ℕ
+  second = at pairs (2 * i + 1)
+
+  abbrev united : ℕ
+  united = bitOr (at befores (at pairs (2 * i + 1))) one
+
+  abbrev after : List ℕ
+  after = set befores (at pairs (2 * i + 1)) (bitOr (at befores (at pairs (2 * i + 1))) one)
+
+  there : (y : ℕ) → y ≡ second → at after y ≡ united
+  there y e = ap (at after) e ∙ at-set befores second united (omega (arith, b .size))
+
+  grows : (x y : ℕ) → T (has (at befores y) x) → Dec (y ≡ second) → T (has (at after y) x)
+  grows x y t (yes e) = subst (λ (s : ℕ). T (has s x)) (sym (there y e)) (or-i (at befores second) one x (inl (subst (λ (z : ℕ). T (has (at befores z) x)) e t)))
+  grows x y t (no n) = subst (λ (s : ℕ). T (has s x)) (sym (at-set-other befores second united y n)) t
+
+  pub befores-turn : Befores pairs (i + 1) (set befores (at pairs (2 * i + 1)) (bitOr (at befores (at pairs (2 * i + 1))) one))
+  befores-turn = record {
+    within = λ j l. within j l (ℕ-discrete j i);
+    alone = λ x y t. alone x y t (ℕ-discrete y second);
+    few = λ y. few y (ℕ-discrete y second);
+    size = length-set befores second united ∙ b .size;
+  }
     where
-      into : (x : ℕ) → Indexed pairs x y → List·Memᴰ x l
-      into x r = member x (go (has settled x) (subst (λ (z : ℕ). both (eqb (at pairs (2 * r .index + 1)) y) (not (has settled z)) ≡ false) (r .first) (w (r .index) (r .inside))))
-        where
-          go : (b : Bool) → both (eqb (at pairs (2 * r .index + 1)) y) (not b) ≡ false → T b
-          go true q = tt
-          go false q = absurd (of-not _ q (T-of _ (ap (λ (c : Bool). both c true) (eq-eqb (at pairs (2 * r .index + 1)) y (r .second)))))
+      within : (j : ℕ) → j < i + 1 → Dec (j ≡ i) → T (has (at after (at pairs (2 * j + 1))) (at pairs (2 * j)))
+      within j l (yes e) =
+          subst (λ (k : ℕ). T (has (at after (at pairs (2 * k + 1))) (at pairs (2 * k)))) (sym e)
+          (subst (λ (s : ℕ). T (has s first)) (sym (there second refl)) (or-i (at befores second) one first (inr (subst T (sym (o first)) (eqb-refl first)))))
+      within j l (no n) = grows (at pairs (2 * j)) (at pairs (2 * j + 1)) (b .within j (omega arith)) (ℕ-discrete (at pairs (2 * j + 1)) second)
+
+      wider : (x y : ℕ) → (j : ℕ) × (j < i) × (at pairs (2 * j) ≡ x) × (at pairs (2 * j + 1) ≡ y) → (j : ℕ) × (j < i + 1) × (at pairs (2 * j) ≡ x) × (at pairs (2 * j + 1) ≡ y)
+      wider x y r = (r .0, let k = r .1 in omega arith, r .2, r .3)
+
+      split : (x y : ℕ) → y ≡ second → T (has (at befores second) x) ⊎ T (has one x) → (j : ℕ) × (j < i + 1) × (at pairs (2 * j) ≡ x) × (at pairs (2 * j + 1) ≡ y)
+      split x y e (inl t) = wider x y (b .alone x y (subst (λ (z : ℕ). T (has (at befores z) x)) (sym e) t))
+      split x y e (inr t) = (i, omega arith, sym (eqb-true x first (of-T (eqb x first) (subst T (o x) t))), sym e)
+
+      alone : (x y : ℕ) → T (has (at after y) x) → Dec (y ≡ second) → (j : ℕ) × (j < i + 1) × (at pairs (2 * j) ≡ x) × (at pairs (2 * j + 1) ≡ y)
+      alone x y t (yes e) = split x y e (or-e (at befores second) one x (subst (λ (s : ℕ). T (has s x)) (there y e) t))
+      alone x y t (no n) = wider x y (b .alone x y (subst (λ (s : ℕ). T (has s x)) (at-set-other befores second united y n) t))
+
+      few : (y : ℕ) → Dec (y ≡ second) → at after y < 2 ^ 64
+      few y (yes e) = subst (λ (s : ℕ). s < 2 ^ 64) (sym (there y e)) (or-lt 64 (at befores second) one (b .few second) f)
+      few y (no n) = subst (λ (s : ℕ). s < 2 ^ 64) (sym (at-set-other befores second united y n)) (b .few y)
+
+pub befores-end : (pairs befores : List ℕ) (n i : ℕ) → n ≤ i → i ≤ n → Befores pairs i befores → Befores pairs n befores
+befores-end pairs befores n i h l b = let e : i ≡ n = omega arith in subst (λ (k : ℕ). Befores pairs k befores) e b
 
 -- ---- the order, one place after another
 any-last : (x : ℕ) (b : Bool) → either b (any (eqb x) []) ≡ b

@@ -2,7 +2,7 @@
 use mathlib.Core.Path.{_≡_}
 use mathlib.Core.Bool.{Bool}
 use mathlib.Core.List.{List}
-use Prim.Native.Nat.{ℕ, _<_}
+use Prim.Native.Nat.{ℕ, _+_, _*_, _^_, _<_}
 use lib.Dec.{T, eqb}
 use lib.ListN.{length, take}
 use Rattle.model.specs.Lists.{any, at}
@@ -21,6 +21,13 @@ pub record Ordered (n : ℕ) (pairs old new : List ℕ) (r : ℕ) : Type 0 where
 -- the set has the numbers of the list
 abbrev pub Holds : ℕ → List ℕ → Type 0
 Holds set l = (x : ℕ) → has set x ≡ any (eqb x) l
+
+-- at each place the set of its forerunners, by the first `count` pairs
+pub record Befores (pairs : List ℕ) (count : ℕ) (befores : List ℕ) : Type 0 where
+  pub within : (i : ℕ) → i < count → T (has (at befores (at pairs (2 * i + 1))) (at pairs (2 * i)))
+  pub alone : (x y : ℕ) → T (has (at befores y) x) → (i : ℕ) × (i < count) × (at pairs (2 * i) ≡ x) × (at pairs (2 * i + 1) ≡ y)
+  pub few : (y : ℕ) → at befores y < 2 ^ 64
+  pub size : length befores ≡ 16
 
 pub record Settled (n : ℕ) (pairs old new : List ℕ) (r : Bool) : Type 0 where
   pub answer : r ≡ settlesAll n pairs

@@ -1,18 +1,21 @@
 -- Loops: one more, and the end. Assumes nothing.
-use mathlib.Core.Path.{_≡_, ap, _∙_, subst}
+use mathlib.Core.Path.{_≡_, refl, sym, ap, _∙_, subst}
 use mathlib.Core.Bool.{Bool, false}
 use mathlib.Core.List.{List}
 use Prim.Native.Nat.{ℕ, _+_, _^_, _≤_, _<_}
 use native.Mathlib.Decide.{ℕ-discrete}
 use native.Mathlib.Omega.{arith}
-use lib.Bits.{bitOr, or-lt}
+use lib.Bits.{bitOr, or-lt, or-zero-r}
+use lib.ListN.{length}
 use borrow.Author.Tests.{lt-ltb}
-use Rattle.model.specs.Lists.{both}
+use Rattle.model.specs.Lists.{at, both}
 use Rattle.model.specs.ValueSets.{has, maskOf}
+use Rattle.model.proofs.Sets.{has-none}
 use Rattle.model.proofs.Masks.{is-mask}
 use Rattle.model.proofs.Filling.{gathered-begin, gathered-more}
 use Rattle.model.specs.Filling.{Filled, Gathered}
-use Rattle.reorder.specs.Steps.{Cell}
+use Rattle.reorder.specs.Steps.{Cell, Added}
+use Rattle.reorder.proofs.Tables.{cell-no}
 
 pub more-no : (f : ℕ → Bool) (i : ℕ) → ((j : ℕ) → j < i → f j ≡ false) → f i ≡ false → (j : ℕ) → j < i + 1 → f j ≡ false
 more-no f i h k j m = go (ℕ-discrete j i)
@@ -40,3 +43,32 @@ column-turn f i set s w r c e d = record {
 
 pub column-end : (f : ℕ → Bool) (i set : ℕ) → i ≡ 16 → Column f i set → set ≡ maskOf f
 column-end f i set e c = is-mask set f (c .few) (λ v l. c .gathered .has-is v ∙ ap (λ (b : Bool). both b (f v)) (lt-ltb v i (omega arith)))
+
+-- an empty set adds nothing
+pub added-none : (s v : ℕ) (columns : List ℕ) → s ≡ 0 → Filled (λ w. w) (Added s v columns) 16 columns columns
+added-none s v columns e = record {
+  size = refl;
+  here = λ w l. (0, cell-no s w v (ap (λ (z : ℕ). has z w) e ∙ has-none w), sym (or-zero-r (at columns w)));
+  other = λ j n. refl;
+}
+
+-- ---- sixteen columns, one set after another
+module _ (base : ℕ) (supports : List ℕ) where
+  abbrev member : ℕ → ℕ → Bool
+  member w v = has (at supports (base + v)) w
+
+  pub record Columns (i : ℕ) (columns : List ℕ) : Type 0 where
+    pub column : (w : ℕ) → w < 16 → Column (member w) i (at columns w)
+    pub size : length columns ≡ 16
+
+  pub columns-begin : (columns : List ℕ) → length columns ≡ 16 → ((w : ℕ) → at columns w ≡ 0) → Columns 0 columns
+  columns-begin columns h z = record { column = λ w l. subst (λ (n : ℕ). Column (member w) 0 n) (sym (z w)) (column-begin (member w)); size = h }
+
+  pub columns-turn : (i : ℕ) (old new : List ℕ) → Columns i old → Filled (λ w. w) (Added (at supports (base + i)) i old) 16 old new → Columns (i + 1) new
+  columns-turn i old new c f = record {
+    column = λ w l. (let q = f .here w l in subst (λ (n : ℕ). Column (member w) (i + 1) n) (sym (q .2)) (column-turn (member w) i (at old w) (at supports (base + i)) w (q .0) (c .column w l) refl (q .1)));
+    size = f .size ∙ c .size;
+  }
+
+  pub columns-end : (i : ℕ) (columns : List ℕ) → i ≡ 16 → Columns i columns → (w : ℕ) → w < 16 → at columns w ≡ maskOf (member w)
+  columns-end i columns e c w l = column-end (member w) i (at columns w) e (c .column w l)

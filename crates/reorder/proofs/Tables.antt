@@ -3,6 +3,7 @@ use mathlib.Core.Path.{_≡_, refl, sym, ap, _∙_, fun-ext}
 use mathlib.Core.Bool.{Bool, true, false}
 use mathlib.Core.List.{List, [], _∷_}
 use Prim.Native.Nat.{ℕ, zero, suc, _+_, _*_, _/_, _%_, _^_, _≤_, _<_}
+use native.Mathlib.Decide.{decLt}
 use native.Mathlib.Omega.{arith}
 use lib.Dec.{eqb}
 use borrow.Author.Tests.{eqb-true}
@@ -29,10 +30,31 @@ cell-no s w v e = record { has-is = λ x. has-none x ∙ ap (λ (b : Bool). both
 pub record Copied (base : ℕ) (from copy : List ℕ) : Type 0 where
   pub at-is : (j : ℕ) → j < 256 → at copy j ≡ at from (base + j)
 
-pub column-of : (base j : ℕ) (from copy : List ℕ) (r : ℕ) → j < 256 → Copied base from copy → r ≡ maskOf (λ v. has (at copy (16 * (j / 16) + v)) (j % 16)) →
-    r ≡ maskOf (λ v. has (at from (base + (16 * (j / 16) + v))) (j % 16))
-column-of base j from copy r h c e =
-    e ∙ mask-same (λ v. has (at copy (16 * (j / 16) + v)) (j % 16)) (λ v. has (at from (base + (16 * (j / 16) + v))) (j % 16)) (λ v l. ap (λ (n : ℕ). has n (j % 16)) (c .at-is (16 * (j / 16) + v) (omega arith)))
+pub column-of : (base j : ℕ) (from : List ℕ) (r : ℕ) → j < 16 → r ≡ maskOf (λ v. has (at from (base + v)) j) → r ≡ maskOf (λ v. has (at from (base + (16 * (j / 16) + v))) (j % 16))
+column-of base j from r h e =
+    e ∙ mask-same (λ v. has (at from (base + v)) j) (λ v. has (at from (base + (16 * (j / 16) + v))) (j % 16)) (λ v l.
+    let f : j ≡ j % 16 = omega arith in
+    let g : base + v ≡ base + (16 * (j / 16) + v) = omega arith in
+    ap (λ (n : ℕ). has (at from n) j) g ∙ ap (has (at from (base + (16 * (j / 16) + v)))) f)
+
+-- sixteen sets more
+pub transposed-turn : (base k : ℕ) (old mid new : List ℕ) → Transposed base (16 * k) old mid → Transposed (base + 16 * k) 16 mid new → Transposed base (16 * (k + 1)) old new
+transposed-turn base k old mid new a b = record {
+  size = b .size ∙ a .size;
+  here = λ j l. here j l (decLt j (16 * k));
+  other = λ j n. b .other j (λ u m e. n (16 * k + u) (omega arith) (omega arith)) ∙ a .other j (λ u m e. n u (omega arith) e);
+}
+  where
+    here : (j : ℕ) → j < 16 * (k + 1) → Dec (j < 16 * k) → at new (base + j) ≡ maskOf (λ v. has (at old (base + (16 * (j / 16) + v))) (j % 16))
+    here j l (yes i) = b .other (base + j) (λ u m e. omega arith) ∙ a .here j i
+    here j l (no i) =
+        let e : base + j ≡ base + 16 * k + j % 16 = omega arith in
+        let s : j % 16 < 16 = omega arith in
+        ap (at new) e ∙ b .here (j % 16) s
+        ∙ mask-same (λ v. has (at mid (base + 16 * k + (16 * (j % 16 / 16) + v))) (j % 16 % 16)) (λ v. has (at old (base + (16 * (j / 16) + v))) (j % 16)) (λ v m.
+        let f : base + 16 * k + (16 * (j % 16 / 16) + v) ≡ base + (16 * (j / 16) + v) = omega arith in
+        let g : j % 16 % 16 ≡ j % 16 = omega arith in
+        ap (λ (n : ℕ). has (at mid n) (j % 16 % 16)) f ∙ ap (has (at mid (base + (16 * (j / 16) + v)))) g ∙ ap (λ (n : ℕ). has n (j % 16)) (a .other (base + (16 * (j / 16) + v)) (λ u o q. omega arith)))
 
 -- ---- the value of a variable, whose name is one of two or three
 -- no number has two names

@@ -4,6 +4,7 @@ use mathlib.Core.Bool.{Bool}
 use mathlib.Core.Logic.{_↔_}
 use mathlib.Core.List.{List, [], _∷_, _++_, List·Memᴰ}
 use Prim.Native.Nat.{ℕ, suc, _+_, _*_, _/_, _%_, _^_, _≤_, _<_}
+use lib.Bits.{bitOr}
 use lib.Dec.{eqb}
 use lib.ListN.{length}
 use Rattle.model.specs.Lists.{at, both}
@@ -51,6 +52,10 @@ pub record MovedImages (n : ℕ) (order stands : List ℕ) (g : ℕ) (old new : 
 pub record Cell (s w v r : ℕ) : Type 0 where
   pub has-is : (x : ℕ) → has r x ≡ both (has s w) (eqb x v)
   pub few : r < 2 ^ 16
+
+-- a column w after v, whose set is s, was added to it
+abbrev pub Added : ℕ → ℕ → List ℕ → ℕ → ℕ → Type 0
+Added s v old w r = (t : ℕ) × Cell s w v t × (r ≡ bitOr (at old w) t)
 
 -- the first two coordinates are exchanged
 abbrev pub Swapped : ℕ → List ℕ → List ℕ → Type 0

@@ -7,12 +7,24 @@ ghost use Rattle.model.specs.Lists.{at};
 ghost use Rattle.model.specs.Filling.{Filled};
 ghost use Rattle.reorder.specs.Steps.{Small, renamedTo, imageFrom, MovedImages};
 
-// Read by a function, whose result is known to be a byte.
-fn image(images: &[u8; 26112], q: usize) -> u8
-    requires { ⌜ q < 26112 ⌝ }
-    ensures { λ r. ⌜ r ≡ at (now (images .entry)) q ⌝ }
+// The images of a symmetry, which stand from a place on.
+fn load(images: &[u8; 26112], from: usize, old: &mut [u8; 192])
+    requires { ⌜ (from + 192 ≤ 26112) × (length (now old) ≡ 192) ⌝ }
+    ensures { λ _. ⌜ Filled (λ j. j) (λ j r. r ≡ at (now (images .entry)) (from + j)) 192 (now (old .entry)) (now (old .exit)) ⌝ }
 {
-    images[q]
+    let mut j = 0;
+    while j < 192 {
+        old[j] = images[from + j];
+        j += 1;
+    }
+}
+
+// Read by a function, whose result is known to be a byte.
+fn image(old: &[u8; 192], q: usize) -> u8
+    requires { ⌜ q < 192 ⌝ }
+    ensures { λ r. ⌜ r ≡ at (now (old .entry)) q ⌝ }
+{
+    old[q]
 }
 
 // An image with its variable named by its position.
@@ -24,22 +36,17 @@ fn renamed(stands: &[u8; 16], q: u8) -> u8
 }
 
 // The pairs of a symmetry whose images stand from a place on.
-fn symmetry(
-    order: &[u8; 16],
-    stands: &[u8; 16],
-    n: usize,
-    from: usize,
-    old: &[u8; 26112],
-    images: &mut [u8; 26112],
-)
+fn symmetry(order: &[u8; 16], stands: &[u8; 16], n: usize, from: usize, images: &mut [u8; 26112])
     requires { ⌜ (n ≤ 12) × (from + 192 ≤ 26112) × Small n (now order) × (length (now images) ≡ 26112) ⌝ }
-    ensures { λ _. ⌜ Filled (λ j. from + j) (λ j r. r ≡ renamedTo (now (stands .entry)) (at (now (old .entry)) (from + imageFrom (now (order .entry)) j))) (16 * n) (now (images .entry)) (now (images .exit)) ⌝ }
+    ensures { λ _. ⌜ Filled (λ j. from + j) (λ j r. r ≡ renamedTo (now (stands .entry)) (at (now (images .entry)) (from + imageFrom (now (order .entry)) j))) (16 * n) (now (images .entry)) (now (images .exit)) ⌝ }
 {
+    let mut old = [0u8; 192];
+    load(images, from, &mut old);
     let m = 16 * n;
     let mut j = 0;
     while j < m {
         let x = entry(order, j / 16) as usize;
-        images[from + j] = renamed(stands, image(old, from + (16 * x + j % 16)));
+        images[from + j] = renamed(stands, image(&old, 16 * x + j % 16));
         j += 1;
     }
 }
@@ -49,10 +56,9 @@ pub fn rename(order: &[u8; 16], stands: &[u8; 16], n: usize, g: usize, images: &
     requires { ⌜ (n ≤ 12) × (g ≤ 136) × Small n (now order) × (length (now images) ≡ 26112) ⌝ }
     ensures { λ _. ⌜ MovedImages n (now (order .entry)) (now (stands .entry)) g (now (images .entry)) (now (images .exit)) ⌝ }
 {
-    let old = *images;
     let mut e = 0;
     while e < g {
-        symmetry(order, stands, n, 192 * e, &old, images);
+        symmetry(order, stands, n, 192 * e, images);
         e += 1;
     }
 }

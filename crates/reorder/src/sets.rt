@@ -7,25 +7,38 @@ ghost use Prim.Native.Nat.{_+_, _≤_};
 ghost use lib.ListN.{length};
 ghost use Rattle.model.specs.Lists.{at};
 ghost use Rattle.model.specs.Filling.{Filled};
-ghost use Rattle.reorder.specs.Steps.{MovedSets};
+ghost use Rattle.reorder.specs.Steps.{Small, MovedSets};
+
+// The numbers of sixteen variables, which stand from a place on.
+fn load(numbers: &[u64; 384], from: usize, old: &mut [u64; 16])
+    requires { ⌜ (from ≤ 16) × (length (now old) ≡ 16) ⌝ }
+    ensures { λ _. ⌜ Filled (λ j. j) (λ j r. r ≡ at (now (numbers .entry)) (from + j)) 16 (now (old .entry)) (now (old .exit)) ⌝ }
+{
+    let mut j = 0;
+    while j < 16 {
+        old[j] = numbers[from + j];
+        j += 1;
+    }
+}
 
 // From a place on, number i becomes that of variable order[i].
-fn spread(order: &[u8; 16], n: usize, from: usize, old: &[u64; 384], numbers: &mut [u64; 384])
-    requires { ⌜ (n ≤ 12) × (from ≤ 16) × (length (now numbers) ≡ 384) ⌝ }
-    ensures { λ _. ⌜ Filled (λ i. from + i) (λ i r. r ≡ at (now (old .entry)) (from + at (now (order .entry)) i)) n (now (numbers .entry)) (now (numbers .exit)) ⌝ }
+fn spread(order: &[u8; 16], n: usize, from: usize, numbers: &mut [u64; 384])
+    requires { ⌜ (n ≤ 12) × (from ≤ 16) × Small n (now order) × (length (now numbers) ≡ 384) ⌝ }
+    ensures { λ _. ⌜ Filled (λ i. from + i) (λ i r. r ≡ at (now (numbers .entry)) (from + at (now (order .entry)) i)) n (now (numbers .entry)) (now (numbers .exit)) ⌝ }
 {
+    let mut old = [0u64; 16];
+    load(numbers, from, &mut old);
     let mut i = 0;
     while i < n {
-        numbers[from + i] = old[from + entry(order, i) as usize];
+        numbers[from + i] = old[entry(order, i) as usize];
         i += 1;
     }
 }
 
 pub fn move_sets(order: &[u8; 16], n: usize, numbers: &mut [u64; 384])
-    requires { ⌜ (n ≤ 12) × (length (now numbers) ≡ 384) ⌝ }
+    requires { ⌜ (n ≤ 12) × Small n (now order) × (length (now numbers) ≡ 384) ⌝ }
     ensures { λ _. ⌜ MovedSets n (now (order .entry)) (now (numbers .entry)) (now (numbers .exit)) ⌝ }
 {
-    let old = *numbers;
-    spread(order, n, TOUCHING, &old, numbers);
-    spread(order, n, INITIAL, &old, numbers);
+    spread(order, n, TOUCHING, numbers);
+    spread(order, n, INITIAL, numbers);
 }

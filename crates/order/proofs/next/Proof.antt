@@ -2,30 +2,31 @@
 use mathlib.Core.Bool.{false}
 use mathlib.Core.List.{List}
 use mathlib.Core.Path.{_≡_, sym, _∙_}
-use Prim.Native.Nat.{ℕ, _-_, _≤_, _<_}
+use Prim.Native.Nat.{ℕ, _/_, _-_, _≤_, _<_}
 use native.Mathlib.Omega.{arith}
+use lib.ListN.{length}
 use borrow.Author.Needs.{needs}
 use Rattle.order.specs.Order.{canFollow}
 use Rattle.model.proofs.Masks.{least-at, least-none}
-use Rattle.order.specs.Settled.{Holds}
+use Rattle.order.specs.Settled.{Holds, Befores}
 use Rattle.order.proofs.Placing.{more-no}
 use Rattle.order.proofs.next.Statement.{statement}
 use Rattle.order.proofs.next.Tie as tie
 
 abbrev Inv-loop : tie.InvT-loop
-Inv-loop n pairs settled y₀ y = (y ≤ n) × ((l : List ℕ) → Holds settled l → (j : ℕ) → j < y → canFollow pairs l j ≡ false)
+Inv-loop n befores settled y₀ y = (y ≤ n) × ((pairs l : List ℕ) → Befores pairs (length pairs / 2) befores → Holds settled l → (j : ℕ) → j < y → canFollow pairs l j ≡ false)
 
 abbrev μ-loop : tie.MeasureT-loop
-μ-loop n pairs settled y₀ y = n - y
+μ-loop n befores settled y₀ y = n - y
 
 loop-holds : tie.Need-loop-holds Inv-loop μ-loop
-loop-holds c = (search needs, λ l h j k. absurd (omega arith))
+loop-holds c = (search needs, λ pairs l b h j k. absurd (omega arith))
 
 can-follow-requires : tie.Need-can-follow-requires Inv-loop μ-loop
 can-follow-requires c κs = search needs
 
 returns : tie.Need-returns Inv-loop μ-loop
-returns c = λ l h. sym (least-at _ _ _ (search needs) (c .before .before .before .loop .inv .1 l h) (sym (c .before .can-follow .ensures l h) ∙ c .if1 .taken))
+returns c = λ pairs l b h. sym (least-at _ _ _ (search needs) (c .before .before .before .loop .inv .1 pairs l b h) (sym (c .before .can-follow .ensures pairs l b h) ∙ c .if1 .taken))
 
 add-y : tie.Need-add-y Inv-loop μ-loop
 add-y c = search needs
@@ -34,10 +35,10 @@ loop-less : tie.Need-loop-less Inv-loop μ-loop
 loop-less c = search needs
 
 loop-again : tie.Need-loop-again Inv-loop μ-loop
-loop-again c = (search needs, λ l h. more-no _ _ (c .before .before .before .loop .inv .1 l h) (sym (c .before .can-follow .ensures l h) ∙ c .if1 .left))
+loop-again c = (search needs, λ pairs l b h. more-no _ _ (c .before .before .before .loop .inv .1 pairs l b h) (sym (c .before .can-follow .ensures pairs l b h) ∙ c .if1 .left))
 
 returns-2 : tie.Need-returns-2 Inv-loop μ-loop
-returns-2 c = λ l h. sym (least-none _ _ (λ j k. c .before .loop .inv .1 l h j (omega arith)))
+returns-2 c = λ pairs l b h. sym (least-none _ _ (λ j k. c .before .loop .inv .1 pairs l b h j (omega arith)))
 
 pub next-spec : {M : Type 1} → statement M
 next-spec =

@@ -1,52 +1,54 @@
--- One set after another. Assumes nothing.
+-- One column after another. Assumes nothing.
 use mathlib.Core.Path.{_≡_, refl}
-use Prim.Native.Nat.{_+_, _*_, _/_, _%_, _-_, _≤_}
+use Prim.Native.Nat.{ℕ, _+_, _*_, _/_, _%_, _-_, _≤_, _<_}
 use native.Mathlib.Omega.{arith}
 use borrow.Author.Needs.{needs}
 use Rattle.model.specs.Lists.{at}
 use Rattle.model.specs.ValueSets.{has, maskOf}
+use Rattle.model.proofs.Lists.{at-replicate}
 use Rattle.model.proofs.Filling.{filled-begin, filled-turn}
 use Rattle.model.specs.Filling.{Filled}
 use Rattle.reorder.proofs.Loops.{filled-end}
-use Rattle.reorder.proofs.Tables.{Copied, column-of}
+use Rattle.reorder.proofs.Tables.{column-of}
 use Rattle.reorder.proofs.supports.transpose.Statement.{statement}
 use Rattle.reorder.proofs.supports.transpose.Tie as tie
 
 abbrev Inv-loop : tie.InvT-loop
-Inv-loop base m supports₀ old j₀ supports j = (j ≤ m) × Copied base supports₀ old × Filled (λ i. base + i) (λ i r. r ≡ maskOf (λ v. has (at supports₀ (base + (16 * (i / 16) + v))) (i % 16))) j supports₀ supports
+Inv-loop base supports₀ columns w₀ supports w = (w ≤ 16) × ((u : ℕ) → u < 16 → at columns u ≡ maskOf (λ v. has (at supports₀ (base + v)) u)) × Filled (λ j. base + j) (λ j r. r ≡ maskOf (λ v. has (at supports₀ (base + (16 * (j / 16) + v))) (j % 16))) w supports₀ supports
 
 abbrev μ-loop : tie.MeasureT-loop
-μ-loop base m supports₀ old j₀ supports j = m - j
+μ-loop base supports₀ columns w₀ supports w = 16 - w
 
-load-requires : tie.Need-load-requires Inv-loop μ-loop
-load-requires c κs = search needs
+gather-requires : tie.Need-gather-requires Inv-loop μ-loop
+gather-requires c κs = (search needs, refl, λ w. at-replicate 16 w)
 
 loop-holds : tie.Need-loop-holds Inv-loop μ-loop
-loop-holds c = (search needs, record { at-is = c .load .ensures .here }, filled-begin _ _ _)
-
-mul-column : tie.Need-mul-column Inv-loop μ-loop
-mul-column c = search needs
-
-column-requires : tie.Need-column-requires Inv-loop μ-loop
-column-requires c κs = search needs
-
-add-supports : tie.Need-add-supports Inv-loop μ-loop
-add-supports c = search needs
+loop-holds c = (search needs, c .gather .ensures .1, filled-begin _ _ _)
 
 mul-supports : tie.Need-mul-supports Inv-loop μ-loop
 mul-supports c = search needs
 
+array-read-supports : tie.Need-array-read-supports Inv-loop μ-loop
+array-read-supports c = search needs
+
+add-supports : tie.Need-add-supports Inv-loop μ-loop
+add-supports c = search needs
+
+mul-supports-2 : tie.Need-mul-supports-2 Inv-loop μ-loop
+mul-supports-2 c = search needs
+
 element-write-supports : tie.Need-element-write-supports Inv-loop μ-loop
 element-write-supports c = search needs
 
-add-j : tie.Need-add-j Inv-loop μ-loop
-add-j c = search needs
+add-w : tie.Need-add-w Inv-loop μ-loop
+add-w c = search needs
 
 loop-less : tie.Need-loop-less Inv-loop μ-loop
 loop-less c = search needs
 
 loop-again : tie.Need-loop-again Inv-loop μ-loop
-loop-again c = (search needs, c .before .before .before .loop .inv .1, filled-turn _ _ _ _ _ _ _ (c .before .before .before .loop .inv .2) refl (omega arith) (λ v l e. omega arith) (column-of _ _ _ _ _ (omega arith) (c .before .before .before .loop .inv .1) (c .column .ensures)))
+unfolding at
+loop-again c = (search needs, c .before .loop .inv .1, filled-turn _ _ _ _ _ _ _ (c .before .loop .inv .2) refl (omega arith) (λ v l e. omega arith) (column-of (c .before .before .before .before .before .args .base) (c .before .loop .w) (c .before .before .before .before .before .args .supports .now) _ (search needs) (c .before .loop .inv .1 (c .before .loop .w) (search needs))))
 
 returns : tie.Need-returns Inv-loop μ-loop
 returns c = filled-end _ _ _ _ _ _ (search needs) (search needs) (c .before .loop .inv .2)
@@ -57,14 +59,14 @@ transpose-spec =
     (tie.spec
     Inv-loop
     μ-loop
-    load-requires
+    gather-requires
     loop-holds
-    mul-column
-    column-requires
-    add-supports
     mul-supports
+    array-read-supports
+    add-supports
+    mul-supports-2
     element-write-supports
-    add-j
+    add-w
     loop-less
     loop-again
     returns)
