@@ -1,13 +1,15 @@
 -- What the functions of this crate are lent. No reader has to believe this: it stands between proved functions.
 use mathlib.Core.Path.{_≡_}
-use mathlib.Core.List.{List}
+use mathlib.Core.List.{List, _++_}
 use Prim.Native.Nat.{ℕ, _+_, _*_, _≤_, _<_}
-use Rattle.model.specs.Lists.{flat}
+use Rattle.model.specs.Lists.{at, flat}
 use Rattle.model.specs.Problem.{Problem, respects}
+use Rattle.model.specs.Filling.{Filled}
 use Rattle.model.specs.Sheet.{words, permutesPairs}
 use Rattle.model.specs.WellFormed.{WellFormed}
 use Rattle.symmetry.specs.Table.{Framed, Ready, answerOf}
-use Rattle.block.specs.Block.{orderings, factorial, orderingTable}
+use Rattle.layout.specs.Layout.{Images, pairCode}
+use Rattle.block.specs.Block.{orderings, factorial, orderingTable, tablesLent}
 use lib.ListN.{length}
 
 -- both arrays hold a well-formed problem of at most sixteen symmetries
@@ -38,3 +40,35 @@ pub record TableBytes (p : Problem) (first m row : ℕ) (bytes : List ℕ) : Typ
 -- 0 where a row passes questions 15 and 16, else the number of the first that it doesn't
 abbrev pub rowAnswer : Problem → ℕ → ℕ → ℕ → ℕ
 rowAnswer p first m row = answerOf (permutesPairs p (orderingTable p first m row)) (respects p (orderingTable p first m row))
+
+-- ---- images
+-- the codes of the images of a row's table stand from `base` on, and nothing else changed
+abbrev pub RowPut : Problem → ℕ → ℕ → ℕ → ℕ → List ℕ → List ℕ → Type 0
+RowPut p first m row base old new =
+    Filled (λ q. base + pairCode (p .values) q) (λ q w. w ≡ pairCode (p .values) (at (orderingTable p first m row) q)) (p .variables * p .values) old new
+
+-- the numbers and the images of a problem
+pub record Imaged (p : Problem) (numbers images : List ℕ) : Type 0 where
+  pub wellFormed : WellFormed p
+  pub framed : Framed p numbers
+  pub symmetries : length (p .symmetries) ≤ 16
+  pub imaged : Images p images
+  pub sized : length images ≡ 26112
+
+-- all symmetries of a problem have their images, and there are n
+pub record Put (p : Problem) (images : List ℕ) (n : ℕ) : Type 0 where
+  pub imaged : Images p images
+  pub sized : length images ≡ 26112
+  pub all : n ≡ length (p .symmetries)
+  pub few : n ≤ 136
+
+-- the problem with the symmetries of a block as it is lent after its own
+abbrev pub withLent : List ℕ → Problem → Problem
+withLent block p =
+    record {
+      variables = p .variables;
+      values = p .values;
+      initial = p .initial;
+      constraints = p .constraints;
+      symmetries = p .symmetries ++ tablesLent p block;
+    }

@@ -1,19 +1,22 @@
-// Questions 36, 15 and 16 to a block (paper 02, #111), on the arrays of the compiled problem, and the places of its variables in an order.
+// Questions 36, 15 and 16 to a block (paper 02, #111), on the arrays of the compiled problem; the places of its variables in an order; its images.
 ghost use mathlib.Core.Path.{_≡_};
 ghost use Prim.Native.Nat.{_+_, _*_, _≤_, _<_};
 ghost use lib.Dec.{T};
+ghost use lib.ListN.{length};
 ghost use Rattle.model.specs.Lists.{at};
 ghost use Rattle.model.specs.Filling.{Gathered};
 ghost use Rattle.model.specs.Problem.{Problem};
+ghost use Rattle.model.specs.Verdict.{accepted};
 ghost use Rattle.sheet.specs.Meaning.{means};
-ghost use Rattle.block.specs.Block.{ordering, inBlock, imageOf, orderingTable, isBlock, blockVerdict, blockLent, inLent};
-ghost use Rattle.orderings.specs.Asked.{Held, Row, BlockRow, TableBytes, rowAnswer};
+ghost use Rattle.block.specs.Block.{ordering, factorial, inBlock, imageOf, orderingTable, withBlock, isBlock, blockVerdict, blockLent, inLent};
+ghost use Rattle.orderings.specs.Asked.{Held, Row, BlockRow, TableBytes, rowAnswer, RowPut, Imaged, Put, withLent};
 use layout::SYMMETRIES;
 use layout::VALUES;
 use layout::VARIABLES;
 use sheet::Answer;
 use symmetry::Numbers;
 use symmetry::is_pair;
+use symmetry::pair_code;
 use symmetry::table_question;
 
 // Where the ordering of a row takes variable first + i of a block of m.
@@ -185,4 +188,68 @@ pub fn positions(block: &[u8], n: usize, order: &[u8; 16]) -> u64
         return 0;
     }
     gather(block[0] as usize, block[1] as usize, n, order)
+}
+
+// Writes the codes of the images of a row's table, 192 bytes from `base` on.
+fn put_row(
+    rows: &[u8; 600],
+    row: usize,
+    first: usize,
+    m: usize,
+    numbers: &Numbers,
+    base: usize,
+    images: &mut [u8; 26112],
+)
+    requires { ⌜ ((p : Problem) × BlockRow p (now rows) row first m (now numbers)) × (base + 192 ≤ 26112) × (length (now images) ≡ 26112) ⌝ }
+    ensures { λ _. ⌜ ((p : Problem) → BlockRow p (now (rows .entry)) row first m (now (numbers .entry)) → RowPut p first m row base (now (images .entry)) (now (images .exit))) ⌝ }
+{
+    let d = numbers[VALUES] as usize;
+    let size = numbers[VARIABLES] as usize * d;
+    let mut q = 0;
+    while q < size {
+        let y = moved(rows, row, first, m, numbers, q);
+        images[base + pair_code(q, d)] = pair_code(y, d) as u8;
+        q += 1;
+    }
+}
+
+// How many rows a block of m uses.
+fn row_count(m: usize) -> usize
+    requires { ⌜ (2 ≤ m) × (m ≤ 5) ⌝ }
+    ensures { λ r. ⌜ (r ≡ factorial m) × (r ≤ 120) ⌝ }
+{
+    let mut k = 1;
+    let mut count = 1;
+    while k < m {
+        k += 1;
+        count = k * count;
+    }
+    count
+}
+
+// Writes the images of a block's tables after the problem's own; how many there are then.
+fn put_rows(first: usize, m: usize, numbers: &Numbers, images: &mut [u8; 26112]) -> usize
+    requires { ⌜ ((p : Problem) × Imaged p (now numbers) (now images) × T (isBlock p first m)) ⌝ }
+    ensures { λ r. ⌜ ((p : Problem) → Imaged p (now (numbers .entry)) (now (images .entry)) → T (isBlock p first m) → Put (withBlock first m p) (now (images .exit)) r) ⌝ }
+{
+    let rows = block::rows();
+    let g = numbers[SYMMETRIES] as usize;
+    let count = row_count(m);
+    let mut row = 0;
+    while row < count {
+        put_row(&rows, row, first, m, numbers, 192 * (g + row), images);
+        row += 1;
+    }
+    g + count
+}
+
+// The same of a block as it is lent, of which the questions are passed.
+pub fn put_images(block: &[u8], numbers: &Numbers, images: &mut [u8; 26112]) -> usize
+    requires { ⌜ ((p : Problem) × Imaged p (now numbers) (now images) × (blockLent p (now block) ≡ accepted)) ⌝ }
+    ensures { λ r. ⌜ ((p : Problem) → Imaged p (now (numbers .entry)) (now (images .entry)) → blockLent p (now (block .entry)) ≡ accepted → Put (withLent (now (block .entry)) p) (now (images .exit)) r) ⌝ }
+{
+    if block.len() != 2 {
+        return numbers[SYMMETRIES] as usize;
+    }
+    put_rows(block[0] as usize, block[1] as usize, numbers, images)
 }
