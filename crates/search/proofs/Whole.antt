@@ -9,7 +9,7 @@ use native.Mathlib.Decide.{decLt, ℕ-discrete}
 use native.Mathlib.Omega.{arith}
 use lib.Dec.{T, eqb}
 use borrow.Author.Tests.{not-true, not-false, eqb-true, eqb-false, ne-eqb}
-use lib.ListN.{length, set, take, length-set, length-replicate}
+use lib.ListN.{length, set, take, replicate, length-set, length-replicate}
 use Rattle.model.specs.Lists.{any, flat, both, at, choose, below, total}
 use lib.Seq.{length-take-le}
 use Rattle.model.specs.ValueSets.{has}
@@ -38,7 +38,7 @@ use Rattle.lent.proofs.Blocked.{own-first, block-walked, block-inside}
 use Rattle.layout.specs.Places.{INITIAL, SCOPES, VARIABLES, VALUES, CONSTRAINTS, SYMMETRIES, LIMIT, ROOM, LINKED, BY-ROWS, OTHERS, LOOSE, ORDER, BLOCK, LANES, PLANS, NUMBER, ITEM, ALL, SPENT, DEEPER, REFUSED}
 use Rattle.layout.specs.Layout.{constraintAt, Numbers, Compiled}
 use Rattle.layout.specs.Tables.{Linked, Indexed}
-use Rattle.sheet.specs.Form.{Zeros}
+use Rattle.sheet.proofs.Whole.{zeros}
 use Rattle.sheet.specs.Meaning as S
 use Rattle.sheet.specs.declared.Answer.{Answer as Verdicts}
 use Rattle.sheet.specs.declared.Answer.the-variants.{Accepted}
@@ -47,7 +47,7 @@ use Rattle.prune.specs.Node.{withOrderings, Ready, Holds, Marked, Reached}
 use Rattle.search.specs.Walk.{noNodes, Summed, State, kept, walk, stopIn, tallyBy}
 use Rattle.search.specs.Pair.{prefixOf, orderIn, ownIn, Cleared, stateOf, ListRoom, AtPrefix, AtValues, Walked, tried}
 use Rattle.search.specs.Meaning.{means}
-use Rattle.search.specs.Whole.{BARE, WANTED, treeOf, orderOf, roomFor, bytesFor, resultFor, Arranged, ordered, Prepared, RunTo, Explored, Stopped, Answered}
+use Rattle.search.specs.Whole.{BARE, WANTED, treeOf, orderOf, roomFor, bytesFor, resultFor, Arranged, ordered, Prepared, RunTo, Explored, Stopped, Answered, Blank, Done}
 use Rattle.search.specs.declared.Answer.{Answer}
 use Rattle.search.proofs.Laws.{dead-below}
 use Rattle.search.proofs.Outcome.{kept-none, kept-over, outcome}
@@ -687,3 +687,29 @@ module _ (task b pairs block : List ℕ) (limit : ℕ) (list : List ℕ) (tally 
   pub said : Said b pairs block limit list tally list′ tally′ r
   unfolding answerLent listLent tallyLent
   said = let t = told (verdictLent b pairs block) refl in record { answer = t .0; lists = t .1; counts = t .2 }
+
+-- ---- a run with a task
+module _ (bare wanted : ℕ) (task : List ℕ) (put : task ≡ set (set (replicate 256 0) BARE bare) WANTED wanted) where
+  pub at-bare : at task BARE ≡ bare
+  at-bare = ap (λ (l : List ℕ). at l BARE) put ∙ at-set-other (set (replicate 256 0) BARE bare) WANTED wanted BARE (λ e. omega arith) ∙ at-set (replicate 256 0) BARE bare (let l = zeros 256 .sized in omega arith)
+
+  pub at-wanted : at task WANTED ≡ wanted
+  at-wanted = ap (λ (l : List ℕ). at l WANTED) put ∙ at-set (set (replicate 256 0) BARE bare) WANTED wanted (let l = zeros 256 .sized in let k = length-set (replicate 256 0) BARE bare in omega arith)
+
+pub tasked : (bare wanted : ℕ) (task : List ℕ) (size : ℕ) → task ≡ set (set (replicate 256 0) BARE bare) WANTED wanted → ((wanted ≡ 0 → ⊥) → size ≡ 0) → Blank (replicate 208 0) task (replicate 8192 0) (replicate 55296 0) (replicate 384 0) size
+tasked bare wanted task size put h = record {
+  stack-length = zeros 208 .sized;
+  work-length = ap length put ∙ length-set (set (replicate 256 0) BARE bare) WANTED wanted ∙ length-set (replicate 256 0) BARE bare ∙ zeros 256 .sized;
+  none-listed = ap (λ (l : List ℕ). at l PLANS) put ∙ at-set-other (set (replicate 256 0) BARE bare) WANTED wanted PLANS (λ e. omega arith) ∙ at-set-other (replicate 256 0) BARE bare PLANS (λ e. omega arith) ∙ zeros 256 .blank PLANS;
+  supports-blank = zeros 8192;
+  tables-length = zeros 55296 .sized;
+  numbers-blank = zeros 384;
+  unlisted = λ n. h (λ z. n (at-wanted bare wanted task put ∙ z));
+}
+
+pub done-so : (bare wanted : ℕ) (task b pairs block : List ℕ) (limit : ℕ) (list : List ℕ) (tally : Tally) (list′ : List ℕ) (tally′ : Tally) (r : Answer) → task ≡ set (set (replicate 256 0) BARE bare) WANTED wanted → Ran task b pairs block limit list tally list′ tally′ r → Done bare wanted b pairs block limit list list′ r
+done-so bare wanted task b pairs block limit list tally list′ tally′ r put h =
+    subst₂ (λ (i j : ℕ). Done i j b pairs block limit list list′ r) (at-bare bare wanted task put) (at-wanted bare wanted task put) record {
+      refused = λ number item v. let f = h .refused number item v in (f .0, f .1);
+      ended = λ v. let f = h .ended v in (f .0, f .1);
+    }

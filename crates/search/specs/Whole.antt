@@ -109,3 +109,10 @@ pub record Stopped (work : List ℕ) (stop : ℕ) : Type 0 where
 pub record Answered (work : List ℕ) (made stop : ℕ) (r : Answer) : Type 0 where
   pub refused : stop ≡ REFUSED → means r ≡ refusal (at work NUMBER) (at work ITEM)
   pub ended : (stop ≡ REFUSED → ⊥) → (e : Run.Ending) × (means r ≡ ended e) × (plansIn e ≡ at work PLANS) × (nodesIn e ≡ made) × (stopIn e ≡ stop)
+
+-- the answer and the list of a run that carried out a task
+pub record Done (bare wanted : ℕ) (b pairs block : List ℕ) (limit : ℕ) (list list′ : List ℕ) (r : Answer) : Type 0 where
+  pub refused : (number item : ℕ) → verdictLent b pairs block ≡ refused number item → (means r ≡ refusal number item) × (list′ ≡ list)
+  pub ended : verdictLent b pairs block ≡ accepted →
+      (means r ≡ ended (resultOf (treeOf bare b pairs block) limit (bytesFor wanted (problemOf b .variables) (length list)) .ending))
+      × (list′ ≡ kept (map (write (orderOf bare b pairs)) (resultOf (treeOf bare b pairs block) limit (bytesFor wanted (problemOf b .variables) (length list)) .rows)) list)

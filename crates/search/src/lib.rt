@@ -29,7 +29,7 @@ ghost use Rattle.layout.specs.Places.{VARIABLES, LIMIT, ROOM, ORDER, PLANS, BLO
 ghost use Rattle.search.specs.Walk.{noNodes, overwritten, noted};
 ghost use Rattle.search.specs.Pair.{prefixOf, settling, orderIn, Countable, Counted, Cleared, ListRoom, Listed, AtValues, AtValue, Walked, Entered, tried, lowestTried};
 ghost use Rattle.search.specs.Meaning.{means, tallyIn};
-ghost use Rattle.search.specs.Whole.{BARE, WANTED, roomFor, Arranged, ordered, Blank, Prepared, Explored, Stopped, Answered};
+ghost use Rattle.search.specs.Whole.{BARE, WANTED, roomFor, Arranged, ordered, Blank, Prepared, Explored, Stopped, Answered, Done};
 
 // The task of a run, in `work` before it: whether the symmetries are left out, and how many plans are asked for, 0 where they are listed.
 const BARE: usize = 224;
@@ -505,6 +505,51 @@ pub fn run_lent(
         tally,
     );
     answered(&work, nodes_made(tally), stop)
+}
+
+// Puts a run's task in `work`.
+fn put_task(work: &mut [u64; 256], bare: u64, wanted: u64)
+    requires { ⌜ length (now work) ≡ 256 ⌝ }
+    ensures { λ _. ⌜ now (work .exit) ≡ set (set (now (work .entry)) BARE bare) WANTED wanted ⌝ }
+{
+    work[BARE] = bare;
+    work[WANTED] = wanted;
+}
+
+// A run that carries out a task, with a tally of its own.
+fn run_task(
+    sheet: &[u8],
+    pairs: &[u8],
+    block: &[u8],
+    limit: u32,
+    bare: u64,
+    wanted: u64,
+    list: &mut [u8],
+) -> Answer
+    requires { ⌜ ((wanted ≡ 0 → ⊥) → length (now list) ≡ 0) ⌝ }
+    ensures { λ r. ⌜ Done bare wanted (now (sheet .entry)) (now (pairs .entry)) (now (block .entry)) limit (now (list .entry)) (now (list .exit)) r ⌝ }
+{
+    let mut stack = [0u16; 208];
+    let mut work = [0u64; 256];
+    let mut supports = [0u16; 8192];
+    let mut tables = [0u16; 55296];
+    let mut numbers = [0u64; 384];
+    put_task(&mut work, bare, wanted);
+    let mut tally = no_nodes();
+    let stop = explore(
+        &mut stack,
+        &mut work,
+        &mut supports,
+        &mut tables,
+        &mut numbers,
+        sheet,
+        pairs,
+        block,
+        limit,
+        list,
+        &mut tally,
+    );
+    answered(&work, nodes_made(&tally), stop)
 }
 
 // A run of paper 01, which is lent neither pairs nor a block.
