@@ -9,6 +9,7 @@ pub mod Turns
 pub mod Facts
 pub mod Sheets
 pub mod Whole
+pub mod Tasks
 pub mod Demands
 pub mod DemandsLent
 pub mod RetypedCalls

@@ -651,7 +651,7 @@ no-rows p limit s = none-of (resultOf p limit 0 .rows) (nothing-of (length (resu
     none-of [] e = refl
     none-of (y ∷ l) e = absurd (omega arith)
 
-kept-listed : (p : Problem) (order : List ℕ) (limit : ℕ) (list : List ℕ) → 0 < p .variables →
+pub kept-listed : (p : Problem) (order : List ℕ) (limit : ℕ) (list : List ℕ) → 0 < p .variables →
     kept (map (write order) (resultOf p limit (length list) .rows)) list ≡ written (map (write order) (resultOf p limit (length list) .rows)) list
 unfolding written flat
 kept-listed p order limit list s = go (eqb (length list) 0) refl

@@ -2,6 +2,7 @@
 pub mod Walk
 pub mod Pair
 pub mod Meaning
+pub mod Tasks
 pub mod Whole
 pub mod Demands
 pub mod DemandsLent

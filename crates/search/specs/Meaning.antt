@@ -6,6 +6,10 @@ use Rattle.search.specs.declared.Ending.{Ending}
 use Rattle.search.specs.declared.Ending.the-variants.{Finished, Spent, Full}
 use Rattle.search.specs.declared.Answer.{Answer}
 use Rattle.search.specs.declared.Answer.the-variants.{Refused, Ended}
+use Rattle.search.specs.declared.Enough.{Enough}
+use Rattle.search.specs.declared.Enough.the-variants as E
+use Rattle.enough.specs.AtLeast.{enough, tooFew, unknown}
+use Rattle.enough.specs.Lent as L
 
 -- an ending carries the plans listed and the nodes made
 abbrev pub endingOf : Ending → Run.Ending
@@ -20,3 +24,10 @@ means (Ended e) = ended (endingOf e)
 -- a tally has the nodes made and twelve counts of them
 abbrev pub tallyIn : Tally → Run.Tally
 tallyIn t = record { nodes = t .nodes; counts = t .counts }
+
+-- and what is said of "at least m plans"
+abbrev pub saidEnough : Enough → L.EnoughAnswer
+saidEnough (E.Refused number item) = L.refusal number item
+saidEnough (E.Yes plans nodes) = L.answered (enough plans nodes)
+saidEnough (E.No plans nodes) = L.answered (tooFew plans nodes)
+saidEnough (E.Spent plans nodes) = L.answered (unknown plans nodes)

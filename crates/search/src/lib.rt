@@ -28,7 +28,9 @@ ghost use Rattle.lent.specs.Lent.{answerLent, listLent, tallyLent};
 ghost use Rattle.layout.specs.Places.{VARIABLES, LIMIT, ROOM, ORDER, PLANS, BLOCK};
 ghost use Rattle.search.specs.Walk.{noNodes, overwritten, noted};
 ghost use Rattle.search.specs.Pair.{prefixOf, settling, orderIn, Countable, Counted, Cleared, ListRoom, Listed, AtValues, AtValue, Walked, Entered, tried, lowestTried};
-ghost use Rattle.search.specs.Meaning.{means, tallyIn};
+ghost use Rattle.search.specs.Meaning.{means, tallyIn, saidEnough};
+ghost use Rattle.search.specs.Tasks.{answerBare, listBare, enoughNone, enoughFor};
+ghost use Rattle.enough.specs.Lent.{enoughLent};
 ghost use Rattle.search.specs.Whole.{BARE, WANTED, roomFor, Arranged, ordered, Blank, Prepared, Explored, Stopped, Answered, Done};
 
 // The task of a run, in `work` before it: whether the symmetries are left out, and how many plans are asked for, 0 where they are listed.
@@ -52,6 +54,14 @@ pub enum Ending {
 pub enum Answer {
     Refused { number: u8, item: usize },
     Ended(Ending),
+}
+
+// Are there so many plans: yes, no, or spent before that is known; each carries the plans found and the nodes made.
+pub enum Enough {
+    Refused { number: u8, item: usize },
+    Yes(usize, usize),
+    No(usize, usize),
+    Spent(usize, usize),
 }
 
 // A run's answer, and what it counted.
@@ -587,4 +597,49 @@ pub fn run(sheet: &[u8], limit: u32, list: &mut [u8]) -> Answer
     let r = run_counted(sheet, &none, &none, limit, list);
     let answer = r.answer;
     answer
+}
+
+// A run without symmetries (paper 02, #104): the questions, the settling order, the limit and the list of the run that is lent pairs and a block; its rows
+// go by position in that order.
+pub fn run_bare(sheet: &[u8], pairs: &[u8], block: &[u8], limit: u32, list: &mut [u8]) -> Answer
+    ensures { λ r. ⌜ (means r ≡ answerBare (now (sheet .entry)) (now (pairs .entry)) (now (block .entry)) limit (now (list .entry))) × (now (list .exit) ≡ listBare (now (sheet .entry)) (now (pairs .entry)) (now (block .entry)) limit (now (list .entry))) ⌝ }
+{
+    run_task(sheet, pairs, block, limit, 1, 0, list)
+}
+
+// No plan is asked for: yes without a node, once the questions are passed.
+fn asked_for_none(sheet: &[u8], pairs: &[u8], block: &[u8]) -> Enough
+    ensures { λ r. ⌜ saidEnough r ≡ enoughNone (now (sheet .entry)) (now (pairs .entry)) (now (block .entry)) ⌝ }
+{
+    let verdict = lent::question(sheet, pairs, block);
+    match verdict {
+        sheet::Answer::Accepted => Enough::Yes(0, 0),
+        sheet::Answer::Refused { number, item } => Enough::Refused { number, item },
+    }
+}
+
+// What a run says that counted up to one plan less than are asked for: where one more was found, yes.
+fn judged(answer: Answer, m: usize) -> Enough
+    ensures { λ r. ⌜ saidEnough r ≡ enoughFor (means answer) m ⌝ }
+{
+    match answer {
+        Answer::Refused { number, item } => Enough::Refused { number, item },
+        Answer::Ended(ending) => match ending {
+            Ending::Finished(plans, nodes) => Enough::No(plans, nodes),
+            Ending::Spent(plans, nodes) => Enough::Spent(plans, nodes),
+            Ending::Full(_, nodes) => Enough::Yes(m, nodes),
+        },
+    }
+}
+
+// Are there at least m plans (paper 02, #101)? No list is lent.
+pub fn at_least(sheet: &[u8], pairs: &[u8], block: &[u8], m: usize, limit: u32) -> Enough
+    ensures { λ r. ⌜ saidEnough r ≡ enoughLent (now (sheet .entry)) (now (pairs .entry)) (now (block .entry)) limit m ⌝ }
+{
+    if m == 0 {
+        return asked_for_none(sheet, pairs, block);
+    }
+    let mut none = [0u8; 0];
+    let answer = run_task(sheet, pairs, block, limit, 0, m as u64, &mut none);
+    judged(answer, m)
 }

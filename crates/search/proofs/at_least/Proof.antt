@@ -1,0 +1,31 @@
+-- `search::at_least` meets its contract: proofs/Tasks. Assumes nothing.
+use mathlib.Core.Path.{sym, ap, _∙_}
+use denote.Ref.{now}
+use Rattle.enough.specs.Lent.{enoughLent}
+use Rattle.search.proofs.Tasks.{none-asked, said-enough}
+use borrow.Author.Needs.{needs}
+use Rattle.search.proofs.at_least.Statement.{statement}
+use Rattle.search.proofs.at_least.Tie as tie
+
+asked-for-none-requires : tie.Need-asked-for-none-requires
+asked-for-none-requires c κs = search needs
+
+returns : tie.Need-returns
+returns c =
+    let a = c .before .before .before .before .before .args in
+    c .asked-for-none .ensures ∙ none-asked _ _ _ (a .limit) ∙ ap (enoughLent (now (a .sheet)) (now (a .pairs)) (now (a .block)) (a .limit)) (sym (c .before .if1 .taken))
+
+slice-aggregate-run-task : tie.Need-slice-aggregate-run-task
+slice-aggregate-run-task c = search needs
+
+run-task-requires : tie.Need-run-task-requires
+run-task-requires c κs = search needs
+
+judged-requires : tie.Need-judged-requires
+judged-requires c κs = search needs
+
+returns-2 : tie.Need-returns-2
+returns-2 c = c .judged .ensures ∙ said-enough _ _ _ _ _ _ _ _ (c .before .before .before .before .if1 .left) (c .before .before .run-task .ensures)
+
+pub at-least-spec : {M : Type 1} → statement M
+at-least-spec = tie.close (tie.spec asked-for-none-requires returns slice-aggregate-run-task run-task-requires judged-requires returns-2)
