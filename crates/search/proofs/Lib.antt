@@ -16,3 +16,4 @@ pub mod RetypedCalls
 pub mod Reborrow
 pub mod Loans
 pub mod Locals
+pub mod Elements

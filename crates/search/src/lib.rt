@@ -70,26 +70,13 @@ pub struct CountedRun {
     pub tally: Tally,
 }
 
-// A tally with one node more, which settles variable x.
-fn with_node(t: Tally, x: usize) -> Tally
-    requires { ⌜ Countable x (tallyIn t) ⌝ }
-    ensures { λ r. ⌜ Counted x (tallyIn t) (tallyIn r) ⌝ }
-{
-    let mut counts = t.counts;
-    counts[x] = counts[x] + 1;
-    let nodes = t.nodes + 1;
-    Tally {
-        nodes: nodes,
-        counts: counts,
-    }
-}
-
 // Adds a node that settles variable x.
 fn add_node(t: &mut Tally, x: usize)
     requires { ⌜ Countable x (tallyIn (now t)) ⌝ }
     ensures { λ _. ⌜ Counted x (tallyIn (now (t .entry))) (tallyIn (now (t .exit))) ⌝ }
 {
-    *t = with_node(*t, x);
+    t.counts[x] = t.counts[x] + 1;
+    t.nodes = t.nodes + 1;
 }
 
 // The tally of nothing.
