@@ -1,3 +1,4 @@
 -- The laws, in the order of the argument.
 pub mod Open
 pub mod Codes
+pub mod Testing

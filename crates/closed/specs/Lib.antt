@@ -1,3 +1,4 @@
--- The first two exchanges that aren't closed, and what the code is lent.
+-- The first two exchanges that aren't closed, of a problem and of a run that is lent a sheet, pairs and a block; what the code is lent.
 pub mod Open
 pub mod Held
+pub mod Lent

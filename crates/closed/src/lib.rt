@@ -1,13 +1,25 @@
-// Whether a run's exchanges are closed, or the first two that aren't (paper 02, #112), on the images of the compiled problem.
+// Whether a run's exchanges are closed, or the first two that aren't (paper 02, #112): on the images of a compiled problem, and for callers.
 ghost use mathlib.Core.Path.{_≡_};
-ghost use Prim.Native.Nat.{_+_, _*_, _≤_, _<_};
+ghost use Prim.Native.Nat.{ℕ, _+_, _*_, _≤_, _<_};
 ghost use lib.ListN.{length};
 ghost use Rattle.model.specs.Lists.{at};
 ghost use Rattle.model.specs.Problem.{Problem};
 ghost use Rattle.layout.specs.Layout.{symmetryAt, pairCode};
 ghost use Rattle.families.specs.Families.{makes, movesNothing};
-ghost use Rattle.closed.specs.Open.{made, firstMissing};
-ghost use Rattle.closed.specs.Held.{Held};
+ghost use mathlib.Core.List.{List};
+ghost use Rattle.lent.specs.Lent.{problemWith};
+ghost use Rattle.closed.specs.Open.{made, firstMissing, firstOpen};
+ghost use Rattle.closed.specs.Held.{Held, Passed};
+ghost use Rattle.closed.specs.Lent.{told, closedLent, means};
+use layout::VALUES;
+use layout::VARIABLES;
+
+// The refusal of a run, that its exchanges are closed, or the first two, by number, whose product is missing.
+pub enum Answer {
+    Closed,
+    Missing { first: usize, second: usize },
+    Refused { number: u8, item: usize },
+}
 
 // The code of number q: 16 times its variable and its value.
 fn code(values: usize, q: usize) -> usize
@@ -117,4 +129,53 @@ pub fn first_missing(
         k += 1;
     }
     k
+}
+
+// The first two from their number.
+fn two_of(symmetries: usize, k: usize) -> Answer
+    requires { ⌜ symmetries ≤ 136 ⌝ }
+    ensures { λ r. ⌜ ((p : Problem) → symmetries ≡ length (p .symmetries) → k ≡ firstMissing p → means r ≡ told (firstOpen p)) ⌝ }
+{
+    if k < symmetries * symmetries {
+        return Answer::Missing {
+            first: k / symmetries,
+            second: k % symmetries,
+        };
+    }
+    Answer::Closed
+}
+
+// The test of a run whose questions are passed.
+fn test(block: &[u8], numbers: &[u64; 384], images: &mut [u8; 26112]) -> Answer
+    requires { ⌜ ((b : List ℕ) × (pairs : List ℕ) × Passed b pairs (now block) (now numbers) (now images)) ⌝ }
+    ensures { λ r. ⌜ ((b pairs : List ℕ) → Passed b pairs (now (block .entry)) (now (numbers .entry)) (now (images .entry)) → means r ≡ told (firstOpen (problemWith b (now (block .entry))))) ⌝ }
+{
+    let symmetries = orderings::put_images(block, numbers, images);
+    let variables = numbers[VARIABLES] as usize;
+    let values = numbers[VALUES] as usize;
+    let k = first_missing(images, variables, values, symmetries);
+    two_of(symmetries, k)
+}
+
+// The exchanges of a run that is lent a sheet, pairs and a block: the sheet's own, then the block's rows.
+pub fn closed(sheet: &[u8], pairs: &[u8], block: &[u8]) -> Answer
+    ensures { λ r. ⌜ means r ≡ closedLent (now (sheet .entry)) (now (pairs .entry)) (now (block .entry)) ⌝ }
+{
+    let mut numbers = [0u64; 384];
+    let mut supports = [0u16; 8192];
+    let mut images = [0u8; 26112];
+    let mut order = [0u8; 16];
+    let asked = lent::ask(
+        sheet,
+        pairs,
+        block,
+        &mut numbers,
+        &mut supports,
+        &mut images,
+        &mut order,
+    );
+    match asked {
+        sheet::Answer::Refused { number, item } => Answer::Refused { number, item },
+        sheet::Answer::Accepted => test(block, &numbers, &mut images),
+    }
 }

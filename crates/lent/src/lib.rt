@@ -28,8 +28,8 @@ fn lendings(
     orderings::question(block, numbers, supports)
 }
 
-// All questions in their order; where there is no "no", the arrays hold the sheet's problem.
-fn ask(
+// All questions in their order; where there is no "no", the arrays hold the sheet's problem, its variables by place.
+pub fn ask(
     sheet: &[u8],
     pairs: &[u8],
     block: &[u8],
