@@ -8,3 +8,4 @@ pub mod Replies
 pub mod SmallSheets
 pub mod Tallied
 pub mod Lent
+pub mod Closed

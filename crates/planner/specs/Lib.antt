@@ -5,5 +5,6 @@ pub mod Merged
 pub mod SmallSheets
 pub mod Tallied
 pub mod Lent
+pub mod Closed
 pub mod Inner
 pub mod Stored

@@ -1,6 +1,7 @@
 // The planner for C and Rust: exported functions on numbers and byte slices. A refusal's number and item are those of paper 01.
 mod bytes;
 mod counts;
+mod exchanges;
 mod lendings;
 mod lists;
 mod small_sheets;
