@@ -9,3 +9,4 @@ pub mod SmallSheets
 pub mod Tallied
 pub mod Lent
 pub mod Closed
+pub mod AtLeast

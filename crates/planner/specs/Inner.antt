@@ -6,12 +6,22 @@ use lib.ListN.{length, getD}
 use Rattle.model.specs.Verdict.{accepted}
 use Rattle.model.specs.Nogood.{FilterAnswer, declined, answered}
 use Rattle.model.specs.Sheet.{verdictOf, problemOf}
+use Rattle.enough.specs.AtLeast.{enough, tooFew, unknown}
+use Rattle.enough.specs.Lent.{EnoughAnswer}
+use Rattle.enough.specs.Lent as L
 use Rattle.model.specs.Run.{Ending, finished, spent, full, plansIn, nodesIn}
 
 -- the item of a refusal by the filter stands in one byte
 abbrev pub SmallAnswer : FilterAnswer → Type 0
 SmallAnswer (declined number item) = item < 256
 SmallAnswer (answered ending) = Unit {0}
+
+-- the item of a refusal stands in one byte, and the two numbers of an answer in four bytes each
+abbrev pub SmallSaid : EnoughAnswer → Type 0
+SmallSaid (L.refusal number item) = item < 256
+SmallSaid (L.answered (enough plans made)) = (plans < 2 ^ 32) × (made < 2 ^ 32)
+SmallSaid (L.answered (tooFew plans made)) = (plans < 2 ^ 32) × (made < 2 ^ 32)
+SmallSaid (L.answered (unknown plans made)) = (plans < 2 ^ 32) × (made < 2 ^ 32)
 
 -- n is the number of variables of a sheet that is accepted, and never above 12
 pub record Sized (b : List ℕ) (n : ℕ) : Type 0 where

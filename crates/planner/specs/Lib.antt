@@ -6,5 +6,6 @@ pub mod SmallSheets
 pub mod Tallied
 pub mod Lent
 pub mod Closed
+pub mod Enough
 pub mod Inner
 pub mod Stored

@@ -1,4 +1,5 @@
 // The planner for C and Rust: exported functions on numbers and byte slices. A refusal's number and item are those of paper 01.
+mod at_least;
 mod bytes;
 mod counts;
 mod exchanges;
