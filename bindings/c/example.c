@@ -1,5 +1,5 @@
 /* Lists the paper's sheet A by planner_run and prints its plans; then with the second window settled first, and with
- * pairs that go round; then filters by source document 001's nogoods. */
+ * pairs that go round; asks whether it has so many plans; then filters by source document 001's nogoods. */
 #include <stdio.h>
 
 #include "planner.h"
@@ -48,6 +48,20 @@ static void list_in_order(const uint8_t *pairs, size_t pairs_len) {
     printf("%s %u %u, trials by window %u %u\n", kinds[kind], plans, trials, number(answer + 12), number(answer + 16));
 }
 
+/* Are there at least so many plans? */
+static void ask(uint32_t plans, uint32_t node_limit) {
+    static const char *const words[] = {"", "yes", "no", "spent"};
+    static const uint8_t none[1];
+    uint8_t answer[PLANNER_ANSWER_BYTES];
+    uint32_t status = planner_at_least(sheet_a, sizeof sheet_a, none, 0, none, 0, plans, node_limit, answer, sizeof answer);
+    if (status != 0) {
+        printf("refused %u %u\n", PLANNER_NUMBER(status), PLANNER_ITEM(status));
+        return;
+    }
+    printf("at least %u with %u trials: %s %u %u\n", plans, node_limit, words[number(answer)], number(answer + 4),
+           number(answer + 8));
+}
+
 /* 001's four nogoods, with x1 to x6 as windows 0 to 5. */
 static void filter(const char *name, uint8_t x2, uint8_t x5) {
     static const char *const endings[] = {"consistent", "entailed", "failed"};
@@ -68,6 +82,10 @@ int main(void) {
     list_plans(2);
     list_in_order((const uint8_t[]){1, 0}, 2);
     list_in_order((const uint8_t[]){1, 0, 0, 1}, 4);
+    ask(0, 0);
+    ask(2, 3);
+    ask(2, 2);
+    ask(4, 6);
     filter("001", 6, 2);
     filter("001 with x5 in {1, 2}", 6, 6);
     filter("001 with x2 = 1", 2, 2);

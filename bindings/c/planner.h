@@ -43,7 +43,7 @@ extern "C" {
 #define PLANNER_FILTER_FAILED 2 /* no assignment from the lent sets obeys them */
 /* planner_filter: the sets' length is odd. */
 #define PLANNER_HALF_SET (255u * 256u)
-/* planner_run: the answer's length isn't PLANNER_ANSWER_BYTES; planner_run_lent: it isn't PLANNER_LENT_ANSWER_BYTES. */
+/* The answer's length isn't PLANNER_ANSWER_BYTES; of planner_run_lent: it isn't PLANNER_LENT_ANSWER_BYTES. */
 #define PLANNER_ANSWER_ROOM (255u * 256u)
 
 /* The answer of planner_run: three 32-bit numbers, low byte first: the kind, the plans listed and the trials made. */
@@ -101,6 +101,18 @@ uint32_t planner_question_lent(const uint8_t *sheet, size_t sheet_len, const uin
 uint32_t planner_run_lent(const uint8_t *sheet, size_t sheet_len, const uint8_t *pairs, size_t pairs_len,
                           const uint8_t *block, size_t block_len, uint32_t node_limit, uint8_t *list,
                           size_t list_len, uint8_t *answer, size_t answer_len);
+
+/* ---- At least so many plans? (#101) */
+/* Asks whether the run that is lent the same, with room for all its plans, lists at least `plans`, and stops at the plan that
+ * answers it; no list is lent. The answer has PLANNER_ANSWER_BYTES bytes: the kind, the plans found and the trials made.
+ * With plans 0 it is yes without a trial. Refusals as planner_question_lent gives them or, asked first,
+ * PLANNER_ANSWER_ROOM; the answer is then as it came. */
+#define PLANNER_YES 1     /* there are: the plans found are as many as asked for, the trials those up to the last of them */
+#define PLANNER_NO 2      /* nothing is left to try, and there are fewer */
+#define PLANNER_UNKNOWN 3 /* spent: a further trial is due, and the node limit is reached */
+uint32_t planner_at_least(const uint8_t *sheet, size_t sheet_len, const uint8_t *pairs, size_t pairs_len,
+                          const uint8_t *block, size_t block_len, uint32_t plans, uint32_t node_limit,
+                          uint8_t *answer, size_t answer_len);
 
 /* Writes what the lister prints for this standard input (node limit 1,000,000, room for 4,096 plans) to
  * the front of out and returns its length; the bytes after it are unchanged. With less room than

@@ -1,7 +1,9 @@
-//! The paper's sheet A, also with its second window settled first, its worked filter and the small sheets, through the
-//! safe functions.
+//! The paper's sheet A, also with its second window settled first and asked for so many plans, its worked filter and the small
+//! sheets, through the safe functions.
 
-use planner::{filter, question, question_lent, report, run, run_lent, small_sheet, small_sheets, ABSENT};
+use planner::{
+    at_least, filter, question, question_lent, report, run, run_lent, small_sheet, small_sheets, ABSENT,
+};
 
 /// Two windows, three duties, one rule (the windows differ), one exchange (the windows change places).
 const SHEET_A: [u16; 32] = [
@@ -34,6 +36,11 @@ fn main() {
     {
         println!("{:?}", question_lent(&sheet, pairs, block));
     }
+
+    for (plans, node_limit) in [(0, 0), (2, 3), (2, 2), (4, 6)] {
+        println!("{:?}", at_least(&sheet, &[], &[], plans, node_limit));
+    }
+    println!("{:?}", at_least(&sheet, &[1, 0, 0, 1], &[], 0, 0));
 
     let index = [0, 1, 2, 3, 4, 2, 5, 0];
     let equal = [ABSENT, 1, ABSENT, 1, 1, ABSENT, 2, ABSENT];

@@ -6,12 +6,14 @@
 use std::{fmt, io, panic, thread};
 
 mod columns;
+mod enough;
 mod lent;
 mod merge;
 mod small;
 mod store;
 
 pub use columns::{columns, rows};
+pub use enough::{at_least, Enough};
 pub use lent::{question_lent, run_lent, LentAnswer};
 pub use merge::merge;
 pub use small::{small_sheet, small_sheets};

@@ -1,6 +1,6 @@
 //! The stack that a call takes at most, calls on a thread of their own, and calls from several threads at once.
 
-use planner::{report, run, run_lent, with_stack, Ending, STACK_BYTES};
+use planner::{at_least, report, run, run_lent, with_stack, Ending, Enough, STACK_BYTES};
 use std::thread;
 
 /// The sheet that goes deepest: 12 windows of 16 duties. Of two neighbours, a duty below 15 of the first has rows
@@ -41,6 +41,8 @@ fn the_stack_is_enough() {
         let mut list = vec![0; 4096 * 12];
         let answer = run_lent(&deepest(9), &[0, 1], &[10, 2], 1_000_000, &mut list).unwrap().answer;
         assert_eq!((answer.ending, answer.plans, answer.nodes), (Ending::Finished, 16 * 136, 2592));
+        let enough = at_least(&sheet, &[], &[], 16, 1_000_000).unwrap();
+        assert_eq!(enough, Enough::Yes { plans: 16, nodes: 192 });
     };
     thread::Builder::new().stack_size(STACK_BYTES).spawn(calls).unwrap().join().unwrap();
 }
