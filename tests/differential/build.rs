@@ -10,6 +10,7 @@ const FUNCTIONS: &[&str] = &[
     "planner_run",
     "planner_question_lent",
     "planner_run_lent",
+    "planner_at_least",
     "planner_report",
     "planner_columns",
     "planner_rows",

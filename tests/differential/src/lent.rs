@@ -84,19 +84,24 @@ impl Lent {
     }
 }
 
-pub fn case(rng: &mut Rng, tally: &mut Tally) {
+/// A sheet, pairs and a block, right or damaged, and the number of places.
+pub fn drawn(rng: &mut Rng) -> (Lent, usize) {
     let (problem, alike) = match rng.chance(20) {
         true => alike_problem(rng),
         false => (problem(rng), [0, 0]),
     };
     let sheet = if rng.chance(10) { damaged(rng, &problem) } else { encode(&problem) };
     let block = if alike[1] > 0 { alike.to_vec() } else { block(rng, problem.variables) };
-    let lent = Lent { sheet, pairs: pairs(rng, problem.variables), block };
+    (Lent { sheet, pairs: pairs(rng, problem.variables), block }, problem.variables)
+}
+
+pub fn case(rng: &mut Rng, tally: &mut Tally) {
+    let (lent, places) = drawn(rng);
     question(&lent, tally);
     let whole = run_lent(&lent.sheet, &lent.pairs, &lent.block, u32::MAX, &mut vec![0; 12 * 4096]);
     let (plans, nodes) =
         whole.map_or((1, 1), |tallied| (tallied.outcome.plans as usize, tallied.outcome.nodes));
-    let enough = plans * problem.variables;
+    let enough = plans * places;
     for _ in 0..3 {
         let (limit, room) = (node_limit(rng, nodes), room(rng, enough));
         run(&lent, limit, room, rng, tally);

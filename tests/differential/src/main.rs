@@ -1,10 +1,12 @@
 //! The proved planner beside the oracle: `differential [PART ..]`, with no word all parts. SEED and CASES
 //! are read from the environment, and SHARED_BENCH for another folder of sheets with reports than
 //! ../shared/bench beside the repository. Case i of a part draws from SEED + i, so that a difference comes
-//! back with that seed and one case. Every refusal number must be reached by its part, and every ending of the filter.
+//! back with that seed and one case. Every refusal number must be reached by its part, and every ending of the filter and
+//! every answer to "at least so many plans?".
 
 mod block;
 mod columns;
+mod enough;
 mod filter;
 mod lent;
 mod merge;
@@ -24,8 +26,9 @@ use std::path::{Path, PathBuf};
 use std::time::Instant;
 use tally::{Tally, WRONG_SIZE};
 
-const PARTS: &[&str] =
-    &["question", "filter", "run", "lent", "retyped", "report", "columns", "merge", "store", "small"];
+const PARTS: &[&str] = &[
+    "question", "filter", "run", "lent", "enough", "retyped", "report", "columns", "merge", "store", "small",
+];
 /// The refusal numbers that a part must reach.
 const REFUSALS: &[(&str, RangeInclusive<u32>)] = &[
     ("question", 1..=16),
@@ -33,6 +36,10 @@ const REFUSALS: &[(&str, RangeInclusive<u32>)] = &[
     ("lent", 28..=30),
     ("lent", 36..=36),
     ("lent", WRONG_SIZE..=WRONG_SIZE),
+    ("enough", 15..=16),
+    ("enough", 28..=30),
+    ("enough", 36..=36),
+    ("enough", WRONG_SIZE..=WRONG_SIZE),
     ("columns", 20..=23),
     ("merge", 24..=30),
     ("store", 31..=35),
@@ -42,7 +49,9 @@ const CASES: usize = 2000;
 /// With fewer cases, numbers and endings that nothing reached are no failure.
 const ENOUGH_CASES: usize = 1000;
 /// The endings of the filter by their code; each must be met at least as often as there are cases.
-const ENDINGS: &[&str] = &["consistent", "entailed", "failed"];
+const ENDINGS: [&str; 3] = ["consistent", "entailed", "failed"];
+/// Likewise what is said of so many plans, by its kind.
+const SAID: [&str; 3] = ["yes", "no", "spent"];
 
 fn environment(name: &str, otherwise: usize) -> usize {
     std::env::var(name)
@@ -67,7 +76,10 @@ fn main() {
         reached(part, cases, &mut tally);
     }
     if parts.iter().any(|part| part == "filter") {
-        ended(cases, &mut tally);
+        met(ENDINGS, tally.endings, cases, &mut tally);
+    }
+    if parts.iter().any(|part| part == "enough") {
+        met(SAID, tally.enough, cases, &mut tally);
     }
     println!("differential: {} passed, {} failed", tally.passed, tally.failed);
     std::process::exit(if tally.failed == 0 { 0 } else { 1 });
@@ -84,6 +96,7 @@ fn test(part: &str, seed: usize, cases: usize, tally: &mut Tally) {
             "filter" => filter::case(&mut rng, tally),
             "run" => run::case(&mut rng, tally),
             "lent" => lent::case(&mut rng, tally),
+            "enough" => enough::case(&mut rng, tally),
             "retyped" => retyped::case(&mut rng, tally),
             "columns" => columns::case(&mut rng, tally),
             "merge" => merge::case(&mut rng, tally),
@@ -113,12 +126,12 @@ fn test(part: &str, seed: usize, cases: usize, tally: &mut Tally) {
     println!("{part}: {comparisons} comparisons, {:.1} s", start.elapsed().as_secs_f64());
 }
 
-/// How many filters ended in each way, and a failure for each way that too few did.
-fn ended(cases: usize, tally: &mut Tally) {
-    for (ending, count) in ENDINGS.iter().zip(tally.endings) {
-        println!("{ending} {count}");
+/// How often each answer was met, and a failure for each that was met too seldom.
+fn met(names: [&str; 3], counts: [usize; 3], cases: usize, tally: &mut Tally) {
+    for (name, count) in names.iter().zip(counts) {
+        println!("{name} {count}");
         if count < cases && cases >= ENOUGH_CASES {
-            println!("{ending} was met less than {cases} times");
+            println!("{name} was met less than {cases} times");
             tally.failed += 1;
         }
     }

@@ -18,6 +18,8 @@ pub struct Tally {
     pub refused: BTreeMap<u32, usize>,
     /// Filters by the code of their ending.
     pub endings: [usize; 3],
+    /// Answers to "at least so many plans?" by their kind, from 1.
+    pub enough: [usize; 3],
     /// What is tested now, printed with a difference.
     pub case: String,
 }

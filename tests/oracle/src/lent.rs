@@ -61,6 +61,19 @@ pub fn search_in(problem: &Problem, order: &[usize], node_limit: u32, list: &mut
     Tallied { outcome: Outcome { ending, plans, nodes }, counts }
 }
 
+/// All trials of the tree in the order in which they are due; of each, whether it finds a plan.
+pub fn trials(problem: &Problem, order: &[usize]) -> Vec<bool> {
+    let (mut all, mut due) = (Vec::new(), trials_below(problem, order, &[]));
+    while let Some(prefix) = due.pop() {
+        let settled = prefix.len() == order.len();
+        all.push(settled && sets_at(problem, order, &prefix).is_some());
+        if !settled {
+            due.extend(trials_below(problem, order, &prefix));
+        }
+    }
+    all
+}
+
 /// The trials that settle the place after a prefix, the first to be made last; of a dead prefix there are none.
 fn trials_below(problem: &Problem, order: &[usize], prefix: &[usize]) -> Vec<Vec<usize>> {
     let Some(sets) = sets_at(problem, order, prefix) else {

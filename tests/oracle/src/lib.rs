@@ -3,6 +3,7 @@
 
 pub mod block;
 pub mod columns;
+pub mod enough;
 pub mod lent;
 pub mod listing;
 pub mod merge;

@@ -1,5 +1,6 @@
 //! The paper's checked examples, tried on the oracle.
 
+use oracle::enough::{at_least, Enough, Said};
 use oracle::lent::run_lent;
 use oracle::sheet::Constraint;
 use oracle::{filter, question, report, run, Ending, FilterEnding, Outcome, Problem, Refusal};
@@ -48,6 +49,27 @@ fn sheet_a_with_small_limits() {
     assert_eq!(list, [0, 1, 0, 2, 1, 2, 9, 9]);
     assert_eq!(run(&a(), 1_000_000, &mut list[..2]), outcome(Ending::Full, 1, 3));
     assert_eq!(run(&a(), 2, &mut []), outcome(Ending::Full, 0, 2));
+}
+
+#[test]
+fn at_least_so_many_plans_of_sheet_a() {
+    for (plans, limit, said, found, nodes) in [
+        (0, 0, Said::Yes, 0, 0),
+        (1, 0, Said::Spent, 0, 0),
+        (1, 2, Said::Yes, 1, 2),
+        (2, 2, Said::Spent, 1, 2),
+        (2, 1_000_000, Said::Yes, 2, 3),
+        (3, 5, Said::Yes, 3, 5),
+        (4, 5, Said::Spent, 3, 5),
+        (4, 6, Said::No, 3, 6),
+        (u32::MAX, u32::MAX, Said::No, 3, 6),
+    ] {
+        let answer = at_least(&a(), &[], &[], plans, limit);
+        assert_eq!(answer, Ok(Enough { said, plans: found, nodes }), "{plans} plans, {limit} trials");
+    }
+    assert_eq!(at_least(&a()[..63], &[], &[], 0, 0), Err(Refusal { number: 6, item: 0 }));
+    assert_eq!(at_least(&a(), &[0], &[], 0, 0), Err(Refusal { number: 28, item: 0 }));
+    assert_eq!(at_least(&a(), &[], &[0], 0, 0), Err(Refusal { number: 36, item: 0 }));
 }
 
 #[test]
