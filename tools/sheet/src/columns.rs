@@ -11,6 +11,7 @@ pub const COLUMNS: Command = Command {
     about: "stores plans by window: writes rows of bytes as columns behind a header",
     files: 1..=2,
     options: &[],
+    asks: false,
     run: run_columns,
 };
 
@@ -20,6 +21,7 @@ pub const ROWS: Command = Command {
     about: "writes the rows of such a store",
     files: 0..=1,
     options: &[],
+    asks: false,
     run: run_rows,
 };
 

@@ -4,13 +4,14 @@
 use crate::problem::Problem;
 use crate::text::Fault;
 use crate::words::nearest;
-use crate::{columns, explain, make, merge, page, plans, show, why};
+use crate::{columns, enough, explain, make, merge, page, plans, show, why};
 use std::io::{Read, Write};
 use std::ops::RangeInclusive;
 
 /// The commands, in the order of the help.
-const COMMANDS: [Command; 9] = [
+const COMMANDS: [Command; 10] = [
     plans::COMMAND,
+    enough::COMMAND,
     why::COMMAND,
     page::COMMAND,
     make::COMMAND,
@@ -21,7 +22,8 @@ const COMMANDS: [Command; 9] = [
     merge::COMMAND,
 ];
 
-/// The exit statuses.
+/// The exit statuses. A command that asks a question answers yes by the first, no by the second and that it isn't known by the
+/// third; the last then stands for refusals and faults too.
 #[derive(Clone, Copy, Debug, PartialEq, Eq)]
 pub enum Status {
     Finished = 0,
@@ -33,6 +35,12 @@ pub enum Status {
     Failed = 3,
 }
 
+impl Status {
+    pub const YES: Status = Status::Finished;
+    pub const NO: Status = Status::Refused;
+    pub const UNKNOWN: Status = Status::Short;
+}
+
 pub struct Command {
     pub name: &'static str,
     /// What follows the name.
@@ -41,7 +49,19 @@ pub struct Command {
     /// How many words it takes, files and others.
     pub files: RangeInclusive<usize>,
     pub options: &'static [Choice],
+    /// Does its status answer yes or no?
+    pub asks: bool,
     pub run: fn(&Arguments) -> Result<Outcome, Stop>,
+}
+
+impl Command {
+    fn answer(&self, words: &[String]) -> Result<Outcome, Stop> {
+        let answer = Arguments::new(self, words).and_then(|arguments| (self.run)(&arguments));
+        answer.map_err(|stop| match self.asks {
+            true => Stop { status: Status::Failed, ..stop },
+            false => stop,
+        })
+    }
 }
 
 /// An option, with a name for its value if it takes one.
@@ -206,7 +226,7 @@ pub fn run(words: &[String]) -> Result<Outcome, Stop> {
         Some(command) if words.iter().any(|word| word == "--help" || word == "-h") => {
             Ok(text(command_help(command)))
         }
-        Some(command) => (command.run)(&Arguments::new(command, &words[1..])?),
+        Some(command) => command.answer(&words[1..]),
         None => {
             let names: Vec<String> = COMMANDS.iter().map(|command| command.name.to_string()).collect();
             refuse(format!("`{name}` is no command{}\n{}", nearest(name, &names), help().trim_end()))
@@ -228,7 +248,8 @@ fn help() -> String {
         text += &format!("  {usage:28}{gap}{}\n", command.about);
     }
     text + "\n`sheet COMMAND --help` has a command's options. Exit status: 0 finished, 1 refused or a fault\n\
-            in the text, 2 stopped short, 3 reading or writing failed.\n"
+            in the text, 2 stopped short, 3 reading or writing failed. Of `enough`: 0 yes, 1 no, 2 stopped\n\
+            short, 3 all else.\n"
 }
 
 fn command_help(command: &Command) -> String {

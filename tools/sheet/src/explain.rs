@@ -11,6 +11,7 @@ pub const COMMAND: Command = Command {
     about: "says that a sheet (or a text) is accepted, or why it is refused",
     files: 1..=1,
     options: &[],
+    asks: false,
     run,
 };
 

@@ -1,12 +1,12 @@
 //! A text that a command is given, with what it states and its accepted sheet.
 
 use crate::command::{refuse, Arguments, Choice, Source, Stop};
-use crate::listing::{list_on_terminal, Limits, Listing};
+use crate::listing::{at_least, list_on_terminal, Limits, Listing};
 use crate::make::{make_stated, of_block, Made};
 use crate::parse::parse;
 use crate::text::Text;
 use crate::{alike, pairs};
-use planner::Refusal;
+use planner::{Enough, Refusal};
 
 pub const PAIRS_OPTION: Choice = Choice {
     name: "--pairs",
@@ -67,7 +67,16 @@ impl Input {
 
     /// The plans.
     pub fn list(&self, limits: Limits) -> Result<Listing, Stop> {
-        list_on_terminal(&self.made, limits).or_else(|refusal| refuse(format!("{}: {refusal}", self.name)))
+        list_on_terminal(&self.made, limits).or_else(|refusal| self.refused(refusal))
+    }
+
+    /// Are there at least so many plans?
+    pub fn at_least(&self, plans: u32, limits: Limits) -> Result<Enough, Stop> {
+        at_least(&self.made, plans, limits).or_else(|refusal| self.refused(refusal))
+    }
+
+    fn refused<T>(&self, refusal: Refusal) -> Result<T, Stop> {
+        refuse(format!("{}: {refusal}", self.name))
     }
 }
 

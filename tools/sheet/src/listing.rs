@@ -3,7 +3,7 @@
 use crate::command::{Arguments, Choice, Status, Stop};
 use crate::make::Made;
 use crate::words::counted;
-use planner::{Answer, Ending, Refusal};
+use planner::{Answer, Ending, Enough, Refusal};
 use std::io::{IsTerminal, Write};
 use std::time::{Duration, Instant};
 
@@ -116,6 +116,11 @@ pub fn list_on_terminal(made: &Made, limits: Limits) -> Result<Listing, Refusal>
         let _ = write!(std::io::stderr(), "\r\x1b[K");
     }
     listing
+}
+
+/// Are there at least so many plans? The allowance alone matters of the limits.
+pub fn at_least(made: &Made, plans: u32, limits: Limits) -> Result<Enough, Refusal> {
+    planner::at_least(&made.sheet, &made.pairs, &made.block, plans, limits.trials)
 }
 
 fn so_far(answer: Answer) -> String {

@@ -28,6 +28,7 @@ pub const COMMAND: Command = Command {
             about: "writes the `alike` line to a file, two bytes: its first window and how many",
         },
     ],
+    asks: false,
     run,
 };
 

@@ -15,6 +15,7 @@ pub const COMMAND: Command = Command {
         value: Some("FILE"),
         about: "compares rows in the order of a file of pairs, as the runs that listed them",
     }],
+    asks: false,
     run,
 };
 

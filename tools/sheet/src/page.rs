@@ -17,6 +17,7 @@ pub const COMMAND: Command = Command {
     about: "writes the hall and its plans as a page",
     files: 1..=1,
     options: &[TRIALS_OPTION, PLANS_OPTION, PAIRS_OPTION, BLOCK_OPTION],
+    asks: false,
     run,
 };
 

@@ -31,6 +31,7 @@ pub const COMMAND: Command = Command {
         PAIRS_OPTION,
         BLOCK_OPTION,
     ],
+    asks: false,
     run,
 };
 

@@ -10,6 +10,7 @@ pub const COMMAND: Command = Command {
     about: "writes the text of a sheet, with the names w0 w1 .. and d0 d1 ..",
     files: 1..=1,
     options: &[],
+    asks: false,
     run,
 };
 

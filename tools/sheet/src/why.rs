@@ -16,6 +16,7 @@ pub const COMMAND: Command = Command {
     about: "shows a plan, or lines of the text that already have none",
     files: 1..=1,
     options: &[TRIALS_OPTION, PAIRS_OPTION, BLOCK_OPTION],
+    asks: false,
     run,
 };
 

@@ -66,8 +66,12 @@ fn golden_files() {
     golden("order.html", output("page tools/sheet/tests/golden/order.txt"), 0);
     golden("alike.table", output("plans tools/sheet/tests/golden/alike.txt"), 0);
     golden("alike.html", output("page tools/sheet/tests/golden/alike.txt"), 0);
+    golden("enough.yes", output("enough 57 examples/stand.txt"), 0);
+    golden("enough.no", output("enough 58 examples/stand.txt"), 1);
+    golden("enough.spent", output("enough 58 --trials 215 examples/stand.txt"), 2);
     golden("help", output("--help"), 0);
     golden("help.plans", output("plans --help"), 0);
+    golden("help.enough", output("enough --help"), 0);
 }
 
 #[test]
@@ -104,6 +108,57 @@ fn endings() {
     let table = "left  right\nsell  pay\nsell  count\npay   count\n\n";
     is(output("plans --by-window examples/a.txt"), 0, &format!("{table}{by_window}"), "");
     is(output("plans --rows examples/a.txt"), 0, "\0\u{1}\0\u{2}\u{1}\u{2}", "finished: 3 plans, 6 trials\n");
+}
+
+#[test]
+fn enough() {
+    let left = "(a plan that an exchange makes of an earlier one isn't counted)\n";
+    for (words, status, said) in [
+        ("enough 0 --trials 0", 0, "yes: at least 0 plans, 0 trials"),
+        ("enough 1", 0, "yes: at least 1 plan, 2 trials"),
+        ("enough 2 --trials 3", 0, "yes: at least 2 plans, 3 trials"),
+        (
+            "enough 2 --trials 2",
+            2,
+            "not known: stopped at the allowance of 2 trials, 1 plan so far (--trials N allows more)",
+        ),
+        (
+            "enough 1 --trials 1",
+            2,
+            "not known: stopped at the allowance of 1 trial, no plan so far (--trials N allows more)",
+        ),
+        ("enough 4", 1, "no: 3 plans in all, 6 trials"),
+        ("enough 4,294,967,295 --trials 6", 1, "no: 3 plans in all, 6 trials"),
+    ] {
+        is(output(&format!("{words} examples/a.txt")), status, &format!("{said}\n{left}"), "");
+    }
+    let none = fed("enough 1 -", b"windows a b\nduties x\ndifferent a b\n");
+    is(none, 1, "no: no plan in all, 0 trials\n", "");
+    let bytes = std::fs::read(root().join("examples/a.sheet")).unwrap();
+    is(fed("enough 3 -", &bytes), 0, &format!("yes: at least 3 plans, 5 trials\n{left}"), "");
+}
+
+/// What isn't answered has status 3, whatever the reason.
+#[test]
+fn enough_not_answered() {
+    for (words, said) in [
+        ("enough", "sheet enough M TEXT\n"),
+        ("enough examples/a.txt", "sheet enough M TEXT\n"),
+        ("enough few examples/a.txt", "`few` is no number of plans\n"),
+        ("enough 4294967296 examples/a.txt", "`4294967296` is no number of plans\n"),
+        ("enough --plans 3 1 examples/a.txt", "enough takes no --plans\n"),
+        ("enough 1 none.txt", "none.txt: No such file or directory (os error 2)\n"),
+    ] {
+        is(output(words), 3, "", said);
+    }
+    let fault = fed("enough 1 -", b"windows a b\nduties x y\ndifferent a till\n");
+    is(fault, 3, "", "standard input:3: no window is called `till`\n");
+    let round = fed("enough 0 -", b"windows a b\nduties x y\nbefore a b\nbefore b a\n");
+    assert_eq!((round.status.code(), said(&round.stdout)), (Some(3), ""));
+    assert!(said(&round.stderr).ends_with("(refused 30 0)\n"), "{}", said(&round.stderr));
+    let bytes = std::fs::read(root().join("examples/a.sheet")).unwrap();
+    let short = "refused 6 0: offset 14: the stated length is 64, and the sheet has 63 bytes";
+    is(fed("enough 0 -", &bytes[..63]), 3, "", &format!("standard input: {short}\n"));
 }
 
 /// A sheet is taken for its text.
@@ -179,8 +234,9 @@ fn reading_fails() {
     }
 }
 
-const WRITING: [&str; 7] = [
+const WRITING: [&str; 8] = [
     "plans examples/hall.txt",
+    "enough 2 examples/hall.txt",
     "plans --json examples/hall.txt",
     "why examples/hall.txt",
     "page examples/hall.txt",
@@ -249,6 +305,7 @@ fn readme() {
     let plans = output("plans examples/stand.txt");
     let lines: Vec<&str> = said(&plans.stdout).lines().collect();
     lines[..3].iter().chain(&lines[lines.len() - 2..]).for_each(|line| shown(line));
+    said(&output("enough 50 examples/stand.txt").stdout).lines().for_each(shown);
     stand.lines().filter(|line| !line.starts_with("may") && !line.starts_with("exchange")).for_each(shown);
     let today: String = stand
         .lines()

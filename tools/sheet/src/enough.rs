@@ -1,0 +1,61 @@
+//! `sheet enough`: are there at least so many plans? (paper 02, #101) The answer in words and as exit status.
+
+use crate::command::{refuse, Arguments, Command, Outcome, Status, Stop};
+use crate::input::{Input, BLOCK_OPTION, PAIRS_OPTION};
+use crate::listing::{Limits, TRIALS_OPTION};
+use crate::words::counted;
+use planner::Enough;
+
+pub const COMMAND: Command = Command {
+    name: "enough",
+    usage: "M TEXT",
+    about: "says whether there are at least M plans, also by its status: 0 yes, 1 no, 2 not known",
+    files: 2..=2,
+    options: &[TRIALS_OPTION, PAIRS_OPTION, BLOCK_OPTION],
+    asks: true,
+    run,
+};
+
+/// What is not counted under exchanges.
+const LEFT_OUT: &str = "(a plan that an exchange makes of an earlier one isn't counted)\n";
+
+fn run(arguments: &Arguments) -> Result<Outcome, Stop> {
+    let [plans, source] = &arguments.sources[..] else { unreachable!("two words") };
+    let Ok(plans) = plans.0.replace([',', '_'], "").parse::<u32>() else {
+        return refuse(format!("`{}` is no number of plans", plans.0));
+    };
+    let limits = Limits::of(arguments)?;
+    let input = Input::read(source)?.lent(arguments)?;
+    let enough = input.at_least(plans, limits)?;
+    let (words, status) = said(enough);
+    let left = if input.made.has_exchanges() { LEFT_OUT } else { "" };
+    Ok(Outcome { output: (words + left).into_bytes(), note: String::new(), status })
+}
+
+/// The answer in words, and as status.
+fn said(enough: Enough) -> (String, Status) {
+    match enough {
+        Enough::Yes { plans, nodes } => {
+            (format!("yes: at least {}, {}\n", counted(plans, "plan"), counted(nodes, "trial")), Status::YES)
+        }
+        Enough::No { plans, nodes } => {
+            (format!("no: {} in all, {}\n", number(plans), counted(nodes, "trial")), Status::NO)
+        }
+        Enough::Spent { plans, nodes } => (
+            format!(
+                "not known: stopped at the allowance of {}, {} so far (--trials N allows more)\n",
+                counted(nodes, "trial"),
+                number(plans)
+            ),
+            Status::UNKNOWN,
+        ),
+    }
+}
+
+/// A number of plans that may be none.
+fn number(plans: u32) -> String {
+    match plans {
+        0 => "no plan".to_string(),
+        plans => counted(plans, "plan"),
+    }
+}
