@@ -97,7 +97,7 @@ module _ (b pairs block : List ℕ) (limit m : ℕ) where
         go accepted t = refl
         go (refused number item) t = absurd t
 
-    agrees : AgreesLent b pairs block limit m made count
+    agrees : AgreesLent (enoughLent b pairs block limit m) limit m made count
     agrees = record {
       yes-so = yes-so;
       no-so = no-so;

@@ -12,7 +12,7 @@ use Rattle.model.specs.Claims.{plansAmong}
 use Rattle.order.specs.RunBy.{leadersBy, placeCounts}
 use Rattle.lent.specs.Lent.{verdictLent, problemWith, orderLent, problemLent, answerLent, plansLent}
 use Rattle.enough.specs.AtLeast.{Enough, enough, tooFew, unknown, nodesSaid}
-use Rattle.enough.specs.Lent.{refusal, answered, enoughLent, enoughTally}
+use Rattle.enough.specs.Lent.{EnoughAnswer, refusal, answered, enoughLent, enoughTally}
 
 -- a refusal makes no node and writes nothing
 abbrev pub Enough-refused-lent : Type 0
@@ -24,29 +24,29 @@ Enough-refused-lent =
 abbrev pub Enough-none-lent : Type 0
 Enough-none-lent = (b pairs block : List ℕ) (limit : ℕ) → verdictLent b pairs block ≡ accepted → enoughLent b pairs block limit 0 ≡ answered (enough 0 0)
 
--- where the complete run is finished with `count` plans in its list, after `total` nodes: yes and no agree with the list; yes or no is said where the limit allows its nodes
-pub record AgreesLent (b pairs block : List ℕ) (limit m total count : ℕ) : Type 0 where
-  pub yes-so : (plans made : ℕ) → enoughLent b pairs block limit m ≡ answered (enough plans made) → m ≤ count
-  pub no-so : (plans made : ℕ) → enoughLent b pairs block limit m ≡ answered (tooFew plans made) → (count < m) × (plans ≡ count) × (made ≡ total)
-  pub decided : total ≤ limit → (plans made : ℕ) → enoughLent b pairs block limit m ≡ answered (unknown plans made) → ⊥
-  pub yes-exactly : total ≤ limit → ((plans : ℕ) × (made : ℕ) × (enoughLent b pairs block limit m ≡ answered (enough plans made))) ↔ (m ≤ count)
+-- what was said, where the complete run is finished with `count` plans in its list, after `total` nodes: yes and no agree with the list; yes or no is said where the limit allows its nodes
+pub record AgreesLent (said : EnoughAnswer) (limit m total count : ℕ) : Type 0 where
+  pub yes-so : (plans made : ℕ) → said ≡ answered (enough plans made) → m ≤ count
+  pub no-so : (plans made : ℕ) → said ≡ answered (tooFew plans made) → (count < m) × (plans ≡ count) × (made ≡ total)
+  pub decided : total ≤ limit → (plans made : ℕ) → said ≡ answered (unknown plans made) → ⊥
+  pub yes-exactly : total ≤ limit → ((plans : ℕ) × (made : ℕ) × (said ≡ answered (enough plans made))) ↔ (m ≤ count)
 
 abbrev pub Enough-agrees-lent : Type 0
 Enough-agrees-lent =
     (b pairs block : List ℕ) (limit m limit′ : ℕ) (out : List ℕ) (plans made : ℕ) → answerLent b pairs block limit′ out ≡ ended (finished plans made) →
-    AgreesLent b pairs block limit m made (length (plansLent b pairs block limit′ out (finished plans made)))
+    AgreesLent (enoughLent b pairs block limit m) limit m made (length (plansLent b pairs block limit′ out (finished plans made)))
 
 -- the figures: on yes, of the nodes up to the m-th plan and no further; else those of a run with the same limit and room for all plans
-pub record FiguresLent (b pairs block : List ℕ) (limit m : ℕ) : Type 0 where
-  pub on-yes : (plans made : ℕ) → enoughLent b pairs block limit m ≡ answered (enough plans made) →
+pub record FiguresLent (said : EnoughAnswer) (b pairs block : List ℕ) (limit m : ℕ) : Type 0 where
+  pub on-yes : (plans made : ℕ) → said ≡ answered (enough plans made) →
       (plans ≡ m) × (made ≤ limit) × (plansAmong (problemLent b pairs block) made ≡ m) × ((k : ℕ) → k < made → plansAmong (problemLent b pairs block) k < m)
-  pub on-no : (plans made : ℕ) → enoughLent b pairs block limit m ≡ answered (tooFew plans made) →
+  pub on-no : (plans made : ℕ) → said ≡ answered (tooFew plans made) →
       (out : List ℕ) → length (leadersBy (orderLent b pairs) (problemWith b block)) * problemOf b .variables ≤ length out → answerLent b pairs block limit out ≡ ended (finished plans made)
-  pub on-spent : (plans made : ℕ) → enoughLent b pairs block limit m ≡ answered (unknown plans made) →
+  pub on-spent : (plans made : ℕ) → said ≡ answered (unknown plans made) →
       (out : List ℕ) → length (leadersBy (orderLent b pairs) (problemWith b block)) * problemOf b .variables ≤ length out → answerLent b pairs block limit out ≡ ended (spent plans made)
 
 abbrev pub Enough-figures-lent : Type 0
-Enough-figures-lent = (b pairs block : List ℕ) (limit m : ℕ) → FiguresLent b pairs block limit m
+Enough-figures-lent = (b pairs block : List ℕ) (limit m : ℕ) → FiguresLent (enoughLent b pairs block limit m) b pairs block limit m
 
 -- a larger limit changes no answer but spent
 abbrev pub Enough-more-lent : Type 0

@@ -13,6 +13,7 @@ pub mod Tasks
 pub mod Demands
 pub mod DemandsLent
 pub mod RetypedCalls
+pub mod EnoughCalls
 pub mod Reborrow
 pub mod Loans
 pub mod Locals
