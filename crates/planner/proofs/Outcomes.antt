@@ -1,15 +1,15 @@
 -- What a call that writes to lent room answers, by what it called. Assumes nothing.
-use mathlib.Core.Path.{_≡_, sym, ap, ap₂, _∙_}
+use mathlib.Core.Path.{_≡_, sym, ap, _∙_}
 use mathlib.Core.Bool.{Bool}
 use mathlib.Core.List.{List}
-use Prim.Native.Nat.{ℕ, _+_, _*_}
+use Prim.Native.Nat.{ℕ}
 use native.Mathlib.Omega.{arith}
 use lib.ListN.{length}
 use borrow.Author.Tests.{eq-eqb, ne-eqb}
 use Rattle.model.specs.Lists.{choose}
 use Rattle.model.specs.Verdict.{Verdict, accepted, refused}
 use Rattle.model.specs.Room.{Outcome, wrote, refusal, outcomeOf, roomAfter}
-use Rattle.planner.specs.Exported.{wrongLength, threeNumbers}
+use Rattle.planner.specs.Exported.{wrongLength}
 use Rattle.planner.specs.Outcomes.{outcomeCode, outcomeAnswer, lentCode, lentRoom, lentAnswer}
 
 pub refused-is : (v : Verdict) (text : List ℕ) (number item : ℕ) → refusal number item ≡ outcomeOf v text → v ≡ refused number item

@@ -10,7 +10,6 @@ use Rattle.model.specs.Lists.{at}
 use Rattle.model.specs.Bytes.{fourBytes}
 use Rattle.model.specs.Written.{Written}
 use Rattle.model.proofs.Written.{written-then, written-none}
-use Rattle.model.specs.Claims as Claims
 use Rattle.planner.specs.Exported.{threeNumbers}
 use Rattle.planner.specs.Tallied.{numbersOf}
 use Rattle.planner.proofs.Numbers.{whole}

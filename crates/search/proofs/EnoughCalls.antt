@@ -1,6 +1,5 @@
 -- What a caller of `at_least` holds (paper 02, #101). Assumes nothing.
 use mathlib.Core.Path.{sym, ap, _∙_, subst}
-use Prim.Native.Nat.{ℕ}
 use lib.ListN.{length}
 use Rattle.model.specs.Run.{finished}
 use Rattle.lent.specs.Lent.{plansLent}

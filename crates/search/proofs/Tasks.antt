@@ -13,7 +13,7 @@ use Rattle.model.specs.Search.{nodes}
 use Rattle.model.specs.Verdict.{Verdict, accepted, refused}
 use Rattle.model.specs.WellFormed.{WellFormed}
 use Rattle.model.specs.Sheet.{problemOf}
-use Rattle.model.specs.Run.{Ending, finished, spent, full, refusal, ended, resultOf, written}
+use Rattle.model.specs.Run.{Ending, finished, spent, full, ended, resultOf, written}
 use Rattle.model.specs.Run as Run
 use Rattle.model.specs.Claims.{plansAmong}
 use Rattle.order.specs.Reordered.{write}

@@ -10,7 +10,7 @@ use native.Mathlib.Omega.{arith}
 use lib.Dec.{T, eqb}
 use borrow.Author.Tests.{not-true, not-false, eqb-true, eqb-false, ne-eqb}
 use lib.ListN.{length, set, take, replicate, length-set, length-replicate}
-use Rattle.model.specs.Lists.{any, flat, both, at, choose, below, total}
+use Rattle.model.specs.Lists.{any, flat, at, choose, below, total}
 use lib.Seq.{length-take-le}
 use Rattle.model.specs.ValueSets.{has}
 use Rattle.model.specs.Problem.{Problem}

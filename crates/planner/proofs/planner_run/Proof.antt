@@ -1,6 +1,5 @@
 -- `planner_run`: the answer's length is asked first; then the run, and its answer as three numbers. Assumes nothing.
 use mathlib.Core.Path.{refl, sym, ap, _∙_}
-use native.Mathlib.Omega.{arith}
 use Rattle.model.specs.Run.{refusal, ended}
 use Rattle.model.specs.Sheet.{verdictOf}
 use Rattle.search.specs.Meaning.{endingOf, means}
