@@ -1,5 +1,6 @@
 /* Lists the paper's sheet A by planner_run and prints its plans; then with the second window settled first, and with
- * pairs that go round; asks whether it has so many plans; then filters by source document 001's nogoods. */
+ * pairs that go round; asks whether it has so many plans, and whether its exchanges and a rotation
+ * of three windows are closed; then filters by source document 001's nogoods. */
 #include <stdio.h>
 
 #include "planner.h"
@@ -11,6 +12,13 @@ static const uint8_t sheet_a[64] = {
     2, 0, 6, 0, 0, 0, 1, 0,                                                         /* rule: counts, windows */
     0, 0, 1, 0, 0, 0, 2, 0, 1, 0, 0, 0, 1, 0, 2, 0, 2, 0, 0, 0, 2, 0, 1, 0,         /* its rows */
     3, 0, 4, 0, 5, 0, 0, 0, 1, 0, 2, 0,                                             /* exchange */
+};
+
+/* Three windows, two duties, no rule; the exchange carries each window on to the next. */
+static const uint8_t rotation[34] = {
+    3, 0, 2, 0, 0, 0, 1, 0, 16, 0, 22, 0, 22, 0, 34, 0, /* header */
+    3, 0, 3, 0, 3, 0,                                   /* initial sets */
+    2, 0, 3, 0, 4, 0, 5, 0, 0, 0, 1, 0,                 /* exchange */
 };
 
 static uint32_t number(const uint8_t *bytes) {
@@ -62,6 +70,18 @@ static void ask(uint32_t plans, uint32_t node_limit) {
            number(answer + 8));
 }
 
+/* Whether the exchanges are closed. */
+static void ask_closed(const char *name, const uint8_t *sheet, size_t sheet_len) {
+    static const uint8_t none[1];
+    uint8_t answer[PLANNER_ANSWER_BYTES];
+    if (planner_closed(sheet, sheet_len, none, 0, none, 0, answer, sizeof answer) != 0)
+        return;
+    if (number(answer) == PLANNER_CLOSED)
+        printf("%s: closed\n", name);
+    else
+        printf("%s: no exchange is %u and then %u\n", name, number(answer + 4), number(answer + 8));
+}
+
 /* 001's four nogoods, with x1 to x6 as windows 0 to 5. */
 static void filter(const char *name, uint8_t x2, uint8_t x5) {
     static const char *const endings[] = {"consistent", "entailed", "failed"};
@@ -86,6 +106,8 @@ int main(void) {
     ask(2, 3);
     ask(2, 2);
     ask(4, 6);
+    ask_closed("sheet A", sheet_a, sizeof sheet_a);
+    ask_closed("rotation", rotation, sizeof rotation);
     filter("001", 6, 2);
     filter("001 with x5 in {1, 2}", 6, 6);
     filter("001 with x2 = 1", 2, 2);

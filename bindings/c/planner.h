@@ -114,6 +114,17 @@ uint32_t planner_at_least(const uint8_t *sheet, size_t sheet_len, const uint8_t 
                           const uint8_t *block, size_t block_len, uint32_t plans, uint32_t node_limit,
                           uint8_t *answer, size_t answer_len);
 
+/* ---- Closed exchanges (#112). Are the exchanges, the sheet's own and the block's, closed? They are if any two of them (or one
+ * twice), one after the other, make one of them or the exchange that moves nothing; a finished run then lists one plan of each family,
+ * the one that reads earliest. A family is all solutions that the exchanges join one after another, through unlisted ones too.
+ * Exchanges are numbered from 0, the sheet's own first, then the block's orderings. The answer, of PLANNER_ANSWER_BYTES bytes, is
+ * the kind, then the first two exchanges a and b (by a, then by b) of which a and then b make one that is missing, else 0, 0.
+ * Refusals as planner_question_lent gives them or, asked first, PLANNER_ANSWER_ROOM; the answer is then as it came. */
+#define PLANNER_CLOSED 1
+#define PLANNER_PRODUCT_MISSING 2
+uint32_t planner_closed(const uint8_t *sheet, size_t sheet_len, const uint8_t *pairs, size_t pairs_len,
+                        const uint8_t *block, size_t block_len, uint8_t *answer, size_t answer_len);
+
 /* Writes what the lister prints for this standard input (node limit 1,000,000, room for 4,096 plans) to
  * the front of out and returns its length; the bytes after it are unchanged. With less room than
  * PLANNER_REPORT_ROOM it returns 0 and writes nothing. */

@@ -1,8 +1,9 @@
-//! The paper's sheet A, also with its second window settled first and asked for so many plans, its worked filter and the small
-//! sheets, through the safe functions.
+//! The paper's sheet A, also with its second window settled first and asked for so many plans and for closed exchanges, its
+//! worked filter and the small sheets, through the safe functions.
 
 use planner::{
-    at_least, filter, question, question_lent, report, run, run_lent, small_sheet, small_sheets, ABSENT,
+    at_least, closed, filter, question, question_lent, report, run, run_lent, small_sheet, small_sheets,
+    ABSENT,
 };
 
 /// Two windows, three duties, one rule (the windows differ), one exchange (the windows change places).
@@ -41,6 +42,12 @@ fn main() {
         println!("{:?}", at_least(&sheet, &[], &[], plans, node_limit));
     }
     println!("{:?}", at_least(&sheet, &[1, 0, 0, 1], &[], 0, 0));
+
+    println!("{:?}", closed(&sheet, &[], &[]));
+    println!("{:?}", closed(&bare, &[], &[0, 2]));
+    let rotation = [3, 2, 0, 1, 16, 22, 22, 34, 3, 3, 3, 2, 3, 4, 5, 0, 1].map(u16::to_le_bytes).concat();
+    println!("{:?}", closed(&rotation, &[], &[]));
+    println!("{:?}", closed(&rotation, &[], &[0, 2]));
 
     let index = [0, 1, 2, 3, 4, 2, 5, 0];
     let equal = [ABSENT, 1, ABSENT, 1, 1, ABSENT, 2, ABSENT];

@@ -5,6 +5,7 @@
 
 use std::{fmt, io, panic, thread};
 
+mod closed;
 mod columns;
 mod enough;
 mod lent;
@@ -12,6 +13,7 @@ mod merge;
 mod small;
 mod store;
 
+pub use closed::{closed, Closed};
 pub use columns::{columns, rows};
 pub use enough::{at_least, Enough};
 pub use lent::{question_lent, run_lent, LentAnswer};

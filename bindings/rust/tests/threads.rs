@@ -1,6 +1,6 @@
 //! The stack that a call takes at most, calls on a thread of their own, and calls from several threads at once.
 
-use planner::{at_least, report, run, run_lent, with_stack, Ending, Enough, STACK_BYTES};
+use planner::{at_least, closed, report, run, run_lent, with_stack, Closed, Ending, Enough, STACK_BYTES};
 use std::thread;
 
 /// The sheet that goes deepest: 12 windows of 16 duties. Of two neighbours, a duty below 15 of the first has rows
@@ -43,6 +43,7 @@ fn the_stack_is_enough() {
         assert_eq!((answer.ending, answer.plans, answer.nodes), (Ending::Finished, 16 * 136, 2592));
         let enough = at_least(&sheet, &[], &[], 16, 1_000_000).unwrap();
         assert_eq!(enough, Enough::Yes { plans: 16, nodes: 192 });
+        assert_eq!(closed(&sheet, &[], &[]), Ok(Closed::Yes));
     };
     thread::Builder::new().stack_size(STACK_BYTES).spawn(calls).unwrap().join().unwrap();
 }
