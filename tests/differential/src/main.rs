@@ -2,9 +2,10 @@
 //! are read from the environment, and SHARED_BENCH for another folder of sheets with reports than
 //! ../shared/bench beside the repository. Case i of a part draws from SEED + i, so that a difference comes
 //! back with that seed and one case. Every refusal number must be reached by its part, and every ending of the filter and
-//! every answer to "at least so many plans?".
+//! every answer to "at least so many plans?" and to whether exchanges are closed.
 
 mod block;
+mod closed;
 mod columns;
 mod enough;
 mod filter;
@@ -27,7 +28,8 @@ use std::time::Instant;
 use tally::{Tally, WRONG_SIZE};
 
 const PARTS: &[&str] = &[
-    "question", "filter", "run", "lent", "enough", "retyped", "report", "columns", "merge", "store", "small",
+    "question", "filter", "run", "lent", "enough", "closed", "retyped", "report", "columns", "merge",
+    "store", "small",
 ];
 /// The refusal numbers that a part must reach.
 const REFUSALS: &[(&str, RangeInclusive<u32>)] = &[
@@ -40,6 +42,10 @@ const REFUSALS: &[(&str, RangeInclusive<u32>)] = &[
     ("enough", 28..=30),
     ("enough", 36..=36),
     ("enough", WRONG_SIZE..=WRONG_SIZE),
+    ("closed", 15..=16),
+    ("closed", 28..=30),
+    ("closed", 36..=36),
+    ("closed", WRONG_SIZE..=WRONG_SIZE),
     ("columns", 20..=23),
     ("merge", 24..=30),
     ("store", 31..=35),
@@ -52,6 +58,8 @@ const ENOUGH_CASES: usize = 1000;
 const ENDINGS: [&str; 3] = ["consistent", "entailed", "failed"];
 /// Likewise what is said of so many plans, by its kind.
 const SAID: [&str; 3] = ["yes", "no", "spent"];
+/// Likewise of exchanges; these are asked once a case, so a tenth of the cases will do.
+const CLOSED: [&str; 2] = ["closed", "product missing"];
 
 fn environment(name: &str, otherwise: usize) -> usize {
     std::env::var(name)
@@ -69,7 +77,7 @@ fn main() {
     }
     let (seed, cases) = (environment("SEED", 1), environment("CASES", CASES));
     println!("differential: SEED={seed} CASES={cases}");
-    let mut tally = Tally::default();
+    let mut tally = Tally { cases, ..Tally::default() };
     for part in &parts {
         (tally.accepted, tally.refused) = (0, BTreeMap::new());
         test(part, seed, cases, &mut tally);
@@ -80,6 +88,9 @@ fn main() {
     }
     if parts.iter().any(|part| part == "enough") {
         met(SAID, tally.enough, cases, &mut tally);
+    }
+    if parts.iter().any(|part| part == "closed") {
+        met(CLOSED, tally.closed, cases / 10, &mut tally);
     }
     println!("differential: {} passed, {} failed", tally.passed, tally.failed);
     std::process::exit(if tally.failed == 0 { 0 } else { 1 });
@@ -97,6 +108,7 @@ fn test(part: &str, seed: usize, cases: usize, tally: &mut Tally) {
             "run" => run::case(&mut rng, tally),
             "lent" => lent::case(&mut rng, tally),
             "enough" => enough::case(&mut rng, tally),
+            "closed" => closed::case(&mut rng, tally),
             "retyped" => retyped::case(&mut rng, tally),
             "columns" => columns::case(&mut rng, tally),
             "merge" => merge::case(&mut rng, tally),
@@ -108,6 +120,9 @@ fn test(part: &str, seed: usize, cases: usize, tally: &mut Tally) {
     if part == "lent" {
         lent::examples(tally);
         block::examples(tally);
+    }
+    if part == "closed" {
+        closed::orderings_of_three(tally);
     }
     if part == "columns" {
         columns::all_shapes(tally);
@@ -127,11 +142,11 @@ fn test(part: &str, seed: usize, cases: usize, tally: &mut Tally) {
 }
 
 /// How often each answer was met, and a failure for each that was met too seldom.
-fn met(names: [&str; 3], counts: [usize; 3], cases: usize, tally: &mut Tally) {
+fn met<const N: usize>(names: [&str; N], counts: [usize; N], least: usize, tally: &mut Tally) {
     for (name, count) in names.iter().zip(counts) {
         println!("{name} {count}");
-        if count < cases && cases >= ENOUGH_CASES {
-            println!("{name} was met less than {cases} times");
+        if count < least && tally.cases >= ENOUGH_CASES {
+            println!("{name} was met less than {least} times");
             tally.failed += 1;
         }
     }

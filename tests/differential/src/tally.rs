@@ -11,6 +11,8 @@ pub const WRONG_SIZE: u32 = 255;
 
 #[derive(Default)]
 pub struct Tally {
+    /// The cases of each part.
+    pub cases: usize,
     pub passed: usize,
     pub failed: usize,
     /// The part's cases that were accepted, and those that got each number.
@@ -20,6 +22,8 @@ pub struct Tally {
     pub endings: [usize; 3],
     /// Answers to "at least so many plans?" by their kind, from 1.
     pub enough: [usize; 3],
+    /// Runs with closed exchanges, and with a product missing.
+    pub closed: [usize; 2],
     /// What is tested now, printed with a difference.
     pub case: String,
 }

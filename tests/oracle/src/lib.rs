@@ -2,6 +2,7 @@
 //! run. Speed is no aim: forbidden sets and assignments are drawn one by one.
 
 pub mod block;
+pub mod closed;
 pub mod columns;
 pub mod enough;
 pub mod lent;

@@ -1,7 +1,8 @@
 //! The paper's checked examples, tried on the oracle.
 
+use oracle::closed::{earliest, missing_product};
 use oracle::enough::{at_least, Enough, Said};
-use oracle::lent::run_lent;
+use oracle::lent::{question_lent, run_lent};
 use oracle::sheet::Constraint;
 use oracle::{filter, question, report, run, Ending, FilterEnding, Outcome, Problem, Refusal};
 
@@ -78,14 +79,40 @@ fn an_exchange_that_does_not_respect_the_sheet() {
     assert_eq!(question(&sheet_a(&[[1, 0, 2, 3, 4, 5]])), Err(refusal));
 }
 
-#[test]
-fn a_rotation_of_three_places() {
+/// Three places that differ, carried on to the next.
+fn rotation() -> Vec<u8> {
     let mut words = vec![3, 3, 3, 1, 16, 22, 22 + 3 * 32, 22 + 3 * 32 + 18, 7, 7, 7];
     for (first, second) in [(0, 1), (0, 2), (1, 2)] {
         words.extend([2, 6, first, second, 0, 1, 0, 2, 1, 0, 1, 2, 2, 0, 2, 1]);
     }
     words.extend([3, 4, 5, 6, 7, 8, 0, 1, 2]);
-    assert!(report(&sheet(&words)).starts_with("plan 0 1 2\nplan 0 2 1\nplan 1 2 0\nfinished 3 "));
+    sheet(&words)
+}
+
+#[test]
+fn a_rotation_of_three_places() {
+    assert!(report(&rotation()).starts_with("plan 0 1 2\nplan 0 2 1\nplan 1 2 0\nfinished 3 "));
+}
+
+#[test]
+fn the_rotation_is_not_closed() {
+    let first_of_each = |sheet: &[u8], pairs: &[u8], block: &[u8]| {
+        let (problem, order) = question_lent(sheet, pairs, block).unwrap();
+        earliest(&problem, &order)
+    };
+    for pairs in [&[][..], &[2, 0]] {
+        assert_eq!(missing_product(&rotation(), pairs, &[]), Ok(Some([0, 0])));
+        assert_eq!(first_of_each(&rotation(), pairs, &[]).len(), 2);
+    }
+    // The rotation and all orderings of the three places: the rotation is one of them.
+    assert_eq!(missing_product(&rotation(), &[], &[0, 3]), Ok(None));
+    assert_eq!(first_of_each(&rotation(), &[], &[0, 3]), [[0, 1, 2]]);
+    assert_eq!(missing_product(&rotation(), &[], &[1, 2]), Ok(Some([0, 0])));
+    assert_eq!(missing_product(&a(), &[], &[]), Ok(None));
+    assert_eq!(first_of_each(&a(), &[], &[]), [[0, 1], [0, 2], [1, 2]]);
+    assert_eq!(missing_product(&sheet_a(&[]), &[], &[]), Ok(None));
+    assert_eq!(missing_product(&a(), &[0], &[]), Err(Refusal { number: 28, item: 0 }));
+    assert_eq!(missing_product(&a(), &[], &[0]), Err(Refusal { number: 36, item: 0 }));
 }
 
 #[test]
