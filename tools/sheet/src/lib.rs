@@ -4,6 +4,7 @@
 //! Whether a sheet is accepted, and which plans it has, is always asked of the proved planner.
 
 pub mod alike;
+pub mod closed;
 pub mod columns;
 pub mod command;
 pub mod compose;

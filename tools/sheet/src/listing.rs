@@ -3,7 +3,7 @@
 use crate::command::{Arguments, Choice, Status, Stop};
 use crate::make::Made;
 use crate::words::counted;
-use planner::{Answer, Ending, Enough, Refusal};
+use planner::{Answer, Closed, Ending, Enough, Refusal};
 use std::io::{IsTerminal, Write};
 use std::time::{Duration, Instant};
 
@@ -61,6 +61,8 @@ pub struct Listing {
     pub trials: u32,
     /// The trials by window.
     pub counts: [u32; 12],
+    /// Whether the exchanges are closed, where a finished run lists plans under some.
+    pub closed: Option<Closed>,
     pub limits: Limits,
 }
 
@@ -92,7 +94,12 @@ pub fn list(
     };
     let (answer, counts) = (lent.answer, lent.counts);
     let plans = room.chunks(n).take(answer.plans as usize).map(<[u8]>::to_vec).collect();
-    Ok(Listing { ending: answer.ending, plans, trials: answer.nodes, counts, limits })
+    let has_families = answer.ending == Ending::Finished && answer.plans > 0 && made.has_exchanges();
+    let closed = match has_families && !limits.first {
+        true => Some(planner::closed(&made.sheet, &made.pairs, &made.block)?),
+        false => None,
+    };
+    Ok(Listing { ending: answer.ending, plans, trials: answer.nodes, counts, closed, limits })
 }
 
 /// Lists the plans, and shows on a terminal how far a long run has come.

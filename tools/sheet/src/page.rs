@@ -1,5 +1,6 @@
 //! `sheet page`: the hall and its plans as one page that needs nothing else.
 
+use crate::closed::words;
 use crate::command::{Arguments, Command, Outcome, Stop};
 use crate::counts::share;
 use crate::input::{Input, BLOCK_OPTION, PAIRS_OPTION};
@@ -169,6 +170,7 @@ impl Page<'_> {
             true => "A plan that an exchange makes of an earlier one is left out.",
             false => "",
         };
+        let closed = words(self.listing, self.input).map_or(String::new(), |words| sentence(&words));
         let order = match settled(self.problem(), &self.input.made.pairs) {
             windows if windows.is_empty() => String::new(),
             windows => format!("Read in the order in which windows are settled: {}.", windows.join(", ")),
@@ -182,9 +184,10 @@ impl Page<'_> {
         let rows: String =
             self.listing.plans.iter().enumerate().map(|(number, plan)| self.plan(number, plan)).collect();
         format!(
-            "<h2>The plans</h2>\n{}{}<div class=\"wide\" tabindex=\"0\"><table class=\"plans\">\n\
+            "<h2>The plans</h2>\n{}{}{}<div class=\"wide\" tabindex=\"0\"><table class=\"plans\">\n\
              <thead><tr><td></td>{windows}</tr></thead>\n<tbody>\n{rows}</tbody>\n</table></div>\n",
             paragraph(left),
+            paragraph(&closed),
             paragraph(&order)
         )
     }
@@ -242,6 +245,12 @@ fn paragraph(text: &str) -> String {
         true => String::new(),
         false => format!("<p class=\"soft\">{}</p>\n", escaped(text)),
     }
+}
+
+/// Words as a sentence.
+fn sentence(words: &str) -> String {
+    let mut letters = words.chars();
+    letters.next().map_or(String::new(), |first| format!("{}{}.", first.to_uppercase(), letters.as_str()))
 }
 
 /// A text inside HTML.

@@ -1,9 +1,10 @@
 //! `sheet plans`: a text's plans by name.
 
+use crate::closed::words;
 use crate::command::{refuse, Arguments, Choice, Command, Outcome, Stop};
 use crate::counts::drawn;
 use crate::input::{Input, BLOCK_OPTION, PAIRS_OPTION};
-use crate::listing::{Limits, PLANS_OPTION, TRIALS_OPTION};
+use crate::listing::{Limits, Listing, PLANS_OPTION, TRIALS_OPTION};
 use crate::pairs::settled;
 use crate::table::{csv, json, table};
 
@@ -64,10 +65,21 @@ fn run(arguments: &Arguments) -> Result<Outcome, Stop> {
         let left = if input.made.has_exchanges() { LEFT_OUT } else { "" };
         let by_window =
             if arguments.has(BY_WINDOW) { drawn(&problem.variables, &listing.counts) } else { String::new() };
-        let text = table(problem, &listing) + gap + &ending + left + &in_order(&input) + &by_window;
+        let text = table(problem, &listing)
+            + gap
+            + &ending
+            + left
+            + &of_exchanges(&input, &listing)
+            + &in_order(&input)
+            + &by_window;
         (text.into_bytes(), String::new())
     };
     Ok(Outcome { output, note, status })
+}
+
+/// Whether the exchanges are closed.
+fn of_exchanges(input: &Input, listing: &Listing) -> String {
+    words(listing, input).map_or(String::new(), |words| format!("({words})\n"))
 }
 
 /// The order in which pairs settle the windows.

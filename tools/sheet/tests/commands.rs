@@ -56,6 +56,8 @@ fn golden_files() {
     golden("hall.json", output("plans examples/hall.txt --json"), 0);
     golden("hall.html", output("page examples/hall.txt"), 0);
     golden("stand.table", output("plans examples/stand.txt"), 0);
+    golden("cycle.table", output("plans examples/cycle.txt"), 0);
+    golden("cycle.html", output("page examples/cycle.txt"), 0);
     golden("hall.trials", output("plans --by-window examples/hall.txt"), 0);
     golden("spent.html", output("page --trials=4 examples/cycle.txt"), 2);
     golden("full.json", output("plans --plans 2 --json examples/cycle.txt"), 2);
@@ -103,11 +105,53 @@ fn endings() {
     let rows = output("plans --rows --trials 5 examples/hall.txt");
     is(rows, 2, "\0\u{1}\u{2}\u{3}\u{4}", note);
     let bar = "#".repeat(40);
+    let one = "(one plan of each family, the one that reads earliest: the exchanges are closed)\n";
     let by_window =
-        format!("finished: 3 plans, 6 trials\n{left}left   3  50.0%  {bar}\nright  3  50.0%  {bar}\n");
+        format!("finished: 3 plans, 6 trials\n{left}{one}left   3  50.0%  {bar}\nright  3  50.0%  {bar}\n");
     let table = "left  right\nsell  pay\nsell  count\npay   count\n\n";
     is(output("plans --by-window examples/a.txt"), 0, &format!("{table}{by_window}"), "");
-    is(output("plans --rows examples/a.txt"), 0, "\0\u{1}\0\u{2}\u{1}\u{2}", "finished: 3 plans, 6 trials\n");
+    let finished = "finished: 3 plans, 6 trials\n";
+    is(output("plans --rows examples/a.txt"), 0, "\0\u{1}\0\u{2}\u{1}\u{2}", finished);
+}
+
+#[test]
+fn closed_exchanges() {
+    let last = |output: Output, count: usize| {
+        let lines: Vec<&str> = said(&output.stdout).lines().collect();
+        lines[lines.len() - count..].join("\n")
+    };
+    let left = "(a plan that an exchange makes of an earlier one is left out)";
+    let one = "(one plan of each family, the one that reads earliest: the exchanges are closed)";
+    let missing =
+        "the exchanges aren't closed: `exchange windows north east south` twice makes one that isn't there";
+    let cycle =
+        format!("finished: 3 plans, 9 trials\n{left}\n(a family may have several plans, as {missing})");
+    assert_eq!(last(output("plans examples/cycle.txt"), 3), cycle);
+    let stand = "(a family may have several plans, as the exchanges aren't closed: `exchange windows win1 win2` and then \
+                 `exchange windows place1 place2` make one that isn't there)";
+    assert_eq!(last(output("plans examples/stand.txt"), 1), stand);
+    let a = format!("finished: 3 plans, 6 trials\n{left}\n{one}");
+    assert_eq!(last(output("plans --trials 8 examples/a.txt"), 3), a);
+    for (words, lines) in [("plans --trials 5", 2), ("plans --plans 2", 2), ("plans --first", 2)] {
+        let stopped = last(output(&format!("{words} examples/a.txt")), lines);
+        assert!(!stopped.contains("closed"), "{stopped}");
+    }
+    let alike = fed(
+        "plans -",
+        b"windows a b c\nduties x y\nalike a b\nexchange duties x y # all\nexchange nothing\n",
+    );
+    let several =
+        "(a family may have several plans, as the exchanges aren't closed: `exchange duties x y` and then \
+                   ordering 2 of the alike windows make one that isn't there)";
+    assert_eq!(last(alike, 3), format!("finished: 4 plans, 8 trials\n{left}\n{several}"));
+    let table: Vec<String> = (0..24).map(|number| ((number + 2) % 24).to_string()).collect();
+    let text = format!("windows a b c d e f g h i j k l\nduties x y\nexchange table {}\n", table.join(" "));
+    let long = last(fed("plans -", text.as_bytes()), 1);
+    let numbers = "2 3 4 5 6 7 8 9 10 11 12 13 14 15 16 17 18";
+    assert!(
+        long.ends_with(&format!(": `exchange table {numbers} ..` twice makes one that isn't there)")),
+        "{long}"
+    );
 }
 
 #[test]
@@ -166,7 +210,8 @@ fn enough_not_answered() {
 fn sheets() {
     let bytes = std::fs::read(root().join("examples/a.sheet")).unwrap();
     let plans = "w0  w1\nd0  d1\nd0  d2\nd1  d2\n\nfinished: 3 plans, 6 trials\n\
-                 (a plan that an exchange makes of an earlier one is left out)\n";
+                 (a plan that an exchange makes of an earlier one is left out)\n\
+                 (one plan of each family, the one that reads earliest: the exchanges are closed)\n";
     is(fed("plans -", &bytes), 0, plans, "");
     is(fed("explain -", &bytes), 0, "accepted: windows 2, duties 3, rules 1, exchanges 1\n", "");
     let text = "windows w0 w1\nduties d0 d1 d2\ndifferent w0 w1\nexchange windows w0 w1\n";
@@ -304,7 +349,9 @@ fn readme() {
     let stand = std::fs::read_to_string(root().join("examples/stand.txt")).unwrap();
     let plans = output("plans examples/stand.txt");
     let lines: Vec<&str> = said(&plans.stdout).lines().collect();
-    lines[..3].iter().chain(&lines[lines.len() - 2..]).for_each(|line| shown(line));
+    lines[..3].iter().chain(&lines[lines.len() - 3..]).for_each(|line| shown(line));
+    let cycle = output("plans examples/cycle.txt");
+    said(&cycle.stdout).lines().skip(5).for_each(shown);
     said(&output("enough 50 examples/stand.txt").stdout).lines().for_each(shown);
     stand.lines().filter(|line| !line.starts_with("may") && !line.starts_with("exchange")).for_each(shown);
     let today: String = stand
