@@ -30,7 +30,7 @@ const FEW: usize = 12;
 const MANY: usize = 60;
 
 impl Lent {
-    fn at_least(&self, plans: u32, limit: u32, answer: &mut [u8]) -> u32 {
+    pub fn at_least(&self, plans: u32, limit: u32, answer: &mut [u8]) -> u32 {
         unsafe {
             planner_at_least(
                 self.sheet.as_ptr(),

@@ -1,5 +1,6 @@
 //! Part `retyped` (paper 02, #109): sheets with two to four exchanges, typed in all orders of these. Under the same pairs,
-//! block, allowance and room each answers with the same status, and every lent byte is the same.
+//! block, allowance and room each answers with the same status, and every lent byte is the same; so does whether there are at
+//! least so many plans.
 
 use crate::lent::{Lent, ANSWER_BYTES};
 use crate::run::{node_limit, room};
@@ -23,7 +24,7 @@ pub fn case(rng: &mut Rng, tally: &mut Tally) {
         let sheet = encode(&Problem { symmetries, ..problem.clone() });
         let other = Lent { sheet, ..first.clone() };
         let answer = run(&other, limit, room, pattern);
-        tally.same("status, list and answer in another order", answer, expected.clone(), &other.bytes());
+        tally.same("statuses, list and answers in another order", answer, expected.clone(), &other.bytes());
     }
 }
 
@@ -37,10 +38,13 @@ fn with_exchanges(rng: &mut Rng) -> (Problem, [u8; 2]) {
     }
 }
 
-fn run(lent: &Lent, limit: u32, room: usize, pattern: u8) -> (u32, Vec<u8>, Vec<u8>) {
-    let (mut list, mut answer) = (Guarded::new(room, pattern), Guarded::new(ANSWER_BYTES, pattern));
-    let status = lent.run(limit, list.lent(), answer.lent());
-    (status, list.bytes, answer.bytes)
+/// The statuses, and every byte that is written to.
+fn run(lent: &Lent, limit: u32, room: usize, pattern: u8) -> ([u32; 2], Vec<u8>) {
+    let [mut list, mut answer, mut enough] =
+        [room, ANSWER_BYTES, 12].map(|length| Guarded::new(length, pattern));
+    let statuses =
+        [lent.run(limit, list.lent(), answer.lent()), lent.at_least(room as u32 / 4, limit, enough.lent())];
+    (statuses, [list.bytes, answer.bytes, enough.bytes].concat())
 }
 
 /// Every order of some things.
