@@ -1,12 +1,1 @@
-pub mod Codes
-pub mod Numbers
-pub mod Filtered
 pub mod Reported
-pub mod Outcomes
-pub mod Merged
-pub mod Replies
-pub mod SmallSheets
-pub mod Tallied
-pub mod Lent
-pub mod Closed
-pub mod AtLeast

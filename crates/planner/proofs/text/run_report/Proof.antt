@@ -4,7 +4,8 @@ use mathlib.Core.List.{List}
 use Prim.Native.Nat.{ℕ}
 use Rattle.model.specs.Written.{Fronted}
 use Rattle.search.specs.Meaning.{endingOf, means}
-use Rattle.planner.proofs.Reported.{refusal-of, refused-text, listed, ended-text}
+use Rattle.export_run.proofs.Ran.{refusal-of}
+use Rattle.planner.proofs.Reported.{refused-text, listed, ended-text}
 use borrow.Author.Needs.{needs}
 use Rattle.planner.proofs.text.run_report.Statement.{statement}
 use Rattle.planner.proofs.text.run_report.Tie as tie

@@ -1,0 +1,50 @@
+-- `filter_code`: the number of each case. Assumes nothing.
+use mathlib.Core.Path.{sym, ap, _∙_, subst}
+use Rattle.nogood.specs.declared.Answer.{Answer}
+use Rattle.nogood.specs.Lists.{means}
+use Rattle.export_filter.specs.Filter.{filterAnswerCode}
+use Rattle.export_filter.specs.Filter.{SmallAnswer}
+use borrow.Author.Needs.{needs}
+use Rattle.export_filter.proofs.filter_code.Statement.{statement}
+use Rattle.export_filter.proofs.filter_code.Tie as tie
+
+enum-told : tie.Need-enum-told
+enum-told c = search needs
+
+enum-told-2 : tie.Need-enum-told-2
+enum-told-2 c = search needs
+
+enum-told-3 : tie.Need-enum-told-3
+enum-told-3 c = search needs
+
+enum-known-answer : tie.Need-enum-known-answer
+enum-known-answer c = search needs
+
+code-requires : tie.Need-code-requires
+code-requires c κs = subst (λ (z : Answer). SmallAnswer (means z)) (c .before .answer .given .1) (c .before .before .before .pre)
+
+returns : tie.Need-returns
+returns c = search needs
+
+returns-2 : tie.Need-returns-2
+returns-2 c = search needs
+
+returns-3 : tie.Need-returns-3
+returns-3 c = search needs
+
+returns-4 : tie.Need-returns-4
+returns-4 c = c .code .ensures ∙ ap (λ (z : Answer). filterAnswerCode (means z)) (sym (c .before .before .answer .given .1))
+
+pub filter-code-spec : {M : Type 1} → statement M
+filter-code-spec =
+    tie.close
+    (tie.spec
+    enum-told
+    enum-told-2
+    enum-told-3
+    enum-known-answer
+    code-requires
+    returns
+    returns-2
+    returns-3
+    returns-4)

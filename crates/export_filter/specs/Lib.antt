@@ -1,0 +1,2 @@
+-- What the filter for callers answers and leaves in the lent sets.
+pub mod Filter

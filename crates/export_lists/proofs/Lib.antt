@@ -1,0 +1,3 @@
+pub mod Merged
+pub mod Replies
+pub mod SmallSheets

@@ -1,0 +1,35 @@
+-- What a merge answers, by what it called. Assumes nothing.
+use mathlib.Core.Path.{_≡_, sym, ap, _∙_}
+use mathlib.Core.Bool.{Bool}
+use mathlib.Core.List.{List}
+use Prim.Native.Nat.{ℕ}
+use lib.ListN.{length}
+use borrow.Author.Tests.{eq-eqb, ne-eqb}
+use Rattle.model.specs.Lists.{choose}
+use Rattle.model.specs.Verdict.{Verdict}
+use Rattle.model.specs.Room.{Outcome, outcomeOf, roomAfter}
+use Rattle.wire.specs.Wire.{wrongLength}
+use Rattle.wire.specs.Outcomes.{outcomeCode, lentCode, lentRoom}
+use Rattle.export_lists.specs.Merged.{mergeOutcome, mergeAnswer}
+use Rattle.wire.proofs.Outcomes as lent
+
+module _ (v : Verdict) (text room answer : List ℕ) where
+  abbrev Merged : ℕ → List ℕ → List ℕ → Type 0
+  Merged r after bytes = (r ≡ lentCode v text answer) × ((after ≡ lentRoom v text answer room) × (bytes ≡ mergeAnswer v text answer))
+
+  pub wrong-answer : (length answer ≡ 12 → ⊥) → Merged wrongLength room answer
+  unfolding mergeAnswer
+  wrong-answer h =
+      let r = lent.wrong-answer v text room answer h in
+      (r .0, (r .1 .0, sym (ap {B = List ℕ} (λ (t : Bool). choose t (mergeOutcome (outcomeOf v text) answer) answer) (ne-eqb (length answer) 12 h))))
+
+  pub right-answer : (o : Outcome) (r : ℕ) (after bytes : List ℕ) → length answer ≡ 12 → o ≡ outcomeOf v text → r ≡ outcomeCode o → after ≡ roomAfter v text room → bytes ≡ mergeOutcome o answer → Merged r after bytes
+  unfolding lentCode lentRoom mergeAnswer
+  right-answer o r after bytes h so code l w =
+      let e = eq-eqb (length answer) 12 h in (
+        code ∙ ap outcomeCode so ∙ sym (ap {B = ℕ} (λ (t : Bool). choose t (outcomeCode (outcomeOf v text)) wrongLength) e),
+        (
+          l ∙ sym (ap {B = List ℕ} (λ (t : Bool). choose t (roomAfter v text room) room) e),
+          w ∙ ap (λ (q : Outcome). mergeOutcome q answer) so ∙ sym (ap {B = List ℕ} (λ (t : Bool). choose t (mergeOutcome (outcomeOf v text) answer) answer) e),
+        ),
+      )

@@ -1,0 +1,29 @@
+-- planner_store_put, planner_store_fetch and planner_store_drop (paper 02, #110): what a call on the bytes b returns, and the bytes of every lent
+-- buffer afterwards. Where the answer has not 12 bytes nothing is changed.
+use mathlib.Core.List.{List}
+use Prim.Native.Nat.{ℕ, _^_, _<_}
+use lib.Dec.{eqb}
+use lib.ListN.{length}
+use Rattle.model.specs.Lists.{choose}
+use Rattle.model.specs.Room.{Outcome, wrote, refusal}
+use Rattle.store.specs.Store.{Call, call, fetch}
+use Rattle.store.specs.Layout.{replyOn, bytesAfter}
+use Rattle.wire.specs.Wire.{wrongLength}
+use Rattle.wire.specs.Outcomes.{outcomeCode, outcomeAnswer}
+
+unfoldable pub storedCode : List ℕ → Call → List ℕ → ℕ
+storedCode b x answer = choose (eqb (length answer) 12) (outcomeCode (replyOn b x .outcome)) wrongLength
+
+unfoldable pub storedAnswer : List ℕ → Call → List ℕ → List ℕ
+storedAnswer b x answer = choose (eqb (length answer) 12) (outcomeAnswer (replyOn b x .outcome) answer) answer
+
+unfoldable pub storedBytes : List ℕ → Call → List ℕ → List ℕ
+storedBytes b x answer = choose (eqb (length answer) 12) (bytesAfter b x) b
+
+unfoldable pub storedRoom : List ℕ → ℕ → ℕ → List ℕ → List ℕ → List ℕ
+storedRoom b owner key room answer = choose (eqb (length answer) 12) (replyOn b (call owner key (fetch room)) .room) room
+
+-- between the functions of the crate: an outcome that the code and the answer hold
+abbrev pub Holds : Outcome → Type 0
+Holds (wrote k) = k < 2 ^ 32
+Holds (refusal number item) = item < 256

@@ -1,0 +1,5 @@
+pub mod Ran
+pub mod Tallied
+pub mod Lent
+pub mod Closed
+pub mod AtLeast

@@ -1,0 +1,6 @@
+// Calls about runs, with answers in lent bytes. A refusal's number and item are those of the papers.
+pub mod at_least;
+mod counts;
+pub mod exchanges;
+pub mod lendings;
+pub mod runs;

@@ -1,0 +1,74 @@
+// Calls about runs: crate export_run says what they answer and leave.
+ghost use mathlib.Core.Path.{_≡_};
+ghost use Rattle.export_run.specs.Run.{questionCode, runCode, runList, runAnswer};
+ghost use Rattle.export_run.specs.Lent.{lentQuestionCode, lentRunCode, lentRunList, lentRunAnswer};
+ghost use Rattle.export_run.specs.Enough.{enoughCode, enoughBytes};
+ghost use Rattle.export_run.specs.Closed.{closedCode, closedAnswer};
+
+// The questions to a sheet.
+#[no_mangle]
+pub extern "C" fn planner_question(sheet: &[u8]) -> u32
+    ensures { λ r. ⌜ r ≡ questionCode (now (sheet .entry)) ⌝ }
+{
+    export_run::runs::question(sheet)
+}
+
+// The run of paper 01.
+#[no_mangle]
+pub extern "C" fn planner_run(sheet: &[u8], limit: u32, list: &mut [u8], answer: &mut [u8]) -> u32
+    ensures { λ r. ⌜ r ≡ runCode (now (sheet .entry)) limit (now (list .entry)) (now (answer .entry)) ⌝ }
+    ensures { λ _. ⌜ now (list .exit) ≡ runList (now (sheet .entry)) limit (now (list .entry)) (now (answer .entry)) ⌝ }
+    ensures { λ _. ⌜ now (answer .exit) ≡ runAnswer (now (sheet .entry)) limit (now (list .entry)) (now (answer .entry)) ⌝ }
+{
+    export_run::runs::run(sheet, limit, list, answer)
+}
+
+// The questions of a run that is lent pairs and a block (paper 02, #108 and #111).
+#[no_mangle]
+pub extern "C" fn planner_question_lent(sheet: &[u8], pairs: &[u8], block: &[u8]) -> u32
+    ensures { λ r. ⌜ r ≡ lentQuestionCode (now (sheet .entry)) (now (pairs .entry)) (now (block .entry)) ⌝ }
+{
+    export_run::lendings::question_lent(sheet, pairs, block)
+}
+
+// Such a run, with its nodes by place (#107).
+#[no_mangle]
+pub extern "C" fn planner_run_lent(
+    sheet: &[u8],
+    pairs: &[u8],
+    block: &[u8],
+    limit: u32,
+    list: &mut [u8],
+    answer: &mut [u8],
+) -> u32
+    ensures { λ r. ⌜ r ≡ lentRunCode (now (sheet .entry)) (now (pairs .entry)) (now (block .entry)) limit (now (list .entry)) (now (answer .entry)) ⌝ }
+    ensures { λ _. ⌜ now (list .exit) ≡ lentRunList (now (sheet .entry)) (now (pairs .entry)) (now (block .entry)) limit (now (list .entry)) (now (answer .entry)) ⌝ }
+    ensures { λ _. ⌜ now (answer .exit) ≡ lentRunAnswer (now (sheet .entry)) (now (pairs .entry)) (now (block .entry)) limit (now (list .entry)) (now (answer .entry)) ⌝ }
+{
+    export_run::lendings::run_lent(sheet, pairs, block, limit, list, answer)
+}
+
+// Are there at least so many plans (#101)?
+#[no_mangle]
+pub extern "C" fn planner_at_least(
+    sheet: &[u8],
+    pairs: &[u8],
+    block: &[u8],
+    plans: u32,
+    limit: u32,
+    answer: &mut [u8],
+) -> u32
+    ensures { λ r. ⌜ r ≡ enoughCode (now (sheet .entry)) (now (pairs .entry)) (now (block .entry)) plans limit (now (answer .entry)) ⌝ }
+    ensures { λ _. ⌜ now (answer .exit) ≡ enoughBytes (now (sheet .entry)) (now (pairs .entry)) (now (block .entry)) plans limit (now (answer .entry)) ⌝ }
+{
+    export_run::at_least::at_least(sheet, pairs, block, plans, limit, answer)
+}
+
+// Whether the exchanges are closed (#112).
+#[no_mangle]
+pub extern "C" fn planner_closed(sheet: &[u8], pairs: &[u8], block: &[u8], answer: &mut [u8]) -> u32
+    ensures { λ r. ⌜ r ≡ closedCode (now (sheet .entry)) (now (pairs .entry)) (now (block .entry)) (now (answer .entry)) ⌝ }
+    ensures { λ _. ⌜ now (answer .exit) ≡ closedAnswer (now (sheet .entry)) (now (pairs .entry)) (now (block .entry)) (now (answer .entry)) ⌝ }
+{
+    export_run::exchanges::closed(sheet, pairs, block, answer)
+}

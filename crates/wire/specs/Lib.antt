@@ -1,0 +1,3 @@
+-- Numbers in lent bytes, and what is answered with them.
+pub mod Wire
+pub mod Outcomes

@@ -1,0 +1,40 @@
+// Numbers in lent bytes, low byte first, and a refusal as one number: what the exported functions answer with.
+ghost use mathlib.Core.Path.{_≡_};
+ghost use Prim.Native.Nat.{_+_, _*_, _^_, _≤_, _<_};
+ghost use lib.ListN.{length};
+ghost use Rattle.model.specs.Bytes.{fourBytes};
+ghost use Rattle.model.specs.Written.{Written};
+ghost use Rattle.wire.specs.Wire.{threeNumbers};
+
+// A refusal as one number.
+pub fn code(number: u8, item: usize) -> u32
+    requires { ⌜ item < 256 ⌝ }
+    ensures { λ r. ⌜ r ≡ number * 256 + item ⌝ }
+{
+    number as u32 * 256 + item as u32
+}
+
+// Puts a number in four bytes; answers the place after it.
+pub fn four(out: &mut [u8], at: usize, x: usize) -> usize
+    requires { ⌜ (at + 4 ≤ length (now out)) × (x < 2 ^ 32) ⌝ }
+    ensures { λ r. ⌜ Written (now (out .entry)) at (fourBytes x) (now (out .exit)) r ⌝ }
+{
+    let second = at + 1;
+    let third = second + 1;
+    let fourth = third + 1;
+    out[at] = (x % 256) as u8;
+    out[second] = (x / 256 % 256) as u8;
+    out[third] = (x / 65536 % 256) as u8;
+    out[fourth] = (x / 16777216) as u8;
+    fourth + 1
+}
+
+// Puts three numbers.
+pub fn three(out: &mut [u8], kind: usize, a: usize, b: usize)
+    requires { ⌜ (length (now out) ≡ 12) × (kind < 2 ^ 32) × (a < 2 ^ 32) × (b < 2 ^ 32) ⌝ }
+    ensures { λ _. ⌜ now (out .exit) ≡ threeNumbers kind a b ⌝ }
+{
+    let first = four(out, 0, kind);
+    let second = four(out, first, a);
+    four(out, second, b);
+}
