@@ -17,8 +17,10 @@ use Rattle.model.specs.Run.{listedPlans}
 use Rattle.model.proofs.Lists.{of-T, at-append, at-skip}
 use Rattle.model.proofs.Written.{length-placed, placed-before, placed-in, placed-after}
 use Rattle.desk.specs.Desk.{Standing, Hall, newcomer, Seat, free, taken, seatAt}
-use Rattle.desk.specs.Layout.{size, seatPlace, nextPlace, long, standingBy, standingAt, sheetLength, nodesAt, plansAt, widthAt, rowsAt, lastAt, turnable, sheetAt, hallAt, seatOf, deskOf, headBytes, seatBytes}
-use Rattle.desk.proofs.Sheets.{answered-length, accepted-turnable}
+use Rattle.sheet.specs.Form.{compilable}
+use Rattle.sheet.proofs.Compilable.{accepted-compilable}
+use Rattle.desk.specs.Layout.{size, seatPlace, nextPlace, long, standingBy, standingAt, sheetLength, nodesAt, plansAt, widthAt, rowsAt, lastAt, sheetAt, hallAt, seatOf, deskOf, headBytes, seatBytes}
+use Rattle.desk.proofs.Sheets.{answered-length}
 use Rattle.desk.proofs.Bytes.{part-is, word-of, long-of}
 use Rattle.desk.proofs.Seats.{seat-in, row-length, taken-at}
 
@@ -55,7 +57,7 @@ module _ (b c : List ℕ) (p : ℕ) (e : length c ≡ length b) (room : p + 1048
       let w = word-same (p + 1) (f (p + 1) (omega arith) (omega arith)) (f (p + 1 + 1) (omega arith) (omega arith)) in
       let n = sheetLength b p in
       let l : n ≤ 55656 = omega arith in
-      ap (λ (s : List ℕ). choose (turnable s) s [])
+      ap (λ (s : List ℕ). choose (compilable s) s [])
       (ap (λ (k : ℕ). take (min 55656 k) (drop (p + 27) c)) w ∙ part-is c b (p + 27) (p + 27) n (omega arith) (omega arith) (λ i h. g (p + 27 + i) (omega arith) (omega arith)))
 
   pub width-same : ((i : ℕ) → p + 27 ≤ i → i < p + 55683 → at c i ≡ at b i) → widthAt c p ≡ widthAt b p
@@ -175,8 +177,8 @@ module _ (b sheet : List ℕ) (allowance k : ℕ) (whole : length b ≡ size) (h
   sheet-read : sheetAt c p ≡ sheet
   unfolding sheetAt
   sheet-read =
-      ap (λ (s : List ℕ). choose (turnable s) s []) sheet-part
-      ∙ ap (λ (x : Bool). choose x sheet []) (of-T (turnable sheet) (accepted-turnable sheet (subst (λ (v : Verdict). T (isAccepted v)) ok tt)))
+      ap (λ (s : List ℕ). choose (compilable s) s []) sheet-part
+      ∙ ap (λ (x : Bool). choose x sheet []) (of-T (compilable sheet) (accepted-compilable sheet (subst (λ (v : Verdict). T (isAccepted v)) ok tt)))
 
   pub sat-hall : hallAt c p ≡ newcomer sheet allowance
   unfolding hallAt rowsAt lastAt listedPlans headBytes fourBytes at

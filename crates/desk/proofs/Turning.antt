@@ -14,16 +14,17 @@ use Rattle.model.specs.Lists.{any, at, choose, flat, keep, below}
 use Rattle.model.specs.ValueSets.{has, members}
 use Rattle.model.specs.Problem.{Problem}
 use Rattle.model.specs.Search.{setsAt, nodesBelow, nodes, isPlan}
-use Rattle.model.specs.Sheet.{«word», headerOf, problemOf, formVerdict}
+use Rattle.model.specs.Sheet.{«word», headerOf, problemOf}
 use Rattle.model.specs.Run.{Ending, finished, spent, full, plansIn, nodesIn, search, listedPlans}
-use Rattle.model.proofs.Accepted.{HeaderPassed, header-e}
 use Rattle.model.proofs.Lists.{T-of, at-take, both-l, both-r, among-e, keep-e, below-e, flat-append}
 use Rattle.model.proofs.Room.{Wide, length-listed, listed-wide}
 use Rattle.model.proofs.Runs.{walk}
 use Rattle.parts.specs.Parts.{after, nodesAfter, candidatesAt, reached, lastOf, goOn}
 use Rattle.parts.proofs.Resume.{node-reached, last-in, taken}
+use Rattle.sheet.specs.Form.{compilable}
+use Rattle.sheet.proofs.Compilable.{compilable-fits}
 use Rattle.desk.specs.Desk.{Standing, running, over, Hall, deskRoom, turnLimit, standingAfter, hallTurned}
-use Rattle.desk.specs.Layout.{long, standingBy, standingAt, sheetLength, nodesAt, plansAt, widthAt, rowsAt, lastAt, turnable, sheetAt, hallAt, standingByte}
+use Rattle.desk.specs.Layout.{long, standingBy, standingAt, sheetLength, nodesAt, plansAt, widthAt, rowsAt, lastAt, sheetAt, hallAt, standingByte}
 use Rattle.desk.proofs.Bytes.{Small, small-cons, small-nil, small-append, small-take, small-drop}
 use Rattle.desk.proofs.Seats.{flat-listed}
 
@@ -96,25 +97,21 @@ node-small q t m =
 abbrev pub Known : List ℕ → ℕ → Problem → Type 0
 Known b p q = ((q .variables ≡ widthAt b p) × (1 ≤ q .variables) × (q .variables ≤ 12)) ⊎ (nodes q ≡ [])
 
-header-known : (s : List ℕ) → T (turnable s) → HeaderPassed (headerOf s) (length s)
-unfolding turnable formVerdict
-header-known s t = header-e (headerOf s) (length s) _ t .0
-
 empty-nodes : nodes (problemOf []) ≡ []
 unfolding nodes nodesBelow problemOf headerOf «word» at
 empty-nodes = refl
 
 pub seat-known : (b : List ℕ) (p : ℕ) → Known b p (problemOf (sheetAt b p))
 unfolding sheetAt problemOf headerOf «word» at
-seat-known b p = go (turnable raw) refl
+seat-known b p = go (compilable raw) refl
   where
     raw : List ℕ
     raw = take (sheetLength b p) (drop (p + 27) b)
 
-    go : (t : Bool) → turnable raw ≡ t → Known b p (problemOf (choose t raw []))
+    go : (t : Bool) → compilable raw ≡ t → Known b p (problemOf (choose t raw []))
     go false e = inr empty-nodes
     go true e =
-        let h = header-known raw (T-of (turnable raw) e) in
+        let h = compilable-fits raw (T-of (compilable raw) e) in
         let l = length-take (sheetLength b p) (drop (p + 27) b) in
         let o = h .long in
         let n : 16 ≤ sheetLength b p = omega arith in

@@ -3,17 +3,17 @@
 --   7 how the run stands (0 running, 1 finished, 2 spent, 3 full)   8 its nodes, four bytes   12 its plans   14 the length of the last node
 --   15 the last node's values, twelve bytes   27 the sheet, 55,656 bytes   55,683 the list, 49,152 bytes
 -- Any bytes of the desk's size are a desk; zeros are the empty one.
-use mathlib.Core.Bool.{Bool}
 use mathlib.Core.List.{List, [], _∷_, _++_, map}
 use Prim.Native.Nat.{ℕ, zero, suc, _+_, _-_, _*_, _%_, min}
 use lib.ListN.{length, take, drop, set, replicate}
 use lib.Dec.{eqb}
-use Rattle.model.specs.Lists.{all, at, choose, flat, below}
-use Rattle.model.specs.Verdict.{Verdict, accepted, refused, ask, isAccepted}
-use Rattle.model.specs.Sheet.{«word», problemOf, permutesPairs, formVerdict, verdictOf}
+use Rattle.model.specs.Lists.{at, choose, flat, below}
+use Rattle.model.specs.Verdict.{Verdict, accepted, refused}
+use Rattle.model.specs.Sheet.{«word», verdictOf}
 use Rattle.model.specs.Bytes.{twoBytes, fourBytes}
 use Rattle.model.specs.Written.{placed}
 use Rattle.model.specs.Run.{finished, spent, full, listedPlans}
+use Rattle.sheet.specs.Form.{compilable}
 use Rattle.desk.specs.Desk.{Standing, running, over, Hall, hallTurned, Seat, free, taken, Desk, seatAt, Found, none-found, seat, lowestFree, toServe, DeskCall, sit, turn, leave, DeskReply, denied, fits, deskReply, dueAt, given, roundFrom, roundsDesk, lookReply}
 
 abbrev pub size : ℕ
@@ -64,13 +64,10 @@ lastAt b p = take (min 12 (at b (p + 14))) (drop (p + 15) b)
 
 -- Bytes that questions 1 to 15 refuse count as the sheet of no bytes, which has no nodes: its run finishes at the next turn. Question 16 is asked
 -- only when a hall sits down: a turn needs none of it
-unfoldable pub turnable : List ℕ → Bool
-turnable b = isAccepted (formVerdict b (ask (all (permutesPairs (problemOf b)) (problemOf b .symmetries)) 15 0 accepted))
-
 unfoldable pub sheetAt : List ℕ → ℕ → List ℕ
 sheetAt b p =
     let sheet = take (sheetLength b p) (drop (p + 27) b) in
-    choose (turnable sheet) sheet []
+    choose (compilable sheet) sheet []
 
 unfoldable pub hallAt : List ℕ → ℕ → Hall
 hallAt b p =

@@ -1,7 +1,7 @@
 -- The turns of the loops that decode the tables. Assumes nothing.
 use mathlib.Core.Path.{_≡_, refl, sym, ap, ap₂, _∙_, subst, subst₂}
-use mathlib.Core.Bool.{Bool, true, false}
-use mathlib.Core.List.{List, [], map, Memᴰ·map}
+use mathlib.Core.Bool.{Bool, true, false, false≢true}
+use mathlib.Core.List.{List, [], map, Memᴰ·map, Memᴰ·of-map}
 use Prim.Native.Nat.{ℕ, zero, suc, _+_, _*_, _/_, _%_, _≤_, _<_}
 use native.Mathlib.Omega.{arith}
 use native.Mathlib.Nat.{not-suc-le-zero, div-add-mod', mod-lt, div-lt-iff-lt-mul, mul-le-mul-right, suc-mul, mul-comm}
@@ -12,18 +12,17 @@ use borrow.Author.Tests.{eqb-true, eqb-false}
 use lib.Arith.{digits-lt, digits-div, digits-mod}
 use Rattle.model.specs.Lists.{at, both, all, below}
 use Rattle.model.specs.ValueSets.{has}
-use Rattle.model.specs.Verdict.{accepted, isAccepted}
 use Rattle.model.specs.Problem.{Problem, isPair, pair}
-use Rattle.model.specs.Sheet.{headerOf, word, words, tableAt, problemOf, permutesPairs, distinct, verdictOf}
-use Rattle.model.proofs.Lists.{both-l, all-e, below-i, length-below}
-use Rattle.model.proofs.Accepted.{Passed, passed, at-words}
+use Rattle.model.specs.Sheet.{headerOf, word, words, tableAt, problemOf, permutesPairs, distinct}
+use Rattle.model.proofs.Lists.{both-l, all-e, all-i, below-i, below-e, length-below, T-of, of-T}
+use Rattle.model.proofs.Accepted.{at-words}
 use Rattle.model.proofs.Filling.{filled-turn}
 use Rattle.model.specs.Filling.{Filled}
 use Rattle.layout.specs.Layout.{Images, symmetryAt, pairCode}
 use Rattle.symmetry.proofs.Codes.{code-small, code-inj}
-use Rattle.sheet.specs.Decoding.{Decodable, Decoded}
+use Rattle.sheet.specs.Decoding.{Decodable, Decoded, permuting, TablesDecoded}
 use Rattle.sheet.proofs.Any.{getD-below}
-use Rattle.sheet.proofs.Passed.{is-accepted}
+use Rattle.sheet.proofs.Stating.{FormPassed}
 use Rattle.sheet.proofs.TablesTurn.{tableOffset, table-room}
 
 -- ---- one table
@@ -51,35 +50,54 @@ unfolding isPair
 is-lt p y t = ltb→lt y (p .variables * p .values) (both-l (ltb y (p .variables * p .values)) (has (at (p .initial) (y / p .values)) (y % p .values)) t)
 
 -- a permuted table holds pair numbers
-module _ (b : List ℕ) (v : verdictOf b ≡ accepted) where
-  pub accept : Passed b
-  accept = passed b (is-accepted (verdictOf b) v)
+inside : (p : Problem) (g : List ℕ) → T (permutesPairs p g) → (q : ℕ) → q < p .variables * p .values → at g q < p .variables * p .values
+unfolding permutesPairs
+inside p g t q l =
+    go (isPair p q)
+    (all-e (λ q. elim (isPair p q) [ true ↦ isPair p (at g q) | false ↦ eqb (at g q) q ]) (below (p .variables * p .values)) (both-l (all (λ q. elim (isPair p q) [ true ↦ isPair p (at g q) | false ↦ eqb (at g q) q ]) (below (p .variables * p .values))) (distinct g) t) q (below-i (p .variables * p .values) q l))
+  where
+    go : (s : Bool) → T (elim s [ true ↦ isPair p (at g q) | false ↦ eqb (at g q) q ]) → at g q < p .variables * p .values
+    go true u = is-lt p (at g q) u
+    go false u = let e : at g q ≡ q = eqb→eq (at g q) q u in omega arith
 
-  inside : (p : Problem) (g : List ℕ) → T (permutesPairs p g) → (q : ℕ) → q < p .variables * p .values → at g q < p .variables * p .values
-  unfolding permutesPairs
-  inside p g t q l =
-      go (isPair p q)
-      (all-e (λ q. elim (isPair p q) [ true ↦ isPair p (at g q) | false ↦ eqb (at g q) q ]) (below (p .variables * p .values)) (both-l (all (λ q. elim (isPair p q) [ true ↦ isPair p (at g q) | false ↦ eqb (at g q) q ]) (below (p .variables * p .values))) (distinct g) t) q (below-i (p .variables * p .values) q l))
-    where
-      go : (s : Bool) → T (elim s [ true ↦ isPair p (at g q) | false ↦ eqb (at g q) q ]) → at g q < p .variables * p .values
-      go true u = is-lt p (at g q) u
-      go false u = let e : at g q ≡ q = eqb→eq (at g q) q u in omega arith
+table-at : (b : List ℕ) (e q : ℕ) → q < headerOf b .variables * headerOf b .values → at (tableAt b (headerOf b) e) q ≡ word b (tableOffset b e + 2 * q)
+unfolding tableAt
+table-at b e q h = at-words b (tableOffset b e) (headerOf b .variables * headerOf b .values) q h
 
-  module _ (e : ℕ) (l : e < headerOf b .symmetries) where
-    table-at : (q : ℕ) → q < headerOf b .variables * headerOf b .values → at (tableAt b (headerOf b) e) q ≡ word b (tableOffset b e + 2 * q)
-    unfolding tableAt
-    table-at q h = at-words b (tableOffset b e) (headerOf b .variables * headerOf b .values) q h
+-- question 15 to a table
+abbrev pub permutedAt : List ℕ → ℕ → Bool
+permutedAt b e = permutesPairs (problemOf b) (tableAt b (headerOf b) e)
 
-    pub in-table : (q : ℕ) → q < headerOf b .variables * headerOf b .values → word b (tableOffset b e + 2 * q) < headerOf b .variables * headerOf b .values
-    unfolding problemOf
-    in-table q h =
-        subst (λ (y : ℕ). y < headerOf b .variables * headerOf b .values) (table-at q h)
-        (inside (problemOf b) (tableAt b (headerOf b) e) (accept .well .symmetric (tableAt b (headerOf b) e) (Memᴰ·map (tableAt b (headerOf b)) (below-i (headerOf b .symmetries) e l)) .permutes) q h)
+in-table : (b : List ℕ) (e : ℕ) → permutedAt b e ≡ true → (q : ℕ) → q < headerOf b .variables * headerOf b .values → word b (tableOffset b e + 2 * q) < headerOf b .variables * headerOf b .values
+unfolding problemOf
+in-table b e t q h = subst (λ (y : ℕ). y < headerOf b .variables * headerOf b .values) (table-at b e q h) (inside (problemOf b) (tableAt b (headerOf b) e) (T-of (permutedAt b e) t) q h)
 
--- the first e tables were decoded, and the next stands at an offset
+-- to all of them
+pub permuted-all : (b : List ℕ) → ((e : ℕ) → e < headerOf b .symmetries → permutedAt b e ≡ true) → permuting b ≡ true
+unfolding problemOf
+permuted-all b h =
+    of-T (permuting b)
+    (all-i (permutesPairs (problemOf b)) (problemOf b .symmetries)
+    (λ g m. let r = Memᴰ·of-map (tableAt b (headerOf b)) (below (headerOf b .symmetries)) m in
+    subst (λ (t : List ℕ). T (permutesPairs (problemOf b) t)) (r .2) (T-of (permutedAt b (r .0)) (h (r .0) (below-e (headerOf b .symmetries) (r .0) (r .1))))))
+
+pub permuted-each : (b : List ℕ) → permuting b ≡ true → (e : ℕ) → e < headerOf b .symmetries → permutedAt b e ≡ true
+unfolding problemOf
+permuted-each b t e l =
+    of-T (permutedAt b e) (all-e (permutesPairs (problemOf b)) (problemOf b .symmetries) (T-of (permuting b) t) (tableAt b (headerOf b) e) (Memᴰ·map (tableAt b (headerOf b)) (below-i (headerOf b .symmetries) e l)))
+
+pub permuted-not : (b : List ℕ) (e : ℕ) → e < headerOf b .symmetries → permutedAt b e ≡ false → permuting b ≡ false
+permuted-not b e l n = go (permuting b) refl
+  where
+    go : (s : Bool) → permuting b ≡ s → permuting b ≡ false
+    go true q = q ∙ sym (permuted-each b q e l) ∙ n
+    go false q = q
+
+-- the first e tables pass question 15 and were decoded, and the next stands at an offset
 pub record ImagesTo (b : List ℕ) (e o : ℕ) (new : List ℕ) : Type 0 where
   pub here : o ≡ tableOffset b e
   pub sized : length new ≡ 26112
+  pub permuted : (f : ℕ) → f < e → permutedAt b f ≡ true
   pub images : (f q : ℕ) → f < e → q < headerOf b .variables * headerOf b .values → at new (192 * f + pairCode (headerOf b .values) q) ≡ pairCode (headerOf b .values) (word b (tableOffset b f + 2 * q))
 
 pub images-none : (b : List ℕ) (o : ℕ) (new : List ℕ) → o ≡ headerOf b .third → length new ≡ 26112 → ImagesTo b 0 o new
@@ -87,23 +105,24 @@ images-none b o new e s =
     record {
       here = (let z : tableOffset b 0 ≡ headerOf b .third = omega arith in e ∙ sym z);
       sized = s;
+      permuted = λ f l. absurd (not-suc-le-zero l);
       images = λ f q l. absurd (not-suc-le-zero l);
     }
 
-module _ (b : List ℕ) (v : verdictOf b ≡ accepted) (e o : ℕ) (new : List ℕ) (t : ImagesTo b e o new) (l : e < headerOf b .symmetries) (count d : ℕ) (ed : d ≡ headerOf b .values) (ec : count ≡ headerOf b .variables * headerOf b .values) where
+module _ (b : List ℕ) (v : FormPassed b) (e o : ℕ) (new : List ℕ) (t : ImagesTo b e o new) (l : e < headerOf b .symmetries) (count d : ℕ) (ed : d ≡ headerOf b .values) (ec : count ≡ headerOf b .variables * headerOf b .values) (z : permutedAt b e ≡ true) where
   product : headerOf b .variables * headerOf b .values ≤ 12 * headerOf b .values
-  product = mul-le-mul-right (headerOf b .values) (accept b v .header .few)
+  product = mul-le-mul-right (headerOf b .values) (v .fits .few)
 
   pub decodable : Decodable b o count d (192 * e) new
   decodable =
       record {
-        some = omega (arith, accept b v .header .one);
-        few = omega (arith, accept b v .header .sixteen);
+        some = omega (arith, v .fits .one);
+        few = omega (arith, v .fits .sixteen);
         small = omega (arith, product);
-        whole = omega (arith, t .here, table-room b e (sym (accept b v .header .whole) ∙ accept b v .fits) l);
-        room = omega (arith, accept b v .header .symmetries);
+        whole = omega (arith, t .here, table-room b e (v .filled) l);
+        room = omega (arith, v .fits .symmetries);
         sized = t .sized;
-        pairs = λ q m. subst₂ (λ (x y : ℕ). word b (x + 2 * q) < y) (sym (t .here)) (sym ec) (in-table b v e l q (omega arith));
+        pairs = λ q m. subst₂ (λ (x y : ℕ). word b (x + 2 * q) < y) (sym (t .here)) (sym ec) (in-table b e z q (omega arith));
       }
 
   pub images-more : (next : List ℕ) → Decoded b o count d (192 * e) new next → ImagesTo b (e + 1) (o + 2 * count) next
@@ -114,9 +133,14 @@ module _ (b : List ℕ) (v : verdictOf b ≡ accepted) (e o : ℕ) (new : List �
       record {
         here = omega (arith, t .here);
         sized = u .sized ∙ t .sized;
+        permuted = λ f m. asked f m (eqb f e) refl;
         images = λ g q m h. slot g q m h (eqb g e) refl;
       }
     where
+      asked : (f : ℕ) → f < e + 1 → (s : Bool) → eqb f e ≡ s → permutedAt b f ≡ true
+      asked f m true x = ap (permutedAt b) (eqb-true f e x) ∙ z
+      asked f m false x = let n : f ≡ e → ⊥ = eqb-false f e x in t .permuted f (omega arith)
+
       slot : (g q : ℕ) → g < e + 1 → q < headerOf b .variables * headerOf b .values → (s : Bool) → eqb g e ≡ s → at next (192 * g + pairCode (headerOf b .values) q) ≡ pairCode (headerOf b .values) (word b (tableOffset b g + 2 * q))
       slot g q m h true x =
           let y : g ≡ e = eqb-true g e x in
@@ -124,7 +148,7 @@ module _ (b : List ℕ) (v : verdictOf b ≡ accepted) (e o : ℕ) (new : List �
           ∙ ap₂ (λ (i j : ℕ). pairCode j (word b (i + 2 * q))) (t .here ∙ ap (tableOffset b) (sym y)) ed
       slot g q m h false x =
           let n : g ≡ e → ⊥ = eqb-false g e x in
-          let s = code-small q (headerOf b .values) (accept b v .header .one) (accept b v .header .sixteen) (omega (arith, product)) in
+          let s = code-small q (headerOf b .values) (v .fits .one) (v .fits .sixteen) (omega (arith, product)) in
           u .others (192 * g + pairCode (headerOf b .values) q) (λ r l z. omega arith) ∙ t .images g q (omega arith) h
 
 -- ---- the pair of a variable and a value
@@ -135,14 +159,20 @@ symmetry-is : (b : List ℕ) (e : ℕ) → e < headerOf b .symmetries → symmet
 unfolding problemOf
 symmetry-is b e l = getD-below (tableAt b (headerOf b)) (headerOf b .symmetries) e [] l
 
-pub images-all : (b : List ℕ) → verdictOf b ≡ accepted → (e o : ℕ) (new : List ℕ) → headerOf b .symmetries ≤ e → ImagesTo b e o new → Images (problemOf b) new
+images-all : (b : List ℕ) (e o : ℕ) (new : List ℕ) → headerOf b .symmetries ≤ e → ImagesTo b e o new → Images (problemOf b) new
 unfolding problemOf pair
-images-all b v e o new l t g x w hg hx hw =
+images-all b e o new l t g x w hg hx hw =
     let n = headerOf b .variables in
     let d = headerOf b .values in
     let q = x * d + w in
     let hg′ : g < headerOf b .symmetries = subst (λ (i : ℕ). g < i) (length-below (tableAt b (headerOf b)) (headerOf b .symmetries)) hg in
     let hq : q < n * d = digits-lt hx hw in
-    let image : at (symmetryAt (problemOf b) g) q ≡ word b (tableOffset b g + 2 * q) = ap (λ (r : List ℕ). at r q) (symmetry-is b g hg′) ∙ table-at b v g hg′ q hq in
+    let image : at (symmetryAt (problemOf b) g) q ≡ word b (tableOffset b g + 2 * q) = ap (λ (r : List ℕ). at r q) (symmetry-is b g hg′) ∙ table-at b g q hq in
     ap (at new) (let z : 192 * g + 16 * x + w ≡ 192 * g + pairCode d q = (let y = pair-code x w d hw in omega arith) in z)
     ∙ t .images g q (omega arith) hq ∙ ap (pairCode d) (sym image)
+
+pub tables-decoded : (b : List ℕ) (e o : ℕ) (new : List ℕ) → headerOf b .symmetries ≤ e → ImagesTo b e o new → TablesDecoded b new true
+tables-decoded b e o new l t = record { answers = sym (permuted-all b (λ f m. t .permuted f (omega arith))); imaged = λ _. images-all b e o new l t; sized = t .sized }
+
+pub tables-not : (b : List ℕ) (e o : ℕ) (new : List ℕ) → e < headerOf b .symmetries → ImagesTo b e o new → permutedAt b e ≡ false → TablesDecoded b new false
+tables-not b e o new l t n = record { answers = sym (permuted-not b e l n); imaged = λ x. absurd (false≢true x); sized = t .sized }

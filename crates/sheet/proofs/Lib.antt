@@ -19,3 +19,4 @@ pub mod FormTurn
 pub mod TablesTurn
 pub mod DecodeTurn
 pub mod Whole
+pub mod Compilable

@@ -3,10 +3,10 @@ use mathlib.Core.Path.{_≡_, refl, sym, _∙_, subst}
 use mathlib.Core.List.{List}
 use Prim.Native.Nat.{ℕ, _+_, _*_, _^_, _<_}
 use native.Mathlib.Omega.{arith}
-use lib.Dec.{eqb→eq}
+use lib.Dec.{T, eqb→eq}
 use lib.ListN.{length}
-use Rattle.model.specs.Lists.{below}
-use Rattle.model.specs.Verdict.{accepted, ask}
+use Rattle.model.specs.Lists.{at, below}
+use Rattle.model.specs.Verdict.{Verdict, accepted, ask, isAccepted}
 use Rattle.model.specs.Sheet.{headerOf, problemOf, tablesFit, formVerdict}
 use Rattle.model.proofs.Lists.{below-i}
 use Rattle.model.proofs.Accepted.{asked, at-words, sets-e, constraints-e}
@@ -19,19 +19,21 @@ use Rattle.sheet.proofs.Passed.{is-accepted, fit, length-constraints}
 pub record FormPassed (b : List ℕ) : Type 0 where
   pub fits : Fit b
   pub states : Stated (problemOf b)
+  pub nonempty : (x : ℕ) → x < headerOf b .variables → 0 < at (problemOf b .initial) x
   pub filled : length b ≡ headerOf b .third + 2 * (headerOf b .symmetries * (headerOf b .variables * headerOf b .values))
 
-pub form-passed : (b : List ℕ) → formVerdict b accepted ≡ accepted → FormPassed b
+-- and so is what is asked after them
+pub form-e : (b : List ℕ) (later : Verdict) → T (isAccepted (formVerdict b later)) → FormPassed b × T (isAccepted later)
 unfolding formVerdict problemOf
-form-passed b e =
+form-e b later t =
     let h = headerOf b in
-    let ends = ask (tablesFit h) 14 0 accepted in
-    let q1 = fit b (setsAsked b (constraintsAsked b ends)) (is-accepted (formVerdict b accepted) e) in
+    let ends = ask (tablesFit h) 14 0 later in
+    let q1 = fit b (setsAsked b (constraintsAsked b ends)) t in
     let q8 = sets-e b h (below (h .variables)) (constraintsAsked b ends) (q1 .1) in
     let q9 = constraints-e (problemOf b) b h refl refl (h .constraints) 0 (h .second) ends (q8 .1) in
-    let q14 = asked (tablesFit h) 14 0 accepted (q9 .1) in
+    let q14 = asked (tablesFit h) 14 0 later (q9 .1) in
     let f = q1 .0 in
-    record {
+    let r : FormPassed b = record {
       fits = f;
       states = record {
         few = f .few;
@@ -41,5 +43,10 @@ form-passed b e =
         most = (let z = length-constraints b (h .constraints) (h .second) in omega (arith, f .constraints));
         constrained = q9 .0;
       };
+      nonempty = λ x l. subst (λ (s : ℕ). 0 < s) (sym (at-words b 16 (h .variables) x l)) (q8 .0 x (below-i (h .variables) x l) .1);
       filled = sym (f .whole) ∙ eqb→eq (h .size) (h .third + 2 * (h .symmetries * (h .variables * h .values))) (q14 .0);
-    }
+    } in
+    (r, q14 .1)
+
+pub form-passed : (b : List ℕ) → formVerdict b accepted ≡ accepted → FormPassed b
+form-passed b e = form-e b accepted (is-accepted (formVerdict b accepted) e) .0

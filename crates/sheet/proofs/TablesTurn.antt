@@ -10,8 +10,9 @@ use lib.ListN.{length}
 use Rattle.model.specs.Lists.{upFrom, below}
 use Rattle.model.specs.Verdict.{Verdict, accepted, refused, ask}
 use Rattle.model.specs.Problem.{Problem, respects}
-use Rattle.model.specs.Sheet.{Header, headerOf, words, tableAt, problemOf, permutesPairs, symmetriesVerdict}
-use Rattle.symmetry.specs.Table.{Asked, tableOf, answerOf, tableAnswer}
+use Rattle.model.specs.Sheet.{headerOf, words, tableAt, problemOf, permutesPairs, formVerdict, symmetriesVerdict}
+use Rattle.layout.specs.Layout.{Numbers}
+use Rattle.symmetry.specs.Table.{TableAt, Asked, tableOf, answerOf, tableAnswer}
 use Rattle.sheet.specs.Meaning.{means}
 use Rattle.sheet.specs.Form.{Formed}
 use Rattle.sheet.specs.declared.Answer.the-variants.{Accepted, Refused}
@@ -45,6 +46,11 @@ table-room b e f l =
     let z : suc e * nd ≡ e * nd + nd = suc-mul e nd in
     omega arith
 
+-- the table at its offset
+pub table-is : (b : List ℕ) (e o : ℕ) → o ≡ tableOffset b e → tableOf (problemOf b) b o ≡ tableAt b (headerOf b) e
+unfolding problemOf tableAt
+table-is b e o q = ap (λ (x : ℕ). words b x (headerOf b .variables * headerOf b .values)) q
+
 asked-both : (s t : Bool) (e k : ℕ) (later : Verdict) → k ≡ answerOf s t → k ≡ 0 → ask s 15 e (ask t 16 e later) ≡ later
 asked-both true true e k later q z = refl
 asked-both true false e k later q z = absurd (omega arith)
@@ -55,15 +61,20 @@ asked-no true true e k later q z = absurd (z q)
 asked-no true false e k later q z = ap (λ (x : ℕ). refused x e) (sym q)
 asked-no false t e k later q z = ap (λ (x : ℕ). refused x e) (sym q)
 
--- what the table question asks
-pub table-asked : (b numbers supports : List ℕ) (e o : ℕ) → Formed b numbers supports → TablesTo b e o → e < headerOf b .symmetries → Asked (problemOf b) b o numbers supports
+-- what question 15 asks, and what both do
+pub table-framed : (b numbers : List ℕ) (e o : ℕ) → formVerdict b accepted ≡ accepted → Numbers (problemOf b) numbers → o ≡ tableOffset b e → e < headerOf b .symmetries → TableAt (problemOf b) b o numbers
 unfolding problemOf
-table-asked b numbers supports e o f t l =
-    let r = form-passed b (f .passed) in
+table-framed b numbers e o f n t l =
+    let r = form-passed b f in
     record {
-      ready = record { framed = record { stated = r .states; numbered = f .numbered }; supported = f .supported };
-      whole = subst (λ (x : ℕ). x + 2 * (headerOf b .variables * headerOf b .values) ≤ length b) (sym (t .here)) (table-room b e (r .filled) l);
+      framed = record { stated = r .states; numbered = n };
+      whole = subst (λ (x : ℕ). x + 2 * (headerOf b .variables * headerOf b .values) ≤ length b) (sym t) (table-room b e (r .filled) l);
     }
+
+pub table-asked : (b numbers supports : List ℕ) (e o : ℕ) → Formed b numbers supports → TablesTo b e o → e < headerOf b .symmetries → Asked (problemOf b) b o numbers supports
+table-asked b numbers supports e o f t l =
+    let r = table-framed b numbers e o (f .passed) (f .numbered) (t .here) l in
+    record { ready = record { framed = r .framed; supported = f .supported }; whole = r .whole }
 
 module _ (b : List ℕ) (e o : ℕ) (t : TablesTo b e o) (l : e < headerOf b .symmetries) (k : ℕ) (q : k ≡ tableAnswer (problemOf b) b o) where
   rest : headerOf b .symmetries - e ≡ suc (headerOf b .symmetries - (e + 1))
@@ -74,12 +85,8 @@ module _ (b : List ℕ) (e o : ℕ) (t : TablesTo b e o) (l : e < headerOf b .sy
   unfolding symmetriesVerdict upFrom
   open-one = t .passed ∙ ap (from b e) rest
 
-  table-is : tableOf (problemOf b) b o ≡ tableAt b (headerOf b) e
-  unfolding problemOf tableAt
-  table-is = ap (λ (x : ℕ). words b x (headerOf b .variables * headerOf b .values)) (t .here)
-
   answer-is : k ≡ answerOf (permutesPairs (problemOf b) (tableAt b (headerOf b) e)) (respects (problemOf b) (tableAt b (headerOf b) e))
-  answer-is = q ∙ ap (λ (x : List ℕ). answerOf (permutesPairs (problemOf b) x) (respects (problemOf b) x)) table-is
+  answer-is = q ∙ ap (λ (x : List ℕ). answerOf (permutesPairs (problemOf b) x) (respects (problemOf b) x)) (table-is b e o (t .here))
 
   pub tables-no : (k ≡ 0 → ⊥) → means (Refused k e) ≡ symmetriesVerdict (problemOf b) 0 (problemOf b .symmetries)
   tables-no z = sym (open-one ∙ asked-no (permutesPairs (problemOf b) (tableAt b (headerOf b) e)) (respects (problemOf b) (tableAt b (headerOf b) e)) e k _ answer-is z)

@@ -1,19 +1,24 @@
 -- The answer to all questions from those of the two parts. Assumes nothing.
+use mathlib.Core.Bool.{Bool, true, false, false≢true}
 use mathlib.Core.Path.{_≡_, refl, sym, ap, _∙_, subst}
 use mathlib.Core.List.{List}
 use Prim.Native.Nat.{ℕ, _≤_}
 use native.Mathlib.Omega.{arith}
 use lib.ListN.{length, replicate, length-replicate}
 use Rattle.model.specs.Lists.{at}
-use Rattle.model.specs.Verdict.{Verdict, accepted, refused}
-use Rattle.model.specs.Sheet.{problemOf, formVerdict, symmetriesVerdict, verdictOf}
-use Rattle.model.proofs.Lists.{at-replicate}
-use Rattle.layout.specs.Layout.{Numbers, Supports, Images, Compiled}
+use Rattle.model.specs.Verdict.{Verdict, accepted, refused, ask, isAccepted}
+use Rattle.model.specs.Sheet.{problemOf, permutesPairs, formVerdict, symmetriesVerdict, verdictOf}
+use Rattle.model.proofs.Lists.{at-replicate, all-i, of-T}
+use Rattle.model.proofs.Accepted.{symmetries-e}
+use Rattle.layout.specs.Layout.{Compiled}
 use Rattle.sheet.specs.Meaning.{means, andThen, Answers}
-use Rattle.sheet.specs.Form.{Zeros, Formed, FormAsked, Compilation}
+use Rattle.sheet.specs.Decoding.{permuting, Tabled, TablesDecoded}
+use Rattle.sheet.specs.Form.{Zeros, Formed, FormAsked, Sized, Compilation, compilable, Recompilation}
 use Rattle.sheet.specs.declared.Answer.{Answer}
 use Rattle.sheet.specs.declared.Answer.the-variants.{Accepted, Refused}
+use Rattle.sheet.proofs.Passed.{is-accepted}
 use Rattle.sheet.proofs.Stating.{form-passed}
+use Rattle.sheet.proofs.Compilable.{asked-last}
 
 pub zeros : (n : ℕ) → Zeros n (replicate n 0)
 zeros n = record { sized = length-replicate n 0; blank = at-replicate n }
@@ -41,10 +46,45 @@ compile-no b numbers supports images r n i e a = record { answers = a; compiled 
     never : r ≡ Accepted → ⊥
     never q = let z : _≡_ {A = ℕ} 0 1 = cc in omega arith
 
-pub compile-yes : (b numbers supports images : List ℕ) (r : Answer) → r ≡ Accepted → FormAsked b numbers supports r → verdictOf b ≡ accepted → Images (problemOf b) images → length images ≡ 26112 → Compilation b numbers supports images Accepted
-compile-yes b numbers supports images r e a v i l =
+-- ---- the tables
+-- question 15 was asked with the verdict on the tables, or was not asked yet
+pub tables-asked : (b numbers supports : List ℕ) (r : Answer) → Formed b numbers supports → r ≡ Accepted → means r ≡ symmetriesVerdict (problemOf b) 0 (problemOf b .symmetries) → Tabled b numbers true
+tables-asked b numbers supports r f e q =
+    let p = problemOf b in
     record {
-      answers = sym v;
-      compiled = λ _. record { numbered = a .formed e .numbered; supported = a .formed e .supported; imaged = i };
-      sizes = λ _. record { numbers-length = a .formed e .numbers-length; supports-length = a .formed e .supports-length; images-length = l };
+      passed = f .passed;
+      numbered = f .numbered;
+      known = λ _. of-T (permuting b) (all-i (permutesPairs p) (p .symmetries) (λ g m. symmetries-e p 0 (p .symmetries) (is-accepted _ (sym q ∙ ap means e)) g m .0));
+    }
+
+pub tables-new : (b numbers supports : List ℕ) → Formed b numbers supports → Tabled b numbers false
+tables-new b numbers supports f = record { passed = f .passed; numbered = f .numbered; known = λ q. absurd (false≢true q) }
+
+compiled : (b numbers supports images : List ℕ) (t : Bool) → Formed b numbers supports → TablesDecoded b images t → t ≡ true → Compiled (problemOf b) numbers supports images
+compiled b numbers supports images t f d e = record { numbered = f .numbered; supported = f .supported; imaged = d .imaged e }
+
+sizes : (b numbers supports images : List ℕ) (t : Bool) → Formed b numbers supports → TablesDecoded b images t → Sized numbers supports images
+sizes b numbers supports images t f d = record { numbers-length = f .numbers-length; supports-length = f .supports-length; images-length = d .sized }
+
+pub compile-yes : (b numbers supports images : List ℕ) (t : Bool) → Formed b numbers supports → verdictOf b ≡ accepted → Tabled b numbers true → TablesDecoded b images t → Compilation b numbers supports images Accepted
+compile-yes b numbers supports images t f v k d =
+    record { answers = sym v; compiled = λ _. compiled b numbers supports images t f d (d .answers ∙ k .known refl); sizes = λ _. sizes b numbers supports images t f d }
+
+-- ---- without question 16
+pub recompile-no : (b numbers supports images : List ℕ) (r : Answer) (n i : ℕ) → r ≡ Refused n i → FormAsked b numbers supports r → Recompilation b numbers supports images false
+unfolding compilable
+recompile-no b numbers supports images r n i e a =
+    record {
+      answers = sym (ap isAccepted (a .answers _ ∙ ap (λ (x : Answer). andThen (means x) (ask (permuting b) 15 0 accepted)) e));
+      compiled = λ q. absurd (false≢true q);
+      sizes = λ q. absurd (false≢true q);
+    }
+
+pub recompile-yes : (b numbers supports images : List ℕ) (r : Answer) (t : Bool) → r ≡ Accepted → FormAsked b numbers supports r → TablesDecoded b images t → Recompilation b numbers supports images t
+unfolding compilable
+recompile-yes b numbers supports images r t e a d =
+    record {
+      answers = d .answers ∙ sym (ap isAccepted (a .answers _ ∙ ap (λ (x : Answer). andThen (means x) (ask (permuting b) 15 0 accepted)) e) ∙ asked-last (permuting b));
+      compiled = compiled b numbers supports images t (a .formed e) d;
+      sizes = λ _. sizes b numbers supports images t (a .formed e) d;
     }

@@ -1,11 +1,13 @@
--- What decoding a table of symmetries stores.
+-- What decoding a table of symmetries stores, and what decoding all of them says.
 use mathlib.Core.Path.{_≡_}
+use mathlib.Core.Bool.{Bool, true}
 use mathlib.Core.List.{List}
 use Prim.Native.Nat.{ℕ, _+_, _*_, _≤_, _<_}
 use lib.ListN.{length}
-use Rattle.model.specs.Lists.{at}
-use Rattle.model.specs.Sheet.{word}
-use Rattle.layout.specs.Layout.{pairCode}
+use Rattle.model.specs.Lists.{at, all}
+use Rattle.model.specs.Verdict.{accepted}
+use Rattle.model.specs.Sheet.{word, problemOf, formVerdict, permutesPairs}
+use Rattle.layout.specs.Layout.{pairCode, Numbers, Images}
 
 -- a table of pair numbers at an offset, and room for its images
 pub record Decodable (b : List ℕ) (from count d base : ℕ) (old : List ℕ) : Type 0 where
@@ -22,3 +24,19 @@ pub record Decoded (b : List ℕ) (from count d base : ℕ) (old new : List ℕ)
   pub sized : length new ≡ length old
   pub images : (q : ℕ) → q < count → at new (base + pairCode d q) ≡ pairCode d (word b (from + 2 * q))
   pub others : (i : ℕ) → ((q : ℕ) → q < count → base + pairCode d q ≡ i → ⊥) → at new i ≡ at old i
+
+-- ---- all tables
+-- question 15 to all of them
+abbrev pub permuting : List ℕ → Bool
+permuting b = all (permutesPairs (problemOf b)) (problemOf b .symmetries)
+
+-- a sheet that passed questions 1 to 14, its numbers, and the answer to question 15 where it was asked before
+pub record Tabled (b numbers : List ℕ) (asked : Bool) : Type 0 where
+  pub passed : formVerdict b accepted ≡ accepted
+  pub numbered : Numbers (problemOf b) numbers
+  pub known : asked ≡ true → permuting b ≡ true
+
+pub record TablesDecoded (b images : List ℕ) (r : Bool) : Type 0 where
+  pub answers : r ≡ permuting b
+  pub imaged : r ≡ true → Images (problemOf b) images
+  pub sized : length images ≡ 26112

@@ -1,11 +1,12 @@
 -- What questions 1 to 14 leave in the arrays.
 use mathlib.Core.Path.{_≡_}
+use mathlib.Core.Bool.{Bool, true}
 use mathlib.Core.List.{List}
 use Prim.Native.Nat.{ℕ}
 use lib.ListN.{length, set}
-use Rattle.model.specs.Lists.{at}
-use Rattle.model.specs.Verdict.{accepted}
-use Rattle.model.specs.Sheet.{problemOf, formVerdict, verdictOf}
+use Rattle.model.specs.Lists.{at, all}
+use Rattle.model.specs.Verdict.{accepted, ask, isAccepted}
+use Rattle.model.specs.Sheet.{problemOf, formVerdict, permutesPairs, verdictOf}
 use Rattle.layout.specs.Places.{VARIABLES, VALUES, CONSTRAINTS, SYMMETRIES}
 use Rattle.layout.specs.Layout.{Numbers, Supports, Compiled}
 use Rattle.sheet.specs.Meaning.{means, Answers}
@@ -44,3 +45,13 @@ pub record Compilation (b : List ℕ) (numbers supports images : List ℕ) (r : 
   pub answers : means r ≡ verdictOf b
   pub compiled : r ≡ Accepted → Compiled (problemOf b) numbers supports images
   pub sizes : r ≡ Accepted → Sized numbers supports images
+
+-- whether bytes pass questions 1 to 15: what compiling them needs
+unfoldable pub compilable : List ℕ → Bool
+compilable b = isAccepted (formVerdict b (ask (all (permutesPairs (problemOf b)) (problemOf b .symmetries)) 15 0 accepted))
+
+-- whether they do, and then the compiled problem
+pub record Recompilation (b : List ℕ) (numbers supports images : List ℕ) (r : Bool) : Type 0 where
+  pub answers : r ≡ compilable b
+  pub compiled : r ≡ true → Compiled (problemOf b) numbers supports images
+  pub sizes : r ≡ true → Sized numbers supports images

@@ -3,7 +3,7 @@ ghost use mathlib.Core.Path.{_≡_};
 ghost use lib.ListN.{length};
 ghost use Rattle.model.specs.Sheet.{verdictOf};
 ghost use Rattle.sheet.specs.Meaning.{means};
-ghost use Rattle.sheet.specs.Form.{Zeros, Compilation};
+ghost use Rattle.sheet.specs.Form.{Zeros, Compilation, Recompilation};
 
 mod constraints; // questions 9 to 13
 mod form; // questions 1 to 14
@@ -54,6 +54,24 @@ pub fn compile(
     let Answer::Accepted = second else {
         return second;
     };
-    tables::decode_all(sheet, h, images);
+    tables::decode_all(sheet, h, numbers, true, images);
     Answer::Accepted
+}
+
+// The same without question 16: the arrays of the compiled problem of bytes that pass questions 1 to 15, and whether they do.
+pub fn recompile(
+    sheet: &[u8],
+    numbers: &mut [u64; 384],
+    supports: &mut [u16; 8192],
+    images: &mut [u8; 26112],
+) -> bool
+    requires { ⌜ Zeros 384 (now numbers) × Zeros 8192 (now supports) × (length (now images) ≡ 26112) ⌝ }
+    ensures { λ r. ⌜ Recompilation (now (sheet .entry)) (now (numbers .exit)) (now (supports .exit)) (now (images .exit)) r ⌝ }
+{
+    let first = form::ask(sheet, numbers, supports);
+    let Answer::Accepted = first else {
+        return false;
+    };
+    let h = read_header(sheet);
+    tables::decode_all(sheet, h, numbers, false, images)
 }

@@ -5,13 +5,13 @@ use reader::read_word;
 use symmetry::Numbers;
 use symmetry::pair_code;
 ghost use mathlib.Core.Path.{_≡_};
+ghost use mathlib.Core.Bool.{true};
 ghost use lib.ListN.{length};
-ghost use Rattle.model.specs.Verdict.{accepted};
-ghost use Rattle.model.specs.Sheet.{headerOf, problemOf, symmetriesVerdict, verdictOf};
-ghost use Rattle.layout.specs.Layout.{Images};
+ghost use Rattle.model.specs.Sheet.{headerOf, problemOf, permutesPairs, symmetriesVerdict};
+ghost use Rattle.symmetry.specs.Table.{TableAt, tableOf};
 ghost use Rattle.sheet.specs.Meaning.{means};
 ghost use Rattle.sheet.specs.Form.{Formed};
-ghost use Rattle.sheet.specs.Decoding.{Decodable, Decoded};
+ghost use Rattle.sheet.specs.Decoding.{Decodable, Decoded, Tabled, TablesDecoded};
 ghost use Rattle.reader.specs.Read.{stated};
 
 pub fn ask(sheet: &[u8], h: Header, numbers: &Numbers, supports: &[u16; 8192]) -> Answer
@@ -46,10 +46,27 @@ fn decode(sheet: &[u8], from: usize, count: usize, d: usize, base: usize, images
     }
 }
 
-// The images of all tables.
-pub fn decode_all(sheet: &[u8], h: Header, images: &mut [u8; 26112])
-    requires { ⌜ (verdictOf (now sheet) ≡ accepted) × (stated h ≡ headerOf (now sheet)) × (length (now images) ≡ 26112) ⌝ }
-    ensures { λ _. ⌜ Images (problemOf (now (sheet .entry))) (now (images .exit)) × (length (now (images .exit)) ≡ 26112) ⌝ }
+// Question 15 to the table at an offset, where it was not asked before.
+fn permuted(sheet: &[u8], from: usize, numbers: &Numbers, asked: bool) -> bool
+    requires { ⌜ TableAt (problemOf (now sheet)) (now sheet) from (now numbers) × (asked ≡ true → permutesPairs (problemOf (now sheet)) (tableOf (problemOf (now sheet)) (now sheet) from) ≡ true) ⌝ }
+    ensures { λ r. ⌜ r ≡ permutesPairs (problemOf (now (sheet .entry))) (tableOf (problemOf (now (sheet .entry))) (now (sheet .entry)) from) ⌝ }
+{
+    if asked {
+        return true;
+    }
+    symmetry::permutes(sheet, from, numbers)
+}
+
+// Whether all tables pass question 15, and their images. Where it was asked before, with yes for an answer, it is not asked again.
+pub fn decode_all(
+    sheet: &[u8],
+    h: Header,
+    numbers: &Numbers,
+    asked: bool,
+    images: &mut [u8; 26112],
+) -> bool
+    requires { ⌜ Tabled (now sheet) (now numbers) asked × (stated h ≡ headerOf (now sheet)) × (length (now images) ≡ 26112) ⌝ }
+    ensures { λ r. ⌜ TablesDecoded (now (sheet .entry)) (now (images .exit)) r ⌝ }
 {
     let g = h.symmetries;
     let d = h.values;
@@ -57,8 +74,12 @@ pub fn decode_all(sheet: &[u8], h: Header, images: &mut [u8; 26112])
     let mut from = h.third;
     let mut e = 0;
     while e < g {
+        if !permuted(sheet, from, numbers, asked) {
+            return false;
+        }
         decode(sheet, from, count, d, 192 * e, images);
         from = from + 2 * count;
         e += 1;
     }
+    true
 }

@@ -7,8 +7,9 @@ mod walk;
 ghost use mathlib.Core.Path.{_≡_};
 ghost use Prim.Native.Nat.{ℕ, _+_, _*_, _≤_, _<_};
 ghost use Rattle.model.specs.Problem.{Problem, isPair};
+ghost use Rattle.model.specs.Sheet.{permutesPairs};
 ghost use Rattle.layout.specs.Layout.{pairCode};
-ghost use Rattle.symmetry.specs.Table.{Framed, Asked, tableAnswer};
+ghost use Rattle.symmetry.specs.Table.{Framed, TableAt, Asked, tableOf, tableAnswer};
 
 // The numbers of a compiled problem (crate layout).
 pub type Numbers = [u64; 384];
@@ -27,6 +28,14 @@ pub fn is_pair(numbers: &Numbers, q: usize) -> bool
     ensures { λ r. ⌜ ((p : Problem) → Framed p (now (numbers .entry)) → r ≡ isPair p q) ⌝ }
 {
     table::is_pair(numbers, q)
+}
+
+// Question 15 to the table at an offset.
+pub fn permutes(sheet: &[u8], offset: usize, numbers: &Numbers) -> bool
+    requires { ⌜ ((p : Problem) × TableAt p (now sheet) offset (now numbers)) ⌝ }
+    ensures { λ r. ⌜ ((p : Problem) → TableAt p (now (sheet .entry)) offset (now (numbers .entry)) → r ≡ permutesPairs p (tableOf p (now (sheet .entry)) offset)) ⌝ }
+{
+    table::permutes(sheet, offset, numbers)
 }
 
 // 0 where the table at an offset passes both questions, else the number of the first whose answer is no.

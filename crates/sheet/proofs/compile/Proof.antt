@@ -1,6 +1,6 @@
 use mathlib.Core.Path.{sym, ap, _∙_}
 use Rattle.sheet.specs.Meaning.{means}
-use Rattle.sheet.proofs.Whole.{whole-no, whole-yes, long, compile-no, compile-yes}
+use Rattle.sheet.proofs.Whole.{whole-no, whole-yes, long, compile-no, tables-asked, compile-yes}
 use borrow.Author.Needs.{needs}
 use Rattle.sheet.proofs.compile.Statement.{statement}
 use Rattle.sheet.proofs.compile.Tie as tie
@@ -47,11 +47,19 @@ returns-2 c = compile-no _ _ _ _ _ _ _ (c .enum-told4 .given .1) (whole-yes _ _ 
 
 -- src/lib.rt:56:5
 decode-all-requires : tie.Need-decode-all-requires
-decode-all-requires c κs = (sym (whole-yes _ _ _ _ (c .before .before .before .ask2 .result) (c .before .before .before .before .before .before .before .enum-told .given .1) (c .before .before .before .before .before .before .before .before .before .ask .ensures) (c .before .before .before .ask2 .ensures)) ∙ ap means (c .before .enum-told3 .given .1), c .before .before .before .before .before .before .read-header .ensures, c .before .before .before .before .before .before .before .before .before .before .before .before .before .pre .2)
+decode-all-requires c κs =
+    let r = c .before .before .before .before in
+    let h = r .before .before .before in
+    (tables-asked _ _ _ (r .ask2 .result) (h .before .before .before .ask .ensures .formed (h .before .enum-told .given .1)) (c .before .before .enum-told3 .given .1) (r .ask2 .ensures), h .read-header .ensures, h .before .before .before .before .before .before .before .pre .2)
 
 -- src/lib.rt:38:1
 returns-3 : tie.Need-returns-3
-returns-3 c = compile-yes _ _ _ _ _ (c .before .before .before .before .before .before .before .before .enum-told .given .1) (c .before .before .before .before .before .before .before .before .before .before .ask .ensures) (sym (whole-yes _ _ _ _ (c .before .before .before .before .ask2 .result) (c .before .before .before .before .before .before .before .before .enum-told .given .1) (c .before .before .before .before .before .before .before .before .before .before .ask .ensures) (c .before .before .before .before .ask2 .ensures)) ∙ ap means (c .before .before .enum-told3 .given .1)) (c .decode-all .ensures .0) (c .decode-all .ensures .1)
+returns-3 c =
+    let r = c .before .before .before .before .before in
+    let a = r .before .before .before .before .before .before in
+    let yes = r .before .before .before .before .enum-told .given .1 in
+    let asked = c .before .before .before .enum-told3 .given .1 in
+    compile-yes _ _ _ _ _ (a .ask .ensures .formed yes) (sym (whole-yes _ _ _ _ (r .ask2 .result) yes (a .ask .ensures) (r .ask2 .ensures)) ∙ ap means asked) (tables-asked _ _ _ (r .ask2 .result) (a .ask .ensures .formed yes) asked (r .ask2 .ensures)) (c .decode-all .ensures)
 
 pub compile-spec : {M : Type 1} → statement M
 compile-spec =

@@ -1,69 +1,103 @@
-use Prim.Native.Nat.{ℕ, _*_, _<_}
-use mathlib.Core.Path.{ap, sym, subst}
-use Rattle.model.specs.Sheet.{Header as Numbers}
-use Rattle.sheet.proofs.FormTurn.{pair-room, same-size}
-use Prim.Native.Nat.{_-_, _≤_}
+use mathlib.Core.Path.{_≡_, sym, ap, _∙_, subst}
+use mathlib.Core.Bool.{Bool, true, false}
+use Prim.Native.Nat.{ℕ, _-_, _*_, _≤_, _<_}
 use native.Mathlib.Omega.{arith}
-use Rattle.sheet.proofs.DecodeTurn.{ImagesTo, images-none, images-more, images-all, decodable, accept}
+use borrow.Author.Tests.{not-true, not-false}
+use denote.Ref.{now}
+use lib.ListN.{length}
+use Rattle.model.specs.Sheet.{Header as Numbers, headerOf, problemOf, permutesPairs}
+use Rattle.sheet.specs.Decoding.{Decodable}
+use Rattle.sheet.proofs.Stating.{FormPassed, form-passed}
+use Rattle.sheet.proofs.FormTurn.{pair-room, same-size}
+use Rattle.sheet.proofs.TablesTurn.{table-framed, table-is}
+use Rattle.sheet.proofs.DecodeTurn.{permutedAt, permuted-each, ImagesTo, images-none, images-more, decodable, tables-decoded, tables-not}
 use Rattle.sheet.proofs.tables.decode_all.Statement.{statement}
 use Rattle.sheet.proofs.tables.decode_all.Tie as tie
 use Rattle.sheet.proofs.tables.decode_all.Reads as reads
 use Rattle.sheet.proofs.tables.decode_all.Lts as lts
 use Rattle.sheet.proofs.tables.decode.Reads as decode-reads
+use Rattle.sheet.proofs.tables.permuted.Reads as permuted-reads
 
 abbrev Inv-loop : tie.InvT-loop
-Inv-loop sheet images₀ g d count from₀ e₀ images from e = (e ≤ g) × ImagesTo sheet e from images
+Inv-loop sheet numbers asked images₀ g d count from₀ e₀ images from e = (e ≤ g) × ImagesTo sheet e from images
 
 abbrev μ-loop : tie.MeasureT-loop
-μ-loop sheet images₀ g d count from₀ e₀ images from e = g - e
+μ-loop sheet numbers asked images₀ g d count from₀ e₀ images from e = g - e
 
--- src/tables.rt:64:17
+-- the sheet passed questions 1 to 14, and the numbers that were lent are its own
+known : (c : tie.Start Inv-loop μ-loop) → FormPassed (now (c .args .sheet))
+known c = form-passed _ (c .pre .0 .passed)
+
+values-are : (c : tie.Start Inv-loop μ-loop) → c .args .h .values ≡ headerOf (now (c .args .sheet)) .values
+values-are c = ap (λ (x : Numbers). x .values) (c .pre .1)
+
+size-is : (c : tie.Start Inv-loop μ-loop) → c .args .h .variables * c .args .h .values ≡ headerOf (now (c .args .sheet)) .variables * headerOf (now (c .args .sheet)) .values
+size-is c = same-size (c .args .h .variables) (c .args .h .values) _ _ (ap (λ (x : Numbers). x .variables) (c .pre .1)) (values-are c)
+
+small : (c : tie.Start Inv-loop μ-loop) → c .args .h .variables * c .args .h .values ≤ 192
+small c =
+    pair-room (c .args .h .variables) (c .args .h .values) (omega (arith, known c .fits .few, ap (λ (x : Numbers). x .variables) (c .pre .1))) (omega (arith, known c .fits .sixteen, values-are c))
+
+-- the table at hand
+inside : (c : tie.In-loop Inv-loop μ-loop) → c .before .loop .e < headerOf (now (c .before .before .before .before .args .sheet)) .symmetries
+inside c = subst (λ (x : ℕ). c .before .loop .e < x) (ap (λ (x : Numbers). x .symmetries) (c .before .before .before .before .pre .1)) (c .loop-test .taken)
+
+answered : (c : tie.After-permuted Inv-loop μ-loop) → c .permuted .result ≡ permutedAt (now (c .before .before .before .before .before .args .sheet)) (c .before .before .loop .e)
+answered c = c .permuted .ensures ∙ ap (permutesPairs (problemOf (now (c .before .before .before .before .before .args .sheet)))) (table-is _ _ _ (c .before .before .loop .inv .1 .here))
+
+passes : (c : tie.Else1 Inv-loop μ-loop) → permutedAt (now (c .before .before .before .before .before .before .args .sheet)) (c .before .before .before .loop .e) ≡ true
+passes c = sym (answered (c .before)) ∙ not-false _ (c .if1 .left)
+
 mul-count : tie.Need-mul-count Inv-loop μ-loop
-mul-count c =
-    let f = accept (c .before .before .args .sheet .now) (c .before .before .pre .0) in
-    omega (arith, pair-room (c .before .before .args .h .variables) (c .before .before .args .h .values) (omega (arith, f .header .few, ap (λ (x : Numbers). x .variables) (c .before .before .pre .1))) (omega (arith, f .header .sixteen, ap (λ (x : Numbers). x .values) (c .before .before .pre .1))))
+mul-count c = omega (arith, small (c .before .before))
 
--- src/tables.rt:67:5
 loop-holds : tie.Need-loop-holds Inv-loop μ-loop
 loop-holds c = (omega arith, images-none _ _ _ (ap (λ (x : Numbers). x .third) (c .before .before .pre .1)) (c .before .before .pre .2))
 
--- src/tables.rt:68:39
-mul-decode : tie.Need-mul-decode Inv-loop μ-loop
-mul-decode c =
-    let f = accept (c .before .before .before .before .args .sheet .now) (c .before .before .before .before .pre .0) in
-    omega (arith, subst (λ (x : ℕ). c .before .loop .e < x) (ap (λ (x : Numbers). x .symmetries) (c .before .before .before .before .pre .1)) (c .loop-test .taken), f .header .symmetries)
+permuted-requires : tie.Need-permuted-requires Inv-loop μ-loop
+permuted-requires c κs =
+    let s = c .before .before .before .before in
+    let here = c .before .loop .inv .1 .here in
+    (table-framed _ _ _ _ (s .pre .0 .passed) (s .pre .0 .numbered) here (inside c), λ a. ap (permutesPairs (problemOf (now (s .args .sheet)))) (table-is _ _ _ here) ∙ permuted-each _ (s .pre .0 .known a) _ (inside c))
 
--- src/tables.rt:68:9
-decode-requires : tie.Need-decode-requires Inv-loop μ-loop
-decode-requires c κs = decodable (c .before .before .before .before .before .args .sheet .now) (c .before .before .before .before .before .pre .0) (c .before .before .loop .e) (c .before .before .loop .from) (c .before .before .loop .images) (c .before .before .loop .inv .1) (subst (λ (x : ℕ). c .before .before .loop .e < x) (ap (λ (x : Numbers). x .symmetries) (c .before .before .before .before .before .pre .1)) (c .before .loop-test .taken)) (c .before .before .before .before .before .args .h .variables * c .before .before .before .before .before .args .h .values) (c .before .before .before .before .before .args .h .values) (ap (λ (x : Numbers). x .values) (c .before .before .before .before .before .pre .1)) (same-size (c .before .before .before .before .before .args .h .variables) (c .before .before .before .before .before .args .h .values) _ _ (ap (λ (x : Numbers). x .variables) (c .before .before .before .before .before .pre .1)) (ap (λ (x : Numbers). x .values) (c .before .before .before .before .before .pre .1)))
-
--- src/tables.rt:69:23
-mul-from : tie.Need-mul-from Inv-loop μ-loop
-mul-from c =
-    let f = accept (c .before .before .before .before .before .before .args .sheet .now) (c .before .before .before .before .before .before .pre .0) in
-    omega (arith, pair-room (c .before .before .before .before .before .before .args .h .variables) (c .before .before .before .before .before .before .args .h .values) (omega (arith, f .header .few, ap (λ (x : Numbers). x .variables) (c .before .before .before .before .before .before .pre .1))) (omega (arith, f .header .sixteen, ap (λ (x : Numbers). x .values) (c .before .before .before .before .before .before .pre .1))))
-
--- src/tables.rt:69:16
-add-from : tie.Need-add-from Inv-loop μ-loop
-add-from c = omega (arith, (decodable (c .before .before .before .before .before .before .args .sheet .now) (c .before .before .before .before .before .before .pre .0) (c .before .before .before .loop .e) (c .before .before .before .loop .from) (c .before .before .before .loop .images) (c .before .before .before .loop .inv .1) (subst (λ (x : ℕ). c .before .before .before .loop .e < x) (ap (λ (x : Numbers). x .symmetries) (c .before .before .before .before .before .before .pre .1)) (c .before .before .loop-test .taken)) (c .before .before .before .before .before .before .args .h .variables * c .before .before .before .before .before .before .args .h .values) (c .before .before .before .before .before .before .args .h .values) (ap (λ (x : Numbers). x .values) (c .before .before .before .before .before .before .pre .1)) (same-size (c .before .before .before .before .before .before .args .h .variables) (c .before .before .before .before .before .before .args .h .values) _ _ (ap (λ (x : Numbers). x .variables) (c .before .before .before .before .before .before .pre .1)) (ap (λ (x : Numbers). x .values) (c .before .before .before .before .before .before .pre .1)))) .whole, c .before .before .before .before .before .before .good)
-
--- src/tables.rt:70:9
-add-e : tie.Need-add-e Inv-loop μ-loop
-add-e c =
-    let f = accept (c .before .before .before .before .before .before .args .sheet .now) (c .before .before .before .before .before .before .pre .0) in
-    omega (arith, subst (λ (x : ℕ). c .before .before .before .loop .e < x) (ap (λ (x : Numbers). x .symmetries) (c .before .before .before .before .before .before .pre .1)) (c .before .before .loop-test .taken), f .header .symmetries)
-
--- src/tables.rt:67:5
-loop-less : tie.Need-loop-less Inv-loop μ-loop
-loop-less c = omega (arith, c .before .before .loop-test .taken)
-
--- src/tables.rt:67:5
-loop-again : tie.Need-loop-again Inv-loop μ-loop
-loop-again c = (omega (arith, c .before .before .loop-test .taken), images-more (c .before .before .before .before .before .before .args .sheet .now) (c .before .before .before .before .before .before .pre .0) (c .before .before .before .loop .e) (c .before .before .before .loop .from) (c .before .before .before .loop .images) (c .before .before .before .loop .inv .1) (subst (λ (x : ℕ). c .before .before .before .loop .e < x) (ap (λ (x : Numbers). x .symmetries) (c .before .before .before .before .before .before .pre .1)) (c .before .before .loop-test .taken)) (c .before .before .before .before .before .before .args .h .variables * c .before .before .before .before .before .before .args .h .values) (c .before .before .before .before .before .before .args .h .values) (ap (λ (x : Numbers). x .values) (c .before .before .before .before .before .before .pre .1)) (same-size (c .before .before .before .before .before .before .args .h .variables) (c .before .before .before .before .before .before .args .h .values) _ _ (ap (λ (x : Numbers). x .variables) (c .before .before .before .before .before .before .pre .1)) (ap (λ (x : Numbers). x .values) (c .before .before .before .before .before .before .pre .1))) _ (c .decode .ensures))
-
--- src/tables.rt:58:1
 returns : tie.Need-returns Inv-loop μ-loop
-returns c = (images-all _ (c .before .before .before .before .pre .0) _ _ _ (omega (arith, c .loop-test .left, ap (λ (x : Numbers). x .symmetries) (c .before .before .before .before .pre .1))) (c .before .loop .inv .1), c .before .loop .inv .1 .sized)
+returns c = tables-not _ _ _ _ (inside (c .before .before)) (c .before .before .before .loop .inv .1) (sym (answered (c .before)) ∙ not-true _ (c .if1 .taken))
+
+mul-decode : tie.Need-mul-decode Inv-loop μ-loop
+mul-decode c = omega (arith, inside (c .before .before), known (c .before .before .before .before .before .before) .fits .symmetries)
+
+ready : (c : tie.Else1 Inv-loop μ-loop) → let s = c .before .before .before .before .before .before in
+    let l = c .before .before .before .loop in
+    Decodable (now (s .args .sheet)) (l .from) (s .args .h .variables * s .args .h .values) (s .args .h .values) (192 * l .e) (l .images)
+ready c =
+    let s = c .before .before .before .before .before .before in
+    decodable _ (known s) _ _ _ (c .before .before .before .loop .inv .1) (inside (c .before .before)) _ _ (values-are s) (size-is s) (passes c)
+
+decode-requires : tie.Need-decode-requires Inv-loop μ-loop
+decode-requires c κs = ready (c .before)
+
+mul-from : tie.Need-mul-from Inv-loop μ-loop
+mul-from c = omega (arith, small (c .before .before .before .before .before .before .before .before))
+
+add-from : tie.Need-add-from Inv-loop μ-loop
+add-from c = omega (arith, ready (c .before .before) .whole, c .before .before .before .before .before .before .before .before .good)
+
+add-e : tie.Need-add-e Inv-loop μ-loop
+add-e c = omega (arith, inside (c .before .before .before .before), known (c .before .before .before .before .before .before .before .before) .fits .symmetries)
+
+loop-less : tie.Need-loop-less Inv-loop μ-loop
+loop-less c = omega (arith, c .before .before .before .before .loop-test .taken)
+
+loop-again : tie.Need-loop-again Inv-loop μ-loop
+loop-again c =
+    let d = c .before .before in
+    let s = d .before .before .before .before .before .before in (
+      omega (arith, d .before .before .loop-test .taken),
+      images-more _ (known s) _ _ _ (d .before .before .before .loop .inv .1) (inside (d .before .before)) _ _ (values-are s) (size-is s) (passes d) _ (c .decode .ensures),
+    )
+
+returns-2 : tie.Need-returns-2 Inv-loop μ-loop
+returns-2 c = tables-decoded _ _ _ _ (omega (arith, c .loop-test .left, ap (λ (x : Numbers). x .symmetries) (c .before .before .before .before .pre .1))) (c .before .loop .inv .1)
 
 pub decode-all-spec : {M : Type 1} → statement M
 decode-all-spec =
@@ -73,6 +107,8 @@ decode-all-spec =
     μ-loop
     mul-count
     loop-holds
+    permuted-requires
+    returns
     mul-decode
     decode-requires
     mul-from
@@ -80,4 +116,4 @@ decode-all-spec =
     add-e
     loop-less
     loop-again
-    returns)
+    returns-2)
