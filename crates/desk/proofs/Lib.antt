@@ -11,3 +11,4 @@ pub mod Turning
 pub mod Turned
 pub mod Calls
 pub mod RoundCalls
+pub mod Stretch

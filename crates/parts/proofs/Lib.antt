@@ -3,3 +3,4 @@ pub mod Parts
 pub mod Resume
 pub mod Together
 pub mod Cases
+pub mod Anywhere

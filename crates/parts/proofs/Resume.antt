@@ -276,7 +276,7 @@ module _ (p : Problem) where
   taken (suc k) (y ∷ l) x (List·Memᴰ·head e) = List·Memᴰ·head e
   taken (suc k) (y ∷ l) x (List·Memᴰ·tail m) = List·Memᴰ·tail (taken k l x m)
 
-  after-lasts : (d : List ℕ) (l : List (List ℕ)) (k : ℕ) → Sorted Later (d ∷ l) → keep (after (lastOf d (take k l))) l ≡ drop k l
+  pub after-lasts : (d : List ℕ) (l : List (List ℕ)) (k : ℕ) → Sorted Later (d ∷ l) → keep (after (lastOf d (take k l))) l ≡ drop k l
   unfolding lastOf keep
   after-lasts d l zero s = keep-all (after d) l (s .0)
   after-lasts d [] (suc k) s = refl
@@ -294,7 +294,7 @@ module _ (p : Problem) where
   unfolding nodesAfter nodes
   after-last k = after-lasts [] (nodes p) k (below-after p (p .variables) [], nodes-ascend p)
 
-  last-append : (d : List ℕ) (l m : List (List ℕ)) → lastOf d (l ++ m) ≡ lastOf (lastOf d l) m
+  pub last-append : (d : List ℕ) (l m : List (List ℕ)) → lastOf d (l ++ m) ≡ lastOf (lastOf d l) m
   unfolding lastOf
   last-append d [] m = refl
   last-append d (t ∷ l) m = last-append t l m
@@ -308,7 +308,7 @@ module _ (p : Problem) where
 -- ---- a walk with a smaller limit first, then the rest
 module _ (p : Problem) (room k limit : ℕ) (h : k ≤ limit) where
   -- what follows a walk of ts that had the limit k
-  abbrev then : List (List ℕ) → ℕ → Ending → List (List ℕ) → Result
+  abbrev pub then : List (List ℕ) → ℕ → Ending → List (List ℕ) → Result
   then ts made (finished a b) rows = record { ending = finished a b; rows = rows }
   then ts made (full a b) rows = record { ending = full a b; rows = rows }
   then ts made (spent a b) rows = search p limit room (drop (k - made) ts) k rows

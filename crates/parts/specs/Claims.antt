@@ -7,7 +7,7 @@ use Rattle.model.specs.Lists.{keep, flat, total}
 use Rattle.model.specs.Problem.{Problem}
 use Rattle.model.specs.Search.{nodes, isPlan}
 use Rattle.model.specs.Run.{spent, finished, nodesIn, Result, search, resultOf}
-use Rattle.parts.specs.Parts.{ranges, Cuts, progressAt, goOn, resumed}
+use Rattle.parts.specs.Parts.{ranges, Cuts, Progress, progressAt, goOn, progressAfter, andNext, resumed}
 
 -- a run cut after k nodes goes on from the last of them to what it is in one piece
 abbrev pub From-cut : Type 0
@@ -17,6 +17,12 @@ From-cut =
 -- a smaller limit first, then the rest: where the first part ended, that is the whole; where it was spent, it goes on
 abbrev pub In-parts : Type 0
 In-parts = (p : Problem) (limit room k : ℕ) → k ≤ limit → resultOf p limit room ≡ resumed p limit room (resultOf p k room .ending) (resultOf p k room .rows)
+
+-- the same of a run that goes on from any path, whatever it had made and listed
+abbrev pub From-anywhere : Type 0
+From-anywhere =
+    (p : Problem) (limit room k : ℕ) (s : Progress) → s .made ≤ k → k ≤ limit →
+    goOn p limit room s ≡ andNext (goOn p k room s .ending) (goOn p k room s) (goOn p limit room (progressAfter p s (goOn p k room s)))
 
 -- ---- parts of one tree, run apart
 -- the parts of a tree cut at any paths, each bounded by two, are the whole tree, one behind the other

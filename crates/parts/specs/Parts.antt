@@ -104,6 +104,16 @@ goOn p limit room s = search p limit room (nodesAfter p (s .last)) (s .made) (s 
 abbrev pub lastAfter : Problem → Progress → Result → List ℕ
 lastAfter p s r = lastOf (s .last) (take (nodesIn (r .ending) - s .made) (nodesAfter p (s .last)))
 
+-- where it stands then
+abbrev pub progressAfter : Problem → Progress → Result → Progress
+progressAfter p s r = record { made = nodesIn (r .ending); rows = r .rows; last = lastAfter p s r }
+
+-- after a part that was spent comes the next one; another one was the end
+abbrev pub andNext : Ending → Result → Result → Result
+andNext (finished plans made) r next = r
+andNext (full plans made) r next = r
+andNext (spent plans made) r next = next
+
 -- a run that was spent goes on from its last node; another one has ended
 abbrev pub resumed : Problem → ℕ → ℕ → Ending → List (List ℕ) → Result
 resumed p limit room (finished plans made) rows = record { ending = finished plans made; rows = rows }

@@ -1,0 +1,81 @@
+-- A run that goes on from any path, cut and resumed (specs/Claims). Assumes nothing.
+use mathlib.Core.Path.{_≡_, refl, sym, ap, ap₂, _∙_, subst}
+use mathlib.Core.Bool.{Bool, true, false}
+use mathlib.Core.Logic.{_⊎_, inl, inr}
+use mathlib.Core.List.{List, [], _∷_, List·Memᴰ, List·Memᴰ·head, List·Memᴰ·tail}
+use Prim.Native.Nat.{ℕ, _+_, _-_, _≤_}
+use lib.Dec.{T}
+use lib.ListN.{take, drop}
+use lib.Seq.{take-add}
+use Rattle.model.specs.Lists.{keep}
+use Rattle.model.specs.Problem.{Problem}
+use Rattle.model.specs.Search.{nodes}
+use Rattle.model.specs.Run.{Ending, finished, spent, full, nodesIn, Result, search}
+use Rattle.model.proofs.Lists.{T-of, not-of, of-not, keep-yes, keep-no, keep-e, sorted-keep, Sorted}
+use Rattle.model.proofs.Runs.{Ended, walk}
+use Rattle.parts.specs.Parts.{after, nodesAfter, lastOf, Progress, goOn, lastAfter, progressAfter, andNext}
+use Rattle.parts.specs.Claims.{From-anywhere}
+use Rattle.parts.proofs.Parts.{after-trans, Later, nodes-ascend}
+use Rattle.parts.proofs.Resume.{last-in, taken, after-lasts, last-append, then, walk-parts}
+
+-- of elements kept, the same are kept by a narrower test
+keep-narrow : {A : Type 0} (q r : A → Bool) (l : List A) → ((x : A) → T (q x) → T (r x)) → keep q (keep r l) ≡ keep q l
+unfolding keep
+keep-narrow q r [] h = refl
+keep-narrow q r (x ∷ l) h = go (r x) refl (q x) refl (keep-narrow q r l h)
+  where
+    go : (b : Bool) → r x ≡ b → (c : Bool) → q x ≡ c → keep q (keep r l) ≡ keep q l → keep q (keep r (x ∷ l)) ≡ keep q (x ∷ l)
+    go true e true f ih = ap (keep q) (keep-yes r x l e) ∙ keep-yes q x (keep r l) f ∙ ap (λ (m : List _). x ∷ m) ih ∙ sym (keep-yes q x l f)
+    go true e false f ih = ap (keep q) (keep-yes r x l e) ∙ keep-no q x (keep r l) f ∙ ih ∙ sym (keep-no q x l f)
+    go false e true f ih = absurd (of-not (r x) e (h x (T-of (q x) f)))
+    go false e false f ih = ap (keep q) (keep-no r x l e) ∙ ih ∙ sym (keep-no q x l f)
+
+module _ (p : Problem) where
+  -- of the nodes after a path, those after the first k are the nodes after the last of these
+  pub after-from : (path : List ℕ) (k : ℕ) → nodesAfter p (lastOf path (take k (nodesAfter p path))) ≡ drop k (nodesAfter p path)
+  unfolding nodesAfter
+  after-from path k =
+      sym (keep-narrow (after e) (after path) (nodes p) (later (last-in p path (take k ts))))
+      ∙ after-lasts p path ts k (λ t m. keep-e (after path) (nodes p) t m .1, sorted-keep Later (after path) (nodes p) (nodes-ascend p))
+    where
+      ts : List (List ℕ)
+      ts = keep (after path) (nodes p)
+
+      e : List ℕ
+      e = lastOf path (take k ts)
+
+      later : (e ≡ path) ⊎ List·Memᴰ e (take k ts) → (t : List ℕ) → T (after e t) → T (after path t)
+      later (inl q) t u = subst (λ (x : List ℕ). T (after x t)) q u
+      later (inr m) t u = after-trans path e t (keep-e (after path) (nodes p) e (taken p k ts e m) .1) u
+
+  -- the last node of a part, and of the two together
+  pub last-from : (path : List ℕ) (j i : ℕ) → let e = lastOf path (take j (nodesAfter p path)) in lastOf e (take i (nodesAfter p e)) ≡ lastOf path (take (j + i) (nodesAfter p path))
+  last-from path j i =
+      let ts = nodesAfter p path in
+      let e = lastOf path (take j ts) in
+      ap (λ (l : List (List ℕ)). lastOf e (take i l)) (after-from path j) ∙ sym (last-append p path (take j ts) (take i (drop j ts))) ∙ ap (lastOf path) (sym (take-add j i ts))
+
+pub from-anywhere : From-anywhere
+unfolding goOn
+from-anywhere p limit room k s m h = walk-parts p room k limit h ts (s .made) (s .rows) m ∙ go (r .ending) refl
+  where
+    ts : List (List ℕ)
+    ts = nodesAfter p (s .last)
+
+    r : Result
+    r = search p k room ts (s .made) (s .rows)
+
+    next : Result
+    next = search p limit room (nodesAfter p (lastAfter p s r)) (nodesIn (r .ending)) (r .rows)
+
+    go : (x : Ending) → r .ending ≡ x → then p room k limit h ts (s .made) (r .ending) (r .rows) ≡ andNext (r .ending) r next
+    go (finished a b) e = ap (λ (x : Ending). then p room k limit h ts (s .made) x (r .rows)) e ∙ sym (ap (λ (x : Ending). let w : Result = record { ending = x; rows = r .rows } in w) e) ∙ sym (ap (λ (x : Ending). andNext x r next) e)
+    go (full a b) e = ap (λ (x : Ending). then p room k limit h ts (s .made) x (r .rows)) e ∙ sym (ap (λ (x : Ending). let w : Result = record { ending = x; rows = r .rows } in w) e) ∙ sym (ap (λ (x : Ending). andNext x r next) e)
+    go (spent a b) e =
+        let w = walk p k room ts (s .made) (s .rows) in
+        let q = subst (Ended p k room ts (s .made) (w .passed)) e (w .ended) in
+        let z : nodesIn (r .ending) ≡ k = ap nodesIn e ∙ q .2 in
+        ap (λ (x : Ending). then p room k limit h ts (s .made) x (r .rows)) e
+        ∙ ap₂ (λ (i j : ℕ). search p limit room (drop (i - s .made) ts) j (r .rows)) (sym z) (sym z)
+        ∙ ap (λ (l : List (List ℕ)). search p limit room l (nodesIn (r .ending)) (r .rows)) (sym (after-from p (s .last) (nodesIn (r .ending) - s .made)))
+        ∙ sym (ap (λ (x : Ending). andNext x r next) e)
