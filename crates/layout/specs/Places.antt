@@ -67,6 +67,9 @@ NUMBER = 13
 abbrev pub ITEM : ℕ
 ITEM = 14
 
+abbrev pub LAST : ℕ
+LAST = 15
+
 abbrev pub MARKS : ℕ
 MARKS = 16
 

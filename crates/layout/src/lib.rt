@@ -48,12 +48,14 @@ pub const SMALLER: usize = 3072;
 pub const OWN: usize = 52224;
 
 // ---- `work`, after the values of the prefix
-// The plans listed, and the number and item of a refusal.
+// The plans listed, the number and item of a refusal, and how many of the values are the last node made.
 pub const PLANS: usize = 12;
 
 pub const NUMBER: usize = 13;
 
 pub const ITEM: usize = 14;
+
+pub const LAST: usize = 15;
 
 // From here on the marks of the symmetries at each depth.
 pub const MARKS: usize = 16;

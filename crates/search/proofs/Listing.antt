@@ -11,7 +11,7 @@ use Rattle.model.proofs.Lists.{at-set, at-set-other}
 use Rattle.order.specs.Reordered.{write}
 use Rattle.layout.specs.Places.{PLANS, ALL, FULL}
 use Rattle.search.specs.Walk.{noted, listed}
-use Rattle.search.specs.Pair.{prefixOf, ListRoom, Listed, stateOf}
+use Rattle.search.specs.Pair.{prefixOf, ListRoom, Listed}
 use Rattle.search.proofs.Walk.{listed-full, listed-kept}
 
 module _ (n room : ℕ) (list : List ℕ) (plans : ℕ) (h : ListRoom n room list plans) (e : plans ≡ room → ⊥) where
@@ -26,7 +26,7 @@ module _ (n room : ℕ) (list : List ℕ) (plans : ℕ) (h : ListRoom n room lis
 module _ (n room : ℕ) (order work list : List ℕ) (h : ListRoom n room list (at work PLANS)) where
   pub full-now : at work PLANS ≡ room → Listed n room order work list work list FULL
   full-now e = record {
-    state = λ tally. sym (listed-full n room (write order (prefixOf work n)) (stateOf tally work ALL list) (omega arith));
+    state = λ tally last. sym (listed-full n room (write order (prefixOf work n)) record { tally = tally; plans = at work PLANS; stop = ALL; list = list; last = last } (omega arith));
     known = omega arith;
     others = λ i o. refl;
     work-length = refl;
@@ -35,9 +35,9 @@ module _ (n room : ℕ) (order work list : List ℕ) (h : ListRoom n room list (
   pub kept-now : (list′ : List ℕ) → length work ≡ 256 → (at work PLANS ≡ room → ⊥) → list′ ≡ noted (at work PLANS * n) (write order (prefixOf work n)) list →
       Listed n room order work list (set work PLANS (at work PLANS + 1)) list′ ALL
   kept-now list′ w e q = record {
-    state = λ tally.
-        ap₂ (λ (k : ℕ) (l : List ℕ). record { tally = tally; plans = k; stop = ALL; list = l }) (at-set work PLANS (at work PLANS + 1) (omega arith) ∙ add-one (at work PLANS)) q
-        ∙ sym (listed-kept n room (write order (prefixOf work n)) (stateOf tally work ALL list) (one-more n room list (at work PLANS) h e));
+    state = λ tally last.
+        ap₂ (λ (k : ℕ) (l : List ℕ). record { tally = tally; plans = k; stop = ALL; list = l; last = last }) (at-set work PLANS (at work PLANS + 1) (omega arith) ∙ add-one (at work PLANS)) q
+        ∙ sym (listed-kept n room (write order (prefixOf work n)) record { tally = tally; plans = at work PLANS; stop = ALL; list = list; last = last } (one-more n room list (at work PLANS) h e));
     known = omega arith;
     others = λ i o. at-set-other work PLANS (at work PLANS + 1) i o;
     work-length = length-set work PLANS (at work PLANS + 1);

@@ -1,11 +1,11 @@
--- The walk along the nodes of the tree, from nothing counted and nothing listed, is the run: it comes to the ending of model's `resultOf`, the tally
--- has the nodes made, counted in the order, and the list the run's rows, written in the order, at its front and all bytes after them as they came.
--- Assumes nothing.
+-- A walk along nodes, from nothing counted and after rows that stand in the list, is model's `search`: it comes to that ending, the tally has the
+-- nodes made, counted in the order, the list the rows, written in the order, at its front and all bytes after them as they came, and the last node
+-- made is the last of them. Along the nodes of the tree it is the run. Assumes nothing.
 use mathlib.Core.Path.{_≡_, refl, sym, ap, ap₂, _∙_, subst}
 use mathlib.Core.Bool.{Bool, true, false}
 use mathlib.Core.List.{List, [], _∷_, _++_, map, append-nil}
-use Prim.Native.Nat.{ℕ, zero, suc, _+_, _*_, _≤_, _<_}
-use native.Mathlib.Nat.{mul-le-mul-right}
+use Prim.Native.Nat.{ℕ, zero, suc, _+_, _-_, _*_, _≤_, _<_}
+use native.Mathlib.Nat.{mul-le-mul-right, sub-zero}
 use native.Mathlib.Decide.{decLt}
 use native.Mathlib.Numerals.{add-one}
 use native.Mathlib.Omega.{arith}
@@ -21,7 +21,8 @@ use Rattle.model.proofs.Lists.{flat-append, map-append}
 use Rattle.model.proofs.Runs.{turn, search-turn}
 use Rattle.model.proofs.Tally.{counts-snoc}
 use Rattle.order.specs.Reordered.{write}
-use Rattle.layout.specs.Places.{ALL}
+use Rattle.parts.specs.Parts.{lastOf}
+use Rattle.layout.specs.Places.{ALL, SPENT, FULL}
 use Rattle.search.specs.Walk.{withNode, noNodes, State, overwritten, noted, kept, listed, counted, visit, walk, stopIn, tallyBy}
 use Rattle.search.proofs.Walk.{listed-full, listed-kept, noted-none, noted-over, visit-spent, visit-other, visit-plan, walk-stopped, length-write}
 
@@ -68,6 +69,11 @@ kept-snoc rows t out n e h = go (eqb (length out) 0) refl
         let l = length-written rows out (let k = h o in omega arith) in
         ap (noted n t) (kept-over rows out o) ∙ noted-over n t (written rows out) (λ g. o (sym l ∙ g)) ∙ written-snoc rows t out n e ∙ sym (kept-over (rows ++ (t ∷ [])) out o)
 
+last-snoc : (path : List ℕ) (l : List (List ℕ)) (t : List ℕ) → lastOf path (l ++ (t ∷ [])) ≡ t
+unfolding lastOf
+last-snoc path [] t = refl
+last-snoc path (u ∷ l) t = last-snoc u l t
+
 -- the next node of a list
 take-next : {A : Type 0} (k : ℕ) (l : List A) (a : A) (rest : List A) → drop k l ≡ a ∷ rest → take (suc k) l ≡ take k l ++ (a ∷ [])
 take-next zero [] a rest e = absurd (let z = ap length e in omega arith)
@@ -78,36 +84,47 @@ take-next {A} (suc k) (x ∷ l) a rest e = ap (λ (r : List A). x ∷ r) (take-n
 drop-next : {A : Type 0} (k : ℕ) (l : List A) (a : A) (rest : List A) → drop k l ≡ a ∷ rest → drop (suc k) l ≡ rest
 drop-next {A} k l a rest e = ap (λ (n : ℕ). drop n l) (sym (add-one k)) ∙ sym (drop-drop 1 k l) ∙ ap (drop 1) e
 
-module _ (p : Problem) (order : List ℕ) (sized : length order ≡ p .variables) (limit room bytes : ℕ) (out : List ℕ) (fits : room * p .variables ≤ bytes) (most : bytes < suc room * p .variables) (same : (length out ≡ 0 → ⊥) → bytes ≡ length out) where
+module _ (p : Problem) (order : List ℕ) (sized : length order ≡ p .variables) (limit room bytes : ℕ) (out : List ℕ) (fits : room * p .variables ≤ bytes) (most : bytes < suc room * p .variables) (same : (length out ≡ 0 → ⊥) → bytes ≡ length out)
+    (all : List (List ℕ)) (path : List ℕ) (d : ℕ) where
   abbrev by : List (List ℕ) → List (List ℕ)
   by rows = map (write order) rows
 
-  -- the state after nodes that listed these rows
+  -- the state after so many of the nodes
+  abbrev after : ℕ → ℕ → ℕ → List (List ℕ) → State
+  after made plans stop rows = record { tally = tallyBy order all made; plans = plans; stop = stop; list = kept (by rows) out; last = lastOf path (take made all) }
+
   abbrev from : ℕ → List (List ℕ) → State
-  from made rows = record { tally = tallyBy order p made; plans = length rows; stop = ALL; list = kept (by rows) out }
+  from made rows = after made (length rows) ALL rows
 
+  -- and at the end of a run that had made d nodes before them
   abbrev to : Result → State
-  to r = record { tally = tallyBy order p (nodesIn (r .ending)); plans = plansIn (r .ending); stop = stopIn (r .ending); list = kept (by (r .rows)) out }
+  to r = after (nodesIn (r .ending) - d) (plansIn (r .ending)) (stopIn (r .ending)) (r .rows)
 
-  -- the tally of the nodes made, and of the next
-  tally-next : (made : ℕ) (t : List ℕ) (ts : List (List ℕ)) → drop made (nodes p) ≡ t ∷ ts → withNode (at order (settledBy t)) (tallyBy order p made) ≡ tallyBy order p (suc made)
+  ended-at : (made so : ℕ) → so ≡ made + d → (plans stop : ℕ) (rows : List (List ℕ)) → after made plans stop rows ≡ after (so - d) plans stop rows
+  ended-at made so e plans stop rows = ap (λ (k : ℕ). after k plans stop rows) (let q : made ≡ so - d = omega arith in q)
+
+  -- the nodes made, and the next
+  tally-next : (made : ℕ) (t : List ℕ) (ts : List (List ℕ)) → drop made all ≡ t ∷ ts → withNode (at order (settledBy t)) (tallyBy order all made) ≡ tallyBy order all (suc made)
   unfolding tallyBy
   tally-next made t ts e =
       ap₂ (λ (n : ℕ) (l : List ℕ). record { nodes = n; counts = l }) (add-one made)
-      (sym (counts-snoc (λ u. at order (settledBy u)) (take made (nodes p)) t) ∙ ap (countsBy (λ u. at order (settledBy u))) (sym (take-next made (nodes p) t ts e)))
+      (sym (counts-snoc (λ u. at order (settledBy u)) (take made all) t) ∙ ap (countsBy (λ u. at order (settledBy u))) (sym (take-next made all t ts e)))
 
-  nodes-by : (made : ℕ) → tallyBy order p made .nodes ≡ made
+  last-next : (made : ℕ) (t : List ℕ) (ts : List (List ℕ)) → drop made all ≡ t ∷ ts → t ≡ lastOf path (take (suc made) all)
+  last-next made t ts e = sym (ap (lastOf path) (take-next made all t ts e) ∙ last-snoc path (take made all) t)
+
+  nodes-by : (made : ℕ) → tallyBy order all made .nodes ≡ made
   unfolding tallyBy
   nodes-by made = refl
 
-  walk-search : (ts : List (List ℕ)) (made : ℕ) (rows : List (List ℕ)) → drop made (nodes p) ≡ ts → length (flat (by rows)) ≡ length rows * p .variables → length rows * p .variables ≤ bytes →
-      walk p order limit room ts (from made rows) ≡ to (search p limit bytes ts made rows)
+  walk-search : (ts : List (List ℕ)) (made so : ℕ) (rows : List (List ℕ)) → so ≡ made + d → drop made all ≡ ts → length (flat (by rows)) ≡ length rows * p .variables → length rows * p .variables ≤ bytes →
+      walk p order limit room ts (from made rows) ≡ to (search p (limit + d) bytes ts so rows)
   unfolding walk search
-  walk-search [] made rows d z h = refl
-  walk-search (t ∷ ts) made rows d z h =
-      go (walk-search ts (suc made) rows (drop-next made (nodes p) t ts d) z h) (walk-search ts (suc made) (rows ++ (t ∷ [])) (drop-next made (nodes p) t ts d))
-      (eqb made limit) refl (isPlan p t) refl (leb (suc (length rows) * p .variables) bytes) refl
-      ∙ ap to (sym (search-turn p limit bytes t ts made rows))
+  walk-search [] made so rows e g z h = ended-at made so e (length rows) ALL rows
+  walk-search (t ∷ ts) made so rows sum g z h =
+      go (walk-search ts (suc made) (suc so) rows (omega arith) (drop-next made all t ts g) z h) (walk-search ts (suc made) (suc so) (rows ++ (t ∷ [])) (omega arith) (drop-next made all t ts g))
+      (eqb so (limit + d)) refl (isPlan p t) refl (leb (suc (length rows) * p .variables) bytes) refl
+      ∙ ap to (sym (search-turn p (limit + d) bytes t ts so rows))
     where
       s : State
       s = from made rows
@@ -116,22 +133,22 @@ module _ (p : Problem) (order : List ℕ) (sized : length order ≡ p .variables
       x = at order (settledBy t)
 
       S : Result
-      S = record { ending = spent (length rows) made; rows = rows }
+      S = record { ending = spent (length rows) so; rows = rows }
 
       N : Result
-      N = search p limit bytes ts (suc made) rows
+      N = search p (limit + d) bytes ts (suc so) rows
 
       F : Result
-      F = record { ending = full (length rows) (suc made); rows = rows }
+      F = record { ending = full (length rows) (suc so); rows = rows }
 
       Y : Result
-      Y = search p limit bytes ts (suc made) (rows ++ (t ∷ []))
+      Y = search p (limit + d) bytes ts (suc so) (rows ++ (t ∷ []))
 
-      next : counted x (from made rows) ≡ from (suc made) rows
-      next = ap (λ (a : Tally). record { tally = a; plans = length rows; stop = ALL; list = kept (by rows) out }) (tally-next made t ts d)
+      next : counted x t (from made rows) ≡ from (suc made) rows
+      next = ap₂ (λ (a : Tally) (u : List ℕ). record { tally = a; plans = length rows; stop = ALL; list = kept (by rows) out; last = u }) (tally-next made t ts g) (last-next made t ts g)
 
-      due : eqb made limit ≡ false → from made rows .tally .nodes ≡ limit → ⊥
-      due e q = eqb-false made limit e (sym (nodes-by made) ∙ q)
+      due : eqb so (limit + d) ≡ false → from made rows .tally .nodes ≡ limit → ⊥
+      due e q = let m : made ≡ limit = sym (nodes-by made) ∙ q in eqb-false so (limit + d) e (omega arith)
 
       more : bytes < suc (length rows) * p .variables → room < suc (length rows)
       more l = go′ (decLt room (suc (length rows)))
@@ -147,14 +164,15 @@ module _ (p : Problem) (order : List ℕ) (sized : length order ≡ p .variables
           go′ (yes d) = d
           go′ (no d) = let k : suc room * p .variables ≤ suc (length rows) * p .variables = mul-le-mul-right (p .variables) (omega arith) in absurd (omega arith)
 
-      go : walk p order limit room ts (from (suc made) rows) ≡ to (search p limit bytes ts (suc made) rows) →
+      go : walk p order limit room ts (from (suc made) rows) ≡ to N →
           (length (flat (by (rows ++ (t ∷ [])))) ≡ length (rows ++ (t ∷ [])) * p .variables → length (rows ++ (t ∷ [])) * p .variables ≤ bytes →
-          walk p order limit room ts (from (suc made) (rows ++ (t ∷ []))) ≡ to (search p limit bytes ts (suc made) (rows ++ (t ∷ [])))) →
-          (b : Bool) → eqb made limit ≡ b → (c : Bool) → isPlan p t ≡ c → (d : Bool) → leb (suc (length rows) * p .variables) bytes ≡ d →
+          walk p order limit room ts (from (suc made) (rows ++ (t ∷ []))) ≡ to Y) →
+          (b : Bool) → eqb so (limit + d) ≡ b → (c : Bool) → isPlan p t ≡ c → (d : Bool) → leb (suc (length rows) * p .variables) bytes ≡ d →
           walk p order limit room ts (visit p order limit room t s) ≡ to (turn b c d S N F Y)
       go ih jh true e c e′ d′ e″ =
-          ap (walk p order limit room ts) (visit-spent p order limit room t s refl (nodes-by made ∙ eqb-true made limit e))
+          ap (walk p order limit room ts) (visit-spent p order limit room t s refl (nodes-by made ∙ (let q = eqb-true so (limit + d) e in omega arith)))
           ∙ walk-stopped p order limit room ts _ (λ q. omega arith)
+          ∙ ended-at made so sum (length rows) SPENT rows
       go ih jh false e false e′ d′ e″ =
           ap (walk p order limit room ts) (visit-other p order limit room t s refl (due e) e′ ∙ next) ∙ ih
       go ih jh false e true e′ false e″ =
@@ -162,6 +180,7 @@ module _ (p : Problem) (order : List ℕ) (sized : length order ≡ p .variables
           ap (walk p order limit room ts)
           (visit-plan p order limit room t s refl (due e) e′ ∙ ap (listed (p .variables) room (write order t)) next ∙ listed-full (p .variables) room (write order t) _ (more l))
           ∙ walk-stopped p order limit room ts _ (λ q. omega arith)
+          ∙ ended-at (suc made) (suc so) (omega arith) (length rows) FULL rows
       go ih jh false e true e′ true e″ =
           let l = leb-true (suc (length rows) * p .variables) bytes e″ in
           let g : length (rows ++ (t ∷ [])) ≡ suc (length rows) = length-append rows (t ∷ []) ∙ omega arith in
@@ -172,24 +191,34 @@ module _ (p : Problem) (order : List ℕ) (sized : length order ≡ p .variables
           let q : suc (length rows) * p .variables ≡ length rows * p .variables + p .variables = omega arith in
           ap (walk p order limit room ts)
           (visit-plan p order limit room t s refl (due e) e′ ∙ ap (listed (p .variables) room (write order t)) next ∙ listed-kept (p .variables) room (write order t) _ (less l)
-          ∙ ap₂ (λ (k : ℕ) (l : List ℕ). record { tally = tallyBy order p (suc made); plans = k; stop = ALL; list = l }) (sym g) (kept-snoc (by rows) (write order t) out (length rows * p .variables) z (λ o. let s = same o in omega arith) ∙ ap (λ (l : List (List ℕ)). kept l out) (sym m)))
+          ∙ ap₂ (λ (k : ℕ) (l : List ℕ). record { tally = tallyBy order all (suc made); plans = k; stop = ALL; list = l; last = lastOf path (take (suc made) all) }) (sym g) (kept-snoc (by rows) (write order t) out (length rows * p .variables) z (λ o. let s = same o in omega arith) ∙ ap (λ (l : List (List ℕ)). kept l out) (sym m)))
           ∙ jh (f ∙ (omega arith) ∙ ap (λ (k : ℕ). k * p .variables) (sym g)) (subst (λ (k : ℕ). k * p .variables ≤ bytes) (sym g) l)
 
-  nothing-kept : kept [] out ≡ out
-  unfolding kept written flat
-  nothing-kept = go (eqb (length out) 0)
-    where
-      go : (b : Bool) → choose b out out ≡ out
-      go true = refl
-      go false = refl
+  -- along all the nodes, from nothing counted and rows that stand in the list
+  pub outcome-on : (rows : List (List ℕ)) → length (flat (by rows)) ≡ length rows * p .variables → length rows * p .variables ≤ bytes → kept (by rows) out ≡ out →
+      walk p order limit room all (record { tally = noNodes; plans = length rows; stop = ALL; list = out; last = path }) ≡ to (search p (limit + d) bytes all d rows)
+  unfolding tallyBy countsBy tabulate keep lastOf
+  outcome-on rows z h e =
+      ap (λ (l : List ℕ). walk p order limit room all (record { tally = noNodes; plans = length rows; stop = ALL; list = l; last = path })) (sym e)
+      ∙ walk-search all 0 d rows (omega arith) refl z h
 
-  nothing-flat : length (flat (by [])) ≡ 0
-  unfolding flat
-  nothing-flat = refl
+nothing-kept : (out : List ℕ) → kept [] out ≡ out
+unfolding kept written flat
+nothing-kept out = go (eqb (length out) 0)
+  where
+    go : (b : Bool) → choose b out out ≡ out
+    go true = refl
+    go false = refl
 
-  -- the whole tree, from nothing counted and nothing listed
-  pub outcome : walk p order limit room (nodes p) (record { tally = noNodes; plans = 0; stop = ALL; list = out }) ≡ to (resultOf p limit bytes)
-  unfolding resultOf tallyBy countsBy tabulate keep
+-- the whole tree, from nothing counted and nothing listed
+module _ (p : Problem) (order : List ℕ) (sized : length order ≡ p .variables) (limit room bytes : ℕ) (out last : List ℕ) (fits : room * p .variables ≤ bytes) (most : bytes < suc room * p .variables) (same : (length out ≡ 0 → ⊥) → bytes ≡ length out) where
+  abbrev r : Result
+  r = resultOf p limit bytes
+
+  pub outcome : walk p order limit room (nodes p) (record { tally = noNodes; plans = 0; stop = ALL; list = out; last = last })
+      ≡ record { tally = tallyBy order (nodes p) (nodesIn (r .ending)); plans = plansIn (r .ending); stop = stopIn (r .ending); list = kept (map (write order) (r .rows)) out; last = lastOf last (take (nodesIn (r .ending)) (nodes p)) }
+  unfolding resultOf flat
   outcome =
-      ap (λ (l : List ℕ). walk p order limit room (nodes p) (record { tally = noNodes; plans = 0; stop = ALL; list = l })) (sym nothing-kept)
-      ∙ walk-search (nodes p) 0 [] refl (nothing-flat ∙ omega arith) (omega arith)
+      outcome-on p order sized limit room bytes out fits most same (nodes p) last 0 [] (omega arith) (omega arith) (nothing-kept out)
+      ∙ ap (λ (k : ℕ). to p order sized limit room bytes out fits most same (nodes p) last 0 (search p k bytes (nodes p) 0 [])) (let e : limit + 0 ≡ limit = omega arith in e)
+      ∙ ap (λ (k : ℕ). after p order sized limit room bytes out fits most same (nodes p) last 0 k (plansIn (r .ending)) (stopIn (r .ending)) (r .rows)) (sub-zero (nodesIn (r .ending)))

@@ -65,14 +65,14 @@ module _ (p : Problem) (order : List ℕ) (limit room k : ℕ) (prefix : List �
 
   -- ---- a node and those below it: dead, a plan, or neither
   module _ (t : List ℕ) (s : State) (going : s .stop ≡ ALL) (allowed : s .tally .nodes ≡ limit → ⊥) where
-    pub node-dead : isLive p t ≡ false → walk p order limit room (t ∷ nodesBelow p k t) s ≡ counted (at order (settledBy t)) s
+    pub node-dead : isLive p t ≡ false → walk p order limit room (t ∷ nodesBelow p k t) s ≡ counted (at order (settledBy t)) t s
     unfolding walk
     node-dead d = ap₂ (walk p order limit room) (dead-below p k t d) (visit-other p order limit room t s going allowed (dead-no-plan p t d))
 
-    pub node-plan : isLive p t ≡ true → length t ≡ p .variables → k ≡ 0 → walk p order limit room (t ∷ nodesBelow p k t) s ≡ listed (p .variables) room (write order t) (counted (at order (settledBy t)) s)
+    pub node-plan : isLive p t ≡ true → length t ≡ p .variables → k ≡ 0 → walk p order limit room (t ∷ nodesBelow p k t) s ≡ listed (p .variables) room (write order t) (counted (at order (settledBy t)) t s)
     unfolding walk nodesBelow
     node-plan l n z = ap₂ (λ (j : ℕ) (u : State). walk p order limit room (nodesBelow p j t) u) z (visit-plan p order limit room t s going allowed (is-plan p t n l))
 
-    pub node-inner : (length t ≡ p .variables → ⊥) → walk p order limit room (t ∷ nodesBelow p k t) s ≡ walk p order limit room (nodesBelow p k t) (counted (at order (settledBy t)) s)
+    pub node-inner : (length t ≡ p .variables → ⊥) → walk p order limit room (t ∷ nodesBelow p k t) s ≡ walk p order limit room (nodesBelow p k t) (counted (at order (settledBy t)) t s)
     unfolding walk
     node-inner n = ap (walk p order limit room (nodesBelow p k t)) (visit-other p order limit room t s going allowed (short-no-plan p t n))

@@ -22,7 +22,7 @@ use Rattle.model.proofs.Tree.{well-sized}
 use Rattle.model.specs.WellFormed.{WellFormed}
 use Rattle.order.specs.Order.{Ordering}
 use Rattle.order.specs.Reordered.{write}
-use Rattle.layout.specs.Places.{VARIABLES, LIMIT, ROOM, PLANS, MARKS, ALL, SPENT, DEEPER}
+use Rattle.layout.specs.Places.{VARIABLES, LIMIT, ROOM, PLANS, LAST, MARKS, ALL, SPENT, DEEPER}
 use Rattle.prune.specs.Node.{Ready, Holds, Marked, AtNode, Reached, longer}
 use Rattle.prune.proofs.Marks.{marked-on}
 use Rattle.search.specs.Walk.{withNode, Summed, State, listed, counted, walk, nodesFor}
@@ -60,6 +60,37 @@ held-on p stack stack′ k ds w e h = record {
   sets = λ x l. e (16 * k + x) (let f = w .few in omega arith) ∙ h .sets x l;
   unused = λ x l u. e (16 * k + x) (omega arith) ∙ h .unused x l u;
 }
+
+-- a walk below a prefix, or below a longer one, leaves what is known at it
+module _ (p : Problem) (stack work supports tables numbers list : List ℕ) (tally : Tally) (k : ℕ) (h : AtPrefix p stack work supports tables numbers list tally k)
+    (j : ℕ) (lower : k ≤ j) (ts : List (List ℕ)) (stack′ work′ list′ : List ℕ) (tally′ : Tally) (stop : ℕ) (d : Walked p ts stack work numbers list tally j stack′ work′ list′ tally′ stop) where
+  pub same : prefixOf work′ k ≡ prefixOf work k
+  same = prefix-ext work′ work k (λ i l. d .values i (omega arith))
+
+  fits : Fits p (at numbers LIMIT) (at numbers ROOM) (length list) (stateOf tally′ work′ stop list′)
+  fits =
+      subst (Fits p (at numbers LIMIT) (at numbers ROOM) (length list)) (sym (d .state))
+      (walk-fits p (orderIn numbers (p .variables)) (length-order numbers (p .variables)) (at numbers LIMIT) (at numbers ROOM) (length list) (h .room .fits) ts (stateOf tally work ALL list)
+      record { allowed = h .allowed; sized = refl; roomy = h .room .listed })
+
+  pub prefix-on : AtPrefix p stack′ work′ supports tables numbers list′ tally′ k
+  prefix-on = record {
+    ready = ready-on (h .ready) (d .stack-length) (d .work-length);
+    inner = h .inner;
+    live = subst (λ (q : List ℕ). T (isLive p q)) (sym same) (h .live);
+    held = held-on (ownIn p numbers) stack stack′ k (setsAt p (prefixOf work′ k)) (h .ready .wellFormed) (λ i l. d .sets i (omega arith)) (subst (λ (q : List ℕ). Holds (ownIn p numbers) stack k (setsAt p q)) (sym same) (h .held));
+    marked = marked-on (ownIn p numbers) (p .symmetries) work work′ (prefixOf work′ k) k (h .ready .symmetries) (λ i l u. d .marks i l (omega arith)) (subst (λ (q : List ℕ). Marked (ownIn p numbers) (p .symmetries) work q k) (sym same) (h .marked));
+    limited = h .limited;
+    allowed = fits .allowed;
+    summed = d .summed;
+    order = h .order;
+    room = record {
+      some = h .room .some;
+      fits = subst (λ (n : ℕ). (n ≡ 0 → ⊥) → at numbers ROOM * p .variables ≤ n) (sym (fits .sized)) (h .room .fits);
+      listed = fits .roomy;
+      small = h .room .small;
+    };
+  }
 
 module _ (p : Problem) (stack work supports tables numbers list : List ℕ) (tally : Tally) (k m : ℕ) (h : AtValues p stack work supports tables numbers list tally k m) where
   abbrev pre : List ℕ
@@ -110,8 +141,8 @@ module _ (p : Problem) (stack work supports tables numbers list : List ℕ) (tal
     }
 
     module _ (stack′ work′ list′ : List ℕ) (tally′ : Tally) (stop : ℕ) (d : Walked p (lowestTried p work k m) stack work numbers list tally k stack′ work′ list′ tally′ stop) where
-      same : prefixOf work′ k ≡ pre
-      same = prefix-ext work′ work k (d .values)
+      same-prefix : prefixOf work′ k ≡ pre
+      same-prefix = prefix-ext work′ work k (d .values)
 
       pub turn-stops : (stop ≡ ALL → ⊥) → Walked p (tried p work k m) stack work numbers list tally k stack′ work′ list′ tally′ stop
       turn-stops n = record {
@@ -126,39 +157,18 @@ module _ (p : Problem) (stack work supports tables numbers list : List ℕ) (tal
         work-length = d .work-length;
       }
 
-      fits : Fits p limit room (length list) (stateOf tally′ work′ stop list′)
-      fits =
-          subst (Fits p limit room (length list)) (sym (d .state))
-          (walk-fits p order (length-order numbers (p .variables)) limit room (length list) (h .prefix .room .fits) (lowestTried p work k m) now-at record { allowed = h .prefix .allowed; sized = refl; roomy = h .prefix .room .listed })
-
       pub turn-asks : AtValues p stack′ work′ supports tables numbers list′ tally′ k more
       turn-asks = record {
-        prefix = record {
-          ready = ready-on (h .prefix .ready) (d .stack-length) (d .work-length);
-          inner = h .prefix .inner;
-          live = subst (λ (q : List ℕ). T (isLive p q)) (sym same) (h .prefix .live);
-          held = held-on (ownIn p numbers) stack stack′ k (setsAt p (prefixOf work′ k)) (h .prefix .ready .wellFormed) (d .sets) (subst (λ (q : List ℕ). Holds (ownIn p numbers) stack k (setsAt p q)) (sym same) (h .prefix .held));
-          marked = marked-on (ownIn p numbers) (p .symmetries) work work′ (prefixOf work′ k) k (h .prefix .ready .symmetries) (d .marks) (subst (λ (q : List ℕ). Marked (ownIn p numbers) (p .symmetries) work q k) (sym same) (h .prefix .marked));
-          limited = h .prefix .limited;
-          allowed = fits .allowed;
-          summed = d .summed;
-          order = h .prefix .order;
-          room = record {
-            some = h .prefix .room .some;
-            fits = subst (λ (n : ℕ). (n ≡ 0 → ⊥) → room * p .variables ≤ n) (sym (fits .sized)) (h .prefix .room .fits);
-            listed = fits .roomy;
-            small = h .prefix .room .small;
-          };
-        };
+        prefix = prefix-on p stack work supports tables numbers list tally k (h .prefix) k (omega arith) (lowestTried p work k m) stack′ work′ list′ tally′ stop d;
         inside = λ v t.
-            subst (λ (q : List ℕ). T (has (at (setsAt p q) k) v)) (sym same)
+            subst (λ (q : List ℕ). T (has (at (setsAt p q) k) v)) (sym same-prefix)
             (h .inside v (both-l (has m v) _ (mask-e _ v t .1)));
       }
 
       pub turn-goes : stop ≡ ALL → (stack″ work″ list″ : List ℕ) (tally″ : Tally) (stop″ : ℕ) → Walked p (tried p work′ k more) stack′ work′ numbers list′ tally′ k stack″ work″ list″ tally″ stop″ →
           Walked p (tried p work k m) stack work numbers list tally k stack″ work″ list″ tally″ stop″
       turn-goes g stack″ work″ list″ tally″ stop″ w = record {
-        state = w .state ∙ ap₂ (λ (q : List ℕ) (s : State). walk p order limit room (nodesFor p left q more) s) same (ap (λ (s : ℕ). stateOf tally′ work′ s list′) (sym g) ∙ d .state)
+        state = w .state ∙ ap₂ (λ (q : List ℕ) (s : State). walk p order limit room (nodesFor p left q more) s) same-prefix (ap (λ (s : ℕ). stateOf tally′ work′ s list′) (sym g) ∙ d .state)
             ∙ sym (step p order limit room left pre m some small now-at refl);
         summed = w .summed;
         sets = λ i l. w .sets i l ∙ d .sets i l;
@@ -183,7 +193,7 @@ module _ (p : Problem) (stack work supports tables numbers list : List ℕ) (tal
       ∙ sym (below-is p (p .variables - (k + 1)) (prefixOf work k))
       ∙ ap (λ (j : ℕ). nodesBelow p j (prefixOf work k)) (sym e)
 
--- ---- `enter`: the lowest value v stands in `work`, and `child` has answered
+-- ---- `enter`: the lowest value v stands in `work`, with the number of values that are a node now, and `child` has answered
 module _ (p : Problem) (stack work supports tables numbers list : List ℕ) (tally : Tally) (k m : ℕ) (g : AtValue p stack work supports tables numbers list tally k m) (small : m < 2 ^ 16) (v : ℕ) (lowest : v ≡ lowestOf m) where
   abbrev h : AtPrefix p stack work supports tables numbers list tally k
   h = g .values .prefix
@@ -192,30 +202,39 @@ module _ (p : Problem) (stack work supports tables numbers list : List ℕ) (tal
   here = lowestNode work k m
 
   abbrev put : List ℕ
-  put = set work k v
+  put = set (set work k v) LAST (k + 1)
 
   within : k < length work
   within = let f = h .ready .wellFormed .few in let i = h .inner in let w = h .ready .work-length in omega arith
 
-  kept : (i : ℕ) → (i ≡ k → ⊥) → at put i ≡ at work i
-  kept i l = at-set-other work k v i l
+  early : k < 12
+  early = let f = h .ready .wellFormed .few in let i = h .inner in omega arith
+
+  length-put : length put ≡ length work
+  length-put = length-set (set work k v) LAST (k + 1) ∙ length-set work k v
+
+  kept : (i : ℕ) → (i ≡ k → ⊥) → (i ≡ LAST → ⊥) → at put i ≡ at work i
+  kept i l o = at-set-other (set work k v) LAST (k + 1) i o ∙ at-set-other work k v i l
+
+  before : (i : ℕ) → i < k → at put i ≡ at work i
+  before i l = let f = early in kept i (λ e. omega arith) (λ e. omega arith)
 
   value : at put k ≡ lowestOf m
-  value = at-set work k v within ∙ lowest
+  value = at-set-other (set work k v) LAST (k + 1) k (let f = early in λ e. omega arith) ∙ at-set work k v within ∙ lowest
 
   taken : take k put ≡ prefixOf work k
-  taken = prefix-take put k (let e = length-set work k v in let w = within in omega arith) ∙ prefix-ext put work k (λ i l. kept i (λ e. omega arith))
+  taken = prefix-take put k (let e = length-put in let w = within in omega arith) ∙ prefix-ext put work k before
 
   longer-is : longer put k ≡ here
   longer-is = ap₂ (λ (q : List ℕ) (u : ℕ). q ++ (u ∷ [])) taken value
 
   pub child-asks : AtNode (ownIn p numbers) (p .symmetries) stack put supports tables numbers k
   child-asks = record {
-    ready = ready-on (h .ready) refl (length-set work k v);
+    ready = ready-on (h .ready) refl length-put;
     room = h .inner;
     live = subst (λ (q : List ℕ). T (isLive p q)) (sym taken) (h .live);
     held = subst (λ (q : List ℕ). Holds (ownIn p numbers) stack k (setsAt p q)) (sym taken) (h .held);
-    marked = marked-on (ownIn p numbers) (p .symmetries) work put (take k put) k (h .ready .symmetries) (λ i l u. kept i (let f = h .ready .wellFormed .few in let n = h .inner in λ e. omega arith))
+    marked = marked-on (ownIn p numbers) (p .symmetries) work put (take k put) k (h .ready .symmetries) (λ i l u. let f = early in kept i (λ e. omega arith) (λ e. omega arith))
         (subst (λ (q : List ℕ). Marked (ownIn p numbers) (p .symmetries) work q k) (sym taken) (h .marked));
     member = subst (λ (u : ℕ). T (has (at (setsAt p (take k put)) k) u)) (sym value)
         (subst (λ (q : List ℕ). T (has (at (setsAt p q) k) (lowestOf m))) (sym taken) (g .values .inside (lowestOf m) (lowest-in m small (λ e. let o = g .some in omega arith))));
@@ -238,27 +257,30 @@ module _ (p : Problem) (stack work supports tables numbers list : List ℕ) (tal
     sets₂ : (i : ℕ) → i < 16 * suc k → at stack₂ i ≡ at stack i
     sets₂ i l = q .before i (omega arith)
 
-    values₂ : (i : ℕ) → i < 16 * suc (suc k) → (i ≡ k → ⊥) → at work₂ i ≡ at work i
-    values₂ i l o = q .kept i (omega arith) ∙ kept i o
+    values₂ : (i : ℕ) → i < 16 * suc (suc k) → (i ≡ k → ⊥) → (i ≡ LAST → ⊥) → at work₂ i ≡ at work i
+    values₂ i l o n = q .kept i (omega arith) ∙ kept i o n
 
     before₂ : (i : ℕ) → i < k → at work₂ i ≡ at work i
-    before₂ i l = values₂ i (omega arith) (λ e. omega arith)
+    before₂ i l = let f = early in values₂ i (omega arith) (λ e. omega arith) (λ e. omega arith)
 
     marks₂ : (i : ℕ) → MARKS ≤ i → i < 16 * suc (suc k) → at work₂ i ≡ at work i
-    marks₂ i l u = values₂ i u (let f = h .ready .wellFormed .few in let n = h .inner in λ e. omega arith)
+    marks₂ i l u = let f = early in values₂ i u (λ e. omega arith) (λ e. omega arith)
 
     plans₂ : at work₂ PLANS ≡ at work PLANS
-    plans₂ = values₂ PLANS (omega arith) (let f = h .ready .wellFormed .few in let n = h .inner in λ e. omega arith)
+    plans₂ = let f = early in values₂ PLANS (omega arith) (λ e. omega arith) (λ e. omega arith)
+
+    last₂ : at work₂ LAST ≡ k + 1
+    last₂ = q .kept LAST (omega arith) ∙ at-set (set work k v) LAST (k + 1) (let e = length-set work k v in let w = h .ready .work-length in omega arith)
 
     work-length₂ : length work₂ ≡ length work
-    work-length₂ = q .work-length ∙ length-set work k v
+    work-length₂ = q .work-length ∙ length-put
 
     node₂ : prefixOf work₂ (k + 1) ≡ here
     node₂ =
         ap (prefixOf work₂) (add-one k)
         ∙ prefix-ext work₂ put (suc k) (λ i l. q .kept i (omega arith))
         ∙ sym (prefix-snoc put k)
-        ∙ ap₂ (λ (t : List ℕ) (u : ℕ). t ++ (u ∷ [])) (prefix-ext put work k (λ i l. kept i (λ e. omega arith))) value
+        ∙ ap₂ (λ (t : List ℕ) (u : ℕ). t ++ (u ∷ [])) (prefix-ext put work k before) value
 
     length-node : length here ≡ k + 1
     length-node = ap length (sym node₂) ∙ length-prefix work₂ (k + 1)
@@ -267,10 +289,10 @@ module _ (p : Problem) (stack work supports tables numbers list : List ℕ) (tal
     settled : at (orderIn numbers (p .variables)) (settledBy here) ≡ x
     settled = ap (at (orderIn numbers (p .variables))) (let l = length-node in omega arith) ∙ order-at numbers (p .variables) k (h .inner)
 
-    state₂ : stateOf next work₂ ALL list ≡ counted (at (orderIn numbers (p .variables)) (settledBy here)) (stateOf tally work ALL list)
+    state₂ : stateOf next work₂ ALL list ≡ counted (at (orderIn numbers (p .variables)) (settledBy here)) here (stateOf tally work ALL list)
     state₂ =
-        ap (λ (n : ℕ). record { tally = next; plans = n; stop = ALL; list = list }) plans₂
-        ∙ ap (λ (y : ℕ). counted y (stateOf tally work ALL list)) (sym settled)
+        ap₂ (λ (n : ℕ) (t : List ℕ). record { tally = next; plans = n; stop = ALL; list = list; last = t }) plans₂ (ap (prefixOf work₂) last₂ ∙ node₂)
+        ∙ ap (λ (y : ℕ). counted y here (stateOf tally work ALL list)) (sym settled)
 
     live₂ : dead ≡ false → isLive p here ≡ true
     live₂ e = subst (λ (t : List ℕ). isLive p t ≡ true) longer-is (not-false (isLive p (longer put k)) (sym (q .answers) ∙ e))
@@ -319,7 +341,8 @@ module _ (p : Problem) (stack work supports tables numbers list : List ℕ) (tal
     pub entered-plan : dead ≡ false → k + 1 ≡ p .variables → (work₃ list₃ : List ℕ) (stop : ℕ) → Listed (at numbers VARIABLES) (at numbers ROOM) (orderIn numbers (at numbers VARIABLES)) work₂ list work₃ list₃ stop → Out stack₂ work₃ list₃ stop
     entered-plan e n work₃ list₃ stop w = record {
       walked = λ z. record {
-        state = w .state next
+        state = w .state next (prefixOf work₃ (at work₃ LAST))
+            ∙ ap (λ (t : List ℕ). listed (at numbers VARIABLES) (at numbers ROOM) (write (orderIn numbers (at numbers VARIABLES)) (prefixOf work₂ (at numbers VARIABLES))) record { tally = next; plans = at work₂ PLANS; stop = ALL; list = list; last = t }) last₃
             ∙ ap (λ (j : ℕ). listed j (at numbers ROOM) (write (orderIn numbers j) (prefixOf work₂ j)) (stateOf next work₂ ALL list)) (h .ready .indexed .numbered .variables)
             ∙ ap₂ (λ (t : List ℕ) (s : State). listed (p .variables) (at numbers ROOM) (write (orderIn numbers (p .variables)) t) s) (ap (prefixOf work₂) (sym n) ∙ node₂) state₂
             ∙ sym (node-plan p (orderIn numbers (p .variables)) (at numbers LIMIT) (at numbers ROOM) (p .variables - (k + 1)) (prefixOf work k) here (stateOf tally work ALL list) refl (g .due) (live₂ e) (length-node ∙ n) (omega arith));
@@ -333,6 +356,11 @@ module _ (p : Problem) (stack work supports tables numbers list : List ℕ) (tal
       next = λ z. absurd (let l = w .known in omega arith);
       then = λ z. absurd (let l = w .known in omega arith);
     }
+      where
+        last₃ : prefixOf work₃ (at work₃ LAST) ≡ prefixOf work₂ (at work₂ LAST)
+        last₃ =
+            ap (prefixOf work₃) (w .others LAST (λ e. omega arith))
+            ∙ prefix-ext work₃ work₂ (at work₂ LAST) (λ i l. w .others i (let f = early in let a = last₂ in λ e. omega arith))
 
     -- nodes below
     next₂ : dead ≡ false → (k + 1 ≡ p .variables → ⊥) → AtPrefix p stack₂ work₂ supports tables numbers list next (k + 1)

@@ -26,12 +26,12 @@ unfolding write
 length-write order r = length-below (λ x. at r (position order x)) (length order)
 
 -- ---- a plan is found
-pub listed-full : (n room : ℕ) (row : List ℕ) (s : State) → room < suc (s .plans) → listed n room row s ≡ record { tally = s .tally; plans = s .plans; stop = FULL; list = s .list }
+pub listed-full : (n room : ℕ) (row : List ℕ) (s : State) → room < suc (s .plans) → listed n room row s ≡ record { tally = s .tally; plans = s .plans; stop = FULL; list = s .list; last = s .last }
 unfolding listed
 listed-full n room row s h = rw (lt-leb (suc (s .plans)) room h)
 
 pub listed-kept : (n room : ℕ) (row : List ℕ) (s : State) → suc (s .plans) ≤ room →
-    listed n room row s ≡ record { tally = s .tally; plans = suc (s .plans); stop = ALL; list = noted (s .plans * n) row (s .list) }
+    listed n room row s ≡ record { tally = s .tally; plans = suc (s .plans); stop = ALL; list = noted (s .plans * n) row (s .list); last = s .last }
 unfolding listed
 listed-kept n room row s h = rw (le-leb (suc (s .plans)) room h)
 
@@ -60,11 +60,11 @@ module _ (p : Problem) (order : List ℕ) (limit room : ℕ) where
   unfolding visit
   visit-spent t s g h = rw (eq-eqb (s .stop) ALL g, eq-eqb (s .tally .nodes) limit h)
 
-  pub visit-other : (t : List ℕ) (s : State) → s .stop ≡ ALL → (s .tally .nodes ≡ limit → ⊥) → isPlan p t ≡ false → visit p order limit room t s ≡ counted (at order (settledBy t)) s
+  pub visit-other : (t : List ℕ) (s : State) → s .stop ≡ ALL → (s .tally .nodes ≡ limit → ⊥) → isPlan p t ≡ false → visit p order limit room t s ≡ counted (at order (settledBy t)) t s
   unfolding visit
   visit-other t s g h e = rw (eq-eqb (s .stop) ALL g, ne-eqb (s .tally .nodes) limit h, e)
 
-  pub visit-plan : (t : List ℕ) (s : State) → s .stop ≡ ALL → (s .tally .nodes ≡ limit → ⊥) → isPlan p t ≡ true → visit p order limit room t s ≡ listed (p .variables) room (write order t) (counted (at order (settledBy t)) s)
+  pub visit-plan : (t : List ℕ) (s : State) → s .stop ≡ ALL → (s .tally .nodes ≡ limit → ⊥) → isPlan p t ≡ true → visit p order limit room t s ≡ listed (p .variables) room (write order t) (counted (at order (settledBy t)) t s)
   unfolding visit
   visit-plan t s g h e = rw (eq-eqb (s .stop) ALL g, ne-eqb (s .tally .nodes) limit h, e)
 
@@ -115,7 +115,7 @@ module _ (p : Problem) (order : List ℕ) (sized : length order ≡ p .variables
       go true d false e true h =
           let n = eqb-false (s .tally .nodes) limit e in
           subst (Fits p limit room size) (sym (visit-plan p order limit room t s (eqb-true (s .stop) ALL d) n h))
-          (listed-fits (write order t) (counted (at order (settledBy t)) s) (length-write order t ∙ sized) record { allowed = let l = f .allowed in omega arith; sized = f .sized; roomy = f .roomy })
+          (listed-fits (write order t) (counted (at order (settledBy t)) t s) (length-write order t ∙ sized) record { allowed = let l = f .allowed in omega arith; sized = f .sized; roomy = f .roomy })
 
   pub walk-fits : (ts : List (List ℕ)) (s : State) → Fits p limit room size s → Fits p limit room size (walk p order limit room ts s)
   unfolding walk

@@ -35,7 +35,7 @@ use Rattle.lent.specs.Compile.{WithinLimits, CompiledLent}
 use Rattle.lent.proofs.Lent.{passed-all, well-sheet, ordering-lent}
 use Rattle.block.proofs.Tables.{well-formed-with}
 use Rattle.lent.proofs.Blocked.{own-first, block-walked, block-inside}
-use Rattle.layout.specs.Places.{INITIAL, SCOPES, VARIABLES, VALUES, CONSTRAINTS, SYMMETRIES, LIMIT, ROOM, LINKED, BY-ROWS, OTHERS, LOOSE, ORDER, BLOCK, LANES, PLANS, NUMBER, ITEM, ALL, SPENT, DEEPER, REFUSED}
+use Rattle.layout.specs.Places.{INITIAL, SCOPES, VARIABLES, VALUES, CONSTRAINTS, SYMMETRIES, LIMIT, ROOM, LINKED, BY-ROWS, OTHERS, LOOSE, ORDER, BLOCK, LANES, PLANS, LAST, NUMBER, ITEM, ALL, SPENT, DEEPER, REFUSED}
 use Rattle.layout.specs.Layout.{constraintAt, Numbers, Compiled}
 use Rattle.layout.specs.Tables.{Linked, Indexed}
 use Rattle.sheet.proofs.Whole.{zeros}
@@ -463,8 +463,8 @@ prepared-refused task b pairs block limit size number item stack work supports t
     }
 
 -- ---- the search of what was prepared
-abbrev zeroth : List ℕ → State
-zeroth list = record { tally = noNodes; plans = 0; stop = ALL; list = list }
+abbrev zeroth : List ℕ → List ℕ → State
+zeroth last list = record { tally = noNodes; plans = 0; stop = ALL; list = list; last = last }
 
 stop-in : (e : Run.Ending) → stopIn e < DEEPER
 stop-in (finished k u) = omega arith
@@ -472,10 +472,10 @@ stop-in (spent k u) = omega arith
 stop-in (full k u) = omega arith
 
 -- a walk along all nodes is the run
-run-to : (p : Problem) (order : List ℕ) → length order ≡ p .variables → (limit room bytes : ℕ) (list work′ list′ : List ℕ) (tally′ : Tally) (stop : ℕ) → room * p .variables ≤ bytes → bytes < suc room * p .variables → ((length list ≡ 0 → ⊥) → bytes ≡ length list) →
-    stateOf tally′ work′ stop list′ ≡ walk p order limit room (nodes p) (zeroth list) → RunTo p order (resultOf p limit bytes) list work′ list′ tally′ stop
-run-to p order sized limit room bytes list work′ list′ tally′ stop fits most same h =
-    let s = h ∙ outcome p order sized limit room bytes list fits most same in
+run-to : (p : Problem) (order : List ℕ) → length order ≡ p .variables → (limit room bytes : ℕ) (last list work′ list′ : List ℕ) (tally′ : Tally) (stop : ℕ) → room * p .variables ≤ bytes → bytes < suc room * p .variables → ((length list ≡ 0 → ⊥) → bytes ≡ length list) →
+    stateOf tally′ work′ stop list′ ≡ walk p order limit room (nodes p) (zeroth last list) → RunTo p order (resultOf p limit bytes) list work′ list′ tally′ stop
+run-to p order sized limit room bytes last list work′ list′ tally′ stop fits most same h =
+    let s = h ∙ outcome p order sized limit room bytes list last fits most same in
     record {
       tally = ap (λ (x : State). x .tally) s;
       plans = ap (λ (x : State). x .plans) s;
@@ -509,10 +509,14 @@ module _ (task b pairs block : List ℕ) (limit : ℕ) (list stack work supports
       go true = ordering-lent b pairs block (passed-all (verdictLent b pairs block) (h .accepted n)) .sized
       go false = ordering-below (problemOf b .variables) .sized
 
-  ran : (step ≡ REFUSED → ⊥) → (work′ list′ : List ℕ) (tally′ : Tally) (stop : ℕ) → stateOf tally′ work′ stop list′ ≡ walk tree by limit room (nodes tree) (zeroth list) → RunTo tree by (resultFor task b pairs block limit (length list)) list work′ list′ tally′ stop
+  -- the last node made before, which no run has
+  abbrev before : List ℕ
+  before = prefixOf work (at work LAST)
+
+  ran : (step ≡ REFUSED → ⊥) → (work′ list′ : List ℕ) (tally′ : Tally) (stop : ℕ) → stateOf tally′ work′ stop list′ ≡ walk tree by limit room (nodes tree) (zeroth before list) → RunTo tree by (resultFor task b pairs block limit (length list)) list work′ list′ tally′ stop
   ran n work′ list′ tally′ stop =
       let some = well-sheet b pairs block (passed-all (verdictLent b pairs block) (h .accepted n)) .some in
-      run-to tree by (sized n) limit room (bytesFor (at task WANTED) (problemOf b .variables) (length list)) list work′ list′ tally′ stop (room-fits (at task WANTED) (problemOf b .variables) (length list) some) (room-most (at task WANTED) (problemOf b .variables) (length list) some)
+      run-to tree by (sized n) limit room (bytesFor (at task WANTED) (problemOf b .variables) (length list)) before list work′ list′ tally′ stop (room-fits (at task WANTED) (problemOf b .variables) (length list) some) (room-most (at task WANTED) (problemOf b .variables) (length list) some)
       (room-lent (at task WANTED) (problemOf b .variables) (length list) unlisted)
 
   pub explored-dead : (tally tally′ : Tally) (stop : ℕ) → step ≡ ALL → stop ≡ ALL → Cleared tally′ → Explored task b pairs block limit list tally work list tally′ stop
@@ -525,11 +529,11 @@ module _ (task b pairs block : List ℕ) (limit : ℕ) (list stack work supports
     known = λ z. omega arith;
   }
     where
-      none : stateOf tally′ work stop list ≡ walk tree by limit room (nodes tree) (zeroth list)
+      none : stateOf tally′ work stop list ≡ walk tree by limit room (nodes tree) (zeroth before list)
       none =
-          ap₂ (λ (a : Tally) (k : ℕ). record { tally = a; plans = k; stop = stop; list = list }) (t .is) (h .begun (λ f. omega arith))
-          ∙ ap (λ (k : ℕ). record { tally = noNodes; plans = 0; stop = k; list = list }) s
-          ∙ sym (ap (λ (ts : List (List ℕ)). walk tree by limit room ts (zeroth list)) (dead-below tree (tree .variables) [] (h .dead e)))
+          ap₂ (λ (a : Tally) (k : ℕ). record { tally = a; plans = k; stop = stop; list = list; last = before }) (t .is) (h .begun (λ f. omega arith))
+          ∙ ap (λ (k : ℕ). record { tally = noNodes; plans = 0; stop = k; list = list; last = before }) s
+          ∙ sym (ap (λ (ts : List (List ℕ)). walk tree by limit room ts (zeroth before list)) (dead-below tree (tree .variables) [] (h .dead e)))
 
   module _ (e : step ≡ DEEPER) (count : Tally) (none : Cleared count) (values : ℕ) (all : values ≡ at stack (17 * 0)) where
     abbrev given : AtPrefix tree stack work supports tables numbers list count 0
@@ -539,14 +543,14 @@ module _ (task b pairs block : List ℕ) (limit : ℕ) (list stack work supports
     start-asks = subst (AtValues tree stack work supports tables numbers list count 0) (sym all) (values-ask tree stack work supports tables numbers list count 0 given)
 
     module _ (tally : Tally) (stack′ work′ list′ : List ℕ) (tally′ : Tally) (stop : ℕ) (w : Walked tree (tried tree work 0 values) stack work numbers list count 0 stack′ work′ list′ tally′ stop) where
-      whole : stateOf tally′ work′ stop list′ ≡ walk tree by limit room (nodes tree) (zeroth list)
+      whole : stateOf tally′ work′ stop list′ ≡ walk tree by limit room (nodes tree) (zeroth before list)
       unfolding nodes
       whole =
           w .state
           ∙ ap₂ (λ (k : ℕ) (ts : List (List ℕ)). walk tree (orderIn numbers (tree .variables)) k (at numbers ROOM) ts (stateOf count work ALL list)) (h .bounded e)
           (ap (tried tree work 0) all ∙ tried-all tree stack work supports tables numbers list count 0 given ∙ ap₂ (nodesBelow tree) (sub-zero (tree .variables)) (prefix-zero work))
-          ∙ ap₂ (λ (a : Tally) (k : ℕ). walk tree (orderIn numbers (tree .variables)) limit (at numbers ROOM) (nodesBelow tree (tree .variables) []) (record { tally = a; plans = k; stop = ALL; list = list })) (none .is) (h .begun (λ f. omega arith))
-          ∙ ap₂ (λ (o : List ℕ) (k : ℕ). walk tree o limit k (nodesBelow tree (tree .variables) []) (zeroth list)) (h .order e) (h .roomy e)
+          ∙ ap₂ (λ (a : Tally) (k : ℕ). walk tree (orderIn numbers (tree .variables)) limit (at numbers ROOM) (nodesBelow tree (tree .variables) []) (record { tally = a; plans = k; stop = ALL; list = list; last = before })) (none .is) (h .begun (λ f. omega arith))
+          ∙ ap₂ (λ (o : List ℕ) (k : ℕ). walk tree o limit k (nodesBelow tree (tree .variables) []) (zeroth before list)) (h .order e) (h .roomy e)
 
       abbrev ended-so : RunTo tree by (resultFor task b pairs block limit (length list)) list work′ list′ tally′ stop
       ended-so = ran (λ f. omega arith) work′ list′ tally′ stop whole
@@ -597,7 +601,7 @@ pub record Ran (task b pairs block : List ℕ) (limit : ℕ) (list : List ℕ) (
   pub ended : verdictLent b pairs block ≡ accepted →
       (means r ≡ ended (resultFor task b pairs block limit (length list) .ending))
       × (list′ ≡ kept (map (write (orderOf (at task BARE) b pairs)) (resultFor task b pairs block limit (length list) .rows)) list)
-      × (tally′ ≡ tallyBy (orderOf (at task BARE) b pairs) (treeOf (at task BARE) b pairs block) (nodesIn (resultFor task b pairs block limit (length list) .ending)))
+      × (tally′ ≡ tallyBy (orderOf (at task BARE) b pairs) (nodes (treeOf (at task BARE) b pairs block)) (nodesIn (resultFor task b pairs block limit (length list) .ending)))
 
 module _ (task b pairs block : List ℕ) (limit : ℕ) (list : List ℕ) (tally : Tally) (work′ list′ : List ℕ) (tally′ : Tally) (stop : ℕ) (h : Explored task b pairs block limit list tally work′ list′ tally′ stop) (made : ℕ) (is : made ≡ tally′ .nodes) (r : Answer) (a : Answered work′ made stop r) where
   abbrev x : Result
@@ -681,7 +685,7 @@ module _ (task b pairs block : List ℕ) (limit : ℕ) (list : List ℕ) (tally 
       let some = well-sheet b pairs block (passed-all (verdictLent b pairs block) v) .some in (
         f .0 ∙ ap (λ (z : Result). ended (z .ending)) same-result,
         f .1 ∙ ap₂ (λ (i : ℕ) (z : Result). kept (map (write (orderOf i b pairs)) (z .rows)) list) whole same-result ∙ kept-listed (problemLent b pairs block) (orderLent b pairs) limit list some,
-        f .2 ∙ ap₂ (λ (i : ℕ) (z : Result). tallyBy (orderOf i b pairs) (treeOf i b pairs block) (nodesIn (z .ending))) whole same-result,
+        f .2 ∙ ap₂ (λ (i : ℕ) (z : Result). tallyBy (orderOf i b pairs) (nodes (treeOf i b pairs block)) (nodesIn (z .ending))) whole same-result,
       )
 
   pub said : Said b pairs block limit list tally list′ tally′ r

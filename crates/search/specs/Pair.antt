@@ -12,7 +12,7 @@ use Rattle.model.specs.Search.{setsAt, isLive, nodesBelow}
 use Rattle.model.specs.Run.{Tally}
 use Rattle.order.specs.Order.{Ordering}
 use Rattle.order.specs.Reordered.{write}
-use Rattle.layout.specs.Places.{SYMMETRIES, LIMIT, ROOM, ORDER, PLANS, MARKS, ALL, DEEPER}
+use Rattle.layout.specs.Places.{SYMMETRIES, LIMIT, ROOM, ORDER, PLANS, LAST, MARKS, ALL, DEEPER}
 use Rattle.prune.specs.Node.{withOrderings, Ready, Holds, Marked}
 use Rattle.search.specs.Walk.{Summed, withNode, noNodes, State, listed, walk, nodesFor}
 
@@ -43,9 +43,9 @@ pub record Cleared (t : Tally) : Type 0 where
   pub is : t ≡ noNodes
   pub summed : Summed t
 
--- how far a run has come: the plans listed stand in `work`
+-- how far a run has come: the plans listed and the last node made stand in `work`
 abbrev pub stateOf : Tally → List ℕ → ℕ → List ℕ → State
-stateOf tally work stop list = record { tally = tally; plans = at work PLANS; stop = stop; list = list }
+stateOf tally work stop list = record { tally = tally; plans = at work PLANS; stop = stop; list = list; last = prefixOf work (at work LAST) }
 
 -- there is room for so many plans of n bytes, in a list that isn't empty too, and those found so far are among them
 pub record ListRoom (n room : ℕ) (list : List ℕ) (plans : ℕ) : Type 0 where
@@ -56,7 +56,8 @@ pub record ListRoom (n room : ℕ) (list : List ℕ) (plans : ℕ) : Type 0 wher
 
 -- a plan was found: the answer is FULL where it has no room, else it is listed by variable number, and counted in `work`
 pub record Listed (n room : ℕ) (order work list work′ list′ : List ℕ) (stop : ℕ) : Type 0 where
-  pub state : (tally : Tally) → stateOf tally work′ stop list′ ≡ listed n room (write order (prefixOf work n)) (stateOf tally work ALL list)
+  pub state : (tally : Tally) (last : List ℕ) → record { tally = tally; plans = at work′ PLANS; stop = stop; list = list′; last = last }
+      ≡ listed n room (write order (prefixOf work n)) record { tally = tally; plans = at work PLANS; stop = ALL; list = list; last = last }
   pub known : stop < DEEPER
   pub others : (i : ℕ) → (i ≡ PLANS → ⊥) → at work′ i ≡ at work i
   pub work-length : length work′ ≡ length work

@@ -9,7 +9,7 @@ use lib.Dec.{leb, eqb}
 use Rattle.model.specs.Lists.{flat, choose, at, total}
 use Rattle.model.specs.ValueSets.{members}
 use Rattle.model.specs.Problem.{Problem}
-use Rattle.model.specs.Search.{isPlan, nodesBelow, nodes}
+use Rattle.model.specs.Search.{isPlan, nodesBelow}
 use Rattle.model.specs.Run.{Ending, finished, spent, full, written, Tally, settledBy, countsBy}
 use Rattle.order.specs.Reordered.{write}
 use Rattle.layout.specs.Places.{ALL, SPENT, FULL}
@@ -27,12 +27,13 @@ pub record Summed (t : Tally) : Type 0 where
   pub twelve : length (t .counts) ≡ 12
   pub sum : total (t .counts) ≡ t .nodes
 
--- how far a run has come: the tally, the plans listed, ALL while it goes on, SPENT and FULL once it is, and the list
+-- how far a run has come: the tally, the plans listed, ALL while it goes on, SPENT and FULL once it is, the list, and the last node made
 pub record State : Type 0 where
   pub tally : Tally
   pub plans : ℕ
   pub stop : ℕ
   pub list : List ℕ
+  pub last : List ℕ
 
 -- the list with a row written over its bytes from i on
 unfoldable pub overwritten : ℕ → List ℕ → List ℕ → List ℕ
@@ -50,21 +51,22 @@ kept rows list = choose (eqb (length list) 0) list (written rows list)
 unfoldable pub listed : ℕ → ℕ → List ℕ → State → State
 listed n room row s =
     choose (leb (suc (s .plans)) room)
-    (record { tally = s .tally; plans = suc (s .plans); stop = ALL; list = noted (s .plans * n) row (s .list) })
-    (record { tally = s .tally; plans = s .plans; stop = FULL; list = s .list })
+    (record { tally = s .tally; plans = suc (s .plans); stop = ALL; list = noted (s .plans * n) row (s .list); last = s .last })
+    (record { tally = s .tally; plans = s .plans; stop = FULL; list = s .list; last = s .last })
 
-abbrev pub counted : ℕ → State → State
-counted x s = record { tally = withNode x (s .tally); plans = s .plans; stop = ALL; list = s .list }
+-- node t is made, which settles variable x
+abbrev pub counted : ℕ → List ℕ → State → State
+counted x t s = record { tally = withNode x (s .tally); plans = s .plans; stop = ALL; list = s .list; last = t }
 
 abbrev pub exhausted : State → State
-exhausted s = record { tally = s .tally; plans = s .plans; stop = SPENT; list = s .list }
+exhausted s = record { tally = s .tally; plans = s .plans; stop = SPENT; list = s .list; last = s .last }
 
 -- one node: nothing once the run has stopped; spent where the nodes made equal the limit; else one node more, and a plan is listed.
 -- p's variables are a sheet's in an order: a node that settles p's variable j is counted as one of variable order[j], and a plan is written by
 -- variable number
 unfoldable pub visit : Problem → List ℕ → ℕ → ℕ → List ℕ → State → State
 visit p order limit room t s =
-    let s′ = counted (at order (settledBy t)) s in
+    let s′ = counted (at order (settledBy t)) t s in
     choose (eqb (s .stop) ALL)
     (choose (eqb (s .tally .nodes) limit) (exhausted s)
     (choose (isPlan p t) (listed (p .variables) room (write order t) s′) s′))
@@ -84,6 +86,6 @@ stopIn (finished plans made) = ALL
 stopIn (spent plans made) = SPENT
 stopIn (full plans made) = FULL
 
--- the first k nodes of the tree, counted in an order
-unfoldable pub tallyBy : List ℕ → Problem → ℕ → Tally
-tallyBy order p k = record { nodes = k; counts = countsBy (λ t. at order (settledBy t)) (take k (nodes p)) }
+-- the first k of some nodes, counted in an order
+unfoldable pub tallyBy : List ℕ → List (List ℕ) → ℕ → Tally
+tallyBy order ts k = record { nodes = k; counts = countsBy (λ t. at order (settledBy t)) (take k ts) }

@@ -7,7 +7,7 @@ use lib.Dec.{eqb}
 use lib.ListN.{length, set}
 use Rattle.model.specs.Lists.{at, choose, below}
 use Rattle.model.specs.Problem.{Problem}
-use Rattle.model.specs.Search.{isLive}
+use Rattle.model.specs.Search.{isLive, nodes}
 use Rattle.model.specs.Verdict.{accepted, refused}
 use Rattle.model.specs.Run.{refusal, ended, plansIn, nodesIn, Result, resultOf, Tally}
 use Rattle.model.specs.Run as Run
@@ -89,7 +89,7 @@ pub record Prepared (task b pairs block : List ℕ) (limit size : ℕ) (stack wo
 
 -- the run of p, whose variables are a sheet's in an order, has come to its end: the tally, the plans, how it stopped, and the list
 pub record RunTo (p : Problem) (order : List ℕ) (r : Result) (list work′ list′ : List ℕ) (tally′ : Tally) (stop : ℕ) : Type 0 where
-  pub tally : tally′ ≡ tallyBy order p (nodesIn (r .ending))
+  pub tally : tally′ ≡ tallyBy order (nodes p) (nodesIn (r .ending))
   pub plans : at work′ PLANS ≡ plansIn (r .ending)
   pub stopped : stop ≡ stopIn (r .ending)
   pub wrote : list′ ≡ kept (map (write order) (r .rows)) list

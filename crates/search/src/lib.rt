@@ -4,6 +4,7 @@ use layout::BLOCK;
 use layout::DEEPER;
 use layout::FULL;
 use layout::ITEM;
+use layout::LAST;
 use layout::LIMIT;
 use layout::NUMBER;
 use layout::ORDER;
@@ -196,6 +197,7 @@ fn enter(
     let values = ValueSet { bits: m };
     let lowest = values.lowest();
     work[k] = lowest as u64;
+    work[LAST] = (k + 1) as u64;
     if prune::child(stack, work, supports, tables, numbers, k) {
         return ALL;
     }

@@ -20,6 +20,12 @@ mul-work c = search needs
 element-write-work : tie.Need-element-write-work
 element-write-work c = search needs
 
+add-work : tie.Need-add-work
+add-work c = search needs
+
+element-write-work-2 : tie.Need-element-write-work-2
+element-write-work-2 c = search needs
+
 child-requires : tie.Need-child-requires
 child-requires c κs =
     let a = c .before .before .before .before in
@@ -89,6 +95,8 @@ enter-spec =
     cast-work
     mul-work
     element-write-work
+    add-work
+    element-write-work-2
     child-requires
     returns
     add-if2
