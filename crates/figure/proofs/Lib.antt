@@ -1,6 +1,5 @@
--- The sheet without its exchanges, the figure, a block's trades, how code gets it, and the examples.
+-- The sheet without its exchanges, the figure, how code gets it, and the examples.
 pub mod BareSheet
 pub mod FamiliesLent
-pub mod Trades
 pub mod Counting
 pub mod FigureExamples

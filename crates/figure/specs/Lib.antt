@@ -2,4 +2,3 @@
 pub mod Figure
 pub mod FigureClaims
 pub mod FigureExamples
-pub mod Trades

@@ -1,0 +1,127 @@
+-- The figure from a bare run. Assumes nothing.
+use mathlib.Core.Path.{_≡_, refl, sym, ap, _∙_, subst}
+use mathlib.Core.List.{List, [], map}
+use Prim.Native.Nat.{ℕ, _+_, _*_, _≤_, _<_}
+use native.Mathlib.Omega.{arith}
+use lib.Dec.{T}
+use lib.ListN.{length}
+use Rattle.model.specs.Lists.{at, below, upFrom}
+use Rattle.model.specs.Problem.{Problem}
+use Rattle.model.specs.Verdict.{Verdict, accepted, refused, isAccepted}
+use Rattle.model.specs.Sheet.{word, headerOf, tableAt, problemOf, verdictOf}
+use Rattle.model.proofs.Accepted.{passed}
+use Rattle.model.specs.Run.{Ending, finished, spent, full, Answer, refusal, ended, resultOf, written}
+use Rattle.order.specs.RunBy.{resultBy}
+use Rattle.orderings.specs.Asked.{Put}
+use Rattle.lent.specs.Lent.{verdictLent, problemLent}
+use Rattle.lent.proofs.Lent.{both-passed, passed-all}
+use Rattle.lent.proofs.LentTally.{nothing-lent}
+use Rattle.block.proofs.BlockLent.{is-accepted}
+use Rattle.families.specs.Families.{familiesOf}
+use Rattle.families.specs.Numbered.{Counted}
+use Rattle.figure.specs.Figure.{Figure, number, dash, familiesLent}
+use Rattle.figure.proofs.Counting.{figure-counted, figure-number, figure-none, figure-dash}
+use Rattle.search.specs.Tasks.{bareLent, answerBareFor, answerBare, listBareFor, listBare}
+use Rattle.counting.specs.Told.{Told, told, toldFor, countedLent, reportFigure}
+use Rattle.counting.specs.Told as T
+use Rattle.counting.specs.Held.{Sized, Solved, Finished}
+
+-- ---- the number of variables
+accepted-of : (b : List ℕ) → verdictOf b ≡ accepted → T (isAccepted (verdictOf b))
+accepted-of b e = subst (λ (v : Verdict). T (isAccepted v)) (sym e) tt
+
+pub sized-short : (b : List ℕ) → length b < 2 → Sized b 0
+sized-short b h = record { most = omega arith; true-of = λ e. absurd (omega (arith, passed b (accepted-of b e) .header .long)) }
+
+pub sized-large : (b : List ℕ) → 12 < at b 0 + 256 * at b 1 → Sized b 0
+unfolding headerOf word
+sized-large b h = record { most = omega arith; true-of = λ e. absurd (omega (arith, passed b (accepted-of b e) .header .few)) }
+
+pub sized : (b : List ℕ) → at b 0 + 256 * at b 1 ≤ 12 → Sized b (at b 0 + 256 * at b 1)
+unfolding problemOf headerOf word
+sized b h = record { most = h; true-of = λ e. refl }
+
+-- ---- the count
+-- what `families::families` is lent
+pub counted-of : (b pairs block : List ℕ) (limit n solutions : ℕ) (rows images : List ℕ) (g : ℕ) → Solved b pairs block limit n solutions rows → Put (problemLent b pairs block) images g →
+    Counted (problemLent b pairs block) rows images n g solutions
+counted-of b pairs block limit n solutions rows images g s t =
+    subst (λ (k : ℕ). Counted p rows images k g solutions) (sym (s .named))
+    (subst (λ (k : ℕ). Counted p rows images (p .variables) k solutions) (sym (t .all))
+    (subst (λ (l : List ℕ). Counted p l images (p .variables) (length (p .symmetries)) solutions) (sym (s .listed))
+    (figure-counted b pairs block limit (4096 * n) (s .verdict) solutions (s .nodes) (s .ended) images (s .before) (let e = s .named in omega arith) (t .imaged) (let e = t .all in let l = t .few in omega arith))))
+  where
+    p : Problem
+    p = problemLent b pairs block
+
+-- ---- what the bare run said
+module _ (b pairs block : List ℕ) (limit n : ℕ) (list : List ℕ) (size : Sized b n) (long : length list ≡ 4096 * n) where
+  pub bare-refused : (i j : ℕ) → answerBare b pairs block limit list ≡ refusal i j → T.refusal i j ≡ countedLent b pairs block limit
+  unfolding answerBare answerBareFor countedLent
+  bare-refused i j h = go (verdictLent b pairs block) (familiesLent b pairs block limit (4096 * problemOf b .variables)) h
+    where
+      go : (v : Verdict) (f : Figure) → answerBareFor v b pairs block limit (length list) ≡ refusal i j → T.refusal i j ≡ toldFor v f
+      go accepted f e = absurd (let z : _≡_ {A = ℕ} 0 1 = cc in omega arith)
+      go (refused k l) f e = cc
+
+  module _ (e : Ending) (h : answerBare b pairs block limit list ≡ ended e) where
+    ran : (verdictLent b pairs block ≡ accepted) × (resultOf (bareLent b pairs block) limit (length list) .ending ≡ e)
+    unfolding answerBare answerBareFor
+    ran = go (verdictLent b pairs block) refl h
+      where
+        go : (v : Verdict) → verdictLent b pairs block ≡ v → answerBareFor v b pairs block limit (length list) ≡ ended e → (verdictLent b pairs block ≡ accepted) × (resultOf (bareLent b pairs block) limit (length list) .ending ≡ e)
+        go accepted q r = (q, cc)
+        go (refused i j) q r = absurd (let z : _≡_ {A = ℕ} 0 1 = cc in omega arith)
+
+    named : n ≡ problemOf b .variables
+    unfolding verdictLent
+    named = size .true-of (is-accepted (verdictOf b) (both-passed (verdictOf b) _ (passed-all (verdictLent b pairs block) (ran .0)) .0))
+
+    ran-so : resultOf (bareLent b pairs block) limit (4096 * n) .ending ≡ e
+    ran-so = ap (λ (k : ℕ). resultOf (bareLent b pairs block) limit k .ending) (sym long) ∙ ran .1
+
+    figured : (f : Figure) → familiesLent b pairs block limit (4096 * n) ≡ f → told f ≡ countedLent b pairs block limit
+    unfolding countedLent
+    figured f q = ap told (sym q ∙ ap (λ (k : ℕ). familiesLent b pairs block limit (4096 * k)) named) ∙ ap (λ (v : Verdict). toldFor v (familiesLent b pairs block limit (4096 * problemOf b .variables))) (sym (ran .0))
+
+    pub bare-dash : ((solutions nodes : ℕ) → e ≡ finished solutions nodes → ⊥) → told dash ≡ countedLent b pairs block limit
+    bare-dash k = figured dash (figure-dash b pairs block limit (4096 * n) (ran .0) (λ f. k (f .0) (f .1) (sym ran-so ∙ f .2)))
+
+  module _ (solutions nodes : ℕ) (h : answerBare b pairs block limit list ≡ ended (finished solutions nodes)) where
+    abbrev done : Ending
+    done = finished solutions nodes
+
+    pub bare-solved : (after : List ℕ) → after ≡ listBare b pairs block limit list → Solved b pairs block limit n solutions after
+    unfolding listBare listBareFor
+    bare-solved after w = record {
+      verdict = ran done h .0;
+      named = named done h;
+      nodes = nodes;
+      ended = ran-so done h;
+      before = list;
+      listed = w ∙ ap (λ (v : Verdict). listBareFor v b pairs block limit list) (ran done h .0) ∙ ap (λ (k : ℕ). written (resultOf (bareLent b pairs block) limit k .rows) list) long;
+    }
+
+    pub bare-number : (k : ℕ) → k ≡ familiesOf (problemLent b pairs block) → told (number k) ≡ countedLent b pairs block limit
+    bare-number k q = figured done h (number k) (figure-number b pairs block limit (4096 * n) (ran done h .0) solutions nodes (ran-so done h) k q)
+
+-- ---- the figure of a report
+module _ (b : List ℕ) (limit plans nodes : ℕ) (f : Finished b limit plans nodes) where
+  pub long-enough : 16 ≤ length b
+  long-enough = passed b (accepted-of b (f .verdict)) .header .long
+
+  accepts : verdictLent b [] [] ≡ accepted
+  accepts = nothing-lent b .verdict ∙ f .verdict
+
+  pub report-plans : at b 6 ≡ 0 → told (number plans) ≡ told (reportFigure b limit)
+  unfolding headerOf word problemOf below upFrom resultBy
+  report-plans z =
+      let g = passed b (accepted-of b (f .verdict)) .header .symmetries in
+      let none : headerOf b .symmetries ≡ 0 = omega arith in
+      let no-tables : problemOf b .symmetries ≡ [] = ap (λ (k : ℕ). map (tableAt b (headerOf b)) (below k)) none in
+      ap told (sym (figure-none b [] [] limit (4096 * problemOf b .variables) accepts plans nodes (ap (λ (q : Problem). q .symmetries) (nothing-lent b .problem) ∙ no-tables)
+      (ap (λ (q : Problem). resultOf q limit (4096 * problemOf b .variables) .ending) (nothing-lent b .tree (f .verdict)) ∙ f .ended)))
+
+  pub report-told : (t : Told) → t ≡ countedLent b [] [] limit → t ≡ told (reportFigure b limit)
+  unfolding countedLent
+  report-told t e = e ∙ ap (λ (v : Verdict). toldFor v (reportFigure b limit)) accepts

@@ -1,0 +1,37 @@
+-- The sheet's number of symmetries; with some, the families of the bare run. Assumes nothing.
+use native.Mathlib.Omega.{arith}
+use borrow.Author.Needs.{needs}
+use Rattle.model.specs.Lists.{at}
+use Rattle.counting.proofs.Bare.{long-enough, report-plans, report-told}
+use Rattle.counting.proofs.finished.Statement.{statement}
+use Rattle.counting.proofs.finished.Tie as tie
+
+shared-slice-read-if1 : tie.Need-shared-slice-read-if1
+shared-slice-read-if1 c = let f = long-enough _ _ _ _ (c .before .before .pre .1) in omega arith
+
+returns : tie.Need-returns
+unfolding at
+returns c = report-plans _ _ _ _ (c .before .before .before .pre .1) (c .if1 .taken)
+
+slice-aggregate-families : tie.Need-slice-aggregate-families
+slice-aggregate-families c = search needs
+
+slice-aggregate-families-2 : tie.Need-slice-aggregate-families-2
+slice-aggregate-families-2 c = search needs
+
+families-requires : tie.Need-families-requires
+families-requires c κs = search needs
+
+returns-2 : tie.Need-returns-2
+returns-2 c = report-told _ _ _ _ (c .before .before .before .before .before .before .pre .1) _ (c .families .ensures)
+
+pub finished-spec : {M : Type 1} → statement M
+finished-spec =
+    tie.close
+    (tie.spec
+    shared-slice-read-if1
+    returns
+    slice-aggregate-families
+    slice-aggregate-families-2
+    families-requires
+    returns-2)

@@ -1,0 +1,29 @@
+-- What the functions are lent. No reader has to believe this: it stands between proved functions.
+use mathlib.Core.Path.{_≡_}
+use mathlib.Core.List.{List}
+use Prim.Native.Nat.{ℕ, _*_, _≤_}
+use lib.ListN.{length}
+use Rattle.model.specs.Verdict.{accepted}
+use Rattle.model.specs.Sheet.{verdictOf, problemOf}
+use Rattle.model.specs.Run.{finished, resultOf, written}
+use Rattle.lent.specs.Lent.{verdictLent}
+use Rattle.search.specs.Tasks.{bareLent}
+
+-- n is the number of variables of a sheet that is accepted, and never above 12
+pub record Sized (b : List ℕ) (n : ℕ) : Type 0 where
+  pub most : n ≤ 12
+  pub true-of : verdictOf b ≡ accepted → n ≡ problemOf b .variables
+
+-- the questions are passed, and the bare run, with room for 4,096 plans, is finished: its rows stand in the list
+pub record Solved (b pairs block : List ℕ) (limit n solutions : ℕ) (rows : List ℕ) : Type 0 where
+  pub verdict : verdictLent b pairs block ≡ accepted
+  pub named : n ≡ problemOf b .variables
+  pub nodes : ℕ
+  pub ended : resultOf (bareLent b pairs block) limit (4096 * n) .ending ≡ finished solutions nodes
+  pub before : List ℕ
+  pub listed : rows ≡ written (resultOf (bareLent b pairs block) limit (4096 * n) .rows) before
+
+-- the run of a report is finished
+pub record Finished (b : List ℕ) (limit plans nodes : ℕ) : Type 0 where
+  pub verdict : verdictOf b ≡ accepted
+  pub ended : resultOf (problemOf b) limit (4096 * problemOf b .variables) .ending ≡ finished plans nodes

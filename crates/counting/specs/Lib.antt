@@ -1,0 +1,3 @@
+-- The figure for callers, and what the code is lent.
+pub mod Told
+pub mod Held
