@@ -1,11 +1,12 @@
 -- Loops: one more, and the end. Assumes nothing.
 use mathlib.Core.Path.{_≡_, refl, sym, ap, _∙_, subst}
-use mathlib.Core.Bool.{Bool, false}
+use mathlib.Core.Bool.{Bool, true, false}
 use mathlib.Core.List.{List}
 use Prim.Native.Nat.{ℕ, _+_, _^_, _≤_, _<_}
-use native.Mathlib.Decide.{ℕ-discrete}
+use native.Mathlib.Decide.{ℕ-discrete, decLt}
 use native.Mathlib.Omega.{arith}
-use lib.Bits.{bitOr, or-lt, or-zero-r}
+use lib.Bits.{bitOr, or-lt}
+use lib.Dec.{ltb}
 use lib.ListN.{length}
 use borrow.Author.Tests.{lt-ltb}
 use Rattle.model.specs.Lists.{at, both}
@@ -15,7 +16,6 @@ use Rattle.model.proofs.Masks.{is-mask}
 use Rattle.model.proofs.Filling.{gathered-begin, gathered-more}
 use Rattle.model.specs.Filling.{Filled, Gathered}
 use Rattle.reorder.specs.Steps.{Cell, Added}
-use Rattle.reorder.proofs.Tables.{cell-no}
 
 pub more-no : (f : ℕ → Bool) (i : ℕ) → ((j : ℕ) → j < i → f j ≡ false) → f i ≡ false → (j : ℕ) → j < i + 1 → f j ≡ false
 more-no f i h k j m = go (ℕ-discrete j i)
@@ -26,6 +26,10 @@ more-no f i h k j m = go (ℕ-discrete j i)
 
 pub filled-end : (place : ℕ → ℕ) (P : ℕ → ℕ → Type 0) (old new : List ℕ) (n i : ℕ) → n ≤ i → i ≤ n → Filled place P i old new → Filled place P n old new
 filled-end place P old new n i h l r = let e : i ≡ n = omega arith in subst (λ (k : ℕ). Filled place P k old new) e r
+
+both-none : (b : Bool) → both b false ≡ false
+both-none true = refl
+both-none false = refl
 
 -- ---- a set, one cell after another
 pub record Column (f : ℕ → Bool) (i set : ℕ) : Type 0 where
@@ -41,16 +45,13 @@ column-turn f i set s w r c e d = record {
   few = or-lt 16 set r (c .few) (d .few);
 }
 
-pub column-end : (f : ℕ → Bool) (i set : ℕ) → i ≡ 16 → Column f i set → set ≡ maskOf f
-column-end f i set e c = is-mask set f (c .few) (λ v l. c .gathered .has-is v ∙ ap (λ (b : Bool). both b (f v)) (lt-ltb v i (omega arith)))
-
--- an empty set adds nothing
-pub added-none : (s v : ℕ) (columns : List ℕ) → s ≡ 0 → Filled (λ w. w) (Added s v columns) 16 columns columns
-added-none s v columns e = record {
-  size = refl;
-  here = λ w l. (0, cell-no s w v (ap (λ (z : ℕ). has z w) e ∙ has-none w), sym (or-zero-r (at columns w)));
-  other = λ j n. refl;
-}
+-- nothing is added from i on
+pub column-end : (f : ℕ → Bool) (i set : ℕ) → ((v : ℕ) → i ≤ v → v < 16 → f v ≡ false) → Column f i set → set ≡ maskOf f
+column-end f i set h c = is-mask set f (c .few) (λ v l. c .gathered .has-is v ∙ go v l (decLt v i))
+  where
+    go : (v : ℕ) → v < 16 → Dec (v < i) → both (ltb v i) (f v) ≡ f v
+    go v l (yes k) = ap (λ (b : Bool). both b (f v)) (lt-ltb v i k)
+    go v l (no k) = ap (both (ltb v i)) (h v (omega arith) l) ∙ both-none (ltb v i) ∙ sym (h v (omega arith) l)
 
 -- ---- sixteen columns, one set after another
 module _ (base : ℕ) (supports : List ℕ) where
@@ -70,5 +71,5 @@ module _ (base : ℕ) (supports : List ℕ) where
     size = f .size ∙ c .size;
   }
 
-  pub columns-end : (i : ℕ) (columns : List ℕ) → i ≡ 16 → Columns i columns → (w : ℕ) → w < 16 → at columns w ≡ maskOf (member w)
-  columns-end i columns e c w l = column-end (member w) i (at columns w) e (c .column w l)
+  pub columns-end : (i : ℕ) (columns : List ℕ) → ((v : ℕ) → i ≤ v → v < 16 → at supports (base + v) ≡ 0) → Columns i columns → (w : ℕ) → w < 16 → at columns w ≡ maskOf (member w)
+  columns-end i columns z c w l = column-end (member w) i (at columns w) (λ v h k. ap (λ (n : ℕ). has n w) (z v h k) ∙ has-none w) (c .column w l)

@@ -116,12 +116,12 @@ meant-3 Q x y z base s h (a ∷ []) e l = absurd (omega arith)
 meant-3 Q x y z base s h (a ∷ b ∷ []) e l = h a b (l 0 (omega arith)) (l 1 (omega arith))
 meant-3 Q x y z base s h (a ∷ b ∷ c ∷ vs) e l = absurd (omega arith)
 
-small-1 : (b : ℕ) → b < 16 → (i : ℕ) → i < 1 → at (b ∷ []) i < 16
+pub small-1 : (b : ℕ) → b < 16 → (i : ℕ) → i < 1 → at (b ∷ []) i < 16
 unfolding at
 small-1 b h zero l = h
 small-1 b h (suc i) l = absurd (omega arith)
 
-small-2 : (a b : ℕ) → a < 16 → b < 16 → (i : ℕ) → i < 2 → at (a ∷ b ∷ []) i < 16
+pub small-2 : (a b : ℕ) → a < 16 → b < 16 → (i : ℕ) → i < 2 → at (a ∷ b ∷ []) i < 16
 unfolding at
 small-2 a b h k zero l = h
 small-2 a b h k (suc zero) l = k

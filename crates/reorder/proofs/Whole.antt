@@ -1,19 +1,20 @@
 -- The arrays of the reordered problem, from what the parts leave. Assumes nothing.
 use mathlib.Core.Path.{_≡_, refl, sym, ap, ap₂, _∙_, subst, fun-ext}
-use mathlib.Core.Bool.{Bool}
-use mathlib.Core.List.{List, [], _∷_, _++_, map}
+use mathlib.Core.Bool.{Bool, false}
+use mathlib.Core.List.{List, [], _∷_, _++_, map, List·Memᴰ, List·Memᴰ·head, List·Memᴰ·tail, Memᴰ·append-left, Memᴰ·append-right}
 use Prim.Native.Nat.{ℕ, zero, suc, _+_, _*_, _/_, _%_, _^_, _≤_, _<_}
 use native.Mathlib.Nat.{not-suc-le-zero, le-of-suc-le-suc}
 use native.Mathlib.Decide.{decLt}
 use native.Mathlib.Omega.{arith}
-use lib.Dec.{eqb}
+use lib.Dec.{T, eqb}
 use lib.ListN.{length, getD, length-map, length-append}
 use Rattle.model.specs.Lists.{any, at, same}
 use Rattle.model.specs.ValueSets.{has, maskOf, least, leastStep}
 use Rattle.model.specs.Problem.{Problem, Constraint, pair}
 use Rattle.order.specs.Order.{Ordering}
 use Rattle.order.specs.Reordered.{position, valueOf, scopeIn, constraintIn, renamed, symmetryIn, reordered}
-use Rattle.model.proofs.Lists.{not-of, among-e, mem-at, mem-getD, at-take, at-map, ascending-sorted}
+use Rattle.model.proofs.Lists.{not-of, any-e, same-eq, among-e, mem-at, mem-getD, at-take, at-map, ascending-sorted}
+use Rattle.model.proofs.Sets.{mask-e}
 use Rattle.model.specs.WellFormed.{WellFormed, GoodConstraint, GoodSymmetry}
 use Rattle.model.specs.Filling.{Filled}
 use Rattle.order.proofs.Reordered as R
@@ -21,7 +22,9 @@ use Rattle.model.proofs.Pairs as P
 use Rattle.layout.specs.Layout.{constraintAt, symmetryAt, place, Numbers, Supports, Images}
 use Rattle.layout.proofs.Links.{good}
 use Rattle.reorder.specs.Reorder.{orderOf, Movable, Moved}
-use Rattle.reorder.specs.Steps.{stand, Small, MovedSets, renamedTo, MovedImages, Meant, Sorting, Scope, Renamed}
+use Rattle.reorder.specs.Steps.{stand, Small, MovedSets, renamedTo, MovedImages, Within, Tabled, Meant, Sorting, Scope, Renamed}
+use Rattle.reorder.proofs.Tables.{small-1, small-2}
+use Rattle.reorder.proofs.Within.{mask-none}
 
 -- ---- lists
 least-same : (k : ℕ) (f g : ℕ → Bool) → ((i : ℕ) → i < k → f i ≡ g i) → least k f ≡ least k g
@@ -139,6 +142,48 @@ module _ (p : Problem) (order numbers supports images : List ℕ) (m : Movable p
         m .compiled .supported k h vs (e ∙ names-long) l
         ∙ ap maskOf (fun-ext (λ v. ap (λ (r : List ℕ). any (same r) (constraintAt p k .rows)) (sym (begin-row (vs ++ (v ∷ [])) (one-longer vs v ∙ e)))))
 
+    -- no row has a value from d on
+    unmatched : (vs : List ℕ) (v u : ℕ) → List·Memᴰ u (vs ++ (v ∷ [])) → p .values ≤ u → any (same (vs ++ (v ∷ []))) (constraintAt p k .rows) ≡ false
+    unmatched vs v u i h = not-of (any (same (vs ++ (v ∷ []))) (constraintAt p k .rows)) (λ t.
+        let r = any-e (same (vs ++ (v ∷ []))) (constraintAt p k .rows) t in
+        let e : vs ++ (v ∷ []) ≡ r .0 = same-eq (vs ++ (v ∷ [])) (r .0) (r .2) in
+        omega (arith, fine .valued (r .0) (r .1) u (subst (λ (l : List ℕ). List·Memᴰ u l) e i)))
+
+    -- so its sets are those of d values
+    set-at : (vs : List ℕ) → suc (length vs) ≡ length xs → ((i : ℕ) → i < length vs → at vs i < 16) → (j : ℕ) → j ≡ place vs → at supports (256 * k + j) ≡ maskOf (λ v. any (same (vs ++ (v ∷ []))) (constraintAt p k .rows))
+    set-at vs e l j s = ap (λ (i : ℕ). at supports (256 * k + i)) s ∙ m .compiled .supported k h vs e l
+
+    none-at : (vs : List ℕ) → suc (length vs) ≡ length xs → ((i : ℕ) → i < length vs → at vs i < 16) → (j u : ℕ) → j ≡ place vs → List·Memᴰ u vs → p .values ≤ u → at supports (256 * k + j) ≡ 0
+    none-at vs e l j u s i g = set-at vs e l j s ∙ mask-none (λ v. any (same (vs ++ (v ∷ []))) (constraintAt p k .rows)) (λ v b. unmatched vs v u (Memᴰ·append-left (v ∷ []) i) g)
+
+    last-at : (vs : List ℕ) → suc (length vs) ≡ length xs → ((i : ℕ) → i < length vs → at vs i < 16) → (j v : ℕ) → j ≡ place vs → p .values ≤ v → has (at supports (256 * k + j)) v ≡ false
+    last-at vs e l j v s g = not-of (has (at supports (256 * k + j)) v) (λ t.
+        let i = mask-e (λ u. any (same (vs ++ (u ∷ []))) (constraintAt p k .rows)) v (subst (λ (z : ℕ). T (has z v)) (set-at vs e l j s) t) in
+        subst T (unmatched vs v v (Memᴰ·append-right vs (List·Memᴰ·head refl)) g) (i .1))
+
+    two-of : length xs ≡ 2 → Within (p .values) 16 (256 * k) supports
+    two-of e = record {
+      some = w .one;
+      few = w .sixteen;
+      first = λ j l g. absurd (let o : 1 ≤ p .values = w .one in omega arith);
+      second = λ j l g. none-at (j ∷ []) (sym e) (small-1 j l) j j refl (List·Memᴰ·head refl) (omega arith);
+      last = λ j v l g. last-at (j ∷ []) (sym e) (small-1 j l) j v refl g;
+    }
+
+    three-of : length xs ≡ 3 → Within (p .values) 256 (256 * k) supports
+    three-of e = record {
+      some = w .one;
+      few = w .sixteen;
+      first = λ j l g. none-at (j / 16 ∷ j % 16 ∷ []) (sym e) (small-2 (j / 16) (j % 16) (omega arith) (omega arith)) j (j / 16) (omega arith) (List·Memᴰ·head refl) g;
+      second = λ j l g. none-at (j / 16 ∷ j % 16 ∷ []) (sym e) (small-2 (j / 16) (j % 16) (omega arith) (omega arith)) j (j % 16) (omega arith) (List·Memᴰ·tail (List·Memᴰ·head refl)) g;
+      last = λ j v l g. last-at (j / 16 ∷ j % 16 ∷ []) (sym e) (small-2 (j / 16) (j % 16) (omega arith) (omega arith)) j v (omega arith) g;
+    }
+
+    tabled-of : (word : ℕ) → word ≡ at numbers (32 + k) → Tabled (p .values) word (256 * k) supports
+    tabled-of word e =
+        let a : word % 256 ≡ length xs = ap (λ (z : ℕ). z % 256) e ∙ m .compiled .numbered .arity k h in
+        record { two = λ t. two-of (sym a ∙ t); three = λ s t. three-of (omega (arith, fine .some, fine .few)) }
+
     -- ---- after it was moved
     module _ (supports′ : List ℕ) (word : ℕ) (s : Sorting names (256 * k) supports supports′ word) where
       sorted-is : s .sorted ≡ scopeIn ord xs
@@ -192,6 +237,11 @@ module _ (p : Problem) (order numbers supports images : List ℕ) (m : Movable p
       scopes k h =
           let l : k < length (p .constraints) = omega (arith, m .compiled .numbered .constraints) in
           (map (position ord) (constraintAt p k .scope), scope-of k l stands (at mid (32 + k)) (a .other (32 + k) (omega arith)) stands-is)
+
+      pub tables : (d : ℕ) → d ≡ at numbers 65 → (k : ℕ) → k < at numbers 66 → Tabled d (at mid (32 + k)) (256 * k) supports
+      tables d e k h =
+          let l : k < length (p .constraints) = omega (arith, m .compiled .numbered .constraints) in
+          subst (λ (z : ℕ). Tabled z (at mid (32 + k)) (256 * k) supports) (sym (e ∙ m .compiled .numbered .values)) (tabled-of k l (at mid (32 + k)) (a .other (32 + k) (omega arith)))
 
       module _ (numbers′ supports′ images′ : List ℕ) (b : MovedImages (at numbers 64) order stands (at numbers 67) images images′) (c : Renamed stands (at numbers 66) mid supports numbers′ supports′) where
         moved-at : (k : ℕ) (h : k < length (p .constraints)) → Sorting (map (position ord) (constraintAt p k .scope)) (256 * k) supports supports′ (at numbers′ (32 + k))

@@ -1,6 +1,6 @@
 -- What the functions inside this crate say to each other.
 use mathlib.Core.Path.{_≡_}
-use mathlib.Core.Bool.{Bool}
+use mathlib.Core.Bool.{Bool, false}
 use mathlib.Core.Logic.{_↔_}
 use mathlib.Core.List.{List, [], _∷_, _++_, List·Memᴰ}
 use Prim.Native.Nat.{ℕ, suc, _+_, _*_, _/_, _%_, _^_, _≤_, _<_}
@@ -56,6 +56,19 @@ pub record Cell (s w v r : ℕ) : Type 0 where
 -- a column w after v, whose set is s, was added to it
 abbrev pub Added : ℕ → ℕ → List ℕ → ℕ → ℕ → Type 0
 Added s v old w r = (t : ℕ) × Cell s w v t × (r ≡ bitOr (at old w) t)
+
+-- the first m sets from a base on are those of d values: a set that a coordinate from d on leads to is empty, and no set has a member from d on
+pub record Within (d m base : ℕ) (s : List ℕ) : Type 0 where
+  pub some : 0 < d
+  pub few : d ≤ 16
+  pub first : (j : ℕ) → j < m → d ≤ j / 16 → at s (base + j) ≡ 0
+  pub second : (j : ℕ) → j < m → d ≤ j % 16 → at s (base + j) ≡ 0
+  pub last : (j v : ℕ) → j < m → d ≤ v → has (at s (base + j)) v ≡ false
+
+-- so are the sets of the scope whose number is w
+pub record Tabled (d w base : ℕ) (s : List ℕ) : Type 0 where
+  pub two : w % 256 ≡ 2 → Within d 16 base s
+  pub three : (w % 256 ≡ 1 → ⊥) → (w % 256 ≡ 2 → ⊥) → Within d 256 base s
 
 -- the first two coordinates are exchanged
 abbrev pub Swapped : ℕ → List ℕ → List ℕ → Type 0

@@ -8,7 +8,7 @@ use Rattle.model.specs.Lists.{at}
 use Rattle.model.proofs.Filling.{filled-begin, filled-turn}
 use Rattle.model.specs.Filling.{Filled}
 use Rattle.reorder.specs.Steps.{Added}
-use Rattle.reorder.proofs.Loops.{filled-end, added-none}
+use Rattle.reorder.proofs.Loops.{filled-end}
 use Rattle.reorder.proofs.supports.add.Statement.{statement}
 use Rattle.reorder.proofs.supports.add.Tie as tie
 
@@ -17,9 +17,6 @@ Inv-loop s v columns₀ w₀ columns w = (w ≤ 16) × Filled (λ u. u) (Added s
 
 abbrev μ-loop : tie.MeasureT-loop
 μ-loop s v columns₀ w₀ columns w = 16 - w
-
-returns : tie.Need-returns Inv-loop μ-loop
-returns c = added-none _ _ _ (c .if1 .taken)
 
 loop-holds : tie.Need-loop-holds Inv-loop μ-loop
 loop-holds c = (search needs, filled-begin _ _ _)
@@ -49,8 +46,8 @@ loop-again : tie.Need-loop-again Inv-loop μ-loop
 unfolding at
 loop-again c = (search needs, filled-turn _ _ _ _ _ _ _ (c .before .before .before .loop .inv .1) refl (omega arith) (λ v l e. omega arith) (_, c .cell .ensures, ap (λ (z : ℕ). bitOr z (c .cell .result)) (c .before .before .before .loop .inv .1 .other _ (λ v l e. omega arith))))
 
-returns-2 : tie.Need-returns-2 Inv-loop μ-loop
-returns-2 c = filled-end _ _ _ _ _ _ (search needs) (search needs) (c .before .loop .inv .1)
+returns : tie.Need-returns Inv-loop μ-loop
+returns c = filled-end _ _ _ _ _ _ (search needs) (search needs) (c .before .loop .inv .1)
 
 pub add-spec : {M : Type 1} → statement M
 add-spec =
@@ -58,7 +55,6 @@ add-spec =
     (tie.spec
     Inv-loop
     μ-loop
-    returns
     loop-holds
     mul-columns
     element-copy-out-columns
@@ -68,4 +64,4 @@ add-spec =
     add-w
     loop-less
     loop-again
-    returns-2)
+    returns)

@@ -8,17 +8,21 @@ use Rattle.model.proofs.Filling.{filled-begin, filled-turn}
 use Rattle.model.specs.Filling.{Filled}
 use Rattle.reorder.proofs.Loops.{filled-end}
 use Rattle.reorder.proofs.Tables.{Copied}
+use Rattle.reorder.proofs.Within.{swapped-rest}
 use Rattle.reorder.proofs.supports.swap.Statement.{statement}
 use Rattle.reorder.proofs.supports.swap.Tie as tie
 
 abbrev Inv-loop : tie.InvT-loop
-Inv-loop base supports₀ old j₀ supports j = (j ≤ 256) × Copied base supports₀ old × Filled (λ i. base + i) (λ i r. r ≡ at supports₀ (base + (16 * (i % 16) + i / 16))) j supports₀ supports
+Inv-loop base d supports₀ old m j₀ supports j = (j ≤ m) × Copied base supports₀ old × Filled (λ i. base + i) (λ i r. r ≡ at supports₀ (base + (16 * (i % 16) + i / 16))) j supports₀ supports
 
 abbrev μ-loop : tie.MeasureT-loop
-μ-loop base supports₀ old j₀ supports j = 256 - j
+μ-loop base d supports₀ old m j₀ supports j = m - j
 
 load-requires : tie.Need-load-requires Inv-loop μ-loop
 load-requires c κs = search needs
+
+mul-m : tie.Need-mul-m Inv-loop μ-loop
+mul-m c = omega (arith, c .before .before .before .pre .2 .few)
 
 loop-holds : tie.Need-loop-holds Inv-loop μ-loop
 loop-holds c = (search needs, record { at-is = c .load .ensures .here }, filled-begin _ _ _)
@@ -55,7 +59,7 @@ unfolding at
 loop-again c = (search needs, c .before .loop .inv .1, filled-turn _ _ _ _ _ _ _ (c .before .loop .inv .2) refl (omega arith) (λ v l e. omega arith) (c .before .loop .inv .1 .at-is _ (omega arith)))
 
 returns : tie.Need-returns Inv-loop μ-loop
-returns c = filled-end _ _ _ _ _ _ (search needs) (search needs) (c .before .loop .inv .2)
+returns c = swapped-rest _ _ _ _ (c .before .before .before .before .before .pre .2) (filled-end _ _ _ _ _ _ (search needs) (search needs) (c .before .loop .inv .2))
 
 pub swap-spec : {M : Type 1} → statement M
 swap-spec =
@@ -64,6 +68,7 @@ swap-spec =
     Inv-loop
     μ-loop
     load-requires
+    mul-m
     loop-holds
     mul-supports
     add-supports
