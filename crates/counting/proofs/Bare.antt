@@ -10,7 +10,7 @@ use Rattle.model.specs.Problem.{Problem}
 use Rattle.model.specs.Verdict.{Verdict, accepted, refused, isAccepted}
 use Rattle.model.specs.Sheet.{word, headerOf, tableAt, problemOf, verdictOf}
 use Rattle.model.proofs.Accepted.{passed}
-use Rattle.model.specs.Run.{Ending, finished, spent, full, Answer, refusal, ended, resultOf, written}
+use Rattle.model.specs.Run.{Ending, finished, refusal, ended, resultOf, written}
 use Rattle.order.specs.RunBy.{resultBy}
 use Rattle.orderings.specs.Asked.{Put}
 use Rattle.lent.specs.Lent.{verdictLent, problemLent}

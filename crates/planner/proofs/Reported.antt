@@ -2,23 +2,20 @@
 use mathlib.Core.Path.{_≡_, refl, sym, ap, ap₂, _∙_, subst}
 use mathlib.Core.Bool.{Bool, true, false}
 use mathlib.Core.List.{List, [], _∷_, _++_}
-use Prim.Native.Nat.{ℕ, suc, _+_, _*_, _^_, _≤_, _<_}
+use Prim.Native.Nat.{ℕ, _+_, _*_, _≤_, _<_}
 use native.Mathlib.Nat.{le-of-mul-le-mul-right}
 use native.Mathlib.Omega.{arith}
 use lib.Dec.{T, leb}
-use lib.ListN.{length, take, drop, length-take, length-append}
-use borrow.Author.Tests.{le-leb, lt-leb, eq-eqb, ne-eqb}
-use Rattle.model.specs.Lists.{choose, keep, at}
-use Rattle.model.specs.Problem.{Problem}
+use lib.ListN.{length, take, drop, length-append}
+use borrow.Author.Tests.{le-leb, lt-leb}
+use Rattle.model.specs.Lists.{at}
 use Rattle.model.specs.Verdict.{Verdict, accepted, refused, isAccepted}
 use Rattle.model.specs.Sheet.{word, headerOf, problemOf, verdictOf}
-use Rattle.model.specs.Search.{nodes, isPlan}
-use Rattle.model.specs.Run.{Ending, finished, spent, full, plansIn, nodesIn, resultOf, Answer, refusal, ended, answerFor, answerOf, listOf, listedPlans}
+use Rattle.model.specs.Run.{Ending, plansIn, resultOf, ended, answerFor, answerOf, listOf, listedPlans}
 use Rattle.model.specs.Report.{line, refusedWord, resultText, reportFor, reportOf}
-use Rattle.model.specs.Claims.{plansAmong}
 use Rattle.model.proofs.Accepted.{passed}
 use Rattle.model.proofs.Demands.{ran, held}
-use Rattle.model.proofs.Runs.{rows-counted, nodes-allowed, rows-fit, counts, Counted as Tree·counted}
+use Rattle.model.proofs.Runs.{rows-counted, rows-fit}
 use Rattle.report.specs.Text.{endedText, room}
 use Rattle.model.specs.Written.{Fronted}
 use Rattle.planner.specs.Exported.{reportLength, reportBytes}

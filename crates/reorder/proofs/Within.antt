@@ -1,8 +1,8 @@
 -- Support tables of d values: what an exchange of coordinates does to them. Assumes nothing.
 use mathlib.Core.Path.{_≡_, sym, ap, _∙_, subst}
 use mathlib.Core.Bool.{Bool, false}
-use mathlib.Core.List.{List, [], _∷_, _++_, List·Memᴰ}
-use Prim.Native.Nat.{ℕ, _+_, _*_, _/_, _%_, _^_, _≤_, _<_}
+use mathlib.Core.List.{List}
+use Prim.Native.Nat.{ℕ, _+_, _*_, _/_, _%_, _≤_, _<_}
 use native.Mathlib.Decide.{decLt}
 use native.Mathlib.Omega.{arith}
 use lib.Dec.{T}
@@ -10,7 +10,7 @@ use Rattle.model.specs.Lists.{at}
 use Rattle.model.specs.ValueSets.{has, maskOf}
 use Rattle.model.specs.Filling.{Filled}
 use Rattle.model.proofs.Lists.{not-of}
-use Rattle.model.proofs.Sets.{has-none, has-mask, mask-e}
+use Rattle.model.proofs.Sets.{has-none, mask-e}
 use Rattle.model.proofs.Masks.{is-mask}
 use Rattle.reorder.specs.Steps.{Within, Tabled, Swapped, Transposed}
 

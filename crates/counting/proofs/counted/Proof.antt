@@ -3,7 +3,7 @@ use mathlib.Core.Path.{_≡_, sym, ap, _∙_}
 use Prim.Native.Nat.{ℕ}
 use native.Mathlib.Omega.{arith}
 use borrow.Author.Needs.{needs}
-use Rattle.model.specs.Run.{ended, finished}
+use Rattle.model.specs.Run.{ended}
 use Rattle.search.specs.Meaning.{endingOf, means}
 use Rattle.search.specs.declared.Ending.{Ending}
 use Rattle.counting.proofs.Bare.{bare-refused, bare-dash, bare-solved, bare-number}
