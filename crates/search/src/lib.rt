@@ -27,8 +27,8 @@ ghost use Rattle.order.specs.Order.{Ordering};
 ghost use Rattle.order.specs.Reordered.{write};
 ghost use Rattle.lent.specs.Lent.{answerLent, listLent, tallyLent};
 ghost use Rattle.layout.specs.Places.{VARIABLES, LIMIT, ROOM, ORDER, PLANS, BLOCK};
-ghost use Rattle.search.specs.Walk.{noNodes, overwritten, noted};
-ghost use Rattle.search.specs.Pair.{prefixOf, settling, orderIn, Countable, Counted, Cleared, ListRoom, Listed, AtValues, AtValue, Walked, Entered, tried, lowestTried};
+ghost use Rattle.search.specs.Walk.{noNodes, begun, overwritten, noted};
+ghost use Rattle.search.specs.Pair.{prefixOf, settling, orderIn, Countable, Counted, Cleared, ListRoom, Listed, AtValues, AtValue, Walked, Entered, tried, lowestTried, WalkedOn};
 ghost use Rattle.search.specs.Meaning.{means, tallyIn, saidEnough};
 ghost use Rattle.search.specs.Tasks.{answerBare, listBare, enoughNone, enoughFor};
 ghost use Rattle.enough.specs.Lent.{enoughLent};
@@ -278,6 +278,55 @@ fn try_value(
         k + 1,
         values,
     )
+}
+
+// How a part of a run stopped, and the nodes made by then.
+pub struct Part {
+    pub stop: u8,
+    pub nodes: u32,
+}
+
+// The tally of so many nodes, all counted as the first variable's.
+fn nodes_before(made: u32) -> Tally
+    ensures { λ r. ⌜ tallyIn r ≡ begun made ⌝ }
+{
+    let mut counts = [0; 12];
+    counts[0] = made;
+    Tally {
+        nodes: made,
+        counts: counts,
+    }
+}
+
+// Walks along the nodes of the values m of variable k, lowest first, in a run that has made so many nodes.
+pub fn walk_values(
+    stack: &mut [u16; 208],
+    work: &mut [u64; 256],
+    supports: &[u16; 8192],
+    tables: &[u16; 55296],
+    numbers: &[u64; 384],
+    list: &mut [u8],
+    made: u32,
+    k: usize,
+    m: u16,
+) -> Part
+    requires { ⌜ ((p : Problem) × AtValues p (now stack) (now work) (now supports) (now tables) (now numbers) (now list) (begun made) k m) ⌝ }
+    ensures { λ r. ⌜ ((p : Problem) → AtValues p (now (stack .entry)) (now (work .entry)) (now (supports .entry)) (now (tables .entry)) (now (numbers .entry)) (now (list .entry)) (begun made) k m → WalkedOn p (tried p (now (work .entry)) k m) (now (stack .entry)) (now (work .entry)) (now (numbers .entry)) (now (list .entry)) made k (now (stack .exit)) (now (work .exit)) (now (list .exit)) (r .nodes) (r .stop)) ⌝ }
+{
+    let mut tally = nodes_before(made);
+    let stop = settle(
+        stack,
+        work,
+        supports,
+        tables,
+        numbers,
+        list,
+        &mut tally,
+        k,
+        m,
+    );
+    let nodes = nodes_made(&tally);
+    Part { stop, nodes }
 }
 
 // Puts the node limit and the number of plans that there is room for among the numbers, which are lent as a slice: that tells their length.
