@@ -1,5 +1,6 @@
 -- The figure from a bare run. Assumes nothing.
 use mathlib.Core.Path.{_≡_, refl, sym, ap, _∙_, subst}
+use mathlib.Core.Logic.{inl}
 use mathlib.Core.List.{List, [], map}
 use Prim.Native.Nat.{ℕ, _+_, _*_, _≤_, _<_}
 use native.Mathlib.Omega.{arith}
@@ -13,18 +14,19 @@ use Rattle.model.proofs.Accepted.{passed}
 use Rattle.model.specs.Run.{Ending, finished, refusal, ended, resultOf, written}
 use Rattle.order.specs.RunBy.{resultBy}
 use Rattle.orderings.specs.Asked.{Put}
-use Rattle.lent.specs.Lent.{verdictLent, problemLent}
+use Rattle.lent.specs.Lent.{verdictLent, problemWith, orderLent, problemLent}
 use Rattle.lent.proofs.Lent.{both-passed, passed-all}
 use Rattle.lent.proofs.LentTally.{nothing-lent}
 use Rattle.block.proofs.BlockLent.{is-accepted}
 use Rattle.families.specs.Families.{familiesOf}
 use Rattle.families.specs.Numbered.{Counted}
-use Rattle.figure.specs.Figure.{Figure, number, dash, familiesLent}
-use Rattle.figure.proofs.Counting.{figure-counted, figure-number, figure-none, figure-dash}
+use Rattle.figure.specs.Figure.{Figure, number, dash, familiesLent, reportFigure}
+use Rattle.figure.proofs.FamiliesLent.{families-lent}
+use Rattle.figure.proofs.Counting.{figure-counted, figure-number, figure-none, figure-dash, figure-few}
 use Rattle.search.specs.Tasks.{bareLent, answerBareFor, answerBare, listBareFor, listBare}
-use Rattle.counting.specs.Told.{Told, told, toldFor, countedLent, reportFigure}
+use Rattle.counting.specs.Told.{Told, told, toldFor, countedLent}
 use Rattle.counting.specs.Told as T
-use Rattle.counting.specs.Held.{Sized, Solved, Finished}
+use Rattle.counting.specs.Held.{Sized, Solved, Ran}
 
 -- ---- the number of variables
 accepted-of : (b : List ℕ) → verdictOf b ≡ accepted → T (isAccepted (verdictOf b))
@@ -106,22 +108,39 @@ module _ (b pairs block : List ℕ) (limit n : ℕ) (list : List ℕ) (size : Si
     bare-number k q = figured done h (number k) (figure-number b pairs block limit (4096 * n) (ran done h .0) solutions nodes (ran-so done h) k q)
 
 -- ---- the figure of a report
-module _ (b : List ℕ) (limit plans nodes : ℕ) (f : Finished b limit plans nodes) where
+module _ (b : List ℕ) (limit : ℕ) (e : Ending) (f : Ran b limit e) where
   pub long-enough : 16 ≤ length b
   long-enough = passed b (accepted-of b (f .verdict)) .header .long
 
   accepts : verdictLent b [] [] ≡ accepted
   accepts = nothing-lent b .verdict ∙ f .verdict
 
-  pub report-plans : at b 6 ≡ 0 → told (number plans) ≡ told (reportFigure b limit)
-  unfolding headerOf word problemOf below upFrom resultBy
-  report-plans z =
-      let g = passed b (accepted-of b (f .verdict)) .header .symmetries in
-      let none : headerOf b .symmetries ≡ 0 = omega arith in
-      let no-tables : problemOf b .symmetries ≡ [] = ap (λ (k : ℕ). map (tableAt b (headerOf b)) (below k)) none in
-      ap told (sym (figure-none b [] [] limit (4096 * problemOf b .variables) accepts plans nodes (ap (λ (q : Problem). q .symmetries) (nothing-lent b .problem) ∙ no-tables)
-      (ap (λ (q : Problem). resultOf q limit (4096 * problemOf b .variables) .ending) (nothing-lent b .tree (f .verdict)) ∙ f .ended)))
+  so-lent : resultBy (orderLent b []) (problemWith b []) limit (4096 * problemOf b .variables) .ending ≡ e
+  unfolding resultBy
+  so-lent = ap (λ (q : Problem). resultOf q limit (4096 * problemOf b .variables) .ending) (nothing-lent b .tree (f .verdict)) ∙ f .so
 
   pub report-told : (t : Told) → t ≡ countedLent b [] [] limit → t ≡ told (reportFigure b limit)
   unfolding countedLent
-  report-told t e = e ∙ ap (λ (v : Verdict). toldFor v (reportFigure b limit)) accepts
+  report-told t q = q ∙ ap (λ (v : Verdict). toldFor v (reportFigure b limit)) accepts
+
+  -- a run that isn't finished
+  pub report-dash : ((plans nodes : ℕ) → e ≡ finished plans nodes → ⊥) → reportFigure b limit ≡ dash
+  report-dash k = families-lent b [] [] limit (4096 * problemOf b .variables) accepts .dashed (inl (λ r. k (r .0) (r .1) (sym so-lent ∙ r .2)))
+
+-- without symmetries each plan is a family
+pub report-plans : (b : List ℕ) (limit plans nodes : ℕ) → Ran b limit (finished plans nodes) → at b 6 ≡ 0 → told (number plans) ≡ told (reportFigure b limit)
+unfolding headerOf word problemOf below upFrom
+report-plans b limit plans nodes f z =
+    let g = passed b (accepted-of b (f .verdict)) .header .symmetries in
+    let none : headerOf b .symmetries ≡ 0 = omega arith in
+    let no-tables : problemOf b .symmetries ≡ [] = ap (λ (k : ℕ). map (tableAt b (headerOf b)) (below k)) none in
+    ap told (sym (figure-none b [] [] limit (4096 * problemOf b .variables) (accepts b limit _ f) plans nodes (ap (λ (q : Problem). q .symmetries) (nothing-lent b .problem) ∙ no-tables) (so-lent b limit _ f)))
+
+-- ---- its number is at most 4,096
+pub told-few : (b pairs block : List ℕ) (limit k : ℕ) → told (number k) ≡ countedLent b pairs block limit → k ≤ 4096
+unfolding countedLent
+told-few b pairs block limit k e = go (verdictLent b pairs block) refl e
+  where
+    go : (v : Verdict) → verdictLent b pairs block ≡ v → told (number k) ≡ toldFor v (familiesLent b pairs block limit (4096 * problemOf b .variables)) → k ≤ 4096
+    go accepted q t = figure-few b pairs block limit (4096 * problemOf b .variables) q k (omega arith) (let z : familiesLent b pairs block limit (4096 * problemOf b .variables) ≡ number k = cc in z)
+    go (refused i j) q t = absurd (let z : _≡_ {A = ℕ} 0 1 = cc in omega arith)

@@ -4,7 +4,7 @@ use mathlib.Core.List.{List}
 use Prim.Native.Nat.{ℕ, _*_, _≤_}
 use Rattle.model.specs.Verdict.{accepted}
 use Rattle.model.specs.Sheet.{verdictOf, problemOf}
-use Rattle.model.specs.Run.{finished, resultOf, written}
+use Rattle.model.specs.Run.{Ending, finished, resultOf, written}
 use Rattle.lent.specs.Lent.{verdictLent}
 use Rattle.search.specs.Tasks.{bareLent}
 
@@ -22,7 +22,7 @@ pub record Solved (b pairs block : List ℕ) (limit n solutions : ℕ) (rows : L
   pub before : List ℕ
   pub listed : rows ≡ written (resultOf (bareLent b pairs block) limit (4096 * n) .rows) before
 
--- the run of a report is finished
-pub record Finished (b : List ℕ) (limit plans nodes : ℕ) : Type 0 where
+-- the run of a report ended so
+pub record Ran (b : List ℕ) (limit : ℕ) (e : Ending) : Type 0 where
   pub verdict : verdictOf b ≡ accepted
-  pub ended : resultOf (problemOf b) limit (4096 * problemOf b .variables) .ending ≡ finished plans nodes
+  pub so : resultOf (problemOf b) limit (4096 * problemOf b .variables) .ending ≡ e

@@ -1,5 +1,5 @@
 -- The number of families on a sheet for callers (paper 02, #104): both runs have room for 4,096 plans.
-use mathlib.Core.List.{List, []}
+use mathlib.Core.List.{List}
 use Prim.Native.Nat.{ℕ, _*_}
 use Rattle.model.specs.Verdict.{Verdict, accepted, refused}
 use Rattle.model.specs.Sheet.{problemOf}
@@ -19,10 +19,6 @@ toldFor (refused n i) f = refusal n i
 
 unfoldable pub countedLent : List ℕ → List ℕ → List ℕ → ℕ → Told
 countedLent b pairs block limit = toldFor (verdictLent b pairs block) (familiesLent b pairs block limit (4096 * problemOf b .variables))
-
--- the figure of a report: its run is lent a sheet alone
-abbrev pub reportFigure : List ℕ → ℕ → Figure
-reportFigure b limit = familiesLent b [] [] limit (4096 * problemOf b .variables)
 
 -- the answer of `families`
 abbrev pub means : Answer → Told

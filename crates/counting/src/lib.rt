@@ -3,11 +3,13 @@ ghost use mathlib.Core.Path.{_≡_};
 ghost use Prim.Native.Nat.{ℕ, _*_};
 ghost use lib.ListN.{length};
 ghost use Rattle.model.specs.Verdict.{accepted};
+ghost use Rattle.model.specs.Run as Run;
 ghost use Rattle.lent.specs.Lent.{verdictLent, problemLent};
 ghost use Rattle.orderings.specs.Asked.{Put};
 ghost use Rattle.families.specs.Families.{familiesOf};
-ghost use Rattle.counting.specs.Told.{countedLent, reportFigure, told, means};
-ghost use Rattle.counting.specs.Held.{Sized, Solved, Finished};
+ghost use Rattle.figure.specs.Figure.{reportFigure};
+ghost use Rattle.counting.specs.Told.{countedLent, told, means};
+ghost use Rattle.counting.specs.Held.{Sized, Solved, Ran};
 use layout::SYMMETRIES;
 use search::Ending;
 
@@ -112,7 +114,7 @@ pub fn families(sheet: &[u8], pairs: &[u8], block: &[u8], limit: u32) -> Answer
 
 // The figure of the report, whose run is finished with so many plans. Without symmetries these are the families, and there is no second run.
 pub fn finished(sheet: &[u8], limit: u32, plans: usize) -> Answer
-    requires { ⌜ ((nodes : ℕ) × Finished (now sheet) limit plans nodes) ⌝ }
+    requires { ⌜ ((nodes : ℕ) × Ran (now sheet) limit (Run.finished plans nodes)) ⌝ }
     ensures { λ r. ⌜ means r ≡ told (reportFigure (now (sheet .entry)) limit) ⌝ }
 {
     if sheet[6] == 0 {

@@ -12,7 +12,7 @@ use Rattle.model.specs.Problem.{Problem}
 use Rattle.model.specs.Verdict.{accepted, isAccepted}
 use Rattle.model.specs.Sheet.{problemOf}
 use Rattle.model.specs.WellFormed.{WellFormed, Respected}
-use Rattle.model.specs.Run.{finished, resultOf, written}
+use Rattle.model.specs.Run.{Ending, finished, spent, full, resultOf, written}
 use Rattle.model.proofs.Tree.{plans-of-tree}
 use Rattle.model.proofs.Runs.{finished-rows, finished-fits}
 use Rattle.model.proofs.More.{withSymmetries}
@@ -26,11 +26,11 @@ use Rattle.lent.specs.Lent.{verdictLent, problemWith, orderLent, problemLent}
 use Rattle.lent.proofs.Lent.{passed-all, well-lent, respected-lent, ordering-lent}
 use Rattle.families.specs.Families.{solutionsOf, familiesOf}
 use Rattle.families.specs.Numbered.{Listed, Counted}
-use Rattle.families.proofs.FewerFamilies.{well-formed-with, families-none, leaders-without}
+use Rattle.families.proofs.FewerFamilies.{solutions-same, well-formed-with, families-more, families-none, leaders-without}
 use Rattle.families.proofs.JoinedBy.{families-reordered}
 use Rattle.families.proofs.Rows.{listed-solutions}
-use Rattle.figure.specs.Figure.{problemBare, number, dash, familiesLent}
-use Rattle.figure.specs.FigureClaims.{Finished}
+use Rattle.figure.specs.Figure.{problemBare, number, dash, figureFor, familiesLent}
+use Rattle.figure.specs.FigureClaims.{ranWith, ranBare, Finished}
 use Rattle.figure.proofs.FamiliesLent.{families-lent}
 
 -- the problem that the bare run walks
@@ -119,3 +119,22 @@ module _ (b pairs block : List ℕ) (limit room : ℕ) (h : verdictLent b pairs 
   pub figure-dash : (Finished (resultOf (bareLent b pairs block) limit room .ending) → ⊥) → familiesLent b pairs block limit room ≡ dash
   unfolding resultBy
   figure-dash n = families-lent b pairs block limit room h .dashed (inr n)
+
+  -- there are no more families than solutions, so at most 4,096
+  pub figure-few : (k : ℕ) → room ≤ 4096 * problemLent b pairs block .variables → familiesLent b pairs block limit room ≡ number k → k ≤ 4096
+  unfolding familiesLent resultBy
+  figure-few k l = go (ranWith b pairs block limit room) (ranBare b pairs limit room) refl
+    where
+      go : (e f : Ending) → resultOf (bareLent b pairs block) limit room .ending ≡ f → figureFor e f (familiesOf (problemWith b block)) ≡ number k → k ≤ 4096
+      go (finished plans made) (finished plans′ made′) q z =
+          let a = families-more (bareLent b pairs block) (p .symmetries) wq rq w r (λ g m. absurd (List·Memᴰ·not-nil m)) in
+          let c = families-none (bareLent b pairs block) wq rq refl in
+          let d : length (solutionsOf (bareLent b pairs block)) ≡ length (solutionsOf p) = ap length (solutions-same p []) in
+          let m = few plans′ made′ q l in
+          let n = families-reordered (problemWith b block) v s order o in
+          let t : familiesOf (problemWith b block) ≡ k = cc in
+          omega arith
+      go (finished plans made) (spent plans′ made′) q z = absurd (let z : _≡_ {A = ℕ} 0 1 = cc in omega arith)
+      go (finished plans made) (full plans′ made′) q z = absurd (let z : _≡_ {A = ℕ} 0 1 = cc in omega arith)
+      go (spent plans made) f q z = absurd (let z : _≡_ {A = ℕ} 0 1 = cc in omega arith)
+      go (full plans made) f q z = absurd (let z : _≡_ {A = ℕ} 0 1 = cc in omega arith)

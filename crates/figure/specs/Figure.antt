@@ -1,7 +1,7 @@
 -- The report's last figure (paper 02, #104): the number of families on the sheet; a dash when the run isn't finished, or when a run of the sheet
 -- without exchanges, same limit and room, isn't.
 use mathlib.Core.List.{List, [], _++_}
-use Prim.Native.Nat.{ℕ, _-_}
+use Prim.Native.Nat.{ℕ, _-_, _*_}
 use lib.ListN.{take, drop}
 use Rattle.model.specs.Bytes.{twoBytes}
 use Rattle.model.specs.Problem.{Problem}
@@ -45,3 +45,7 @@ unfoldable pub familiesLent : List ℕ → List ℕ → List ℕ → ℕ → ℕ
 familiesLent b pairs block limit room =
     figureFor (resultBy (orderLent b pairs) (problemWith b block) limit room .ending) (resultBy (orderLent b pairs) (problemBare b) limit room .ending)
     (familiesOf (problemWith b block))
+
+-- of a report, whose run is lent a sheet alone and has room for 4,096 plans
+abbrev pub reportFigure : List ℕ → ℕ → Figure
+reportFigure b limit = familiesLent b [] [] limit (4096 * problemOf b .variables)

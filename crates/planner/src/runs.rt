@@ -1,9 +1,10 @@
-// Calls about runs: crate export_run says what they answer and leave.
+// Calls about runs: crates export_run and export_families say what they answer and leave.
 ghost use mathlib.Core.Path.{_≡_};
 ghost use Rattle.export_run.specs.Run.{questionCode, runCode, runList, runAnswer};
 ghost use Rattle.export_run.specs.Lent.{lentQuestionCode, lentRunCode, lentRunList, lentRunAnswer};
 ghost use Rattle.export_run.specs.Enough.{enoughCode, enoughBytes};
 ghost use Rattle.export_run.specs.Closed.{closedCode, closedAnswer};
+ghost use Rattle.export_families.specs.Families.{familiesCode, familiesAnswer};
 
 // The questions to a sheet.
 #[no_mangle]
@@ -71,4 +72,19 @@ pub extern "C" fn planner_closed(sheet: &[u8], pairs: &[u8], block: &[u8], answe
     ensures { λ _. ⌜ now (answer .exit) ≡ closedAnswer (now (sheet .entry)) (now (pairs .entry)) (now (block .entry)) (now (answer .entry)) ⌝ }
 {
     export_run::exchanges::closed(sheet, pairs, block, answer)
+}
+
+// The number of families (#104).
+#[no_mangle]
+pub extern "C" fn planner_families(
+    sheet: &[u8],
+    pairs: &[u8],
+    block: &[u8],
+    limit: u32,
+    answer: &mut [u8],
+) -> u32
+    ensures { λ r. ⌜ r ≡ familiesCode (now (sheet .entry)) (now (pairs .entry)) (now (block .entry)) limit (now (answer .entry)) ⌝ }
+    ensures { λ _. ⌜ now (answer .exit) ≡ familiesAnswer (now (sheet .entry)) (now (pairs .entry)) (now (block .entry)) limit (now (answer .entry)) ⌝ }
+{
+    export_families::families(sheet, pairs, block, limit, answer)
 }

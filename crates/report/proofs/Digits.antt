@@ -1,4 +1,4 @@
--- Decimal digits: the last digit, and how many there are. Laws of model's `digits`. Assumes nothing.
+-- Decimal digits: the last digit, and how many there are. Laws of `digits`. Assumes nothing.
 use mathlib.Core.Path.{_≡_, refl, sym, ap, _∙_, subst}
 use mathlib.Core.Logic.{_⊎_, inl, inr, ⊎-elim}
 use mathlib.Core.Bool.{Bool, true, false}
@@ -9,7 +9,7 @@ use native.Mathlib.Omega.{arith}
 use borrow.Author.Tests.{lt-ltb, le-ltb, ltb-true, ltb-false}
 use lib.Dec.{ltb}
 use lib.ListN.{length, length-append}
-use Rattle.model.specs.Report.{digits, decimal}
+use Rattle.report.specs.Report.{digits, decimal}
 use Rattle.model.specs.Written.{Written}
 use Rattle.model.proofs.Written.{written-then}
 

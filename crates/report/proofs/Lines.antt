@@ -9,7 +9,8 @@ use lib.ListN.{length, take, drop, getD}
 use lib.Seq.{take-suc, drop-drop, take-all}
 use Rattle.model.specs.Lists.{flat}
 use Rattle.model.specs.Run.{Ending, plansIn, listedPlans}
-use Rattle.model.specs.Report.{line, planWord, endingLine, resultText}
+use Rattle.report.specs.Report.{line, planWord, figureLine, endingLine, resultText}
+use Rattle.figure.specs.Figure.{Figure, dash}
 use Rattle.model.proofs.Lists.{flat-append}
 use Rattle.report.specs.Text.{field, fields, endedText}
 use Rattle.model.specs.Written.{Written, Fronted}
@@ -62,6 +63,11 @@ put-two {d} {at} {word} {e} {r} {f} {s} {g} {t} {h} {u} a b fits w₁ w₂ w₃ 
     subst (λ (l : List ℕ). Written d at (l ++ (10 ∷ [])) h u) same
     (written-then fits (written-then s≤ (written-then (omega (arith, w₂ .ends)) w₁ w₂) w₃) w₄)
 
+-- a word, two numbers and the dash
+pub put-dash : {d : List ℕ} {at : ℕ} {word e : List ℕ} {r : ℕ} {f : List ℕ} {s : ℕ} {g : List ℕ} {t : ℕ} {h : List ℕ} {u : ℕ} (a b : ℕ) → t ≤ length d → Written d at word e r → Written e r (field a) f s → Written f s (field b) g t → Written g t (32 ∷ 45 ∷ 10 ∷ []) h u →
+    Written d at (figureLine word a b dash) h u
+put-dash a b fits w₁ w₂ w₃ w₄ = written-then fits (written-then (omega (arith, w₃ .ends)) (written-then (omega (arith, w₂ .ends, w₃ .ends)) w₁ w₂) w₃) w₄
+
 -- ---- the lines of the listed plans
 pub listed-snoc : (n k : ℕ) (l : List ℕ) → listedPlans n (suc k) l ≡ listedPlans n k l ++ (take n (drop (k * n) l) ∷ [])
 unfolding listedPlans
@@ -93,6 +99,6 @@ plans-turn {d} {e} {r} {f} {s} n i at l p fits v w =
     (written-then fits v (subst (λ (t : List ℕ). Written e r (line planWord t) f s) row w))
 
 -- the plans and then the ending are the whole report
-pub put-ended : {d e : List ℕ} {r : ℕ} {f : List ℕ} {s : ℕ} (end : Ending) (n : ℕ) (list : List ℕ) → r ≤ length d → Written d 0 (flat (map (line planWord) (listedPlans n (plansIn end) list))) e r → Written e r (endingLine end) f s → Fronted d (endedText end n list) f s
+pub put-ended : {d e : List ℕ} {r : ℕ} {f : List ℕ} {s : ℕ} (end : Ending) (figure : Figure) (n : ℕ) (list : List ℕ) → r ≤ length d → Written d 0 (flat (map (line planWord) (listedPlans n (plansIn end) list))) e r → Written e r (endingLine end figure) f s → Fronted d (endedText end figure n list) f s
 unfolding endedText resultText
-put-ended end n list fits v w = fronted (written-then fits v w)
+put-ended end figure n list fits v w = fronted (written-then fits v w)

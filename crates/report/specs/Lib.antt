@@ -1,2 +1,4 @@
--- What the contracts of the report's text cite.
+-- The text of the report, what its contracts cite, and examples.
+pub mod Report
 pub mod Text
+pub mod ReportExamples

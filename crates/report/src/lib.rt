@@ -4,7 +4,8 @@ ghost use Prim.Native.Nat.{_+_, _*_, _≤_, _<_};
 ghost use lib.ListN.{length};
 ghost use Rattle.model.specs.Lists.{flat};
 ghost use Rattle.model.specs.Run.{finished, spent, full, listedPlans};
-ghost use Rattle.model.specs.Report.{decimal, line, planWord, refusedWord};
+ghost use Rattle.figure.specs.Figure.{number, dash};
+ghost use Rattle.report.specs.Report.{decimal, line, figureLine, planWord, refusedWord};
 ghost use Rattle.report.specs.Text.{field, fields, endedText, room};
 ghost use Rattle.model.specs.Written.{Written, Fronted};
 
@@ -96,43 +97,77 @@ fn plan_lines(out: &mut [u8], list: &[u8], n: usize, plans: usize) -> usize
     next
 }
 
-// Puts the line of an ending: its word, plans, nodes, and plans again, the number of families.
-fn ending_line(out: &mut [u8], at: usize, word: &[u8], plans: usize, nodes: usize) -> usize
+// Puts the line of an ending: its word, plans, nodes and families.
+fn ending_line(
+    out: &mut [u8],
+    at: usize,
+    word: &[u8],
+    plans: usize,
+    nodes: usize,
+    families: usize,
+) -> usize
     requires { ⌜ at + length (now word) + 64 ≤ length (now out) ⌝ }
-    ensures { λ r. ⌜ Written (now (out .entry)) at (line (now (word .entry)) (plans ∷ nodes ∷ plans ∷ [])) (now (out .exit)) r ⌝ }
+    ensures { λ r. ⌜ Written (now (out .entry)) at (figureLine (now (word .entry)) plans nodes (number families)) (now (out .exit)) r ⌝ }
 {
     let word_end = put(out, at, word);
     let listed = put_number(out, word_end, plans);
     let made = put_number(out, listed, nodes);
-    let families = put_number(out, made, plans);
-    put_byte(out, families, 10)
+    let counted = put_number(out, made, families);
+    put_byte(out, counted, 10)
 }
 
-// The report of a finished run: the plans listed, then its ending. Answers the length.
-pub fn finished(plans: usize, nodes: usize, list: &[u8], n: usize, out: &mut [u8]) -> usize
+// The same with a dash for the families.
+fn dash_line(out: &mut [u8], at: usize, word: &[u8], plans: usize, nodes: usize) -> usize
+    requires { ⌜ at + length (now word) + 64 ≤ length (now out) ⌝ }
+    ensures { λ r. ⌜ Written (now (out .entry)) at (figureLine (now (word .entry)) plans nodes dash) (now (out .exit)) r ⌝ }
+{
+    let word_end = put(out, at, word);
+    let listed = put_number(out, word_end, plans);
+    let made = put_number(out, listed, nodes);
+    put(out, made, b" -\n")
+}
+
+// The report of a finished run: the plans listed, then its ending with the number of families. Answers the length.
+pub fn finished(
+    plans: usize,
+    nodes: usize,
+    families: usize,
+    list: &[u8],
+    n: usize,
+    out: &mut [u8],
+) -> usize
     requires { ⌜ (n ≤ 12) × (plans ≤ 4096) × (plans * n ≤ length (now list)) × (room ≤ length (now out)) ⌝ }
-    ensures { λ r. ⌜ Fronted (now (out .entry)) (endedText (finished plans nodes) n (now (list .entry))) (now (out .exit)) r ⌝ }
+    ensures { λ r. ⌜ Fronted (now (out .entry)) (endedText (finished plans nodes) (number families) n (now (list .entry))) (now (out .exit)) r ⌝ }
 {
     let at = plan_lines(out, list, n, plans);
-    ending_line(out, at, b"finished", plans, nodes)
+    ending_line(out, at, b"finished", plans, nodes, families)
+}
+
+// The report of a finished run whose families aren't counted.
+pub fn uncounted(plans: usize, nodes: usize, list: &[u8], n: usize, out: &mut [u8]) -> usize
+    requires { ⌜ (n ≤ 12) × (plans ≤ 4096) × (plans * n ≤ length (now list)) × (room ≤ length (now out)) ⌝ }
+    ensures { λ r. ⌜ Fronted (now (out .entry)) (endedText (finished plans nodes) dash n (now (list .entry))) (now (out .exit)) r ⌝ }
+{
+    let at = plan_lines(out, list, n, plans);
+    dash_line(out, at, b"finished", plans, nodes)
 }
 
 // The report of a spent run.
 pub fn spent(plans: usize, nodes: usize, list: &[u8], n: usize, out: &mut [u8]) -> usize
     requires { ⌜ (n ≤ 12) × (plans ≤ 4096) × (plans * n ≤ length (now list)) × (room ≤ length (now out)) ⌝ }
-    ensures { λ r. ⌜ Fronted (now (out .entry)) (endedText (spent plans nodes) n (now (list .entry))) (now (out .exit)) r ⌝ }
+    ensures { λ r. ⌜ Fronted (now (out .entry)) (endedText (spent plans nodes) dash n (now (list .entry))) (now (out .exit)) r ⌝ }
 {
     let at = plan_lines(out, list, n, plans);
-    ending_line(out, at, b"spent", plans, nodes)
+    dash_line(out, at, b"spent", plans, nodes)
 }
 
 // The report of a full run.
 pub fn full(plans: usize, nodes: usize, list: &[u8], n: usize, out: &mut [u8]) -> usize
     requires { ⌜ (n ≤ 12) × (plans ≤ 4096) × (plans * n ≤ length (now list)) × (room ≤ length (now out)) ⌝ }
-    ensures { λ r. ⌜ Fronted (now (out .entry)) (endedText (full plans nodes) n (now (list .entry))) (now (out .exit)) r ⌝ }
+    ensures { λ r. ⌜ Fronted (now (out .entry)) (endedText (full plans nodes) dash n (now (list .entry))) (now (out .exit)) r ⌝ }
 {
     let at = plan_lines(out, list, n, plans);
-    ending_line(out, at, b"full", plans, nodes)
+    dash_line(out, at, b"full", plans, nodes)
 }
 
 // The report of a refusal: its number and item.

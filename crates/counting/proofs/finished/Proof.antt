@@ -7,7 +7,7 @@ use Rattle.counting.proofs.finished.Statement.{statement}
 use Rattle.counting.proofs.finished.Tie as tie
 
 shared-slice-read-if1 : tie.Need-shared-slice-read-if1
-shared-slice-read-if1 c = let f = long-enough _ _ _ _ (c .before .before .pre .1) in omega arith
+shared-slice-read-if1 c = let f = long-enough _ _ _ (c .before .before .pre .1) in omega arith
 
 returns : tie.Need-returns
 unfolding at
@@ -23,7 +23,7 @@ families-requires : tie.Need-families-requires
 families-requires c κs = search needs
 
 returns-2 : tie.Need-returns-2
-returns-2 c = report-told _ _ _ _ (c .before .before .before .before .before .before .pre .1) _ (c .families .ensures)
+returns-2 c = report-told _ _ _ (c .before .before .before .before .before .before .pre .1) _ (c .families .ensures)
 
 pub finished-spec : {M : Type 1} → statement M
 finished-spec =

@@ -27,7 +27,7 @@ put-number-requires-3 c κs =
     let q = t .before .before .before .before in
     let p = q .before .before .before .before in
     let s = p .before .before .before .before in
-    omega (arith, field-most (s .args .plans), field-most (s .args .nodes), p .put .ensures .ends, p .put .kept .0, q .put-number .ensures .ends, q .put-number .kept .0, t .put-number2 .ensures .ends, t .put-number2 .kept .0, s .pre)
+    omega (arith, field-most (s .args .plans), field-most (s .args .nodes), field-most (s .args .families), p .put .ensures .ends, p .put .kept .0, q .put-number .ensures .ends, q .put-number .kept .0, t .put-number2 .ensures .ends, t .put-number2 .kept .0, s .pre)
 
 put-byte-requires : tie.Need-put-byte-requires
 put-byte-requires c κs =
@@ -36,7 +36,7 @@ put-byte-requires c κs =
     let q = t .before .before .before .before in
     let p = q .before .before .before .before in
     let s = p .before .before .before .before in
-    omega (arith, field-most (s .args .plans), field-most (s .args .nodes), p .put .ensures .ends, p .put .kept .0, q .put-number .ensures .ends, q .put-number .kept .0, t .put-number2 .ensures .ends, t .put-number2 .kept .0, u .put-number3 .ensures .ends, u .put-number3 .kept .0, s .pre)
+    omega (arith, field-most (s .args .plans), field-most (s .args .nodes), field-most (s .args .families), p .put .ensures .ends, p .put .kept .0, q .put-number .ensures .ends, q .put-number .kept .0, t .put-number2 .ensures .ends, t .put-number2 .kept .0, u .put-number3 .ensures .ends, u .put-number3 .kept .0, s .pre)
 
 same-length : tie.Need-same-length
 same-length c = search needs
@@ -49,8 +49,8 @@ returns c =
     let q = t .before .before .before .before in
     let p = q .before .before .before .before in
     let s = p .before .before .before .before in
-    put-three (s .args .plans) (s .args .nodes) (s .args .plans)
-    (omega (arith, field-most (s .args .plans), field-most (s .args .nodes), p .put .ensures .ends, q .put-number .ensures .ends, t .put-number2 .ensures .ends, u .put-number3 .ensures .ends, s .pre))
+    put-three (s .args .plans) (s .args .nodes) (s .args .families)
+    (omega (arith, field-most (s .args .plans), field-most (s .args .nodes), field-most (s .args .families), p .put .ensures .ends, q .put-number .ensures .ends, t .put-number2 .ensures .ends, u .put-number3 .ensures .ends, s .pre))
     (p .put .ensures)
     (q .put-number .ensures)
     (t .put-number2 .ensures)

@@ -1,7 +1,8 @@
 -- `finished`: the lines of the plans, then the line of the ending. Assumes nothing.
 use native.Mathlib.Omega.{arith}
 use Rattle.model.specs.Run.{finished}
-use Rattle.model.specs.Report.{endingLine}
+use Rattle.figure.specs.Figure.{number}
+use Rattle.report.specs.Report.{endingLine}
 use Rattle.report.proofs.Lines.{put-ended}
 use borrow.Author.Needs.{needs}
 use Rattle.report.proofs.finished.Statement.{statement}
@@ -25,7 +26,7 @@ returns c =
     let q = c .before .before in
     let p = q .before .before .before .before .before in
     let s = p .before .before .before .before in
-    put-ended (finished (s .args .plans) (s .args .nodes)) (s .args .n) (s .args .list .now) (omega (arith, p .plan-lines .ensures .1, s .pre)) (p .plan-lines .ensures .0) (q .ending-line .ensures)
+    put-ended (finished (s .args .plans) (s .args .nodes)) (number (s .args .families)) (s .args .n) (s .args .list .now) (omega (arith, p .plan-lines .ensures .1, s .pre)) (p .plan-lines .ensures .0) (q .ending-line .ensures)
 
 pub finished-spec : {M : Type 1} → statement M
 finished-spec =

@@ -9,7 +9,7 @@ use borrow.Author.Needs.{needs}
 use lib.ListN.{length, drop, length-take}
 use Rattle.model.specs.Lists.{flat}
 use Rattle.model.specs.Run.{listedPlans}
-use Rattle.model.specs.Report.{line, planWord}
+use Rattle.report.specs.Report.{line, planWord}
 use Rattle.model.specs.Written.{Written}
 use Rattle.model.proofs.Written.{written-none}
 use Rattle.report.proofs.Lines.{row-inside, plans-turn}

@@ -1,7 +1,8 @@
 -- `spent`: the lines of the plans, then the line of the ending. Assumes nothing.
 use native.Mathlib.Omega.{arith}
 use Rattle.model.specs.Run.{spent}
-use Rattle.model.specs.Report.{endingLine}
+use Rattle.figure.specs.Figure.{dash}
+use Rattle.report.specs.Report.{endingLine}
 use Rattle.report.proofs.Lines.{put-ended}
 use borrow.Author.Needs.{needs}
 use Rattle.report.proofs.spent.Statement.{statement}
@@ -10,11 +11,11 @@ use Rattle.report.proofs.spent.Tie as tie
 plan-lines-requires : tie.Need-plan-lines-requires
 plan-lines-requires c κs = search needs
 
-slice-aggregate-ending-line : tie.Need-slice-aggregate-ending-line
-slice-aggregate-ending-line c = search needs
+slice-aggregate-dash-line : tie.Need-slice-aggregate-dash-line
+slice-aggregate-dash-line c = search needs
 
-ending-line-requires : tie.Need-ending-line-requires
-ending-line-requires c κs = search needs
+dash-line-requires : tie.Need-dash-line-requires
+dash-line-requires c κs = search needs
 
 same-length : tie.Need-same-length
 same-length c = search needs
@@ -25,14 +26,14 @@ returns c =
     let q = c .before .before in
     let p = q .before .before .before .before .before in
     let s = p .before .before .before .before in
-    put-ended (spent (s .args .plans) (s .args .nodes)) (s .args .n) (s .args .list .now) (omega (arith, p .plan-lines .ensures .1, s .pre)) (p .plan-lines .ensures .0) (q .ending-line .ensures)
+    put-ended (spent (s .args .plans) (s .args .nodes)) dash (s .args .n) (s .args .list .now) (omega (arith, p .plan-lines .ensures .1, s .pre)) (p .plan-lines .ensures .0) (q .dash-line .ensures)
 
 pub spent-spec : {M : Type 1} → statement M
 spent-spec =
     tie.close
     (tie.spec
     plan-lines-requires
-    slice-aggregate-ending-line
-    ending-line-requires
+    slice-aggregate-dash-line
+    dash-line-requires
     same-length
     returns)

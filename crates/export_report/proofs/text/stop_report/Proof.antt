@@ -1,13 +1,14 @@
 -- `stop_report`: a run that was spent or full. Assumes nothing.
 use mathlib.Core.Path.{sym, subst}
+use Rattle.figure.specs.Figure.{dash}
 use Rattle.report.specs.Text.{endedText}
 use Rattle.model.specs.Written.{Fronted}
 use Rattle.search.specs.declared.Ending.{Ending}
 use Rattle.search.specs.Meaning.{endingOf}
-use Rattle.planner.specs.Inner.{Listed, Stop}
+use Rattle.export_report.specs.Inner.{Listed, Stop}
 use borrow.Author.Needs.{needs}
-use Rattle.planner.proofs.text.stop_report.Statement.{statement}
-use Rattle.planner.proofs.text.stop_report.Tie as tie
+use Rattle.export_report.proofs.text.stop_report.Statement.{statement}
+use Rattle.export_report.proofs.text.stop_report.Tie as tie
 
 enum-known-e : tie.Need-enum-known-e
 enum-known-e c = search needs
@@ -38,7 +39,7 @@ same-length c = search needs
 returns : tie.Need-returns
 returns c =
     let s = c .before .before .before .before .before .before .before .before .before in
-    subst (λ (x : Ending). Fronted (s .args .out .now) (endedText (endingOf x) (s .args .n) (s .args .list .now)) (c .before .before .spent .last .1 .1 .1 .1 .0) (c .before .before .spent .result)) (sym (c .before .before .before .before .before .e .given .1)) (c .before .before .spent .ensures)
+    subst (λ (x : Ending). Fronted (s .args .out .now) (endedText (endingOf x) dash (s .args .n) (s .args .list .now)) (c .before .before .spent .last .1 .1 .1 .1 .0) (c .before .before .spent .result)) (sym (c .before .before .before .before .before .e .given .1)) (c .before .before .spent .ensures)
 
 same-length-2 : tie.Need-same-length-2
 same-length-2 c = search needs
@@ -46,7 +47,7 @@ same-length-2 c = search needs
 returns-2 : tie.Need-returns-2
 returns-2 c =
     let s = c .before .before .before .before .before .before .before .before .before in
-    subst (λ (x : Ending). Fronted (s .args .out .now) (endedText (endingOf x) (s .args .n) (s .args .list .now)) (c .before .before .full .last .1 .1 .1 .1 .0) (c .before .before .full .result)) (sym (c .before .before .before .before .before .e2 .given .1)) (c .before .before .full .ensures)
+    subst (λ (x : Ending). Fronted (s .args .out .now) (endedText (endingOf x) dash (s .args .n) (s .args .list .now)) (c .before .before .full .last .1 .1 .1 .1 .0) (c .before .before .full .result)) (sym (c .before .before .before .before .before .e2 .given .1)) (c .before .before .full .ensures)
 
 returns-3 : tie.Need-returns-3
 returns-3 c = absurd (subst (λ (x : Ending). Stop (endingOf x)) (c .enum-told .given .1) (c .before .before .before .before .pre .0))

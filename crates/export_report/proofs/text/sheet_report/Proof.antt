@@ -5,8 +5,8 @@ use native.Mathlib.Omega.{arith}
 use lib.ListN.{length}
 use lib.Seq.{length-take-le}
 use borrow.Author.Needs.{needs}
-use Rattle.planner.proofs.text.sheet_report.Statement.{statement}
-use Rattle.planner.proofs.text.sheet_report.Tie as tie
+use Rattle.export_report.proofs.text.sheet_report.Statement.{statement}
+use Rattle.export_report.proofs.text.sheet_report.Tie as tie
 
 variables-requires : tie.Need-variables-requires
 variables-requires c κs = search needs

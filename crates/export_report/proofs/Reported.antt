@@ -8,38 +8,27 @@ use native.Mathlib.Omega.{arith}
 use lib.Dec.{T, leb}
 use lib.ListN.{length, take, drop, length-append}
 use borrow.Author.Tests.{le-leb, lt-leb}
-use Rattle.model.specs.Lists.{at}
 use Rattle.model.specs.Verdict.{Verdict, accepted, refused, isAccepted}
-use Rattle.model.specs.Sheet.{word, headerOf, problemOf, verdictOf}
+use Rattle.model.specs.Sheet.{headerOf, problemOf, verdictOf}
 use Rattle.model.specs.Run.{Ending, plansIn, resultOf, ended, answerFor, answerOf, listOf, listedPlans}
-use Rattle.model.specs.Report.{line, refusedWord, resultText, reportFor, reportOf}
+use Rattle.report.specs.Report.{line, refusedWord, resultText, reportFor, reportOf}
+use Rattle.figure.specs.Figure.{reportFigure}
+use Rattle.counting.specs.Held.{Sized, Ran}
 use Rattle.model.proofs.Accepted.{passed}
 use Rattle.model.proofs.Demands.{ran, held}
 use Rattle.model.proofs.Runs.{rows-counted, rows-fit}
 use Rattle.report.specs.Text.{endedText, room}
 use Rattle.model.specs.Written.{Fronted}
-use Rattle.planner.specs.Exported.{reportLength, reportBytes}
-use Rattle.planner.specs.Inner.{Sized, Listed}
+use Rattle.export_report.specs.Report.{reportLength, reportBytes}
+use Rattle.export_report.specs.Inner.{Listed}
 
 -- ---- refusals
 pub refused-text : (b : List ℕ) (number item : ℕ) → verdictOf b ≡ refused number item → line refusedWord (number ∷ item ∷ []) ≡ reportFor (verdictOf b) b
 unfolding reportFor
 refused-text b number item e = sym (ap (λ (v : Verdict). reportFor v b) e)
 
--- ---- the number of variables
 accepted-of : (b : List ℕ) → verdictOf b ≡ accepted → T (isAccepted (verdictOf b))
 accepted-of b e = subst (λ (v : Verdict). T (isAccepted v)) (sym e) tt
-
-pub sized-short : (b : List ℕ) → length b < 2 → Sized b 0
-sized-short b h = record { most = omega arith; true-of = λ e. absurd (omega (arith, passed b (accepted-of b e) .header .long)) }
-
-pub sized-large : (b : List ℕ) → 12 < at b 0 + 256 * at b 1 → Sized b 0
-unfolding headerOf word
-sized-large b h = record { most = omega arith; true-of = λ e. absurd (omega (arith, passed b (accepted-of b e) .header .few)) }
-
-pub sized : (b : List ℕ) → at b 0 + 256 * at b 1 ≤ 12 → Sized b (at b 0 + 256 * at b 1)
-unfolding problemOf headerOf word
-sized b h = record { most = h; true-of = λ e. refl }
 
 -- ---- the plans and the text of a run that ended
 variables-of : (b : List ℕ) → problemOf b .variables ≡ headerOf b .variables
@@ -72,17 +61,23 @@ module _ (b : List ℕ) (n : ℕ) (out : List ℕ) (e : Ending) (size : Sized b 
       let some : 0 < n = omega (arith, width, variables-of b, passed b (accepted-of b verdict) .header .some) in
       record { few = size .most; most = le-of-mul-le-mul-right fitting some; inside = omega (arith, fitting) }
 
-  pub ended-text : (list : List ℕ) → list ≡ listOf b 1000000 out → endedText e n list ≡ reportFor (verdictOf b) b
+  room-is : length out ≡ 4096 * problemOf b .variables
+  room-is = long ∙ ap (λ (k : ℕ). 4096 * k) width
+
+  pub ran-so : Ran b 1000000 e
+  ran-so = record { verdict = verdict; so = ap (λ (k : ℕ). resultOf (problemOf b) 1000000 k .ending) (sym room-is) ∙ ran b 1000000 out e h .so }
+
+  pub ended-text : (list : List ℕ) → list ≡ listOf b 1000000 out → endedText e (reportFigure b 1000000) n list ≡ reportFor (verdictOf b) b
   unfolding endedText reportFor
   ended-text list l =
       let p = problemOf b in
       let rows : listedPlans n (plansIn e) list ≡ resultOf p 1000000 (length out) .rows =
       ap₂ (λ (k : ℕ) (o : List ℕ). listedPlans k (plansIn e) o) width l ∙ held b 1000000 out e h in
       let so : resultOf p 1000000 (length out) .ending ≡ e = ran b 1000000 out e h .so in
-      let whole : endedText e n list ≡ resultText (resultOf p 1000000 (length out)) =
-      ap₂ (λ (x : Ending) (y : List (List ℕ)). resultText (record { ending = x; rows = y })) (sym so) rows in
+      let f = reportFigure b 1000000 in
+      let whole : endedText e f n list ≡ resultText (resultOf p 1000000 (length out)) f = ap₂ (λ (x : Ending) (y : List (List ℕ)). resultText (record { ending = x; rows = y }) f) (sym so) rows in
       whole
-      ∙ ap (λ (k : ℕ). resultText (resultOf p 1000000 k)) (long ∙ ap (λ (k : ℕ). 4096 * k) width)
+      ∙ ap (λ (k : ℕ). resultText (resultOf p 1000000 k) f) room-is
       ∙ sym (ap (λ (v : Verdict). reportFor v b) verdict)
 
 -- ---- the exported report

@@ -4,7 +4,7 @@ use mathlib.Core.List.{List, _++_}
 use Prim.Native.Nat.{ℕ}
 use lib.Dec.{leb}
 use lib.ListN.{length, drop}
-use Rattle.model.specs.Report.{reportOf}
+use Rattle.report.specs.Report.{reportOf}
 use Rattle.report.specs.Text.{room}
 
 unfoldable pub reportLength : List ℕ → List ℕ → ℕ

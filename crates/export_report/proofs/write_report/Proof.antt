@@ -1,12 +1,12 @@
--- `planner_report`: the room is asked first, then the first 65,536 bytes are the sheet. Assumes nothing.
+-- `write_report`: the room is asked first, then the first 65,536 bytes are the sheet. Assumes nothing.
 use mathlib.Core.Path.{sym, refl}
 use native.Mathlib.Omega.{arith}
 use lib.ListN.{take}
 use lib.Seq.{length-take-le, take-all}
-use Rattle.planner.proofs.Reported.{no-room, reported}
+use Rattle.export_report.proofs.Reported.{no-room, reported}
 use borrow.Author.Needs.{needs}
-use Rattle.planner.proofs.planner_report.Statement.{statement}
-use Rattle.planner.proofs.planner_report.Tie as tie
+use Rattle.export_report.proofs.write_report.Statement.{statement}
+use Rattle.export_report.proofs.write_report.Tie as tie
 
 returns : tie.Need-returns
 returns c = let a = c .before .before .before .args in no-room (a .input .now) (a .out .now) (c .if1 .taken)
@@ -38,8 +38,8 @@ returns-3 c =
     let r = c .before .before .sheet-report2 in
     reported (s .args .input .now) (take 65536 (s .args .input .now)) (s .args .out .now) (r .last .1 .0) (r .result) (c .before .before .before .before .before .before .if1 .left) refl (r .ensures)
 
-pub planner-report-spec : {M : Type 1} → statement M
-planner-report-spec =
+pub write-report-spec : {M : Type 1} → statement M
+write-report-spec =
     tie.close
     (tie.spec
     returns

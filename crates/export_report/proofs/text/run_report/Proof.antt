@@ -5,10 +5,10 @@ use Prim.Native.Nat.{ℕ}
 use Rattle.model.specs.Written.{Fronted}
 use Rattle.search.specs.Meaning.{endingOf, means}
 use Rattle.export_run.proofs.Ran.{refusal-of}
-use Rattle.planner.proofs.Reported.{refused-text, listed, ended-text}
+use Rattle.export_report.proofs.Reported.{refused-text, ran-so, listed, ended-text}
 use borrow.Author.Needs.{needs}
-use Rattle.planner.proofs.text.run_report.Statement.{statement}
-use Rattle.planner.proofs.text.run_report.Tie as tie
+use Rattle.export_report.proofs.text.run_report.Statement.{statement}
+use Rattle.export_report.proofs.text.run_report.Tie as tie
 
 run-requires : tie.Need-run-requires
 run-requires c κs = search needs
@@ -31,7 +31,7 @@ ending-report-requires c κs =
     let f = c .before .before .before .before .before .before .before in
     let g = c .before .before .before .answer2 .given in
     let h = sym (f .run .ensures .0) ∙ ap means (g .1) in
-    (listed (s .args .sheet .now) (s .args .n) (s .args .list .now) (endingOf (g .0 .0)) (s .pre .0) (s .pre .1) h (f .run .last .1 .1 .0) (f .run .kept .1 .1 .0), s .pre .2)
+    (ran-so (s .args .sheet .now) (s .args .n) (s .args .list .now) (endingOf (g .0 .0)) (s .pre .0) (s .pre .1) h, listed (s .args .sheet .now) (s .args .n) (s .args .list .now) (endingOf (g .0 .0)) (s .pre .0) (s .pre .1) h (f .run .last .1 .1 .0) (f .run .kept .1 .1 .0), s .pre .2)
 
 same-length : tie.Need-same-length
 same-length c = search needs
@@ -63,7 +63,7 @@ returns-2 c =
     let r = c .before .before .ending-report in
     let h = sym (f .run .ensures .0) ∙ ap means (g .1) in
     let t = ended-text (s .args .sheet .now) (s .args .n) (s .args .list .now) (endingOf (g .0 .0)) (s .pre .0) (s .pre .1) h (f .run .last .1 .1 .0) (f .run .ensures .1) in
-    subst (λ (t : List ℕ). Fronted (s .args .out .now) t (r .last .1 .1 .1 .0) (r .result)) t (r .ensures)
+    subst (λ (t : List ℕ). Fronted (s .args .out .now) t (r .last .1 .1 .1 .1 .0) (r .result)) t (r .ensures)
 
 pub run-report-spec : {M : Type 1} → statement M
 run-report-spec =

@@ -1,16 +1,8 @@
 -- What the functions inside the crate say to each other. No reader has to believe this: it stands between proved functions.
-use mathlib.Core.Path.{_≡_}
 use Prim.Native.Nat.{ℕ, _*_, _≤_}
 use mathlib.Core.List.{List}
 use lib.ListN.{length}
-use Rattle.model.specs.Verdict.{accepted}
-use Rattle.model.specs.Sheet.{verdictOf, problemOf}
 use Rattle.model.specs.Run.{Ending, finished, spent, full, plansIn}
-
--- n is the number of variables of a sheet that is accepted, and never above 12
-pub record Sized (b : List ℕ) (n : ℕ) : Type 0 where
-  pub most : n ≤ 12
-  pub true-of : verdictOf b ≡ accepted → n ≡ problemOf b .variables
 
 -- an ending whose plans are rows of n bytes of the list
 pub record Listed (e : Ending) (n : ℕ) (list : List ℕ) : Type 0 where

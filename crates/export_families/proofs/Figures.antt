@@ -1,0 +1,44 @@
+-- What `families` answers, by what it called. Assumes nothing.
+use mathlib.Core.Path.{_≡_, sym, ap, _∙_}
+use mathlib.Core.Bool.{Bool}
+use mathlib.Core.List.{List}
+use Prim.Native.Nat.{ℕ, _*_}
+use native.Mathlib.Omega.{arith}
+use lib.ListN.{length}
+use borrow.Author.Tests.{eq-eqb, ne-eqb}
+use Rattle.model.specs.Lists.{choose}
+use Rattle.model.specs.Verdict.{Verdict, accepted, refused}
+use Rattle.model.specs.Sheet.{problemOf}
+use Rattle.lent.specs.Lent.{verdictLent}
+use Rattle.figure.specs.Figure.{Figure, familiesLent}
+use Rattle.counting.specs.Told.{Told, refusal, toldFor, countedLent}
+use Rattle.wire.specs.Wire.{wrongLength}
+use Rattle.export_families.specs.Families.{figureCode, countedBytes, familiesCode, familiesAnswer}
+
+module _ (b pairs block : List ℕ) (limit : ℕ) (answer : List ℕ) where
+  abbrev Figured : ℕ → List ℕ → Type 0
+  Figured r bytes = (r ≡ familiesCode b pairs block limit answer) × (bytes ≡ familiesAnswer b pairs block limit answer)
+
+  pub wrong-answer : (length answer ≡ 12 → ⊥) → Figured wrongLength answer
+  unfolding familiesCode familiesAnswer
+  wrong-answer h =
+      let e = ne-eqb (length answer) 12 h in (
+        sym (ap {B = ℕ} (λ (t : Bool). choose t (figureCode (countedLent b pairs block limit)) wrongLength) e),
+        sym (ap {B = List ℕ} (λ (t : Bool). choose t (countedBytes (countedLent b pairs block limit) answer) answer) e),
+      )
+
+  pub right-answer : (o : Told) (r : ℕ) (bytes : List ℕ) → length answer ≡ 12 → o ≡ countedLent b pairs block limit → r ≡ figureCode o → bytes ≡ countedBytes o answer → Figured r bytes
+  unfolding familiesCode familiesAnswer
+  right-answer o r bytes h so code w =
+      let e = eq-eqb (length answer) 12 h in (
+        code ∙ ap figureCode so ∙ sym (ap {B = ℕ} (λ (t : Bool). choose t (figureCode (countedLent b pairs block limit)) wrongLength) e),
+        w ∙ ap (λ (q : Told). countedBytes q answer) so ∙ sym (ap {B = List ℕ} (λ (t : Bool). choose t (countedBytes (countedLent b pairs block limit) answer) answer) e),
+      )
+
+pub refusal-counted : (b pairs block : List ℕ) (limit n i : ℕ) → refusal n i ≡ countedLent b pairs block limit → verdictLent b pairs block ≡ refused n i
+unfolding countedLent
+refusal-counted b pairs block limit n i e = go (verdictLent b pairs block) (familiesLent b pairs block limit (4096 * problemOf b .variables)) e
+  where
+    go : (v : Verdict) (f : Figure) → refusal n i ≡ toldFor v f → v ≡ refused n i
+    go accepted f h = absurd (let z : _≡_ {A = ℕ} 0 1 = cc in omega arith)
+    go (refused k l) f h = cc

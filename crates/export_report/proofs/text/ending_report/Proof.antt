@@ -1,0 +1,72 @@
+-- `ending_report`: a finished run is taken apart, the two others are a stop. Assumes nothing.
+use mathlib.Core.Path.{sym, subst}
+use mathlib.Core.Logic.{⊎-elim}
+use mathlib.Core.List.{[], _∷_}
+use native.Mathlib.Omega.{arith}
+use types.Run.{OneOf}
+use denote.Enum.Declared.{tagOf}
+use Rattle.figure.specs.Figure.{Figure, reportFigure}
+use Rattle.counting.specs.Held.{Ran}
+use Rattle.counting.proofs.Bare.{report-dash}
+use Rattle.report.specs.Text.{endedText}
+use Rattle.model.specs.Written.{Fronted}
+use Rattle.search.specs.declared.Ending.{Ending}
+use Rattle.search.proofs.Ending.{the-type}
+use Rattle.search.specs.declared.Ending.the-variants.{Finished, Spent, Full}
+use Rattle.search.specs.Meaning.{endingOf}
+use Rattle.export_report.specs.Inner.{Listed, Stop}
+use borrow.Author.Needs.{needs}
+use Rattle.export_report.proofs.text.ending_report.Statement.{statement}
+use Rattle.export_report.proofs.text.ending_report.Tie as tie
+
+enum-known-e : tie.Need-enum-known-e
+enum-known-e c = search needs
+
+-- an ending whose tag is that of the second or the third case is a stop
+stopped : (e : Ending) → OneOf (1 ∷ 2 ∷ []) (tagOf the-type e) → Stop (endingOf e)
+stopped (Finished plans nodes) k = ⊎-elim {C = ⊥} (λ z. omega arith) (λ z. omega arith) k
+stopped (Spent plans nodes) k = tt
+stopped (Full plans nodes) k = tt
+
+stop-report-requires : tie.Need-stop-report-requires
+stop-report-requires c κs = let s = c .before .before .before .before .before in (stopped (s .args .e) (c .before .match .keys2), s .pre .1, s .pre .2)
+
+same-length : tie.Need-same-length
+same-length c = search needs
+
+returns : tie.Need-returns
+returns c =
+    let s = c .before .before .before .before .before .before .before .before in
+    let n = report-dash _ _ _ (s .pre .0) (λ plans nodes q. subst Stop q (stopped (s .args .e) (c .before .before .before .before .match .keys2))) in
+    let r = c .before .before .stop-report in
+    subst (λ (f : Figure). Fronted (s .args .out .now) (endedText (endingOf (s .args .e)) f (s .args .n) (s .args .list .now)) (r .last .1 .1 .1 .0) (r .result)) (sym n) (r .ensures)
+
+finished-report-requires : tie.Need-finished-report-requires
+finished-report-requires c κs =
+    let e = c .before .before .e .given .1 in
+    let s = c .before .before .before .before .before .before .before in (
+      subst (λ (x : Ending). Ran (s .args .sheet .now) 1000000 (endingOf x)) e (s .pre .0),
+      subst (λ (x : Ending). Listed (endingOf x) (s .args .n) (s .args .list .now)) e (s .pre .1),
+      s .pre .2,
+    )
+
+same-length-2 : tie.Need-same-length-2
+same-length-2 c = search needs
+
+returns-2 : tie.Need-returns-2
+returns-2 c =
+    let s = c .before .before .before .before .before .before .before .before .before .before in
+    let r = c .before .before .finished-report in
+    subst (λ (x : Ending). Fronted (s .args .out .now) (endedText (endingOf x) (reportFigure (s .args .sheet .now) 1000000) (s .args .n) (s .args .list .now)) (r .last .1 .1 .1 .1 .1 .0) (r .result)) (sym (c .before .before .before .before .before .e .given .1)) (r .ensures)
+
+pub ending-report-spec : {M : Type 1} → statement M
+ending-report-spec =
+    tie.close
+    (tie.spec
+    enum-known-e
+    stop-report-requires
+    same-length
+    returns
+    finished-report-requires
+    same-length-2
+    returns-2)
