@@ -1,6 +1,6 @@
 /* Lists the paper's sheet A by planner_run and prints its plans; then with the second window settled first, and with
- * pairs that go round; asks whether it has so many plans, and whether its exchanges and a rotation
- * of three windows are closed; then filters by source document 001's nogoods. */
+ * pairs that go round; asks whether it has so many plans, how many families it and a rotation of three
+ * windows have and whether their exchanges are closed; then filters by source document 001's nogoods. */
 #include <stdio.h>
 
 #include "planner.h"
@@ -82,6 +82,18 @@ static void ask_closed(const char *name, const uint8_t *sheet, size_t sheet_len)
         printf("%s: no exchange is %u and then %u\n", name, number(answer + 4), number(answer + 8));
 }
 
+/* How many families there are. */
+static void count(const char *name, const uint8_t *sheet, size_t sheet_len, uint32_t node_limit) {
+    static const uint8_t none[1];
+    uint8_t answer[PLANNER_ANSWER_BYTES];
+    if (planner_families(sheet, sheet_len, none, 0, none, 0, node_limit, answer, sizeof answer) != 0)
+        return;
+    if (number(answer) == PLANNER_COUNTED)
+        printf("%s with %u trials: %u families\n", name, node_limit, number(answer + 4));
+    else
+        printf("%s with %u trials: families -\n", name, node_limit);
+}
+
 /* 001's four nogoods, with x1 to x6 as windows 0 to 5. */
 static void filter(const char *name, uint8_t x2, uint8_t x5) {
     static const char *const endings[] = {"consistent", "entailed", "failed"};
@@ -106,6 +118,9 @@ int main(void) {
     ask(2, 3);
     ask(2, 2);
     ask(4, 6);
+    count("sheet A", sheet_a, sizeof sheet_a, 9);
+    count("sheet A", sheet_a, sizeof sheet_a, 8);
+    count("rotation", rotation, sizeof rotation, 14);
     ask_closed("sheet A", sheet_a, sizeof sheet_a);
     ask_closed("rotation", rotation, sizeof rotation);
     filter("001", 6, 2);

@@ -115,10 +115,20 @@ uint32_t planner_at_least(const uint8_t *sheet, size_t sheet_len, const uint8_t 
                           const uint8_t *block, size_t block_len, uint32_t plans, uint32_t node_limit,
                           uint8_t *answer, size_t answer_len);
 
+/* ---- Families (#104). A family is all solutions that the exchanges, the sheet's own and the block's, join one after another, through
+ * unlisted ones too. The number of families, where the run that is lent the same with room for 4,096 plans is finished, and so is that
+ * of the sheet without exchanges and block. The answer, of PLANNER_ANSWER_BYTES bytes, is the kind, the families and 0; the dash is
+ * PLANNER_DASH, 0, 0. Refusals as planner_question_lent gives them or, asked first, PLANNER_ANSWER_ROOM; the answer is then as it
+ * came. */
+#define PLANNER_COUNTED 1
+#define PLANNER_DASH 2 /* one of the two runs isn't finished */
+uint32_t planner_families(const uint8_t *sheet, size_t sheet_len, const uint8_t *pairs, size_t pairs_len,
+                          const uint8_t *block, size_t block_len, uint32_t node_limit, uint8_t *answer,
+                          size_t answer_len);
+
 /* ---- Closed exchanges (#112). Are the exchanges, the sheet's own and the block's, closed? They are if any two of them (or one
  * twice), one after the other, make one of them or the exchange that moves nothing; a finished run then lists one plan of each family,
- * the one that reads earliest. A family is all solutions that the exchanges join one after another, through unlisted ones too.
- * Exchanges are numbered from 0, the sheet's own first, then the block's orderings. The answer, of PLANNER_ANSWER_BYTES bytes, is
+ * the one that reads earliest. Exchanges are numbered from 0, the sheet's own first, then the block's orderings. The answer, of PLANNER_ANSWER_BYTES bytes, is
  * the kind, then the first two exchanges a and b (by a, then by b) of which a and then b make one that is missing, else 0, 0.
  * Refusals as planner_question_lent gives them or, asked first, PLANNER_ANSWER_ROOM; the answer is then as it came. */
 #define PLANNER_CLOSED 1

@@ -11,6 +11,7 @@ const FUNCTIONS: &[&str] = &[
     "planner_question_lent",
     "planner_run_lent",
     "planner_at_least",
+    "planner_families",
     "planner_closed",
     "planner_report",
     "planner_columns",

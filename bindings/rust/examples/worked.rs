@@ -1,9 +1,9 @@
-//! The paper's sheet A, also with its second window settled first and asked for so many plans and for closed exchanges, its
+//! The paper's sheet A, also with its second window settled first and asked for so many plans, for closed exchanges and for families, its
 //! worked filter and the small sheets, through the safe functions.
 
 use planner::{
-    at_least, closed, filter, question, question_lent, report, run, run_lent, small_sheet, small_sheets,
-    ABSENT,
+    at_least, closed, families, filter, question, question_lent, report, run, run_lent, small_sheet,
+    small_sheets, ABSENT,
 };
 
 /// Two windows, three duties, one rule (the windows differ), one exchange (the windows change places).
@@ -48,6 +48,13 @@ fn main() {
     let rotation = [3, 2, 0, 1, 16, 22, 22, 34, 3, 3, 3, 2, 3, 4, 5, 0, 1].map(u16::to_le_bytes).concat();
     println!("{:?}", closed(&rotation, &[], &[]));
     println!("{:?}", closed(&rotation, &[], &[0, 2]));
+
+    for node_limit in [9, 8] {
+        println!("{:?}", families(&sheet, &[1, 0], &[], node_limit));
+    }
+    println!("{:?}", families(&rotation, &[], &[], 14));
+    println!("{:?}", families(&rotation, &[], &[1, 2], 14));
+    println!("{:?}", families(&rotation, &[], &[2, 2], 14));
 
     let index = [0, 1, 2, 3, 4, 2, 5, 0];
     let equal = [ABSENT, 1, ABSENT, 1, 1, ABSENT, 2, ABSENT];

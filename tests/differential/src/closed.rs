@@ -101,8 +101,8 @@ fn wrong_answer_room(lent: &Lent, rng: &mut Rng, tally: &mut Tally) {
     tally.same("answer untouched", &answer.bytes, &before.bytes, &lent.bytes());
 }
 
-/// Three free windows of two duties, with every row of up to three orderings of the windows as exchanges.
-pub fn orderings_of_three(tally: &mut Tally) {
+/// Every row of up to three orderings of three windows of two duties, as tables.
+pub fn tables_of_three() -> Vec<Vec<Vec<usize>>> {
     let orderings = [[0, 1, 2], [0, 2, 1], [1, 0, 2], [1, 2, 0], [2, 0, 1], [2, 1, 0]];
     let table = |to: [usize; 3]| (0..6).map(|number| 2 * to[number / 2] + number % 2).collect();
     let tables: Vec<Vec<usize>> = orderings.map(table).to_vec();
@@ -112,7 +112,12 @@ pub fn orderings_of_three(tally: &mut Tally) {
     let one = longer(&vec![Vec::new()]);
     let two = longer(&one);
     let three = longer(&two);
-    for symmetries in [one, two, three].concat() {
+    [one, two, three].concat()
+}
+
+/// Three free windows of two duties, with each of these as exchanges.
+pub fn orderings_of_three(tally: &mut Tally) {
+    for symmetries in tables_of_three() {
         tally.case = format!("part closed, three windows, exchanges {symmetries:?}");
         let problem =
             Problem { variables: 3, values: 2, initial: vec![3; 3], constraints: Vec::new(), symmetries };

@@ -2,12 +2,13 @@
 //! are read from the environment, and SHARED_BENCH for another folder of sheets with reports than
 //! ../shared/bench beside the repository. Case i of a part draws from SEED + i, so that a difference comes
 //! back with that seed and one case. Every refusal number must be reached by its part, and every ending of the filter and
-//! every answer to "at least so many plans?" and to whether exchanges are closed.
+//! every answer to "at least so many plans?", to how many families there are and to whether exchanges are closed.
 
 mod block;
 mod closed;
 mod columns;
 mod enough;
+mod families;
 mod filter;
 mod lent;
 mod merge;
@@ -28,8 +29,8 @@ use std::time::Instant;
 use tally::{Tally, WRONG_SIZE};
 
 const PARTS: &[&str] = &[
-    "question", "filter", "run", "lent", "enough", "closed", "retyped", "report", "columns", "merge",
-    "store", "small",
+    "question", "filter", "run", "lent", "enough", "families", "closed", "retyped", "report", "columns",
+    "merge", "store", "small",
 ];
 /// The refusal numbers that a part must reach.
 const REFUSALS: &[(&str, RangeInclusive<u32>)] = &[
@@ -42,6 +43,10 @@ const REFUSALS: &[(&str, RangeInclusive<u32>)] = &[
     ("enough", 28..=30),
     ("enough", 36..=36),
     ("enough", WRONG_SIZE..=WRONG_SIZE),
+    ("families", 15..=16),
+    ("families", 28..=30),
+    ("families", 36..=36),
+    ("families", WRONG_SIZE..=WRONG_SIZE),
     ("closed", 15..=16),
     ("closed", 28..=30),
     ("closed", 36..=36),
@@ -58,6 +63,8 @@ const ENOUGH_CASES: usize = 1000;
 const ENDINGS: [&str; 3] = ["consistent", "entailed", "failed"];
 /// Likewise what is said of so many plans, by its kind.
 const SAID: [&str; 3] = ["yes", "no", "spent"];
+/// Likewise of families.
+const FAMILIES: [&str; 2] = ["families counted", "dash"];
 /// Likewise of exchanges; these are asked once a case, so a tenth of the cases will do.
 const CLOSED: [&str; 2] = ["closed", "product missing"];
 
@@ -89,6 +96,9 @@ fn main() {
     if parts.iter().any(|part| part == "enough") {
         met(SAID, tally.enough, cases, &mut tally);
     }
+    if parts.iter().any(|part| part == "families") {
+        met(FAMILIES, tally.families, cases, &mut tally);
+    }
     if parts.iter().any(|part| part == "closed") {
         met(CLOSED, tally.closed, cases / 10, &mut tally);
     }
@@ -108,6 +118,7 @@ fn test(part: &str, seed: usize, cases: usize, tally: &mut Tally) {
             "run" => run::case(&mut rng, tally),
             "lent" => lent::case(&mut rng, tally),
             "enough" => enough::case(&mut rng, tally),
+            "families" => families::case(&mut rng, tally),
             "closed" => closed::case(&mut rng, tally),
             "retyped" => retyped::case(&mut rng, tally),
             "columns" => columns::case(&mut rng, tally),
@@ -120,6 +131,10 @@ fn test(part: &str, seed: usize, cases: usize, tally: &mut Tally) {
     if part == "lent" {
         lent::examples(tally);
         block::examples(tally);
+    }
+    if part == "families" {
+        families::many_plans(tally);
+        families::orderings_of_three(tally);
     }
     if part == "closed" {
         closed::orderings_of_three(tally);

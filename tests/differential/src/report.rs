@@ -59,7 +59,7 @@ fn long_input(rng: &mut Rng, tally: &mut Tally) {
     report(&input, expected.as_bytes(), REPORT_ROOM, tally);
 }
 
-/// Every sheet of a folder, beside its stored report, or else beside the oracle's.
+/// Every sheet of a folder, beside its stored report (that of paper 02, where there are two), or else beside the oracle's.
 pub fn folder(folder: &Path, tally: &mut Tally) {
     let Ok(entries) = fs::read_dir(folder) else {
         println!("report: no folder {}, skipped", folder.display());
@@ -70,8 +70,8 @@ pub fn folder(folder: &Path, tally: &mut Tally) {
     files.sort();
     for file in &files {
         let sheet = fs::read(file).expect("a sheet that can be read");
-        let stored = fs::read(file.with_extension("report"));
-        let expected = stored.unwrap_or_else(|_| oracle::report(&sheet).into_bytes());
+        let stored = ["report02", "report"].iter().find_map(|name| fs::read(file.with_extension(name)).ok());
+        let expected = stored.unwrap_or_else(|| oracle::report(&sheet).into_bytes());
         tally.case = format!("{}", file.display());
         report(&sheet, &expected, REPORT_ROOM, tally);
     }

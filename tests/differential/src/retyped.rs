@@ -1,6 +1,6 @@
 //! Part `retyped` (paper 02, #109): sheets with two to four exchanges, typed in all orders of these. Under the same pairs,
 //! block, allowance and room each answers with the same status, and every lent byte is the same; so does whether there are at
-//! least so many plans.
+//! least so many plans, and the number of families.
 
 use crate::lent::{Lent, ANSWER_BYTES};
 use crate::run::{node_limit, room};
@@ -39,12 +39,15 @@ fn with_exchanges(rng: &mut Rng) -> (Problem, [u8; 2]) {
 }
 
 /// The statuses, and every byte that is written to.
-fn run(lent: &Lent, limit: u32, room: usize, pattern: u8) -> ([u32; 2], Vec<u8>) {
-    let [mut list, mut answer, mut enough] =
-        [room, ANSWER_BYTES, 12].map(|length| Guarded::new(length, pattern));
-    let statuses =
-        [lent.run(limit, list.lent(), answer.lent()), lent.at_least(room as u32 / 4, limit, enough.lent())];
-    (statuses, [list.bytes, answer.bytes, enough.bytes].concat())
+fn run(lent: &Lent, limit: u32, room: usize, pattern: u8) -> ([u32; 3], Vec<u8>) {
+    let [mut list, mut answer, mut enough, mut families] =
+        [room, ANSWER_BYTES, 12, 12].map(|length| Guarded::new(length, pattern));
+    let statuses = [
+        lent.run(limit, list.lent(), answer.lent()),
+        lent.at_least(room as u32 / 4, limit, enough.lent()),
+        lent.families(limit, families.lent()),
+    ];
+    (statuses, [list.bytes, answer.bytes, enough.bytes, families.bytes].concat())
 }
 
 /// Every order of some things.

@@ -22,6 +22,8 @@ pub struct Tally {
     pub endings: [usize; 3],
     /// Answers to "at least so many plans?" by their kind, from 1.
     pub enough: [usize; 3],
+    /// Counts of families, and dashes.
+    pub families: [usize; 2],
     /// Runs with closed exchanges, and with a product missing.
     pub closed: [usize; 2],
     /// What is tested now, printed with a difference.

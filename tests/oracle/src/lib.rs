@@ -5,6 +5,7 @@ pub mod block;
 pub mod closed;
 pub mod columns;
 pub mod enough;
+pub mod families;
 pub mod lent;
 pub mod listing;
 pub mod merge;

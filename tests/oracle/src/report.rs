@@ -1,5 +1,6 @@
 //! The text of the report.
 
+use crate::families::families;
 use crate::search::search;
 use crate::{question, Ending};
 
@@ -29,5 +30,9 @@ pub fn report(input: &[u8]) -> String {
         Ending::Spent => "spent",
         Ending::Full => "full",
     };
-    text + &format!("{ending} {} {} {}\n", outcome.plans, outcome.nodes, outcome.plans)
+    let families = match families(sheet, &[], &[], NODE_LIMIT) {
+        Ok(Some(families)) => families.to_string(),
+        _ => "-".to_string(),
+    };
+    text + &format!("{ending} {} {} {families}\n", outcome.plans, outcome.nodes)
 }

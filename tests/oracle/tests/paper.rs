@@ -2,6 +2,7 @@
 
 use oracle::closed::{earliest, missing_product};
 use oracle::enough::{at_least, Enough, Said};
+use oracle::families::families;
 use oracle::lent::{question_lent, run_lent};
 use oracle::sheet::Constraint;
 use oracle::{filter, question, report, run, Ending, FilterEnding, Outcome, Problem, Refusal};
@@ -91,7 +92,16 @@ fn rotation() -> Vec<u8> {
 
 #[test]
 fn a_rotation_of_three_places() {
-    assert!(report(&rotation()).starts_with("plan 0 1 2\nplan 0 2 1\nplan 1 2 0\nfinished 3 "));
+    assert_eq!(report(&rotation()), "plan 0 1 2\nplan 0 2 1\nplan 1 2 0\nfinished 3 9 2\n");
+}
+
+/// A's run is finished after 6 trials, the one without its exchange after 9.
+#[test]
+fn families_on_the_sheet() {
+    assert_eq!(families(&rotation(), &[], &[], 1_000_000), Ok(Some(2)));
+    assert_eq!(families(&rotation(), &[2, 0], &[], 1_000_000), Ok(Some(2)));
+    assert_eq!(families(&a(), &[], &[], 9), Ok(Some(3)));
+    assert_eq!(families(&a(), &[], &[], 8), Ok(None));
 }
 
 #[test]

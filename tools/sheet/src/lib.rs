@@ -4,13 +4,13 @@
 //! Whether a sheet is accepted, and which plans it has, is always asked of the proved planner.
 
 pub mod alike;
-pub mod closed;
 pub mod columns;
 pub mod command;
 pub mod compose;
 pub mod counts;
 pub mod enough;
 pub mod explain;
+pub mod families;
 pub mod input;
 pub mod listing;
 pub mod make;

@@ -2,7 +2,7 @@
 
 use crate::command::{Arguments, Choice, Status, Stop};
 use crate::make::Made;
-use crate::words::counted;
+use crate::words::{counted, families};
 use planner::{Answer, Closed, Ending, Enough, Refusal};
 use std::io::{IsTerminal, Write};
 use std::time::{Duration, Instant};
@@ -53,6 +53,14 @@ impl Limits {
     }
 }
 
+/// The families of the plans listed.
+#[derive(Clone, Copy, Debug, PartialEq, Eq)]
+pub struct Families {
+    /// How many there are, where they were counted.
+    pub count: Option<u32>,
+    pub closed: Closed,
+}
+
 /// The plans that a run listed, and how it ended.
 #[derive(Clone, Debug, PartialEq, Eq)]
 pub struct Listing {
@@ -61,8 +69,8 @@ pub struct Listing {
     pub trials: u32,
     /// The trials by window.
     pub counts: [u32; 12],
-    /// Whether the exchanges are closed, where a finished run lists plans under some.
-    pub closed: Option<Closed>,
+    /// What is known of the families, where a finished run lists plans under exchanges.
+    pub families: Option<Families>,
     pub limits: Limits,
 }
 
@@ -95,11 +103,14 @@ pub fn list(
     let (answer, counts) = (lent.answer, lent.counts);
     let plans = room.chunks(n).take(answer.plans as usize).map(<[u8]>::to_vec).collect();
     let has_families = answer.ending == Ending::Finished && answer.plans > 0 && made.has_exchanges();
-    let closed = match has_families && !limits.first {
-        true => Some(planner::closed(&made.sheet, &made.pairs, &made.block)?),
+    let families = match has_families && !limits.first {
+        true => Some(Families {
+            count: planner::families(&made.sheet, &made.pairs, &made.block, limits.trials)?,
+            closed: planner::closed(&made.sheet, &made.pairs, &made.block)?,
+        }),
         false => None,
     };
-    Ok(Listing { ending: answer.ending, plans, trials: answer.nodes, counts, closed, limits })
+    Ok(Listing { ending: answer.ending, plans, trials: answer.nodes, counts, families, limits })
 }
 
 /// Lists the plans, and shows on a terminal how far a long run has come.
@@ -165,7 +176,11 @@ impl Listing {
         };
         let spent = format!("stopped at the allowance of {}", counted(self.limits.trials, "trial"));
         match self.ending {
-            Ending::Finished => format!("finished: {plans}, {}", counted(self.trials, "trial")),
+            Ending::Finished => {
+                let count = self.families.and_then(|families| families.count);
+                let families = count.map_or(String::new(), |count| format!(", {}", families(count)));
+                format!("finished: {plans}{families}, {}", counted(self.trials, "trial"))
+            }
             Ending::Full if self.first_found() => "stopped at the first plan: there are more".to_string(),
             Ending::Spent if self.first_found() => {
                 "stopped at the first plan: more plans may exist".to_string()

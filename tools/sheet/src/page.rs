@@ -1,8 +1,8 @@
 //! `sheet page`: the hall and its plans as one page that needs nothing else.
 
-use crate::closed::words;
 use crate::command::{Arguments, Command, Outcome, Stop};
 use crate::counts::share;
+use crate::families::words;
 use crate::input::{Input, BLOCK_OPTION, PAIRS_OPTION};
 use crate::listing::{Limits, Listing, PLANS_OPTION, TRIALS_OPTION};
 use crate::pairs::settled;
@@ -170,7 +170,8 @@ impl Page<'_> {
             true => "A plan that an exchange makes of an earlier one is left out.",
             false => "",
         };
-        let closed = words(self.listing, self.input).map_or(String::new(), |words| sentence(&words));
+        let families: String =
+            words(self.listing, self.input).iter().map(|words| paragraph(&sentence(words))).collect();
         let order = match settled(self.problem(), &self.input.made.pairs) {
             windows if windows.is_empty() => String::new(),
             windows => format!("Read in the order in which windows are settled: {}.", windows.join(", ")),
@@ -187,7 +188,7 @@ impl Page<'_> {
             "<h2>The plans</h2>\n{}{}{}<div class=\"wide\" tabindex=\"0\"><table class=\"plans\">\n\
              <thead><tr><td></td>{windows}</tr></thead>\n<tbody>\n{rows}</tbody>\n</table></div>\n",
             paragraph(left),
-            paragraph(&closed),
+            families,
             paragraph(&order)
         )
     }

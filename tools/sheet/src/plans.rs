@@ -1,8 +1,8 @@
 //! `sheet plans`: a text's plans by name.
 
-use crate::closed::words;
 use crate::command::{refuse, Arguments, Choice, Command, Outcome, Stop};
 use crate::counts::drawn;
+use crate::families::words;
 use crate::input::{Input, BLOCK_OPTION, PAIRS_OPTION};
 use crate::listing::{Limits, Listing, PLANS_OPTION, TRIALS_OPTION};
 use crate::pairs::settled;
@@ -77,9 +77,9 @@ fn run(arguments: &Arguments) -> Result<Outcome, Stop> {
     Ok(Outcome { output, note, status })
 }
 
-/// Whether the exchanges are closed.
+/// Families and closed exchanges.
 fn of_exchanges(input: &Input, listing: &Listing) -> String {
-    words(listing, input).map_or(String::new(), |words| format!("({words})\n"))
+    words(listing, input).iter().map(|words| format!("({words})\n")).collect()
 }
 
 /// The order in which pairs settle the windows.

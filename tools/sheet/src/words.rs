@@ -68,6 +68,14 @@ pub fn counted(number: impl Into<u64>, word: &str) -> String {
     }
 }
 
+/// How many families.
+pub fn families(count: u32) -> String {
+    match count {
+        1 => "1 family".to_string(),
+        count => format!("{} families", grouped(count)),
+    }
+}
+
 /// Names in a row: "a", "a and b", "a, b and c".
 pub fn listed<T: AsRef<str>>(names: &[T]) -> String {
     match names {

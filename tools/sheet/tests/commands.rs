@@ -107,10 +107,10 @@ fn endings() {
     let bar = "#".repeat(40);
     let one = "(one plan of each family, the one that reads earliest: the exchanges are closed)\n";
     let by_window =
-        format!("finished: 3 plans, 6 trials\n{left}{one}left   3  50.0%  {bar}\nright  3  50.0%  {bar}\n");
+        format!("finished: 3 plans, 3 families, 6 trials\n{left}{one}left   3  50.0%  {bar}\nright  3  50.0%  {bar}\n");
     let table = "left  right\nsell  pay\nsell  count\npay   count\n\n";
     is(output("plans --by-window examples/a.txt"), 0, &format!("{table}{by_window}"), "");
-    let finished = "finished: 3 plans, 6 trials\n";
+    let finished = "finished: 3 plans, 3 families, 6 trials\n";
     is(output("plans --rows examples/a.txt"), 0, "\0\u{1}\0\u{2}\u{1}\u{2}", finished);
 }
 
@@ -124,14 +124,19 @@ fn closed_exchanges() {
     let one = "(one plan of each family, the one that reads earliest: the exchanges are closed)";
     let missing =
         "the exchanges aren't closed: `exchange windows north east south` twice makes one that isn't there";
-    let cycle =
-        format!("finished: 3 plans, 9 trials\n{left}\n(a family may have several plans, as {missing})");
+    let cycle = format!(
+        "finished: 3 plans, 2 families, 9 trials\n{left}\n(some family has several plans, as {missing})"
+    );
     assert_eq!(last(output("plans examples/cycle.txt"), 3), cycle);
-    let stand = "(a family may have several plans, as the exchanges aren't closed: `exchange windows win1 win2` and then \
+    let stand = "(one plan of each family, though the exchanges aren't closed: `exchange windows win1 win2` and then \
                  `exchange windows place1 place2` make one that isn't there)";
     assert_eq!(last(output("plans examples/stand.txt"), 1), stand);
-    let a = format!("finished: 3 plans, 6 trials\n{left}\n{one}");
-    assert_eq!(last(output("plans --trials 8 examples/a.txt"), 3), a);
+    let not_counted = "(families aren't counted: without the exchanges the run doesn't finish, with this allowance and room \
+                       for 4,096 plans)";
+    let a = format!("finished: 3 plans, 6 trials\n{left}\n{not_counted}\n{one}");
+    assert_eq!(last(output("plans --trials 8 examples/a.txt"), 4), a);
+    let a = format!("finished: 3 plans, 3 families, 6 trials\n{left}\n{one}");
+    assert_eq!(last(output("plans --trials 9 examples/a.txt"), 3), a);
     for (words, lines) in [("plans --trials 5", 2), ("plans --plans 2", 2), ("plans --first", 2)] {
         let stopped = last(output(&format!("{words} examples/a.txt")), lines);
         assert!(!stopped.contains("closed"), "{stopped}");
@@ -141,9 +146,9 @@ fn closed_exchanges() {
         b"windows a b c\nduties x y\nalike a b\nexchange duties x y # all\nexchange nothing\n",
     );
     let several =
-        "(a family may have several plans, as the exchanges aren't closed: `exchange duties x y` and then \
+        "(some family has several plans, as the exchanges aren't closed: `exchange duties x y` and then \
                    ordering 2 of the alike windows make one that isn't there)";
-    assert_eq!(last(alike, 3), format!("finished: 4 plans, 8 trials\n{left}\n{several}"));
+    assert_eq!(last(alike, 3), format!("finished: 4 plans, 3 families, 8 trials\n{left}\n{several}"));
     let table: Vec<String> = (0..24).map(|number| ((number + 2) % 24).to_string()).collect();
     let text = format!("windows a b c d e f g h i j k l\nduties x y\nexchange table {}\n", table.join(" "));
     let long = last(fed("plans -", text.as_bytes()), 1);
@@ -209,7 +214,7 @@ fn enough_not_answered() {
 #[test]
 fn sheets() {
     let bytes = std::fs::read(root().join("examples/a.sheet")).unwrap();
-    let plans = "w0  w1\nd0  d1\nd0  d2\nd1  d2\n\nfinished: 3 plans, 6 trials\n\
+    let plans = "w0  w1\nd0  d1\nd0  d2\nd1  d2\n\nfinished: 3 plans, 3 families, 6 trials\n\
                  (a plan that an exchange makes of an earlier one is left out)\n\
                  (one plan of each family, the one that reads earliest: the exchanges are closed)\n";
     is(fed("plans -", &bytes), 0, plans, "");

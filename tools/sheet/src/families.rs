@@ -1,4 +1,4 @@
-//! Closed exchanges (paper 02, #112) after a finished run, in words.
+//! Families (paper 02, #104) and closed exchanges (#112) after a finished run, in words.
 
 use crate::input::Input;
 use crate::listing::Listing;
@@ -8,17 +8,28 @@ use planner::Closed;
 /// How much of a line is shown.
 const LONGEST: usize = 60;
 
+const NOT_COUNTED: &str =
+    "families aren't counted: without the exchanges the run doesn't finish, with this allowance and room for 4,096 plans";
 const ONE_OF_EACH: &str = "one plan of each family, the one that reads earliest: the exchanges are closed";
 
-/// What is to be said of the exchanges, where a finished run lists plans under some.
-pub fn words(listing: &Listing, input: &Input) -> Option<String> {
-    Some(match listing.closed? {
+/// What is to be said beside their number. Every family has a listed plan, so as many plans as families are one of each.
+pub fn words(listing: &Listing, input: &Input) -> Vec<String> {
+    let Some(families) = listing.families else {
+        return Vec::new();
+    };
+    let not_counted = families.count.is_none().then(|| NOT_COUNTED.to_string());
+    let several = match families.count {
+        Some(count) if count as usize == listing.plans.len() => "one plan of each family, though",
+        Some(_) => "some family has several plans, as",
+        None => "a family may have several plans, as",
+    };
+    let closed = match families.closed {
         Closed::Yes => ONE_OF_EACH.to_string(),
-        Closed::Missing { first, second } => format!(
-            "a family may have several plans, as the exchanges aren't closed: {}",
-            product(input, first, second)
-        ),
-    })
+        Closed::Missing { first, second } => {
+            format!("{several} the exchanges aren't closed: {}", product(input, first, second))
+        }
+    };
+    not_counted.into_iter().chain([closed]).collect()
 }
 
 fn product(input: &Input, first: u32, second: u32) -> String {
