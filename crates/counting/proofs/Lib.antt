@@ -1,3 +1,4 @@
 -- The laws that the proofs of this crate share.
 pub mod Images
 pub mod Bare
+pub mod FamilyCalls

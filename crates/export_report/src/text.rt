@@ -57,11 +57,16 @@ fn ending_report(sheet: &[u8], e: Ending, list: &[u8], n: usize, out: &mut [u8])
     finished_report(sheet, plans, nodes, list, n, out)
 }
 
-// The report on a sheet, with room for 4,096 plans of n values.
+// The report on a sheet; the list is cut to the room for 4,096 plans of n values. A function that calls itself is not compiled into one with the runs that
+// it calls, so their arrays stand one after the other on the stack.
 fn run_report(sheet: &[u8], n: usize, list: &mut [u8], out: &mut [u8]) -> usize
-    requires { ⌜ Sized (now sheet) n × (length (now list) ≡ 4096 * n) × (room ≤ length (now out)) ⌝ }
+    requires { ⌜ Sized (now sheet) n × (4096 * n ≤ length (now list)) × (room ≤ length (now out)) ⌝ }
     ensures { λ r. ⌜ Fronted (now (out .entry)) (reportFor (verdictOf (now (sheet .entry))) (now (sheet .entry))) (now (out .exit)) r ⌝ }
 {
+    let used = 4096 * n;
+    if used < list.len() {
+        return run_report(sheet, n, &mut list[..used], out);
+    }
     let answer = search::run(sheet, 1000000, list);
     match answer {
         Answer::Refused { number, item } => report::refused(number as usize, item, out),
@@ -75,7 +80,6 @@ pub fn sheet_report(sheet: &[u8], out: &mut [u8]) -> usize
     ensures { λ r. ⌜ Fronted (now (out .entry)) (reportFor (verdictOf (now (sheet .entry))) (now (sheet .entry))) (now (out .exit)) r ⌝ }
 {
     let n = counting::variables(sheet);
-    let used = 4096 * n;
     let mut list = counting::plan_room();
-    run_report(sheet, n, &mut list[..used], out)
+    run_report(sheet, n, &mut list, out)
 }

@@ -1,0 +1,57 @@
+-- Families (paper 02, #104) and one plan of each (#112), of what callers hold: of `families`, and of `run_lent` and `closed` with the same sheet, pairs
+-- and block. proofs/FamilyCalls has the theorems.
+use mathlib.Core.Path.{_≡_}
+use mathlib.Core.Logic.{_↔_}
+use mathlib.Core.List.{List}
+use Prim.Native.Nat.{ℕ, _*_}
+use Rattle.model.specs.Verdict.{accepted, refused}
+use Rattle.model.specs.Sheet.{headerOf, problemOf}
+use Rattle.lent.specs.Lent.{verdictLent, problemWith}
+use Rattle.families.specs.Families.{Closed, FamilyCount, familiesOf}
+use Rattle.figure.specs.FigureClaims.{ranBare, Finished, OneListedEach}
+use Rattle.closed.specs.Lent.{closedLent}
+use Rattle.closed.specs.Lent as L
+use Rattle.closed.specs.declared.Answer as CA
+use Rattle.closed.specs.declared.Answer.the-variants as CV
+use Rattle.search.specs.Demands.{plansFrom}
+use Rattle.search.specs.DemandsLent.{CallLent}
+use Rattle.search.specs.declared.Tally.{Tally}
+use Rattle.search.specs.declared.Ending.the-variants.{Finished as Done}
+use Rattle.search.specs.declared.Answer as SA
+use Rattle.search.specs.declared.Answer.the-variants.{Ended}
+use Rattle.counting.specs.Told.{countedLent, means}
+use Rattle.counting.specs.declared.Answer.{Answer}
+use Rattle.counting.specs.declared.Answer.the-variants.{Number, Dash, Refused}
+
+-- ---- families
+-- a call of `families`: r comes back
+abbrev pub CallFamilies : List ℕ → List ℕ → List ℕ → ℕ → Answer → Type 0
+CallFamilies b pairs block limit r = means r ≡ countedLent b pairs block limit
+
+pub record FamiliesHeld (b pairs block : List ℕ) (limit : ℕ) (r : Answer) : Type 0 where
+  -- the refusal of the run
+  pub refuses : (n i : ℕ) → verdictLent b pairs block ≡ refused n i → r ≡ Refused n i
+  -- a number is that of the families
+  pub counts : (k : ℕ) → r ≡ Number k → (k ≡ familiesOf (problemWith b block)) × FamilyCount (problemWith b block)
+  -- the dash is told exactly where the run without exchanges isn't finished, with this limit and room for 4,096 plans
+  pub dashed : verdictLent b pairs block ≡ accepted → (r ≡ Dash) ↔ (Finished (ranBare b pairs limit (4096 * problemOf b .variables)) → ⊥)
+
+abbrev pub Families-calls : Type 0
+Families-calls = (b pairs block : List ℕ) (limit : ℕ) (r : Answer) → CallFamilies b pairs block limit r → FamiliesHeld b pairs block limit r
+
+-- ---- one of each family
+-- a finished run under closed exchanges: the plans in the caller's list are exactly one of each family, the one that reads earliest in the order of the run
+abbrev pub One-of-each-calls : Type 0
+One-of-each-calls =
+    (b pairs block : List ℕ) (limit : ℕ) (out : List ℕ) (tally : Tally) (r : SA.Answer) (after : List ℕ) (tally′ : Tally) → CallLent b pairs block limit out tally r after tally′ →
+    (plans nodes : ℕ) → r ≡ Ended (Done plans nodes) → Closed (problemWith b block) → OneListedEach b pairs block plans (plansFrom b plans after)
+
+-- closed they are where `closed` says so ..
+abbrev pub Closed-calls : Type 0
+Closed-calls = (b pairs block : List ℕ) (r : CA.Answer) → L.means r ≡ closedLent b pairs block → r ≡ CV.Closed → Closed (problemWith b block)
+
+-- .. and where a block is used with no exchanges of the sheet
+abbrev pub Block-calls : Type 0
+Block-calls =
+    (b pairs block : List ℕ) (limit : ℕ) (out : List ℕ) (tally : Tally) (r : SA.Answer) (after : List ℕ) (tally′ : Tally) → CallLent b pairs block limit out tally r after tally′ →
+    (plans nodes : ℕ) → r ≡ Ended (Done plans nodes) → headerOf b .symmetries ≡ 0 → OneListedEach b pairs block plans (plansFrom b plans after)
