@@ -1,15 +1,20 @@
 -- Parts of a buffer, numbers read back, and lists of bytes. Assumes nothing.
-use mathlib.Core.Path.{_≡_, sym, ap₂, _∙_, subst}
+use mathlib.Core.Path.{_≡_, refl, sym, ap, ap₂, _∙_, subst}
+use mathlib.Core.Bool.{Bool, true, false}
+use mathlib.Core.Logic.{_⊎_, inl, inr}
 use mathlib.Core.List.{List, [], _∷_, _++_}
-use Prim.Native.Nat.{ℕ, zero, suc, _+_, _*_, _/_, _%_, _^_, _≤_, _<_}
+use Prim.Native.Nat.{ℕ, zero, suc, _+_, _-_, _*_, _/_, _%_, _^_, _≤_, _<_}
 use native.Mathlib.Omega.{arith}
 use lib.ListN.{length, take, drop, set, replicate, length-take, length-drop}
+use lib.Dec.{ltb}
 use lib.Seq.{getD-drop, length-take-le}
+use borrow.Author.Tests.{ltb-true, ltb-false}
 use Rattle.model.specs.Lists.{at}
 use Rattle.model.specs.Sheet.{«word»}
 use Rattle.model.specs.Bytes.{twoBytes, fourBytes}
 use Rattle.model.specs.Written.{placed}
 use Rattle.model.proofs.Lists.{at-take, at-ext}
+use Rattle.model.proofs.Written.{length-placed, placed-before, placed-in, placed-after}
 use Rattle.desk.specs.Layout.{long}
 
 -- a part with the same bytes
@@ -92,3 +97,57 @@ small-four k h =
 
 pub small-two : (k : ℕ) → k < 65536 → Small (twoBytes k)
 small-two k h = small-cons (k % 256) (k / 256 ∷ []) (omega arith) (small-cons (k / 256) [] (omega arith) small-nil)
+
+-- ---- two texts put apart, in either order
+pub placed-apart : (b : List ℕ) (i j : ℕ) (t u : List ℕ) → i + length t ≤ j → j + length u ≤ length b → placed (placed b j u) i t ≡ placed (placed b i t) j u
+placed-apart b i j t u h l = at-ext (placed (placed b j u) i t) (placed (placed b i t) j u) (len₁ ∙ sym len₂) (λ x m. each x (ltb x i) refl (ltb x (i + length t)) refl (ltb x j) refl (ltb x (j + length u)) refl)
+  where
+    fit₁ : i + length t ≤ length b
+    fit₁ = omega arith
+
+    len-t : length (placed b i t) ≡ length b
+    len-t = length-placed b i t fit₁
+
+    len-u : length (placed b j u) ≡ length b
+    len-u = length-placed b j u l
+
+    fit-t : i + length t ≤ length (placed b j u)
+    fit-t = let e = len-u in omega arith
+
+    fit-u : j + length u ≤ length (placed b i t)
+    fit-u = let e = len-t in omega arith
+
+    len₁ : length (placed (placed b j u) i t) ≡ length b
+    len₁ = length-placed (placed b j u) i t fit-t ∙ len-u
+
+    len₂ : length (placed (placed b i t) j u) ≡ length b
+    len₂ = length-placed (placed b i t) j u fit-u ∙ len-t
+
+    -- outside the first text, and outside the second
+    out-t : (c : List ℕ) → i + length t ≤ length c → (x : ℕ) → (x < i) ⊎ (i + length t ≤ x) → at (placed c i t) x ≡ at c x
+    out-t c f x (inl m) = placed-before c i t f x m
+    out-t c f x (inr m) = placed-after c i t f x m
+
+    out-u : (c : List ℕ) → j + length u ≤ length c → (x : ℕ) → (x < j) ⊎ (j + length u ≤ x) → at (placed c j u) x ≡ at c x
+    out-u c f x (inl m) = placed-before c j u f x m
+    out-u c f x (inr m) = placed-after c j u f x m
+
+    neither : (x : ℕ) → (x < i) ⊎ (i + length t ≤ x) → (x < j) ⊎ (j + length u ≤ x) → at (placed (placed b j u) i t) x ≡ at (placed (placed b i t) j u) x
+    neither x m n = out-t (placed b j u) fit-t x m ∙ out-u b l x n ∙ sym (out-u (placed b i t) fit-u x n ∙ out-t b fit₁ x m)
+
+    in-first : (x y : ℕ) → i + y ≡ x → y < length t → x < j → at (placed (placed b j u) i t) x ≡ at (placed (placed b i t) j u) x
+    in-first x y e m n =
+        ap (at (placed (placed b j u) i t)) (sym e) ∙ placed-in (placed b j u) i t fit-t y m
+        ∙ sym (placed-before (placed b i t) j u fit-u x n ∙ ap (at (placed b i t)) (sym e) ∙ placed-in b i t fit₁ y m)
+
+    in-second : (x y : ℕ) → j + y ≡ x → y < length u → i + length t ≤ x → at (placed (placed b j u) i t) x ≡ at (placed (placed b i t) j u) x
+    in-second x y e m n =
+        placed-after (placed b j u) i t fit-t x n ∙ ap (at (placed b j u)) (sym e) ∙ placed-in b j u l y m
+        ∙ sym (ap (at (placed (placed b i t) j u)) (sym e) ∙ placed-in (placed b i t) j u fit-u y m)
+
+    each : (x : ℕ) (p : Bool) → ltb x i ≡ p → (q : Bool) → ltb x (i + length t) ≡ q → (r : Bool) → ltb x j ≡ r → (s : Bool) → ltb x (j + length u) ≡ s → at (placed (placed b j u) i t) x ≡ at (placed (placed b i t) j u) x
+    each x true e q f r g s k = let m = ltb-true x i e in neither x (inl m) (inl (omega arith))
+    each x false e true f r g s k = let m = ltb-false x i e in let n = ltb-true x (i + length t) f in in-first x (x - i) (omega arith) (omega arith) (omega arith)
+    each x false e false f true g s k = neither x (inr (ltb-false x (i + length t) f)) (inl (ltb-true x j g))
+    each x false e false f false g true k = let m = ltb-false x j g in let n = ltb-true x (j + length u) k in in-second x (x - j) (omega arith) (omega arith) (ltb-false x (i + length t) f)
+    each x false e false f false g false k = neither x (inr (ltb-false x (i + length t) f)) (inr (ltb-false x (j + length u) k))

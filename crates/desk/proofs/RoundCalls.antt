@@ -20,7 +20,7 @@ use Rattle.desk.proofs.Turning.{Fits, at-fits, turned-fits}
 use Rattle.desk.proofs.Turned.{run-whole, run-seat, run-others, run-next, run-bytes}
 use Rattle.desk.proofs.Calls.{looked-seat, looked-next}
 
-turns-fit : (b : List ℕ) (p m : ℕ) (h : Hall) → Fits b p h → Fits b p (turned m h)
+pub turns-fit : (b : List ℕ) (p m : ℕ) (h : Hall) → Fits b p h → Fits b p (turned m h)
 turns-fit b p zero h f = f
 turns-fit b p (suc m) h f = turns-fit b p m (hallTurned h) (turned-fits b p h f)
 
@@ -33,7 +33,7 @@ module _ (r : ℕ) (b : List ℕ) (d : DeskBytes b) (k : ℕ) (l : k < 8) where
   abbrev p : ℕ
   p = seatPlace k
 
-  abbrev after : List ℕ
+  abbrev pub after : List ℕ
   after = choose (eqb (dueAt r (seatOf b k)) 0) b (withRun b p (given r (hallAt b p)))
 
   pub record Served (c : List ℕ) : Type 0 where
@@ -42,7 +42,7 @@ module _ (r : ℕ) (b : List ℕ) (d : DeskBytes b) (k : ℕ) (l : k < 8) where
     pub others : (j : ℕ) → j < 8 → (j ≡ k → ⊥) → seatOf c j ≡ seatOf b j
     pub next : at c nextPlace ≡ at b nextPlace
 
-  serve : Served after
+  pub serve : Served after
   serve = go (eqb (dueAt r (seatOf b k)) 0) refl
     where
       go : (t : Bool) → eqb (dueAt r (seatOf b k)) 0 ≡ t → Served (choose t b (withRun b p (given r (hallAt b p))))
@@ -87,7 +87,7 @@ serve-all r (k ∷ ks) b d o l =
     each h s a j (List·Memᴰ·tail m) = a .given-to j m ∙ ap (seatGiven r) (s .others j (l j (List·Memᴰ·tail m)) (o .0 j m))
 
 -- where to look is a byte
-behind-small : (turns : ℕ → ℕ) (ks : List ℕ) (best next : ℕ) → next < 256 → behindLast turns ks best next < 256
+pub behind-small : (turns : ℕ → ℕ) (ks : List ℕ) (best next : ℕ) → next < 256 → behindLast turns ks best next < 256
 unfolding behindLast
 behind-small turns [] best next h = h
 behind-small turns (k ∷ ks) best next h = go (both (ltb 0 (turns k)) (leb best (turns k))) (behind-small turns ks (turns k) ((k + 1) % 8) (omega arith)) (behind-small turns ks best next h)

@@ -235,12 +235,12 @@ pick-yes b x y e = ap (λ (c : Bool). choose c x y) e
 pick-no : {A : Type 0} (b : Bool) (x y : A) → b ≡ false → choose b x y ≡ y
 pick-no b x y e = ap (λ (c : Bool). choose c x y) e
 
-due-over : (r : ℕ) (h : Hall) → goesOn (h .standing) ≡ false → due r h ≡ 0
+pub due-over : (r : ℕ) (h : Hall) → goesOn (h .standing) ≡ false → due r h ≡ 0
 unfolding due
 due-over zero h e = refl
 due-over (suc r) h e = pick-no (goesOn (h .standing)) (suc (due r (hallTurned h))) 0 e
 
-due-none : (s : Seat) → dueAt 0 s ≡ 0
+pub due-none : (s : Seat) → dueAt 0 s ≡ 0
 unfolding due
 due-none free = refl
 due-none (taken h) = refl

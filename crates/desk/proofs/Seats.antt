@@ -42,6 +42,23 @@ unfolding upFrom
 row-length f zero a = refl
 row-length f (suc n) a = ap suc (row-length f n (suc a))
 
+-- the first of some numbers f a, f (a + 1), .. that passes a test
+pub first-at : (q : ℕ → Bool) (f : ℕ → ℕ) (n a i : ℕ) → a ≤ i → i < a + n → ((j : ℕ) → a ≤ j → j < i → q (f j) ≡ false) → q (f i) ≡ true → firstOf q (map f (upFrom a n)) ≡ seat (f i)
+unfolding firstOf upFrom
+first-at q f zero a i l h none e = absurd (omega arith)
+first-at q f (suc n) a i l h none e = go (eqb a i) refl (first-at q f n (suc a) i)
+  where
+    rest : Found
+    rest = firstOf q (map f (upFrom (suc a) n))
+
+    go : (t : Bool) → eqb a i ≡ t → (suc a ≤ i → i < suc a + n → ((j : ℕ) → suc a ≤ j → j < i → q (f j) ≡ false) → q (f i) ≡ true → rest ≡ seat (f i)) → elim (q (f a)) [ true ↦ seat (f a) | false ↦ rest ] ≡ seat (f i)
+    go true g ih =
+        let z = eqb-true a i g in
+        ap (λ (t : Bool). elim t [ true ↦ seat (f a) | false ↦ rest ]) (ap (λ (j : ℕ). q (f j)) z ∙ e) ∙ ap (λ (j : ℕ). seat (f j)) z
+    go false g ih =
+        let z = eqb-false a i g in
+        ap (λ (t : Bool). elim t [ true ↦ seat (f a) | false ↦ rest ]) (none a (omega arith) (omega arith)) ∙ ih (omega arith) (omega arith) (λ j k m. none j (omega arith) m) e
+
 module _ (b : List ℕ) where
   pub seat-in : (k : ℕ) → k < 8 → seatAt (deskOf b) k ≡ seatOf b k
   unfolding below
@@ -70,26 +87,11 @@ module _ (b : List ℕ) where
   unfolding test
   test-no k h n = ap isFree (seat-in k h ∙ taken-at k n)
 
-  first-is : (q : ℕ → Bool) (n a k : ℕ) → a ≤ k → k < a + n → ((j : ℕ) → a ≤ j → j < k → q j ≡ false) → q k ≡ true → firstOf q (upFrom a n) ≡ seat k
-  unfolding firstOf upFrom
-  first-is q zero a k l h f e = absurd (omega arith)
-  first-is q (suc n) a k l h f e = go (eqb a k) refl (first-is q n (suc a) k)
-    where
-      go : (t : Bool) → eqb a k ≡ t → (suc a ≤ k → k < suc a + n → ((j : ℕ) → suc a ≤ j → j < k → q j ≡ false) → q k ≡ true → firstOf q (upFrom (suc a) n) ≡ seat k) →
-          elim (q a) [ true ↦ seat a | false ↦ firstOf q (upFrom (suc a) n) ] ≡ seat k
-      go true g ih =
-          let z = eqb-true a k g in
-          ap (λ (t : Bool). elim t [ true ↦ seat a | false ↦ firstOf q (upFrom (suc a) n) ]) (ap q z ∙ e) ∙ ap seat z
-      go false g ih =
-          let z = eqb-false a k g in
-          ap (λ (t : Bool). elim t [ true ↦ seat a | false ↦ firstOf q (upFrom (suc a) n) ]) (f a (omega arith) (omega arith))
-          ∙ ih (omega arith) (omega arith) (λ j i m. f j (omega arith) m) e
-
   pub lowest-is : (k : ℕ) → k < 8 → ((j : ℕ) → j < k → at b (seatPlace j) ≡ 0 → ⊥) → at b (seatPlace k) ≡ 0 → found k ≡ lowestFree (deskOf b)
-  unfolding test below
+  unfolding test below upFrom
   lowest-is k h f e =
       ap (λ (t : Bool). choose t (seat k) none-found) (lt-ltb k 8 h)
-      ∙ sym (first-is test 8 0 k (omega arith) (omega arith) (λ j i m. test-no j (omega arith) (f j m)) (test-yes k h e))
+      ∙ sym (first-at test (λ i. i) 8 0 k (omega arith) (omega arith) (λ j i m. test-no j (omega arith) (f j m)) (test-yes k h e))
 
   pub lowest-none : (k : ℕ) → 8 ≤ k → ((j : ℕ) → j < 8 → at b (seatPlace j) ≡ 0 → ⊥) → found k ≡ lowestFree (deskOf b)
   unfolding test

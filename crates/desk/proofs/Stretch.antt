@@ -16,6 +16,7 @@ use Rattle.model.proofs.Lists.{of-T}
 use Rattle.model.proofs.Runs.{Ended, Walk, walk}
 use Rattle.parts.specs.Parts.{nodesAfter, lastOf, Progress, goOn, lastAfter, progressAfter, andNext}
 use Rattle.parts.proofs.Anywhere.{after-from, last-from, from-anywhere}
+use Rattle.desk.proofs.Rounds.{due-over}
 use Rattle.desk.specs.Desk.{Standing, running, over, goesOn, Hall, deskRoom, standingAfter, hallAfter, hallTurned, turned, due, given}
 
 -- the walk of up to r turns
@@ -32,11 +33,6 @@ turnsFor n = 1 + (n - 1) / 64
 pub record Stretched (r : ℕ) (h : Hall) : Type 0 where
   pub whole : given r h ≡ hallAfter h (stretch r h)
   pub turns : due r h ≡ turnsFor (nodesIn (stretch r h .ending) - h .progress .made)
-
-due-no : (r : ℕ) (h : Hall) → goesOn (h .standing) ≡ false → due r h ≡ 0
-unfolding due
-due-no zero h e = refl
-due-no (suc r) h e = ap (λ (b : Bool). choose b (suc (due r (hallTurned h))) 0) e
 
 due-yes : (r : ℕ) (h : Hall) → goesOn (h .standing) ≡ true → due (suc r) h ≡ suc (due r (hallTurned h))
 unfolding due
@@ -90,7 +86,7 @@ module _ (r : ℕ) (h : Hall) (l : h .progress .made ≤ h .allowance) (g : goes
 
   ended-by : goesOn (hallTurned h .standing) ≡ false → stretch (suc r) h ≡ R → Stretched (suc r) h
   ended-by o e =
-      let z = due-no r (hallTurned h) o in
+      let z = due-over r (hallTurned h) o in
       let f = few in
       record {
         whole = given-is ∙ ap (λ (m : ℕ). turned m (hallTurned h)) z ∙ turned-is ∙ ap (hallAfter h) (sym e);

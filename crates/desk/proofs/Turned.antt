@@ -47,7 +47,7 @@ module _ (b : List ℕ) (k : ℕ) (d : DeskBytes b) (h : k < 8) (g : Hall) (f : 
   abbrev c : List ℕ
   c = withRun b p g
 
-  run-length : length (runBytes g) ≡ 20
+  pub run-length : length (runBytes g) ≡ 20
   unfolding runBytes figureBytes fourBytes
   run-length =
       let e = length-append (g .progress .last) (replicate (12 - L) 0) in
@@ -55,7 +55,7 @@ module _ (b : List ℕ) (k : ℕ) (d : DeskBytes b) (h : k < 8) (g : Hall) (f : 
       let s = f .short in
       omega arith
 
-  text-length : length text ≤ 49152
+  pub text-length : length text ≤ 49152
   text-length =
       let e = length-flat (widthAt b p) (g .progress .rows) (f .wide) in
       let y : widthAt b p ≤ 12 = omega arith in

@@ -101,26 +101,32 @@ empty-nodes : nodes (problemOf []) ≡ []
 unfolding nodes nodesBelow problemOf headerOf «word» at
 empty-nodes = refl
 
-pub seat-known : (b : List ℕ) (p : ℕ) → Known b p (problemOf (sheetAt b p))
-unfolding sheetAt problemOf headerOf «word» at
-seat-known b p = go (compilable raw) refl
-  where
-    raw : List ℕ
-    raw = take (sheetLength b p) (drop (p + 27) b)
+-- the bytes that stand where the seat's sheet does
+abbrev pub rawAt : List ℕ → ℕ → List ℕ
+rawAt b p = take (sheetLength b p) (drop (p + 27) b)
 
-    go : (t : Bool) → compilable raw ≡ t → Known b p (problemOf (choose t raw []))
+pub raw-known : (b : List ℕ) (p : ℕ) → T (compilable (rawAt b p)) → (problemOf (rawAt b p) .variables ≡ widthAt b p) × (1 ≤ problemOf (rawAt b p) .variables) × (problemOf (rawAt b p) .variables ≤ 12)
+unfolding problemOf headerOf «word» at
+raw-known b p t =
+    let raw = rawAt b p in
+    let h = compilable-fits raw t in
+    let l = length-take (sheetLength b p) (drop (p + 27) b) in
+    let o = h .long in
+    let n : 16 ≤ sheetLength b p = omega arith in
+    let x : at raw 0 ≡ at b (p + 27) = at-take (sheetLength b p) (drop (p + 27) b) 0 (omega arith) ∙ getD-drop (p + 27) b 0 0 ∙ ap (at b) (let z : p + 27 + 0 ≡ p + 27 = omega arith in z) in
+    let y : at raw 1 ≡ at b (p + 27 + 1) = at-take (sheetLength b p) (drop (p + 27) b) 1 (omega arith) ∙ getD-drop (p + 27) b 1 0 in
+    let w : «word» raw 0 ≡ «word» b (p + 27) = ap₂ (λ (i j : ℕ). i + 256 * j) x y in
+    let few : «word» raw 0 ≤ 12 = h .few in
+    let some : 1 ≤ «word» raw 0 = h .some in
+    ((let z : «word» raw 0 ≡ min 12 («word» b (p + 27)) = omega arith in z), some, few)
+
+pub seat-known : (b : List ℕ) (p : ℕ) → Known b p (problemOf (sheetAt b p))
+unfolding sheetAt
+seat-known b p = go (compilable (rawAt b p)) refl
+  where
+    go : (t : Bool) → compilable (rawAt b p) ≡ t → Known b p (problemOf (choose t (rawAt b p) []))
     go false e = inr empty-nodes
-    go true e =
-        let h = compilable-fits raw (T-of (compilable raw) e) in
-        let l = length-take (sheetLength b p) (drop (p + 27) b) in
-        let o = h .long in
-        let n : 16 ≤ sheetLength b p = omega arith in
-        let x : at raw 0 ≡ at b (p + 27) = at-take (sheetLength b p) (drop (p + 27) b) 0 (omega arith) ∙ getD-drop (p + 27) b 0 0 ∙ ap (at b) (let z : p + 27 + 0 ≡ p + 27 = omega arith in z) in
-        let y : at raw 1 ≡ at b (p + 27 + 1) = at-take (sheetLength b p) (drop (p + 27) b) 1 (omega arith) ∙ getD-drop (p + 27) b 1 0 in
-        let w : «word» raw 0 ≡ «word» b (p + 27) = ap₂ (λ (i j : ℕ). i + 256 * j) x y in
-        let few : «word» raw 0 ≤ 12 = h .few in
-        let some : 1 ≤ «word» raw 0 = h .some in
-        inl ((let z : «word» raw 0 ≡ min 12 («word» b (p + 27)) = omega arith in z), some, few)
+    go true e = inl (raw-known b p (T-of (compilable (rawAt b p)) e))
 
 -- ---- lists of rows
 wide-append : {n : ℕ} (xs ys : List (List ℕ)) → Wide n xs → Wide n ys → Wide n (xs ++ ys)

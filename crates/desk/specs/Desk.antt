@@ -245,3 +245,11 @@ endedIn d r = maskOf (λ k. both (waits (seatAt d k)) (not (waits (seatGiven r (
 
 abbrev pub goingOn : Desk → ℕ → ℕ
 goingOn d r = maskOf (λ k. waits (seatGiven r (seatAt d k)))
+
+-- a refusal, or these two sets
+pub data RoundsReply : Type 0 where
+  not-given : ℕ → ℕ → RoundsReply
+  gave : ℕ → ℕ → RoundsReply
+
+abbrev pub roundsReply : Desk → ℕ → RoundsReply
+roundsReply d r = gave (endedIn d r) (goingOn d r)

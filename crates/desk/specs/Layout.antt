@@ -14,7 +14,7 @@ use Rattle.model.specs.Bytes.{twoBytes, fourBytes}
 use Rattle.model.specs.Written.{placed}
 use Rattle.model.specs.Run.{finished, spent, full, listedPlans}
 use Rattle.sheet.specs.Form.{compilable}
-use Rattle.desk.specs.Desk.{Standing, running, over, Hall, hallTurned, Seat, free, taken, Desk, seatAt, Found, none-found, seat, lowestFree, toServe, DeskCall, sit, turn, leave, DeskReply, denied, fits, deskReply, dueAt, given, roundFrom, roundsDesk, lookReply}
+use Rattle.desk.specs.Desk.{Standing, running, over, Hall, hallTurned, Seat, free, taken, Desk, seatAt, Found, none-found, seat, lowestFree, toServe, DeskCall, sit, turn, leave, DeskReply, denied, fits, deskReply, dueAt, given, roundFrom, roundsDesk, lookReply, RoundsReply, not-given, roundsReply}
 
 abbrev pub size : ℕ
 size = 838681
@@ -149,3 +149,10 @@ lookOn b k = choose (eqb (length b) size) (lookReply (deskOf b) k) (denied 255 0
 
 unfoldable pub bytesAfter : List ℕ → DeskCall → List ℕ
 bytesAfter b x = choose (eqb (length b) size) (callBytes b x) b
+
+-- rounds, likewise
+unfoldable pub roundsOn : List ℕ → ℕ → RoundsReply
+roundsOn b r = choose (eqb (length b) size) (roundsReply (deskOf b) r) (not-given 255 0)
+
+unfoldable pub roundsAfter : List ℕ → ℕ → List ℕ
+roundsAfter b r = choose (eqb (length b) size) (roundsBytes b r) b

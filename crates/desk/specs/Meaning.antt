@@ -4,13 +4,14 @@ use Prim.Native.Nat.{ℕ}
 use Rattle.desk.specs.Desk.{DeskReply, denied, seated, idle, served, left, Found, none-found, seat}
 use Rattle.desk.specs.Layout.{standingBy}
 use Rattle.desk.specs.declared.Answer.{Answer}
-use Rattle.desk.specs.declared.Answer.the-variants.{Seated, Stands, Left, Refused}
+use Rattle.desk.specs.declared.Answer.the-variants.{Seated, Idle, Stands, Left, Refused}
 use lib.Dec.{ltb}
 use Rattle.model.specs.Lists.{choose}
 
 -- the reply, given the room afterwards
 abbrev pub means : Answer → List ℕ → DeskReply
 means (Seated s) room = seated s
+means Idle room = idle
 means (Stands s standing plans nodes) room = served s (standingBy standing plans nodes) plans nodes
 means (Left bytes) room = left bytes room
 means (Refused number item) room = denied number item

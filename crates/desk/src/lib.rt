@@ -3,26 +3,32 @@ ghost use mathlib.Core.Path.{_≡_};
 ghost use mathlib.Core.List.{[]};
 ghost use Prim.Native.Nat.{_+_, _*_, _≤_, _<_, min};
 ghost use lib.ListN.{length};
+ghost use Rattle.model.specs.Lists.{at};
 ghost use Rattle.model.specs.Sheet.{«word»};
 ghost use Rattle.model.specs.Written.{placed};
 ghost use Rattle.desk.specs.Desk.{sit, leave, lowestFree};
-ghost use Rattle.desk.specs.Layout.{size, long, standingAt, nodesAt, plansAt, widthAt, seatBytes, deskOf, replyOn, lookOn, bytesAfter};
+ghost use Rattle.desk.specs.Layout.{size, long, nodesAt, plansAt, widthAt, seatBytes, deskOf, replyOn, lookOn, bytesAfter};
 ghost use Rattle.desk.specs.Meaning.{means, roomAfter, found};
 
 // The desk's size in bytes.
 pub const DESK_BYTES: usize = 838681;
 
 // A seat's size, and where its sheet and its list stand in it.
-const SEAT: usize = 104835;
+pub const SEAT: usize = 104835;
 
-const SHEET: usize = 27;
+pub const SHEET: usize = 27;
 
-const LIST: usize = 55683;
+pub const LIST: usize = 55683;
+
+// Where the byte stands that says where the next turn begins to look.
+pub const NEXT: usize = 838680;
 
 pub enum Answer {
     Seated {
         seat: usize,
     },
+    // No run waits for a turn.
+    Idle,
     // How a seat stands: 0 running, 1 finished, 2 spent, 3 full; its plans and its nodes so far.
     Stands {
         seat: usize,
@@ -42,7 +48,7 @@ pub enum Answer {
 }
 
 // Copies bytes to a place, one by one.
-fn place(from: &[u8], to: &mut [u8], at: usize)
+pub fn place(from: &[u8], to: &mut [u8], at: usize)
     requires { ⌜ at + length (now from) ≤ length (now to) ⌝ }
     ensures { λ _. ⌜ now (to .exit) ≡ placed (now (to .entry)) at (now (from .entry)) ⌝ }
 {
@@ -69,7 +75,7 @@ fn lowest_free(desk: &[u8]) -> usize
 }
 
 // The number at an offset, but at most a bound.
-fn bounded(desk: &[u8], at: usize, most: usize) -> usize
+pub fn bounded(desk: &[u8], at: usize, most: usize) -> usize
     requires { ⌜ at + 1 < length (now desk) ⌝ }
     ensures { λ r. ⌜ r ≡ min most («word» (now (desk .entry)) at) ⌝ }
 {
@@ -81,7 +87,7 @@ fn bounded(desk: &[u8], at: usize, most: usize) -> usize
 }
 
 // The number in four bytes at an offset.
-fn read_long(desk: &[u8], at: usize) -> usize
+pub fn read_long(desk: &[u8], at: usize) -> usize
     requires { ⌜ at + 3 < length (now desk) ⌝ }
     ensures { λ r. ⌜ r ≡ long (now (desk .entry)) at ⌝ }
 {
@@ -89,7 +95,7 @@ fn read_long(desk: &[u8], at: usize) -> usize
 }
 
 // The nodes of the seat at p.
-fn nodes_at(desk: &[u8], p: usize) -> usize
+pub fn nodes_at(desk: &[u8], p: usize) -> usize
     requires { ⌜ p + 11 < length (now desk) ⌝ }
     ensures { λ r. ⌜ r ≡ nodesAt (now (desk .entry)) p ⌝ }
 {
@@ -101,16 +107,16 @@ fn nodes_at(desk: &[u8], p: usize) -> usize
     made
 }
 
-// How the run of the seat at p stands.
-fn standing_at(desk: &[u8], p: usize) -> u8
-    requires { ⌜ p + 7 < length (now desk) ⌝ }
-    ensures { λ r. ⌜ r ≡ standingAt (now (desk .entry)) p ⌝ }
+// The byte at an offset, but at most a bound.
+pub fn byte(desk: &[u8], offset: usize, most: u8) -> u8
+    requires { ⌜ offset < length (now desk) ⌝ }
+    ensures { λ r. ⌜ r ≡ min most (at (now (desk .entry)) offset) ⌝ }
 {
-    let s = desk[p + 7];
-    if 3 < s {
-        return 3;
+    let b = desk[offset];
+    if most < b {
+        return most;
     }
-    s
+    b
 }
 
 // The bytes of the plans that the seat at p has listed.
@@ -211,7 +217,7 @@ pub fn look(desk: &[u8], seat: u32) -> Answer
     }
     Answer::Stands {
         seat: seat as usize,
-        standing: standing_at(desk, p),
+        standing: byte(desk, p + 7, 3),
         plans: bounded(desk, p + 12, 4096),
         nodes: nodes_at(desk, p),
     }

@@ -22,8 +22,11 @@ returns-3 : tie.Need-returns-3
 unfolding at
 returns-3 c = let a = c .before .before .before .before .before .args in look-free (a .desk .now) (a .seat) (omega (arith, c .before .before .before .if1 .left)) (c .before .before .if2 .left) (c .if3 .taken)
 
-standing-at-requires : tie.Need-standing-at-requires
-standing-at-requires c κs = search needs
+add-byte : tie.Need-add-byte
+add-byte c = search needs
+
+byte-requires : tie.Need-byte-requires
+byte-requires c κs = search needs
 
 add-bounded : tie.Need-add-bounded
 add-bounded c = search needs
@@ -38,7 +41,7 @@ returns-4 : tie.Need-returns-4
 unfolding at
 returns-4 c =
     let a = c .before .before .before .before .before .before .before .before .args in
-    look-yes (a .desk .now) (a .seat) _ _ _ (omega (arith, c .before .before .before .before .before .before .if1 .left)) (c .before .before .before .before .before .if2 .left) (c .before .before .before .if3 .left) (c .before .before .standing-at .ensures) (c .before .bounded .ensures) (c .nodes-at .ensures)
+    look-yes (a .desk .now) (a .seat) _ _ _ (omega (arith, c .before .before .before .before .before .before .if1 .left)) (c .before .before .before .before .before .if2 .left) (c .before .before .before .if3 .left) (c .before .before .byte .ensures) (c .before .bounded .ensures) (c .nodes-at .ensures)
 
 pub look-spec : {M : Type 1} → statement M
 look-spec =
@@ -49,7 +52,8 @@ look-spec =
     mul-p
     shared-slice-read-if3
     returns-3
-    standing-at-requires
+    add-byte
+    byte-requires
     add-bounded
     bounded-requires
     nodes-at-requires
