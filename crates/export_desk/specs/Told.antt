@@ -1,0 +1,68 @@
+-- planner_desk_sit, planner_desk_turn, planner_desk_rounds, planner_desk_look and planner_desk_leave (paper 02, #113): what a call on the bytes b
+-- returns, and the bytes of every lent buffer afterwards. Where the answer has another length than is asked nothing is changed.
+use mathlib.Core.Path.{_≡_}
+use mathlib.Core.List.{List, _++_}
+use Prim.Native.Nat.{ℕ, _+_, _*_, _^_, _<_}
+use lib.Dec.{eqb}
+use lib.ListN.{length}
+use Rattle.model.specs.Lists.{choose}
+use Rattle.model.specs.Bytes.{fourBytes}
+use Rattle.wire.specs.Wire.{wrongLength, threeNumbers}
+use Rattle.desk.specs.Desk.{DeskCall, sit, turn, leave, DeskReply, denied, seated, idle, served, left}
+use Rattle.desk.specs.Layout.{standingByte, replyOn, lookOn, bytesAfter}
+use Rattle.desk.specs.Meaning.{roomAfter}
+
+-- four numbers of four bytes
+unfoldable pub fourNumbers : ℕ → ℕ → ℕ → ℕ → List ℕ
+fourNumbers kind a b c = threeNumbers kind a b ++ fourBytes c
+
+-- 0, or the number and the item of the refusal
+abbrev pub replyCode : DeskReply → ℕ
+replyCode (denied number item) = number * 256 + item
+replyCode (seated k) = 0
+replyCode idle = 0
+replyCode (served k s plans made) = 0
+replyCode (left count room) = 0
+
+-- of a newcomer 1, its seat, 0; of a hall that left 1, the bytes written, 0; of a seat its kind (1 running, 2 finished, 3 spent, 4 full), its number, its
+-- plans and its nodes; four zeros where no run waits. After a refusal the answer is as it came
+abbrev pub replyAnswer : DeskReply → List ℕ → List ℕ
+replyAnswer (denied number item) answer = answer
+replyAnswer (seated k) answer = threeNumbers 1 k 0
+replyAnswer idle answer = fourNumbers 0 0 0 0
+replyAnswer (served k s plans made) answer = fourNumbers (1 + standingByte s) k plans made
+replyAnswer (left count room) answer = threeNumbers 1 count 0
+
+-- ---- sitting, turns and leaving
+abbrev pub answerLength : DeskCall → ℕ
+answerLength (sit sheet allowance) = 12
+answerLength turn = 16
+answerLength (leave k room) = 12
+
+unfoldable pub deskCode : List ℕ → DeskCall → List ℕ → ℕ
+deskCode b x answer = choose (eqb (length answer) (answerLength x)) (replyCode (replyOn b x)) wrongLength
+
+unfoldable pub deskBytes : List ℕ → DeskCall → List ℕ → List ℕ
+deskBytes b x answer = choose (eqb (length answer) (answerLength x)) (bytesAfter b x) b
+
+unfoldable pub deskAnswer : List ℕ → DeskCall → List ℕ → List ℕ
+deskAnswer b x answer = choose (eqb (length answer) (answerLength x)) (replyAnswer (replyOn b x) answer) answer
+
+-- the room of a hall that leaves
+unfoldable pub leaveRoom : List ℕ → ℕ → List ℕ → List ℕ → List ℕ
+leaveRoom b k room answer = choose (eqb (length answer) 12) (roomAfter (replyOn b (leave k room)) room) room
+
+-- ---- looking
+unfoldable pub lookCode : List ℕ → ℕ → List ℕ → ℕ
+lookCode b k answer = choose (eqb (length answer) 16) (replyCode (lookOn b k)) wrongLength
+
+unfoldable pub lookAnswer : List ℕ → ℕ → List ℕ → List ℕ
+lookAnswer b k answer = choose (eqb (length answer) 16) (replyAnswer (lookOn b k) answer) answer
+
+-- between the functions of the crate: a reply that the code and an answer of n bytes hold
+abbrev pub Holds : DeskReply → ℕ → Type 0
+Holds (denied number item) n = item < 256
+Holds (seated k) n = (n ≡ 12) × (k < 2 ^ 32)
+Holds idle n = n ≡ 16
+Holds (served k s plans made) n = (n ≡ 16) × (k < 2 ^ 32) × (plans < 2 ^ 32) × (made < 2 ^ 32)
+Holds (left count room) n = (n ≡ 12) × (count < 2 ^ 32)

@@ -1,0 +1,106 @@
+// The desk for eight halls (paper 02, #113), in DESK_BYTES lent bytes; all bytes 0 are the empty desk. Numbers in an answer have four bytes, low byte
+// first. Each function answers 0; or a refusal, and then every buffer is as it came; or, asked first, 255 times 256 where the answer or the desk has
+// another length than is asked.
+use desk::Answer;
+use wire::code;
+use wire::four;
+use wire::three;
+ghost use mathlib.Core.Path.{_≡_};
+ghost use mathlib.Core.List.{[]};
+ghost use Prim.Native.Nat.{_+_, _^_, _<_, min};
+ghost use lib.ListN.{length};
+ghost use Rattle.desk.specs.Desk.{sit, leave};
+ghost use Rattle.desk.specs.Meaning.{means};
+ghost use Rattle.export_desk.specs.Told.{fourNumbers, replyCode, replyAnswer, deskCode, deskBytes, deskAnswer, leaveRoom, lookCode, lookAnswer, Holds};
+
+// Puts four numbers.
+fn numbers(answer: &mut [u8], kind: usize, a: usize, b: usize, c: usize)
+    requires { ⌜ (length (now answer) ≡ 16) × (kind < 2 ^ 32) × (a < 2 ^ 32) × (b < 2 ^ 32) × (c < 2 ^ 32) ⌝ }
+    ensures { λ _. ⌜ now (answer .exit) ≡ fourNumbers kind a b c ⌝ }
+{
+    let first = four(answer, 0, kind);
+    let second = four(answer, first, a);
+    let third = four(answer, second, b);
+    four(answer, third, c);
+}
+
+// The kind of a seat: 1 running, 2 finished, 3 spent, 4 full.
+fn kind(standing: u8) -> usize
+    ensures { λ r. ⌜ r ≡ 1 + min 3 standing ⌝ }
+{
+    if standing < 3 {
+        return 1 + standing as usize;
+    }
+    4
+}
+
+// A reply as the returned number and the answer.
+fn told(answer: &mut [u8], r: Answer) -> u32
+    requires { ⌜ Holds (means r []) (length (now answer)) ⌝ }
+    ensures { λ n. ⌜ n ≡ replyCode (means r []) ⌝ }
+    ensures { λ _. ⌜ now (answer .exit) ≡ replyAnswer (means r []) (now (answer .entry)) ⌝ }
+{
+    match r {
+        Answer::Refused { number, item } => code(number, item),
+        Answer::Seated { seat } => {
+            three(answer, 1, seat, 0);
+            0
+        }
+        Answer::Idle => {
+            numbers(answer, 0, 0, 0, 0);
+            0
+        }
+        Answer::Stands {
+            seat,
+            standing,
+            plans,
+            nodes,
+        } => {
+            numbers(answer, kind(standing), seat, plans, nodes);
+            0
+        }
+        Answer::Left { bytes } => {
+            three(answer, 1, bytes, 0);
+            0
+        }
+    }
+}
+
+// Sits down at the lowest free seat. The answer has 12 bytes: 1, the seat, 0.
+pub fn sit(desk: &mut [u8], sheet: &[u8], limit: u32, answer: &mut [u8]) -> u32
+    ensures { λ r. ⌜ r ≡ deskCode (now (desk .entry)) (sit (now (sheet .entry)) limit) (now (answer .entry)) ⌝ }
+    ensures { λ _. ⌜ now (desk .exit) ≡ deskBytes (now (desk .entry)) (sit (now (sheet .entry)) limit) (now (answer .entry)) ⌝ }
+    ensures { λ _. ⌜ now (answer .exit) ≡ deskAnswer (now (desk .entry)) (sit (now (sheet .entry)) limit) (now (answer .entry)) ⌝ }
+{
+    if answer.len() != 12 {
+        return 65280;
+    }
+    let r = desk::sit(desk, sheet, limit);
+    told(answer, r)
+}
+
+// How a seat stands. The answer has 16 bytes: its kind, its number, its plans, its nodes (the paper's trials).
+pub fn look(desk: &[u8], seat: u32, answer: &mut [u8]) -> u32
+    ensures { λ r. ⌜ r ≡ lookCode (now (desk .entry)) seat (now (answer .entry)) ⌝ }
+    ensures { λ _. ⌜ now (answer .exit) ≡ lookAnswer (now (desk .entry)) seat (now (answer .entry)) ⌝ }
+{
+    if answer.len() != 16 {
+        return 65280;
+    }
+    let r = desk::look(desk, seat);
+    told(answer, r)
+}
+
+// Leaves a seat: the plans listed so far go to the front of the room. The answer has 12 bytes: 1, the bytes written, 0.
+pub fn leave(desk: &mut [u8], seat: u32, room: &mut [u8], answer: &mut [u8]) -> u32
+    ensures { λ r. ⌜ r ≡ deskCode (now (desk .entry)) (leave seat (now (room .entry))) (now (answer .entry)) ⌝ }
+    ensures { λ _. ⌜ now (desk .exit) ≡ deskBytes (now (desk .entry)) (leave seat (now (room .entry))) (now (answer .entry)) ⌝ }
+    ensures { λ _. ⌜ now (room .exit) ≡ leaveRoom (now (desk .entry)) seat (now (room .entry)) (now (answer .entry)) ⌝ }
+    ensures { λ _. ⌜ now (answer .exit) ≡ deskAnswer (now (desk .entry)) (leave seat (now (room .entry))) (now (answer .entry)) ⌝ }
+{
+    if answer.len() != 12 {
+        return 65280;
+    }
+    let r = desk::leave(desk, seat, room);
+    told(answer, r)
+}
