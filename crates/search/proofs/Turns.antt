@@ -34,7 +34,7 @@ use Rattle.search.proofs.Prefix.{length-prefix, prefix-at, prefix-ext, 
 use Rattle.search.proofs.Written.{order-at, length-order, settling-inside}
 
 -- the arrays still hold p where what was lent kept its length
-ready-on : {p : Problem} {gs : List (List ℕ)} {stack work supports tables numbers stack′ work′ : List ℕ} → Ready p gs stack work supports tables numbers → length stack′ ≡ length stack → length work′ ≡ length work →
+pub ready-on : {p : Problem} {gs : List (List ℕ)} {stack work supports tables numbers stack′ work′ : List ℕ} → Ready p gs stack work supports tables numbers → length stack′ ≡ length stack → length work′ ≡ length work →
     Ready p gs stack′ work′ supports tables numbers
 ready-on h s w = record {
   indexed = h .indexed;
@@ -55,7 +55,7 @@ summed-more x t l s = record {
 }
 
 -- sets that are unchanged are still right
-held-on : (p : Problem) (stack stack′ : List ℕ) (k : ℕ) (ds : List ℕ) → WellFormed p → ((i : ℕ) → i < 16 * suc k → at stack′ i ≡ at stack i) → Holds p stack k ds → Holds p stack′ k ds
+pub held-on : (p : Problem) (stack stack′ : List ℕ) (k : ℕ) (ds : List ℕ) → WellFormed p → ((i : ℕ) → i < 16 * suc k → at stack′ i ≡ at stack i) → Holds p stack k ds → Holds p stack′ k ds
 held-on p stack stack′ k ds w e h = record {
   sets = λ x l. e (16 * k + x) (let f = w .few in omega arith) ∙ h .sets x l;
   unused = λ x l u. e (16 * k + x) (omega arith) ∙ h .unused x l u;
@@ -180,7 +180,7 @@ module _ (p : Problem) (stack work supports tables numbers list : List ℕ) (tal
 
 -- ---- `settle`'s values from the sets: all values of the variable's set are to be tried
 module _ (p : Problem) (stack work supports tables numbers list : List ℕ) (tally : Tally) (k : ℕ) (h : AtPrefix p stack work supports tables numbers list tally k) where
-  all-values : at stack (17 * k) ≡ at (setsAt p (prefixOf work k)) k
+  pub all-values : at stack (17 * k) ≡ at (setsAt p (prefixOf work k)) k
   all-values = let e : 17 * k ≡ 16 * k + k = omega arith in ap (at stack) e ∙ h .held .sets k (h .inner)
 
   pub values-ask : AtValues p stack work supports tables numbers list tally k (at stack (17 * k))

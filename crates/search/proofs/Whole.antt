@@ -56,7 +56,7 @@ use Rattle.search.proofs.Prefix.{prefix-zero}
 use Rattle.search.proofs.Written.{order-taken}
 
 -- ---- the numbers with the limit and the room among them
-numbers-kept : (p : Problem) (numbers numbers′ : List ℕ) → p .variables ≤ 12 → length (p .constraints) ≤ 32 → ((i : ℕ) → i < 68 → at numbers′ i ≡ at numbers i) → Numbers p numbers → Numbers p numbers′
+pub numbers-kept : (p : Problem) (numbers numbers′ : List ℕ) → p .variables ≤ 12 → length (p .constraints) ≤ 32 → ((i : ℕ) → i < 68 → at numbers′ i ≡ at numbers i) → Numbers p numbers → Numbers p numbers′
 numbers-kept p numbers numbers′ f c e h = record {
   touching = λ x k l m. ap (λ (s : ℕ). has s k) (e x (omega arith)) ∙ h .touching x k l m;
   touching-few = λ x l. subst (λ (s : ℕ). s < 2 ^ length (p .constraints)) (sym (e x (omega arith))) (h .touching-few x l);
@@ -146,7 +146,7 @@ placed-next k list l h j m = go (ℕ-discrete j k)
     go (yes e) = subst (λ (i : ℕ). at (set list k k) i ≡ i) (sym e) (at-set list k k l)
     go (no e) = at-set-other list k k j e ∙ h j (omega arith)
 
-below-taken : (n : ℕ) (bytes : List ℕ) → n ≤ length bytes → ((k : ℕ) → k < n → at bytes k ≡ k) → take n bytes ≡ below n
+pub below-taken : (n : ℕ) (bytes : List ℕ) → n ≤ length bytes → ((k : ℕ) → k < n → at bytes k ≡ k) → take n bytes ≡ below n
 below-taken n bytes l h =
     at-ext (take n bytes) (below n) (length-take-le n bytes l ∙ sym (ordering-below n .sized))
     (λ k m. let j : k < n = omega (arith, length-take-le n bytes l) in at-take n bytes k j ∙ h k j ∙ sym (below-at n k j))
@@ -328,9 +328,9 @@ module _ (p own : Problem) (order numbers supports images bytes : List ℕ) (pos
     }
 
     -- the search may begin where the empty prefix is live
-    pub start : (limit room : ℕ) → limit < 2 ^ 32 → at numbers LIMIT ≡ limit → at numbers ROOM ≡ room → (stack work stack′ work′ : List ℕ) (dead : Bool) → length stack ≡ 208 → length work ≡ 256 → at work PLANS ≡ 0 →
-        Reached (ownIn p numbers′) (p .symmetries) [] 0 stack work stack′ work′ dead → dead ≡ false → (list : List ℕ) → ListRoom (p .variables) room list 0 → AtPrefix p stack′ work′ supports tables′ numbers′ list noNodes 0
-    start limit room small l m stack work stack′ work′ dead ls lw none q e list roomy = record {
+    pub start : (limit room : ℕ) → limit < 2 ^ 32 → at numbers LIMIT ≡ limit → at numbers ROOM ≡ room → (stack work stack′ work′ : List ℕ) (dead : Bool) → length stack ≡ 208 → length work ≡ 256 → (plans : ℕ) → at work PLANS ≡ plans →
+        Reached (ownIn p numbers′) (p .symmetries) [] 0 stack work stack′ work′ dead → dead ≡ false → (list : List ℕ) → ListRoom (p .variables) room list plans → AtPrefix p stack′ work′ supports tables′ numbers′ list noNodes 0
+    start limit room small l m stack work stack′ work′ dead ls lw plans none q e list roomy = record {
       ready = ready stack′ work′ (q .stack-length ∙ ls) (q .work-length ∙ lw);
       inner = subst (λ (n : ℕ). 0 < n) (sym same-variables) (fits .wellFormed .some);
       live = T-of (isLive p (prefixOf work′ 0)) (ap (isLive p) (prefix-zero work′) ∙ not-false (isLive p []) (sym (q .answers) ∙ e));
@@ -441,7 +441,7 @@ module _ (b pairs block : List ℕ) (numbers supports images bytes : List ℕ) (
       bounded = λ z. at-first LIMIT (omega arith) ∙ limit-is;
       roomy = λ z. at-first ROOM (omega arith) ∙ room-is ∙ rooms-is;
       order = λ z. order-put p own (orderOf bare b pairs) arranged supports images bytes′ positions lies tables indexed tables′ made numbers′ orders;
-      live = λ z list same. start p own (orderOf bare b pairs) arranged supports images bytes′ positions lies tables indexed tables′ made numbers′ orders limit room small limit-is room-is stack task stack′ work′ dead ls lw none q e list (empty-room list same);
+      live = λ z list same. start p own (orderOf bare b pairs) arranged supports images bytes′ positions lies tables indexed tables′ made numbers′ orders limit room small limit-is room-is stack task stack′ work′ dead ls lw 0 none q e list (empty-room list same);
     }
 
 pub prepared-refused : (task b pairs block : List ℕ) (limit size number item : ℕ) (stack work supports tables numbers : List ℕ) → verdictLent b pairs block ≡ refused number item → number < 2 ^ 8 → length work ≡ 256 →

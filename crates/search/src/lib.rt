@@ -330,7 +330,7 @@ pub fn walk_values(
 }
 
 // Puts the node limit and the number of plans that there is room for among the numbers, which are lent as a slice: that tells their length.
-fn put_bounds(numbers: &mut [u64], limit: u64, room: u64)
+pub fn put_bounds(numbers: &mut [u64], limit: u64, room: u64)
     requires { ⌜ ROOM < length (now numbers) ⌝ }
     ensures { λ _. ⌜ now (numbers .exit) ≡ set (set (now (numbers .entry)) LIMIT limit) ROOM room ⌝ }
 {
@@ -346,7 +346,7 @@ fn wide(x: u8) -> u64
 }
 
 // Puts the order of the variables among the numbers.
-fn put_order(numbers: &mut [u64], order: &[u8; 16])
+pub fn put_order(numbers: &mut [u64], order: &[u8; 16])
     requires { ⌜ ORDER + 12 ≤ length (now numbers) ⌝ }
     ensures { λ _. ⌜ now (numbers .exit) ≡ ordered (now (order .entry)) 12 (now (numbers .entry)) ⌝ }
 {
@@ -358,7 +358,7 @@ fn put_order(numbers: &mut [u64], order: &[u8; 16])
 }
 
 // Puts the set of the positions of the block's variables among the numbers.
-fn put_block(numbers: &mut [u64], positions: u64)
+pub fn put_block(numbers: &mut [u64], positions: u64)
     requires { ⌜ BLOCK < length (now numbers) ⌝ }
     ensures { λ _. ⌜ now (numbers .exit) ≡ set (now (numbers .entry)) BLOCK positions ⌝ }
 {
@@ -378,7 +378,7 @@ fn room_for(work: &[u64; 256], n: usize, size: usize) -> u64
 }
 
 // The order 0, 1, ..
-fn by_position(order: &mut [u8; 16])
+pub fn by_position(order: &mut [u8; 16])
     requires { ⌜ length (now order) ≡ 16 ⌝ }
     ensures { λ _. ⌜ (length (now (order .exit)) ≡ 16) × ((k : ℕ) → k < 16 → at (now (order .exit)) k ≡ k) ⌝ }
 {
