@@ -1,0 +1,3 @@
+-- A run that goes on from its last node: what the functions ask and leave, and what a caller holds.
+pub mod Steps
+pub mod Resume
