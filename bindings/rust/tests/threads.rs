@@ -1,6 +1,8 @@
 //! The stack that a call takes at most, calls on a thread of their own, and calls from several threads at once.
 
-use planner::{at_least, closed, report, run, run_lent, with_stack, Closed, Ending, Enough, STACK_BYTES};
+use planner::{
+    at_least, closed, families, report, run, run_lent, with_stack, Closed, Ending, Enough, STACK_BYTES,
+};
 use std::thread;
 
 /// The sheet that goes deepest: 12 windows of 16 duties. Of two neighbours, a duty below 15 of the first has rows
@@ -25,6 +27,20 @@ fn deepest(ruled: u16) -> Vec<u8> {
     sheet.iter().flat_map(|word| word.to_le_bytes()).collect()
 }
 
+/// The sheet with an exchange of its last two windows, if it has none.
+fn exchanged(mut sheet: Vec<u8>) -> Vec<u8> {
+    let length = sheet.len() as u16 + 2 * 192;
+    sheet[6] = 1;
+    sheet[14..16].copy_from_slice(&length.to_le_bytes());
+    let to = |number: u16| match number / 16 {
+        10 => number + 16,
+        11 => number - 16,
+        _ => number,
+    };
+    sheet.extend((0..192).flat_map(|number| to(number).to_le_bytes()));
+    sheet
+}
+
 #[test]
 fn the_stack_is_enough() {
     let sheet = deepest(11);
@@ -41,6 +57,8 @@ fn the_stack_is_enough() {
         let mut list = vec![0; 4096 * 12];
         let answer = run_lent(&deepest(9), &[0, 1], &[10, 2], 1_000_000, &mut list).unwrap().answer;
         assert_eq!((answer.ending, answer.plans, answer.nodes), (Ending::Finished, 16 * 136, 2592));
+        assert_eq!(families(&deepest(9), &[0, 1], &[10, 2], 1_000_000), Ok(Some(16 * 136)));
+        assert!(report(&exchanged(deepest(9))).ends_with("finished 2176 2592 2176\n"));
         let enough = at_least(&sheet, &[], &[], 16, 1_000_000).unwrap();
         assert_eq!(enough, Enough::Yes { plans: 16, nodes: 192 });
         assert_eq!(closed(&sheet, &[], &[]), Ok(Closed::Yes));

@@ -137,10 +137,12 @@ pub fn many_plans(tally: &mut Tally) {
     ];
     for (problem, alone, alike) in cases {
         tally.case = format!("part families, {problem:?}");
-        let lent = Lent { sheet: encode(&problem), pairs: Vec::new(), block: Vec::new() };
-        count(&lent, u32::MAX, Ok(alone), &mut Rng::new(1), tally);
-        let lent = Lent { block: vec![0, 2], ..lent };
-        count(&lent, u32::MAX, Ok(alike), &mut Rng::new(1), tally);
+        for (block, expected) in [(Vec::new(), alone), (vec![0, 2], alike)] {
+            let lent = Lent { sheet: encode(&problem), pairs: Vec::new(), block };
+            let oracle = families(&lent.sheet, &[], &lent.block, u32::MAX);
+            tally.same("the oracle's figure", oracle, Ok(expected), &lent.bytes());
+            count(&lent, u32::MAX, Ok(expected), &mut Rng::new(1), tally);
+        }
     }
 }
 
