@@ -319,18 +319,76 @@ static enum ending settle(int depth, const set *parent) {
     return FINISHED;
 }
 
+static enum ending run(void) {
+    set sets[MOST_VARIABLES] = {0};
+    plans = nodes = list_length = 0;
+    memcpy(sets, initial, variables * sizeof *sets);
+    return propagate(sets, (1 << variables) - 1) ? settle(0, sets) : FINISHED;
+}
+
+/* ---- families (paper 02, #104) */
+
+/* Where a solution stands among all of them. */
+static int find(const uint8_t *row) {
+    int low = 0, high = plans;
+    while (low < high) {
+        int middle = (low + high) / 2;
+        if (memcmp(plan[middle], row, variables) < 0)
+            low = middle + 1;
+        else
+            high = middle;
+    }
+    return low;
+}
+
+/* The families of all solutions, which stand in the list of plans, by breadth-first search. */
+static int families(int exchanges) {
+    static uint8_t seen[PLANS];
+    static uint16_t queue[PLANS];
+    int count = 0, head = 0, tail = 0;
+    for (int i = 0; i < plans; i++) {
+        if (seen[i])
+            continue;
+        seen[i] = 1, queue[tail++] = i, count++;
+        for (; head < tail; head++)
+            for (int s = 0; s < exchanges; s++) {
+                uint8_t row[MOST_VARIABLES];
+                for (int x = 0; x < variables; x++) {
+                    int image = table[s][x * values + plan[queue[head]][x]];
+                    row[image / values] = image % values;
+                }
+                int j = find(row);
+                if (!seen[j])
+                    seen[j] = 1, queue[tail++] = j;
+            }
+    }
+    return count;
+}
+
+/* The last figure: without exchanges the plans are the families, else a run without them lists all solutions; or a dash. */
+static void print_figure(enum ending ending) {
+    int exchanges = symmetries;
+    if (ending == FINISHED && exchanges > 0) {
+        symmetries = 0;
+        ending = run();
+    }
+    if (ending == FINISHED)
+        printf(" %d\n", families(exchanges));
+    else
+        puts(" -");
+}
+
 int main(void) {
     static const char *const names[] = {"finished", "spent", "full"};
     questions(fread(sheet, 1, sizeof sheet, stdin));
-    set sets[MOST_VARIABLES] = {0};
-    memcpy(sets, initial, variables * sizeof *sets);
-    enum ending ending = propagate(sets, (1 << variables) - 1) ? settle(0, sets) : FINISHED;
+    enum ending ending = run();
     for (int i = 0; i < plans; i++) {
         printf("plan");
         for (int j = 0; j < variables; j++)
             printf(" %d", plan[i][j]);
         putchar('\n');
     }
-    printf("%s %d %d %d\n", names[ending], plans, nodes, plans);
+    printf("%s %d %d", names[ending], plans, nodes);
+    print_figure(ending);
     return 0;
 }
