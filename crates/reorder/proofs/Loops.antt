@@ -1,17 +1,15 @@
 -- Loops: one more, and the end. Assumes nothing.
 use mathlib.Core.Path.{_≡_, refl, sym, ap, _∙_, subst}
-use mathlib.Core.Bool.{Bool, true, false}
+use mathlib.Core.Bool.{Bool, false}
 use mathlib.Core.List.{List}
-use Prim.Native.Nat.{ℕ, _+_, _^_, _≤_, _<_}
-use native.Mathlib.Decide.{ℕ-discrete, decLt}
+use Prim.Native.Nat.{ℕ, _+_, _^_, _<_}
+use native.Mathlib.Decide.{ℕ-discrete}
 use native.Mathlib.Omega.{arith}
 use lib.Bits.{bitOr, or-lt}
-use lib.Dec.{ltb}
 use lib.ListN.{length}
 use borrow.Author.Tests.{lt-ltb}
 use Rattle.model.specs.Lists.{at, both}
 use Rattle.model.specs.ValueSets.{has, maskOf}
-use Rattle.model.proofs.Sets.{has-none}
 use Rattle.model.proofs.Masks.{is-mask}
 use Rattle.model.proofs.Filling.{gathered-begin, gathered-more}
 use Rattle.model.specs.Filling.{Filled, Gathered}
@@ -23,13 +21,6 @@ more-no f i h k j m = go (ℕ-discrete j i)
     go : Dec (j ≡ i) → f j ≡ false
     go (yes e) = ap f e ∙ k
     go (no e) = h j (omega arith)
-
-pub filled-end : (place : ℕ → ℕ) (P : ℕ → ℕ → Type 0) (old new : List ℕ) (n i : ℕ) → n ≤ i → i ≤ n → Filled place P i old new → Filled place P n old new
-filled-end place P old new n i h l r = let e : i ≡ n = omega arith in subst (λ (k : ℕ). Filled place P k old new) e r
-
-both-none : (b : Bool) → both b false ≡ false
-both-none true = refl
-both-none false = refl
 
 -- ---- a set, one cell after another
 pub record Column (f : ℕ → Bool) (i set : ℕ) : Type 0 where
@@ -45,13 +36,8 @@ column-turn f i set s w r c e d = record {
   few = or-lt 16 set r (c .few) (d .few);
 }
 
--- nothing is added from i on
-pub column-end : (f : ℕ → Bool) (i set : ℕ) → ((v : ℕ) → i ≤ v → v < 16 → f v ≡ false) → Column f i set → set ≡ maskOf f
-column-end f i set h c = is-mask set f (c .few) (λ v l. c .gathered .has-is v ∙ go v l (decLt v i))
-  where
-    go : (v : ℕ) → v < 16 → Dec (v < i) → both (ltb v i) (f v) ≡ f v
-    go v l (yes k) = ap (λ (b : Bool). both b (f v)) (lt-ltb v i k)
-    go v l (no k) = ap (both (ltb v i)) (h v (omega arith) l) ∙ both-none (ltb v i) ∙ sym (h v (omega arith) l)
+pub column-end : (f : ℕ → Bool) (i set : ℕ) → i ≡ 16 → Column f i set → set ≡ maskOf f
+column-end f i set e c = is-mask set f (c .few) (λ v l. c .gathered .has-is v ∙ ap (λ (b : Bool). both b (f v)) (lt-ltb v i (omega arith)))
 
 -- ---- sixteen columns, one set after another
 module _ (base : ℕ) (supports : List ℕ) where
@@ -71,5 +57,5 @@ module _ (base : ℕ) (supports : List ℕ) where
     size = f .size ∙ c .size;
   }
 
-  pub columns-end : (i : ℕ) (columns : List ℕ) → ((v : ℕ) → i ≤ v → v < 16 → at supports (base + v) ≡ 0) → Columns i columns → (w : ℕ) → w < 16 → at columns w ≡ maskOf (member w)
-  columns-end i columns z c w l = column-end (member w) i (at columns w) (λ v h k. ap (λ (n : ℕ). has n w) (z v h k) ∙ has-none w) (c .column w l)
+  pub columns-end : (i : ℕ) (columns : List ℕ) → i ≡ 16 → Columns i columns → (w : ℕ) → w < 16 → at columns w ≡ maskOf (member w)
+  columns-end i columns e c w l = column-end (member w) i (at columns w) e (c .column w l)

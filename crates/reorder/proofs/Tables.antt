@@ -20,15 +20,14 @@ use Rattle.reorder.specs.Steps.{Cell, Swapped, Transposed, Meant, Framed
 pub mask-same : (f g : ℕ → Bool) → ((v : ℕ) → v < 16 → f v ≡ g v) → maskOf f ≡ maskOf g
 mask-same f g h = is-mask (maskOf f) g (mask-lt 16 f) (λ v l. has-mask 16 f v l ∙ h v l)
 
+pub mask-none : (f : ℕ → Bool) → ((v : ℕ) → v < 16 → f v ≡ false) → maskOf f ≡ 0
+mask-none f h = sym (is-mask 0 f (omega arith) (λ v l. has-none v ∙ sym (h v l)))
+
 pub cell-yes : (s w v : ℕ) → v < 16 → has s w ≡ true → Cell s w v (1 * 2 ^ v % 2 ^ 16)
 cell-yes s w v l e = record { has-is = λ x. one-has 16 v x l ∙ ap (λ (b : Bool). both b (eqb x v)) (sym e); few = omega arith }
 
 pub cell-no : (s w v : ℕ) → has s w ≡ false → Cell s w v 0
 cell-no s w v e = record { has-is = λ x. has-none x ∙ ap (λ (b : Bool). both b (eqb x v)) (sym e); few = omega arith }
-
--- what a copy of a block says of the block
-pub record Copied (base : ℕ) (from copy : List ℕ) : Type 0 where
-  pub at-is : (j : ℕ) → j < 256 → at copy j ≡ at from (base + j)
 
 pub column-of : (base j : ℕ) (from : List ℕ) (r : ℕ) → j < 16 → r ≡ maskOf (λ v. has (at from (base + v)) j) → r ≡ maskOf (λ v. has (at from (base + (16 * (j / 16) + v))) (j % 16))
 column-of base j from r h e =
@@ -116,7 +115,7 @@ meant-3 Q x y z base s h (a ∷ []) e l = absurd (omega arith)
 meant-3 Q x y z base s h (a ∷ b ∷ []) e l = h a b (l 0 (omega arith)) (l 1 (omega arith))
 meant-3 Q x y z base s h (a ∷ b ∷ c ∷ vs) e l = absurd (omega arith)
 
-pub small-1 : (b : ℕ) → b < 16 → (i : ℕ) → i < 1 → at (b ∷ []) i < 16
+small-1 : (b : ℕ) → b < 16 → (i : ℕ) → i < 1 → at (b ∷ []) i < 16
 unfolding at
 small-1 b h zero l = h
 small-1 b h (suc i) l = absurd (omega arith)

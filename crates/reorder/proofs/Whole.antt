@@ -1,20 +1,20 @@
 -- The arrays of the reordered problem, from what the parts leave. Assumes nothing.
 use mathlib.Core.Path.{_≡_, refl, sym, ap, ap₂, _∙_, subst, fun-ext}
 use mathlib.Core.Bool.{Bool, false}
-use mathlib.Core.List.{List, [], _∷_, _++_, map, List·Memᴰ, List·Memᴰ·head, List·Memᴰ·tail, Memᴰ·append-left, Memᴰ·append-right}
+use mathlib.Core.List.{List, [], _∷_, _++_, map, List·Memᴰ, List·Memᴰ·head, List·Memᴰ·tail}
 use Prim.Native.Nat.{ℕ, zero, suc, _+_, _*_, _/_, _%_, _^_, _≤_, _<_}
 use native.Mathlib.Nat.{not-suc-le-zero, le-of-suc-le-suc}
 use native.Mathlib.Decide.{decLt}
 use native.Mathlib.Omega.{arith}
-use lib.Dec.{T, eqb}
+use lib.Dec.{eqb}
 use lib.ListN.{length, getD, length-map, length-append}
 use Rattle.model.specs.Lists.{any, at, same}
 use Rattle.model.specs.ValueSets.{has, maskOf, least, leastStep}
 use Rattle.model.specs.Problem.{Problem, Constraint, pair}
 use Rattle.order.specs.Order.{Ordering}
 use Rattle.order.specs.Reordered.{position, valueOf, scopeIn, constraintIn, renamed, symmetryIn, reordered}
+use Rattle.model.proofs.Sets.{has-mask}
 use Rattle.model.proofs.Lists.{not-of, any-e, same-eq, among-e, mem-at, mem-getD, at-take, at-map, ascending-sorted}
-use Rattle.model.proofs.Sets.{mask-e}
 use Rattle.model.specs.WellFormed.{WellFormed, GoodConstraint, GoodSymmetry}
 use Rattle.model.specs.Filling.{Filled}
 use Rattle.order.proofs.Reordered as R
@@ -22,9 +22,8 @@ use Rattle.model.proofs.Pairs as P
 use Rattle.layout.specs.Layout.{constraintAt, symmetryAt, place, Numbers, Supports, Images}
 use Rattle.layout.proofs.Links.{good}
 use Rattle.reorder.specs.Reorder.{orderOf, Movable, Moved}
-use Rattle.reorder.specs.Steps.{stand, Small, MovedSets, renamedTo, MovedImages, Within, Tabled, Meant, Sorting, Scope, Renamed}
-use Rattle.reorder.proofs.Tables.{small-1, small-2}
-use Rattle.reorder.proofs.Within.{mask-none}
+use Rattle.reorder.specs.Steps.{stand, Small, MovedSets, renamedTo, MovedImages, Narrow, Meant, Sorting, Scope, Renamed}
+use Rattle.reorder.proofs.Tables.{mask-none, small-2}
 
 -- ---- lists
 least-same : (k : ℕ) (f g : ℕ → Bool) → ((i : ℕ) → i < k → f i ≡ g i) → least k f ≡ least k g
@@ -63,6 +62,12 @@ module _ (p : Problem) (order numbers supports images : List ℕ) (m : Movable p
 
   pub few-variables : at numbers 64 ≤ 12
   few-variables = omega (arith, variables-is, w .few)
+
+  values-is : at numbers 65 ≡ p .values
+  values-is = m .compiled .numbered .values
+
+  pub few-values : at numbers 65 ≤ 16
+  few-values = omega (arith, values-is, w .sixteen)
 
   pub few-constraints : at numbers 66 ≤ 32
   few-constraints = omega (arith, m .compiled .numbered .constraints, m .constraints)
@@ -129,6 +134,23 @@ module _ (p : Problem) (order numbers supports images : List ℕ) (m : Movable p
         digit : (i : ℕ) → i < length xs → word / 256 ^ suc i % 256 ≡ at xs i
         digit i j = ap (λ (z : ℕ). z / 256 ^ suc i % 256) e ∙ m .compiled .numbered .scope k i h j
 
+    -- no row has a value from d on
+    no-row : (r : List ℕ) (v : ℕ) → List·Memᴰ v r → at numbers 65 ≤ v → any (same r) (constraintAt p k .rows) ≡ false
+    no-row r v i l = not-of (any (same r) (constraintAt p k .rows)) (λ t.
+        let a = any-e (same r) (constraintAt p k .rows) t in
+        let b : v < p .values = fine .valued (a .0) (a .1) v (subst (λ (s : List ℕ). List·Memᴰ v s) (same-eq r (a .0) (a .2)) i) in
+        omega (arith, values-is))
+
+    narrow : length names ≡ 3 → Narrow (at numbers 65) (256 * k) supports
+    narrow e = record {
+      first = λ a b l i j. row a b i j ∙ mask-none _ (λ u n. no-row (a ∷ b ∷ u ∷ []) a (List·Memᴰ·head refl) l);
+      second = λ a b i l j. row a b i j ∙ mask-none _ (λ u n. no-row (a ∷ b ∷ u ∷ []) b (List·Memᴰ·tail (List·Memᴰ·head refl)) l);
+      last = λ a b v i j l n. ap (λ (z : ℕ). has z v) (row a b i j) ∙ has-mask 16 (λ u. any (same (a ∷ b ∷ u ∷ [])) (constraintAt p k .rows)) v n ∙ no-row (a ∷ b ∷ v ∷ []) v (List·Memᴰ·tail (List·Memᴰ·tail (List·Memᴰ·head refl))) l;
+    }
+      where
+        row : (a b : ℕ) → a < 16 → b < 16 → at supports (256 * k + (16 * a + b)) ≡ maskOf (λ u. any (same (a ∷ b ∷ u ∷ [])) (constraintAt p k .rows))
+        row a b i j = m .compiled .supported k h (a ∷ b ∷ []) (sym e ∙ names-long) (small-2 a b i j)
+
     -- the constraint's test, of the values by position
     test : (ℕ → ℕ) → Bool
     test f = any (same (map (λ x. f (position ord x)) xs)) (constraintAt p k .rows)
@@ -141,48 +163,6 @@ module _ (p : Problem) (order numbers supports images : List ℕ) (m : Movable p
     begin vs e l =
         m .compiled .supported k h vs (e ∙ names-long) l
         ∙ ap maskOf (fun-ext (λ v. ap (λ (r : List ℕ). any (same r) (constraintAt p k .rows)) (sym (begin-row (vs ++ (v ∷ [])) (one-longer vs v ∙ e)))))
-
-    -- no row has a value from d on
-    unmatched : (vs : List ℕ) (v u : ℕ) → List·Memᴰ u (vs ++ (v ∷ [])) → p .values ≤ u → any (same (vs ++ (v ∷ []))) (constraintAt p k .rows) ≡ false
-    unmatched vs v u i h = not-of (any (same (vs ++ (v ∷ []))) (constraintAt p k .rows)) (λ t.
-        let r = any-e (same (vs ++ (v ∷ []))) (constraintAt p k .rows) t in
-        let e : vs ++ (v ∷ []) ≡ r .0 = same-eq (vs ++ (v ∷ [])) (r .0) (r .2) in
-        omega (arith, fine .valued (r .0) (r .1) u (subst (λ (l : List ℕ). List·Memᴰ u l) e i)))
-
-    -- so its sets are those of d values
-    set-at : (vs : List ℕ) → suc (length vs) ≡ length xs → ((i : ℕ) → i < length vs → at vs i < 16) → (j : ℕ) → j ≡ place vs → at supports (256 * k + j) ≡ maskOf (λ v. any (same (vs ++ (v ∷ []))) (constraintAt p k .rows))
-    set-at vs e l j s = ap (λ (i : ℕ). at supports (256 * k + i)) s ∙ m .compiled .supported k h vs e l
-
-    none-at : (vs : List ℕ) → suc (length vs) ≡ length xs → ((i : ℕ) → i < length vs → at vs i < 16) → (j u : ℕ) → j ≡ place vs → List·Memᴰ u vs → p .values ≤ u → at supports (256 * k + j) ≡ 0
-    none-at vs e l j u s i g = set-at vs e l j s ∙ mask-none (λ v. any (same (vs ++ (v ∷ []))) (constraintAt p k .rows)) (λ v b. unmatched vs v u (Memᴰ·append-left (v ∷ []) i) g)
-
-    last-at : (vs : List ℕ) → suc (length vs) ≡ length xs → ((i : ℕ) → i < length vs → at vs i < 16) → (j v : ℕ) → j ≡ place vs → p .values ≤ v → has (at supports (256 * k + j)) v ≡ false
-    last-at vs e l j v s g = not-of (has (at supports (256 * k + j)) v) (λ t.
-        let i = mask-e (λ u. any (same (vs ++ (u ∷ []))) (constraintAt p k .rows)) v (subst (λ (z : ℕ). T (has z v)) (set-at vs e l j s) t) in
-        subst T (unmatched vs v v (Memᴰ·append-right vs (List·Memᴰ·head refl)) g) (i .1))
-
-    two-of : length xs ≡ 2 → Within (p .values) 16 (256 * k) supports
-    two-of e = record {
-      some = w .one;
-      few = w .sixteen;
-      first = λ j l g. absurd (let o : 1 ≤ p .values = w .one in omega arith);
-      second = λ j l g. none-at (j ∷ []) (sym e) (small-1 j l) j j refl (List·Memᴰ·head refl) (omega arith);
-      last = λ j v l g. last-at (j ∷ []) (sym e) (small-1 j l) j v refl g;
-    }
-
-    three-of : length xs ≡ 3 → Within (p .values) 256 (256 * k) supports
-    three-of e = record {
-      some = w .one;
-      few = w .sixteen;
-      first = λ j l g. none-at (j / 16 ∷ j % 16 ∷ []) (sym e) (small-2 (j / 16) (j % 16) (omega arith) (omega arith)) j (j / 16) (omega arith) (List·Memᴰ·head refl) g;
-      second = λ j l g. none-at (j / 16 ∷ j % 16 ∷ []) (sym e) (small-2 (j / 16) (j % 16) (omega arith) (omega arith)) j (j % 16) (omega arith) (List·Memᴰ·tail (List·Memᴰ·head refl)) g;
-      last = λ j v l g. last-at (j / 16 ∷ j % 16 ∷ []) (sym e) (small-2 (j / 16) (j % 16) (omega arith) (omega arith)) j v (omega arith) g;
-    }
-
-    tabled-of : (word : ℕ) → word ≡ at numbers (32 + k) → Tabled (p .values) word (256 * k) supports
-    tabled-of word e =
-        let a : word % 256 ≡ length xs = ap (λ (z : ℕ). z % 256) e ∙ m .compiled .numbered .arity k h in
-        record { two = λ t. two-of (sym a ∙ t); three = λ s t. three-of (omega (arith, fine .some, fine .few)) }
 
     -- ---- after it was moved
     module _ (supports′ : List ℕ) (word : ℕ) (s : Sorting names (256 * k) supports supports′ word) where
@@ -233,15 +213,10 @@ module _ (p : Problem) (order numbers supports images : List ℕ) (m : Movable p
     stands-is x h = f .here x (omega (arith, variables-is)) ∙ stand-is x
 
     module _ (mid : List ℕ) (a : MovedSets (at numbers 64) order numbers mid) where
-      pub scopes : (k : ℕ) → k < at numbers 66 → (names : List ℕ) × Scope stands (at mid (32 + k)) names
+      pub scopes : (k : ℕ) → k < at numbers 66 → (names : List ℕ) × Scope stands (at mid (32 + k)) names × (length names ≡ 3 → Narrow (at numbers 65) (256 * k) supports)
       scopes k h =
           let l : k < length (p .constraints) = omega (arith, m .compiled .numbered .constraints) in
-          (map (position ord) (constraintAt p k .scope), scope-of k l stands (at mid (32 + k)) (a .other (32 + k) (omega arith)) stands-is)
-
-      pub tables : (d : ℕ) → d ≡ at numbers 65 → (k : ℕ) → k < at numbers 66 → Tabled d (at mid (32 + k)) (256 * k) supports
-      tables d e k h =
-          let l : k < length (p .constraints) = omega (arith, m .compiled .numbered .constraints) in
-          subst (λ (z : ℕ). Tabled z (at mid (32 + k)) (256 * k) supports) (sym (e ∙ m .compiled .numbered .values)) (tabled-of k l (at mid (32 + k)) (a .other (32 + k) (omega arith)))
+          (map (position ord) (constraintAt p k .scope), scope-of k l stands (at mid (32 + k)) (a .other (32 + k) (omega arith)) stands-is, narrow k l)
 
       module _ (numbers′ supports′ images′ : List ℕ) (b : MovedImages (at numbers 64) order stands (at numbers 67) images images′) (c : Renamed stands (at numbers 66) mid supports numbers′ supports′) where
         moved-at : (k : ℕ) (h : k < length (p .constraints)) → Sorting (map (position ord) (constraintAt p k .scope)) (256 * k) supports supports′ (at numbers′ (32 + k))

@@ -57,18 +57,18 @@ pub record Cell (s w v r : ℕ) : Type 0 where
 abbrev pub Added : ℕ → ℕ → List ℕ → ℕ → ℕ → Type 0
 Added s v old w r = (t : ℕ) × Cell s w v t × (r ≡ bitOr (at old w) t)
 
--- the first m sets from a base on are those of d values: a set that a coordinate from d on leads to is empty, and no set has a member from d on
-pub record Within (d m base : ℕ) (s : List ℕ) : Type 0 where
-  pub some : 0 < d
-  pub few : d ≤ 16
-  pub first : (j : ℕ) → j < m → d ≤ j / 16 → at s (base + j) ≡ 0
-  pub second : (j : ℕ) → j < m → d ≤ j % 16 → at s (base + j) ≡ 0
-  pub last : (j v : ℕ) → j < m → d ≤ v → has (at s (base + j)) v ≡ false
+-- a table of three values below d
+pub record Narrow (d base : ℕ) (s : List ℕ) : Type 0 where
+  pub first : (a b : ℕ) → d ≤ a → a < 16 → b < 16 → at s (base + (16 * a + b)) ≡ 0
+  pub second : (a b : ℕ) → a < 16 → d ≤ b → b < 16 → at s (base + (16 * a + b)) ≡ 0
+  pub last : (a b v : ℕ) → a < 16 → b < 16 → d ≤ v → v < 16 → has (at s (base + (16 * a + b))) v ≡ false
 
--- so are the sets of the scope whose number is w
-pub record Tabled (d w base : ℕ) (s : List ℕ) : Type 0 where
-  pub two : w % 256 ≡ 2 → Within d 16 base s
-  pub three : (w % 256 ≡ 1 → ⊥) → (w % 256 ≡ 2 → ⊥) → Within d 256 base s
+-- the sets of v and each of the first m values are exchanged with those of these and v
+pub record Crossed (base v m : ℕ) (old new : List ℕ) : Type 0 where
+  pub row : (w : ℕ) → w < m → at new (base + (16 * v + w)) ≡ at old (base + (16 * w + v))
+  pub column : (w : ℕ) → w < m → at new (base + (16 * w + v)) ≡ at old (base + (16 * v + w))
+  pub other : (j : ℕ) → ((w : ℕ) → w < m → base + (16 * v + w) ≡ j → ⊥) → ((w : ℕ) → w < m → base + (16 * w + v) ≡ j → ⊥) → at new j ≡ at old j
+  pub size : length new ≡ length old
 
 -- the first two coordinates are exchanged
 abbrev pub Swapped : ℕ → List ℕ → List ℕ → Type 0

@@ -1,23 +1,12 @@
 // A support table with two coordinates exchanged. A constraint has 256 sets: the set of last values stands at 16 times the first value plus the second of three,
-// at the first of two, and at 0 for one. With d values a set that a value from d on leads to is empty, so only d of sixteen are looked at.
+// at the first of two, and at 0 for one.
 ghost use mathlib.Core.Path.{_≡_};
 ghost use Prim.Native.Nat.{ℕ, _+_, _≤_, _<_};
 ghost use lib.ListN.{length};
 ghost use Rattle.model.specs.Lists.{at};
 ghost use Rattle.model.specs.ValueSets.{has, maskOf};
 ghost use Rattle.model.specs.Filling.{Filled};
-ghost use Rattle.reorder.specs.Steps.{Cell, Added, Within, Swapped, Transposed};
-
-fn load(supports: &[u16; 8192], base: usize, sets: &mut [u16; 256])
-    requires { ⌜ (base + 256 ≤ 8192) × (length (now sets) ≡ 256) ⌝ }
-    ensures { λ _. ⌜ Filled (λ j. j) (λ j r. r ≡ at (now (supports .entry)) (base + j)) 256 (now (sets .entry)) (now (sets .exit)) ⌝ }
-{
-    let mut j = 0;
-    while j < 256 {
-        sets[j] = supports[base + j];
-        j += 1;
-    }
-}
+ghost use Rattle.reorder.specs.Steps.{Cell, Added, Narrow, Crossed, Swapped, Transposed};
 
 // The set of v if w is in the set, else none.
 fn cell(s: u16, w: usize, v: usize) -> u16
@@ -39,40 +28,53 @@ fn add(s: u16, v: usize, columns: &mut [u16; 16])
     }
 }
 
-// For each w the values whose sets have it, of sixteen sets from a base on, which are empty from d on.
-fn gather(supports: &[u16; 8192], base: usize, d: usize, columns: &mut [u16; 16])
-    requires { ⌜ (base + 16 ≤ 8192) × (length (now columns) ≡ 16) × ((w : ℕ) → at (now columns) w ≡ 0) × (d ≤ 16) × ((v : ℕ) → d ≤ v → v < 16 → at (now supports) (base + v) ≡ 0) ⌝ }
+// For each w the values whose sets have it, of sixteen sets from a base on.
+fn gather(supports: &[u16; 8192], base: usize, columns: &mut [u16; 16])
+    requires { ⌜ (base + 16 ≤ 8192) × (length (now columns) ≡ 16) × ((w : ℕ) → at (now columns) w ≡ 0) ⌝ }
     ensures { λ _. ⌜ (length (now (columns .exit)) ≡ 16) × ((w : ℕ) → w < 16 → at (now (columns .exit)) w ≡ maskOf (λ v. has (at (now (supports .entry)) (base + v)) w)) ⌝ }
 {
     let mut v = 0;
-    while v < d {
+    while v < 16 {
         add(supports[base + v], v, columns);
         v += 1;
     }
 }
 
-// The first and the second of three values.
+// The sets with first value v and second w are exchanged with those of w and v, for each w below v.
+fn cross(base: usize, v: usize, supports: &mut [u16; 8192])
+    requires { ⌜ (base + 256 ≤ 8192) × (v < 16) × (length (now supports) ≡ 8192) ⌝ }
+    ensures { λ _. ⌜ Crossed base v v (now (supports .entry)) (now (supports .exit)) ⌝ }
+{
+    let mut w = 0;
+    while w < v {
+        let p = base + (16 * v + w);
+        let q = base + (16 * w + v);
+        let set = supports[p];
+        supports[p] = supports[q];
+        supports[q] = set;
+        w += 1;
+    }
+}
+
+// The first and the second of three values, all below d.
 pub fn swap(base: usize, d: usize, supports: &mut [u16; 8192])
-    requires { ⌜ (base + 256 ≤ 8192) × (length (now supports) ≡ 8192) × Within d 256 base (now supports) ⌝ }
+    requires { ⌜ (base + 256 ≤ 8192) × (d ≤ 16) × Narrow d base (now supports) × (length (now supports) ≡ 8192) ⌝ }
     ensures { λ _. ⌜ Swapped base (now (supports .entry)) (now (supports .exit)) ⌝ }
 {
-    let mut old = [0u16; 256];
-    load(supports, base, &mut old);
-    let m = 16 * d;
-    let mut j = 0;
-    while j < m {
-        supports[base + j] = old[16 * (j % 16) + j / 16];
-        j += 1;
+    let mut v = 0;
+    while v < d {
+        cross(base, v, supports);
+        v += 1;
     }
 }
 
 // The two values of sixteen sets.
-pub fn transpose(base: usize, d: usize, supports: &mut [u16; 8192])
-    requires { ⌜ (base + 16 ≤ 8192) × (length (now supports) ≡ 8192) × Within d 16 base (now supports) ⌝ }
+pub fn transpose(base: usize, supports: &mut [u16; 8192])
+    requires { ⌜ (base + 16 ≤ 8192) × (length (now supports) ≡ 8192) ⌝ }
     ensures { λ _. ⌜ Transposed base 16 (now (supports .entry)) (now (supports .exit)) ⌝ }
 {
     let mut columns = [0u16; 16];
-    gather(supports, base, d, &mut columns);
+    gather(supports, base, &mut columns);
     let mut w = 0;
     while w < 16 {
         supports[base + w] = columns[w];
@@ -80,14 +82,14 @@ pub fn transpose(base: usize, d: usize, supports: &mut [u16; 8192])
     }
 }
 
-// The second and the last of three values.
+// The second and the last of three values, all below d.
 pub fn transpose_each(base: usize, d: usize, supports: &mut [u16; 8192])
-    requires { ⌜ (base + 256 ≤ 8192) × (length (now supports) ≡ 8192) × Within d 256 base (now supports) ⌝ }
+    requires { ⌜ (base + 256 ≤ 8192) × (d ≤ 16) × Narrow d base (now supports) × (length (now supports) ≡ 8192) ⌝ }
     ensures { λ _. ⌜ Transposed base 256 (now (supports .entry)) (now (supports .exit)) ⌝ }
 {
     let mut v = 0;
     while v < d {
-        transpose(base + 16 * v, d, supports);
+        transpose(base + 16 * v, supports);
         v += 1;
     }
 }

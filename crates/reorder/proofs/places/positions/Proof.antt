@@ -3,9 +3,8 @@ use mathlib.Core.Path.{_≡_, refl}
 use Prim.Native.Nat.{_-_, _≤_}
 use native.Mathlib.Omega.{arith}
 use borrow.Author.Needs.{needs}
-use Rattle.model.proofs.Filling.{filled-begin, filled-turn}
+use Rattle.model.proofs.Filling.{filled-begin, filled-turn, filled-end}
 use Rattle.model.specs.Filling.{Filled}
-use Rattle.reorder.proofs.Loops.{filled-end}
 use Rattle.reorder.specs.Steps.{stand}
 use Rattle.reorder.proofs.places.positions.Statement.{statement}
 use Rattle.reorder.proofs.places.positions.Tie as tie

@@ -5,10 +5,9 @@ use native.Mathlib.Omega.{arith}
 use lib.Bits.{bitOr}
 use borrow.Author.Needs.{needs}
 use Rattle.model.specs.Lists.{at}
-use Rattle.model.proofs.Filling.{filled-begin, filled-turn}
+use Rattle.model.proofs.Filling.{filled-begin, filled-turn, filled-end}
 use Rattle.model.specs.Filling.{Filled}
 use Rattle.reorder.specs.Steps.{Added}
-use Rattle.reorder.proofs.Loops.{filled-end}
 use Rattle.reorder.proofs.supports.add.Statement.{statement}
 use Rattle.reorder.proofs.supports.add.Tie as tie
 

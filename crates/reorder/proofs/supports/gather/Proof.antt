@@ -8,10 +8,10 @@ use Rattle.reorder.proofs.supports.gather.Statement.{statement}
 use Rattle.reorder.proofs.supports.gather.Tie as tie
 
 abbrev Inv-loop : tie.InvT-loop
-Inv-loop supports base d columns₀ v₀ columns v = (v ≤ d) × Columns base supports v columns
+Inv-loop supports base columns₀ v₀ columns v = (v ≤ 16) × Columns base supports v columns
 
 abbrev μ-loop : tie.MeasureT-loop
-μ-loop supports base d columns₀ v₀ columns v = d - v
+μ-loop supports base columns₀ v₀ columns v = 16 - v
 
 loop-holds : tie.Need-loop-holds Inv-loop μ-loop
 loop-holds c = (search needs, columns-begin _ _ _ (c .pre .1) (c .pre .2))
@@ -39,7 +39,7 @@ unfolding at
 loop-again c = (search needs, columns-turn _ _ _ _ _ (c .before .before .before .before .loop .inv .1) (c .add .ensures))
 
 returns : tie.Need-returns Inv-loop μ-loop
-returns c = (c .before .loop .inv .1 .size, columns-end _ _ _ _ (λ v h k. c .before .before .pre .4 v (omega arith) k) (c .before .loop .inv .1))
+returns c = (c .before .loop .inv .1 .size, columns-end _ _ _ _ (omega arith) (c .before .loop .inv .1))
 
 pub gather-spec : {M : Type 1} → statement M
 gather-spec =

@@ -6,21 +6,20 @@ use borrow.Author.Needs.{needs}
 use Rattle.model.specs.Lists.{at}
 use Rattle.model.specs.ValueSets.{has, maskOf}
 use Rattle.model.proofs.Lists.{at-replicate}
-use Rattle.model.proofs.Filling.{filled-begin, filled-turn}
+use Rattle.model.proofs.Filling.{filled-begin, filled-turn, filled-end}
 use Rattle.model.specs.Filling.{Filled}
-use Rattle.reorder.proofs.Loops.{filled-end}
 use Rattle.reorder.proofs.Tables.{column-of}
 use Rattle.reorder.proofs.supports.transpose.Statement.{statement}
 use Rattle.reorder.proofs.supports.transpose.Tie as tie
 
 abbrev Inv-loop : tie.InvT-loop
-Inv-loop base d supports₀ columns w₀ supports w = (w ≤ 16) × ((u : ℕ) → u < 16 → at columns u ≡ maskOf (λ v. has (at supports₀ (base + v)) u)) × Filled (λ j. base + j) (λ j r. r ≡ maskOf (λ v. has (at supports₀ (base + (16 * (j / 16) + v))) (j % 16))) w supports₀ supports
+Inv-loop base supports₀ columns w₀ supports w = (w ≤ 16) × ((u : ℕ) → u < 16 → at columns u ≡ maskOf (λ v. has (at supports₀ (base + v)) u)) × Filled (λ j. base + j) (λ j r. r ≡ maskOf (λ v. has (at supports₀ (base + (16 * (j / 16) + v))) (j % 16))) w supports₀ supports
 
 abbrev μ-loop : tie.MeasureT-loop
-μ-loop base d supports₀ columns w₀ supports w = 16 - w
+μ-loop base supports₀ columns w₀ supports w = 16 - w
 
 gather-requires : tie.Need-gather-requires Inv-loop μ-loop
-gather-requires c κs = (search needs, refl, λ w. at-replicate 16 w, c .before .before .pre .2 .few, λ v h l. c .before .before .pre .2 .second v l (omega arith))
+gather-requires c κs = (search needs, refl, λ w. at-replicate 16 w)
 
 loop-holds : tie.Need-loop-holds Inv-loop μ-loop
 loop-holds c = (search needs, c .gather .ensures .1, filled-begin _ _ _)

@@ -5,9 +5,8 @@ use native.Mathlib.Omega.{arith}
 use borrow.Author.Needs.{needs}
 use Rattle.model.proofs.Filling.{filled-begin}
 use Rattle.reorder.specs.Steps.{Transposed}
-use Rattle.reorder.proofs.Loops.{filled-end}
 use Rattle.reorder.proofs.Tables.{transposed-turn}
-use Rattle.reorder.proofs.Within.{transposed-rest, group-within}
+use Rattle.reorder.proofs.Swaps.{transposed-of}
 use Rattle.reorder.proofs.supports.transpose_each.Statement.{statement}
 use Rattle.reorder.proofs.supports.transpose_each.Tie as tie
 
@@ -27,7 +26,7 @@ add-transpose : tie.Need-add-transpose Inv-loop μ-loop
 add-transpose c = search needs
 
 transpose-requires : tie.Need-transpose-requires Inv-loop μ-loop
-transpose-requires c κs = (omega (arith, c .before .before .before .pre .2 .few), c .before .before .loop .inv .1 .size ∙ c .before .before .before .pre .1, group-within _ _ _ _ (c .before .before .before .pre .2) _ (omega arith) (c .before .before .loop .inv .1))
+transpose-requires c κs = (omega arith, c .before .before .loop .inv .1 .size ∙ c .before .before .before .pre .3)
 
 add-v : tie.Need-add-v Inv-loop μ-loop
 add-v c = search needs
@@ -39,7 +38,7 @@ loop-again : tie.Need-loop-again Inv-loop μ-loop
 loop-again c = (search needs, transposed-turn _ _ _ _ _ (c .before .before .before .loop .inv .1) (c .transpose .ensures))
 
 returns : tie.Need-returns Inv-loop μ-loop
-returns c = transposed-rest _ _ _ _ (c .before .before .pre .2) (filled-end _ _ _ _ _ _ (omega arith) (omega arith) (c .before .loop .inv .1))
+returns c = transposed-of _ _ _ _ (c .before .before .pre .2) _ (omega arith) (omega arith) (omega arith) (c .before .loop .inv .1)
 
 pub transpose-each-spec : {M : Type 1} → statement M
 transpose-each-spec =
