@@ -1,0 +1,3 @@
+-- What the functions that give turns say.
+pub mod Served
+pub mod Meaning
