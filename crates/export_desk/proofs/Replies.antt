@@ -1,8 +1,8 @@
 -- What the desk's exported calls answer: a reply's numbers fit the code and the answer; answers of the length asked and of another. Assumes nothing.
 use mathlib.Core.Path.{_≡_, refl, sym, ap, _∙_, subst}
 use mathlib.Core.Bool.{Bool, true, false}
-use mathlib.Core.List.{List, []}
-use Prim.Native.Nat.{ℕ, zero, suc, _+_, _*_, _≤_, _<_, min}
+use mathlib.Core.List.{List, [], Memᴰ·of-map}
+use Prim.Native.Nat.{ℕ, zero, suc, _+_, _*_, _%_, _≤_, _<_, min}
 use native.Mathlib.Nat.{mul-le-mul}
 use native.Mathlib.Omega.{arith}
 use lib.Dec.{eqb, ltb}
@@ -19,15 +19,15 @@ use Rattle.model.proofs.Written.{written-then}
 use Rattle.wire.specs.Wire.{wrongLength, threeNumbers}
 use Rattle.wire.proofs.Codes.{Small, verdict-small}
 use Rattle.wire.proofs.Numbers.{whole}
-use Rattle.desk.specs.Desk.{Hall, Seat, free, taken, isFree, seatAt, Found, none-found, seat, lowestFree, DeskCall, sit, leave, DeskReply, denied, servedAs, sitReply, fits, leaveFor, leaveReply, lookFor}
-use Rattle.desk.specs.Layout.{size, seatPlace, standingBy, standingByte, widthAt, hallAt, deskOf, replyOn, lookOn, bytesAfter}
+use Rattle.desk.specs.Desk.{Hall, hallTurned, Seat, free, taken, isFree, waits, seatTurned, seatAt, Found, none-found, seat, lowestFree, roundFrom, toServe, DeskCall, sit, turn, leave, DeskReply, denied, servedAs, sitReply, turnReply, fits, leaveFor, leaveReply, lookFor, RoundsReply, not-given, roundsReply}
+use Rattle.desk.specs.Layout.{size, seatPlace, standingBy, standingByte, widthAt, hallAt, deskOf, replyOn, lookOn, bytesAfter, roundsOn, roundsAfter}
 use Rattle.desk.specs.Meaning.{means, roomAfter}
 use Rattle.desk.specs.declared.Answer.{Answer}
 use Rattle.desk.specs.declared.Answer.the-variants.{Seated, Idle, Stands, Left, Refused}
 use Rattle.desk.proofs.Desk.{first-in}
 use Rattle.desk.proofs.Seats.{long-small, seat-in, seat-out, free-at, taken-at}
-use Rattle.desk.proofs.Turning.{Fits, at-fits}
-use Rattle.export_desk.specs.Told.{fourNumbers, replyCode, replyAnswer, answerLength, deskCode, deskBytes, deskAnswer, leaveRoom, lookCode, lookAnswer, Holds}
+use Rattle.desk.proofs.Turning.{Fits, at-fits, turned-fits}
+use Rattle.export_desk.specs.Told.{fourNumbers, replyCode, replyAnswer, answerLength, deskCode, deskBytes, deskAnswer, leaveRoom, lookCode, lookAnswer, roundsReplyCode, roundsReplyAnswer, roundsCode, roundsDesk, roundsAnswer, Holds}
 
 -- ---- four numbers
 pub put-four : {d e : List ℕ} {r : ℕ} {f : List ℕ} {s : ℕ} {g : List ℕ} {t : ℕ} {h : List ℕ} {u : ℕ} (kind a b c : ℕ) → length d ≡ 16 → Written d 0 (fourBytes kind) e r → Written e r (fourBytes a) f s → Written f s (fourBytes b) g t → Written g t (fourBytes c) h u →
@@ -115,6 +115,20 @@ module _ (b : List ℕ) (small : (i : ℕ) → at b i < 256) where
       sized (sitReply (lowestFree (deskOf b)) (verdictOf sheet)) 12
       (λ e. sit-holds (lowestFree (deskOf b)) (verdictOf sheet) (λ k f. below-e 8 k (first-in (λ n. isFree (seatAt (deskOf b) n)) (below 8) k f .1)) (verdict-small sheet))
 
+  -- a turn serves one of the eight seats
+  turn-holds : (e : length b ≡ size) (f : Found) → toServe (deskOf b) ≡ f → Holds (turnReply f (deskOf b)) 16
+  turn-holds e none-found q = refl
+  turn-holds e (seat k) q =
+      let m = first-in (λ n. waits (seatAt (deskOf b) n)) (roundFrom (deskOf b .next)) k q .1 in
+      let r = Memᴰ·of-map (λ i. (deskOf b .next + i) % 8) (below 8) m in
+      let l : k < 8 = (let z : (deskOf b .next + r .0) % 8 ≡ k = r .2 in omega arith) in
+      by-seat e (λ s. Holds (servedAs k (seatTurned s)) 16) k (refl, omega arith, omega arith, omega arith)
+      (λ _. hall-holds e k (seatPlace k) (hallTurned (hallAt b (seatPlace k))) l (turned-fits b (seatPlace k) (hallAt b (seatPlace k)) (hall-fits e k l)))
+
+  pub turn-reply : Holds (replyOn b turn) 16
+  unfolding replyOn
+  turn-reply = sized (turnReply (toServe (deskOf b)) (deskOf b)) 16 (λ e. turn-holds e (toServe (deskOf b)) refl)
+
   pub look-reply : (k : ℕ) → Holds (lookOn b k) 16
   unfolding lookOn
   look-reply k = sized (lookFor k (seatAt (deskOf b) k)) 16 (λ e. look-fits e k)
@@ -169,3 +183,27 @@ module _ (b : List ℕ) (k : ℕ) (room answer : List ℕ) where
   pub left-room : length answer ≡ 12 → (out : List ℕ) → out ≡ roomAfter (replyOn b (leave k room)) room → out ≡ leaveRoom b k room answer
   unfolding leaveRoom
   left-room h out e = e ∙ full (roomAfter (replyOn b (leave k room)) room) room answer 12 h
+
+-- ---- rounds
+pub refused-item : (b : List ℕ) (r number item : ℕ) → not-given number item ≡ roundsOn b r → item < 256
+unfolding roundsOn
+refused-item b r number item e = go (eqb (length b) size) e
+  where
+    go : (t : Bool) → not-given number item ≡ choose t (roundsReply (deskOf b) r) (not-given 255 0) → item < 256
+    go true f = absurd (let z : _≡_ {A = ℕ} 0 1 = cc in omega arith)
+    go false f = let z : item ≡ 0 = cc in omega arith
+
+module _ (b : List ℕ) (r : ℕ) (answer : List ℕ) where
+  abbrev pub Rounded : ℕ → List ℕ → List ℕ → Type 0
+  Rounded n c d = (n ≡ roundsCode b r answer) × ((c ≡ roundsDesk b r answer) × (d ≡ roundsAnswer b r answer))
+
+  pub unrounded : (length answer ≡ 12 → ⊥) → Rounded 65280 b answer
+  unfolding roundsCode roundsDesk roundsAnswer
+  unrounded h = (short (roundsReplyCode (roundsOn b r)) wrongLength answer 12 h, (short (roundsAfter b r) b answer 12 h, short (roundsReplyAnswer (roundsOn b r) answer) answer answer 12 h))
+
+  pub rounded : length answer ≡ 12 → (x : RoundsReply) → x ≡ roundsOn b r → (n : ℕ) (c d : List ℕ) → n ≡ roundsReplyCode x → c ≡ roundsAfter b r → d ≡ roundsReplyAnswer x answer → Rounded n c d
+  unfolding roundsCode roundsDesk roundsAnswer
+  rounded h x e n c d f g i = (
+    f ∙ ap roundsReplyCode e ∙ full (roundsReplyCode (roundsOn b r)) wrongLength answer 12 h,
+    (g ∙ full (roundsAfter b r) b answer 12 h, i ∙ ap (λ (q : RoundsReply). roundsReplyAnswer q answer) e ∙ full (roundsReplyAnswer (roundsOn b r) answer) answer answer 12 h),
+  )

@@ -8,8 +8,8 @@ use lib.ListN.{length}
 use Rattle.model.specs.Lists.{choose}
 use Rattle.model.specs.Bytes.{fourBytes}
 use Rattle.wire.specs.Wire.{wrongLength, threeNumbers}
-use Rattle.desk.specs.Desk.{DeskCall, sit, turn, leave, DeskReply, denied, seated, idle, served, left}
-use Rattle.desk.specs.Layout.{standingByte, replyOn, lookOn, bytesAfter}
+use Rattle.desk.specs.Desk.{DeskCall, sit, turn, leave, DeskReply, denied, seated, idle, served, left, RoundsReply, not-given, gave}
+use Rattle.desk.specs.Layout.{standingByte, replyOn, lookOn, bytesAfter, roundsOn, roundsAfter}
 use Rattle.desk.specs.Meaning.{roomAfter}
 
 -- four numbers of four bytes
@@ -58,6 +58,24 @@ lookCode b k answer = choose (eqb (length answer) 16) (replyCode (lookOn b k)) w
 
 unfoldable pub lookAnswer : List ℕ → ℕ → List ℕ → List ℕ
 lookAnswer b k answer = choose (eqb (length answer) 16) (replyAnswer (lookOn b k) answer) answer
+
+-- ---- rounds: 1, the seats whose run ended, those whose run goes on
+abbrev pub roundsReplyCode : RoundsReply → ℕ
+roundsReplyCode (not-given number item) = number * 256 + item
+roundsReplyCode (gave ended going) = 0
+
+abbrev pub roundsReplyAnswer : RoundsReply → List ℕ → List ℕ
+roundsReplyAnswer (not-given number item) answer = answer
+roundsReplyAnswer (gave ended going) answer = threeNumbers 1 ended going
+
+unfoldable pub roundsCode : List ℕ → ℕ → List ℕ → ℕ
+roundsCode b r answer = choose (eqb (length answer) 12) (roundsReplyCode (roundsOn b r)) wrongLength
+
+unfoldable pub roundsDesk : List ℕ → ℕ → List ℕ → List ℕ
+roundsDesk b r answer = choose (eqb (length answer) 12) (roundsAfter b r) b
+
+unfoldable pub roundsAnswer : List ℕ → ℕ → List ℕ → List ℕ
+roundsAnswer b r answer = choose (eqb (length answer) 12) (roundsReplyAnswer (roundsOn b r) answer) answer
 
 -- between the functions of the crate: a reply that the code and an answer of n bytes hold
 abbrev pub Holds : DeskReply → ℕ → Type 0

@@ -2,6 +2,7 @@
 // first. Each function answers 0; or a refusal, and then every buffer is as it came; or, asked first, 255 times 256 where the answer or the desk has
 // another length than is asked.
 use desk::Answer;
+use serve::Reply;
 use wire::code;
 use wire::four;
 use wire::three;
@@ -9,9 +10,9 @@ ghost use mathlib.Core.Path.{_≡_};
 ghost use mathlib.Core.List.{[]};
 ghost use Prim.Native.Nat.{_+_, _^_, _<_, min};
 ghost use lib.ListN.{length};
-ghost use Rattle.desk.specs.Desk.{sit, leave};
+ghost use Rattle.desk.specs.Desk.{sit, turn, leave};
 ghost use Rattle.desk.specs.Meaning.{means};
-ghost use Rattle.export_desk.specs.Told.{fourNumbers, replyCode, replyAnswer, deskCode, deskBytes, deskAnswer, leaveRoom, lookCode, lookAnswer, Holds};
+ghost use Rattle.export_desk.specs.Told.{fourNumbers, replyCode, replyAnswer, deskCode, deskBytes, deskAnswer, leaveRoom, lookCode, lookAnswer, roundsCode, roundsDesk, roundsAnswer, Holds};
 
 // Puts four numbers.
 fn numbers(answer: &mut [u8], kind: usize, a: usize, b: usize, c: usize)
@@ -79,7 +80,41 @@ pub fn sit(desk: &mut [u8], sheet: &[u8], limit: u32, answer: &mut [u8]) -> u32
     told(answer, r)
 }
 
-// How a seat stands. The answer has 16 bytes: its kind, its number, its plans, its nodes (the paper's trials).
+// Gives a turn to the next seat whose run hasn't ended. The answer has 16 bytes: its kind, its number, its plans, its nodes (the paper's trials); four
+// zeros where no run waits.
+pub fn turn(desk: &mut [u8], answer: &mut [u8]) -> u32
+    ensures { λ r. ⌜ r ≡ deskCode (now (desk .entry)) turn (now (answer .entry)) ⌝ }
+    ensures { λ _. ⌜ now (desk .exit) ≡ deskBytes (now (desk .entry)) turn (now (answer .entry)) ⌝ }
+    ensures { λ _. ⌜ now (answer .exit) ≡ deskAnswer (now (desk .entry)) turn (now (answer .entry)) ⌝ }
+{
+    if answer.len() != 16 {
+        return 65280;
+    }
+    let r = serve::turn(desk);
+    told(answer, r)
+}
+
+// Gives each seat whose run hasn't ended up to so many turns. The answer has 12 bytes: 1, the seats whose run ended, those whose run goes on, bit k for
+// seat k.
+pub fn rounds(desk: &mut [u8], turns: u32, answer: &mut [u8]) -> u32
+    ensures { λ r. ⌜ r ≡ roundsCode (now (desk .entry)) turns (now (answer .entry)) ⌝ }
+    ensures { λ _. ⌜ now (desk .exit) ≡ roundsDesk (now (desk .entry)) turns (now (answer .entry)) ⌝ }
+    ensures { λ _. ⌜ now (answer .exit) ≡ roundsAnswer (now (desk .entry)) turns (now (answer .entry)) ⌝ }
+{
+    if answer.len() != 12 {
+        return 65280;
+    }
+    let r = serve::rounds(desk, turns);
+    match r {
+        Reply::Refused { number, item } => code(number, item),
+        Reply::Given { ended, going } => {
+            three(answer, 1, ended as usize, going as usize);
+            0
+        }
+    }
+}
+
+// How a seat stands. The answer has 16 bytes: its kind, its number, its plans, its nodes.
 pub fn look(desk: &[u8], seat: u32, answer: &mut [u8]) -> u32
     ensures { λ r. ⌜ r ≡ lookCode (now (desk .entry)) seat (now (answer .entry)) ⌝ }
     ensures { λ _. ⌜ now (answer .exit) ≡ lookAnswer (now (desk .entry)) seat (now (answer .entry)) ⌝ }
