@@ -12,7 +12,6 @@ use Rattle.model.specs.Sheet.{word, words, headerOf, scopeAt, rowsAt, af
 use Rattle.model.specs.Nogood.{obeysFrom, obeying, used, filtered, entries, firstWrong, filterVerdict, setsAfter}
 use Rattle.model.specs.Search.{entriesAt, nogoodsOf, rowWith, supported, pruned, narrowed, rounds, setsAt, isLive, nodesBelow, nodes, isPlan}
 use Rattle.model.specs.Run.{search, resultOf, answerFor, answerOf, written, listFor, listOf, tallyOf, listedPlans}
-use Rattle.model.specs.Report.{digits, decimal, line, endingLine, resultText, reportFor, reportOf}
 use Rattle.model.specs.Claims.{leaders}
 use Rattle.model.specs.Examples.{filterOf, sheetF, tests, Each}
 use Rattle.model.specs.Verdict.{Verdict, accepted, ask}
@@ -20,7 +19,7 @@ use Rattle.model.proofs.Filter.{filtered-none}
 
 -- every definition that computes
 unfoldable pub opened : ℕ
-unfolding all any keep flat tabulate upFrom below at same earlier ascending rowsAscend has maskBelow least members anyEmpty valuesAt satisfies isSolution assignments pair isPair pairsOf within takes doubled pairsAt excluded forbidden respects word words headerOf scopeAt rowsAt afterAt constraintsFrom tableAt problemOf headerVerdict setsVerdict constraintVerdict constraintsVerdict formVerdict distinct permutesPairs symmetriesVerdict verdictOf obeysFrom obeying used filtered entries firstWrong filterVerdict setsAfter entriesAt nogoodsOf rowWith supported pruned narrowed rounds setsAt isLive nodesBelow nodes isPlan search resultOf answerFor answerOf written listFor listOf tallyOf listedPlans digits decimal line endingLine resultText reportFor reportOf
+unfolding all any keep flat tabulate upFrom below at same earlier ascending rowsAscend has maskBelow least members anyEmpty valuesAt satisfies isSolution assignments pair isPair pairsOf within takes doubled pairsAt excluded forbidden respects word words headerOf scopeAt rowsAt afterAt constraintsFrom tableAt problemOf headerVerdict setsVerdict constraintVerdict constraintsVerdict formVerdict distinct permutesPairs symmetriesVerdict verdictOf obeysFrom obeying used filtered entries firstWrong filterVerdict setsAfter entriesAt nogoodsOf rowWith supported pruned narrowed rounds setsAt isLive nodesBelow nodes isPlan search resultOf answerFor answerOf written listFor listOf tallyOf listedPlans
 opened = 0
 
 -- empty lists take nothing from non-empty sets: questions 17 to 19 are passed, and each value has an assignment through it
@@ -34,7 +33,7 @@ empty-lists ds low high small some =
 pub examples : Each tests
 unfolding opened
 examples =
-    (refl, (refl, (empty-lists, (refl, (refl, (refl, (refl, (refl, (refl, (refl, (refl, (refl, (refl, (refl, (refl, (refl, (refl, (refl, (refl, tt)))))))))))))))))))
+    (refl, (refl, (empty-lists, (refl, (refl, (refl, (refl, (refl, (refl, (refl, (refl, (refl, (refl, (refl, (refl, (refl, (refl, (refl, tt))))))))))))))))))
 
 -- beside the list: a sheet that shows a sibling's equality kept
 pub free-rotation : keep (isPlan (problemOf sheetF)) (nodes (problemOf sheetF)) ≡ leaders (problemOf sheetF)

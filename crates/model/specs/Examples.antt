@@ -13,7 +13,6 @@ use Rattle.model.specs.Nogood.{entries, filterVerdict, setsAfter}
 use Rattle.model.specs.Sheet.{verdictOf, problemOf}
 use Rattle.model.specs.Search.{nodes, isLive}
 use Rattle.model.specs.Run.{Answer, refusal, ended, finished, spent, full, answerOf, listOf}
-use Rattle.model.specs.Report.{reportOf}
 use Rattle.model.specs.Claims.{plansHeld}
 
 -- each of the statements holds
@@ -92,11 +91,6 @@ tests =
     ∷ (run sheetA 1000000 8 ≡ (ended (finished 3 6), (0 ∷ 1 ∷ []) ∷ (0 ∷ 2 ∷ []) ∷ (1 ∷ 2 ∷ []) ∷ []))
     -- the list's bytes, those after the plans unchanged
     ∷ (listOf sheetA 1000000 (room 8) ≡ 0 ∷ 1 ∷ 0 ∷ 2 ∷ 1 ∷ 2 ∷ 9 ∷ 9 ∷ [])
-    -- the whole output: plan 0 1, plan 0 2, plan 1 2, finished 3 6 3
-    ∷ (reportOf sheetA ≡ 112 ∷ 108 ∷ 97 ∷ 110 ∷ 32 ∷ 48 ∷ 32 ∷ 49 ∷ 10
-    ∷ 112 ∷ 108 ∷ 97 ∷ 110 ∷ 32 ∷ 48 ∷ 32 ∷ 50 ∷ 10
-    ∷ 112 ∷ 108 ∷ 97 ∷ 110 ∷ 32 ∷ 49 ∷ 32 ∷ 50 ∷ 10
-    ∷ 102 ∷ 105 ∷ 110 ∷ 105 ∷ 115 ∷ 104 ∷ 101 ∷ 100 ∷ 32 ∷ 51 ∷ 32 ∷ 54 ∷ 32 ∷ 51 ∷ 10 ∷ [])
     -- A with g = 0: 6 plans, 9 trials
     ∷ (answerOf sheetA0 1000000 (room 12) ≡ ended (finished 6 9))
     -- A, allowance 2: 01, spent, 1 plan, 2 trials

@@ -13,7 +13,6 @@ pub mod Pruning
 pub mod Filling
 pub mod Run
 pub mod Room
-pub mod Report
 pub mod Claims
 pub mod Examples
 pub mod Examples02
