@@ -9,15 +9,15 @@ use native.Mathlib.Omega.{arith}
 use native.Mathlib.Decide.{ℕ-discrete}
 use lib.Dec.{T, eqb, ltb, eqb→eq, eqb-refl}
 use lib.ListN.{length}
-use lib.Bits.{bitAnd, bitOr, and-le-l, or-lt, or-zero-r}
+use lib.Bits.{bitAnd, bitOr, and-le-l, or-lt, or-zero-r, or-disjoint}
 use lib.Count.{trailingZeros}
 use lib.Pow.{pow-lt}
 use borrow.Author.Tests.{ltb-true, ltb-false, eqb-true, eq-eqb}
 use Rattle.model.specs.Lists.{both, any, at}
 use Rattle.model.specs.ValueSets.{has}
 use Rattle.model.specs.Problem.{Problem, Constraint}
-use Rattle.model.proofs.Lists.{T-of, of-T, not-of, of-not, both-i, among-i, among-e, ascending-sorted}
-use Rattle.model.proofs.Sets.{has-none, has-lt, inside-antisym, size, size-inside, size-strict}
+use Rattle.model.proofs.Lists.{T-of, of-T, T-ext, not-of, of-not, both-i, both-r, among-i, among-e, ascending-sorted}
+use Rattle.model.proofs.Sets.{has-none, has-lt, mask-ext, inside-antisym, size, size-inside, size-strict}
 use Rattle.model.specs.Pruning.{Sets, Inside, Prunes}
 use Rattle.model.proofs.Masks.{has-one}
 use Rattle.model.proofs.Members.{low-has, rest-e, rest-i, rest-less, one-bit, one-has, has-0, or-i, or-e, and-e}
@@ -30,7 +30,7 @@ use Rattle.layout.specs.Tables.{Linked, byRows}
 use Rattle.layout.specs.Pruning.{Fixed, setsOf}
 use Rattle.layout.proofs.Links.{is-one, good}
 use Rattle.constraints.specs.Revised.{revised, Revision, ConstraintsPending, Constrained}
-use Rattle.constraints.specs.Steps.{ConstraintsHeld, Nonempty, Touched}
+use Rattle.constraints.specs.Steps.{ConstraintsHeld, Nonempty, Touched, Round}
 use Rattle.constraints.proofs.Bits.{without-has}
 use Rattle.constraints.proofs.Rows.{revised-sets, revised-inside, revised-fixed, revised-out, fixed-kept}
 use Rattle.constraints.proofs.Removal.{fixed-take, fixed-all, revised-prunes}
@@ -78,6 +78,47 @@ untouched {p} {numbers} {changed} {g} n u k h b f y l m =
     (λ t. f (u .touched-i y k t (T-of (has (at numbers (OTHERS + y)) k)
     (n .touching y k l h ∙ of-T (both (any (eqb y) (constraintAt p k .scope)) (not (byRows p k))) (both-i (any (eqb y) (constraintAt p k .scope)) (not (byRows p k)) (among-i y (constraintAt p k .scope) m) (T-of (not (byRows p k)) (ap not b)))))))
 
+-- ---- a round is taken out of what is due
+abbrev pub without : ℕ → ℕ → ℕ
+without due round = bitAnd due ((2 ^ 64 - 1) - round)
+
+module _ {due round : ℕ} (h : due < 2 ^ 64) (i : round < 2 ^ 64) where
+  rest-is : (k : ℕ) → k < 64 → has (without due round) k ≡ both (has due k) (not (has round k))
+  rest-is k l = without-has 64 due round k i l
+
+  in-or-out : (k : ℕ) → T (has due k) → T (has round k) ⊎ T (has (without due round) k)
+  in-or-out k t = go (has round k) refl
+    where
+      go : (b : Bool) → has round k ≡ b → T (has round k) ⊎ T (has (without due round) k)
+      go true e = inl (T-of (has round k) e)
+      go false e = inr (subst T (sym (rest-is k (has-lt 64 due k h t))) (both-i (has due k) (not (has round k)) t (T-of (not (has round k)) (ap not e))))
+
+  -- nothing is in both, and nothing is lost
+  parts-sum : Round due round → round + without due round ≡ due
+  parts-sum r = sym (or-disjoint round rest none) ∙ mask-ext 64 (bitOr round rest) due (or-lt 64 round rest i rest-lt) h whole
+    where
+      rest : ℕ
+      rest = without due round
+
+      rest-lt : rest < 2 ^ 64
+      rest-lt = lt-of-le-of-lt (and-le-l due ((2 ^ 64 - 1) - round)) h
+
+      none : bitAnd round rest ≡ 0
+      none =
+          mask-ext 64 (bitAnd round rest) 0 (lt-of-le-of-lt (and-le-l round rest) i) (omega arith)
+          (λ k l. not-of (has (bitAnd round rest) k) (λ t. let q = and-e round rest k t in subst T (ap not (of-T (has round k) (q .0))) (both-r (has due k) (not (has round k)) (subst T (rest-is k l) (q .1)))) ∙ sym (has-none k))
+
+      whole : (k : ℕ) → k < 64 → has (bitOr round rest) k ≡ has due k
+      whole k l = T-ext (has (bitOr round rest) k) (has due k) (λ t. ⊎-elim (r .inside k) (λ q. and-e due ((2 ^ 64 - 1) - round) k q .0) (or-e round rest k t)) (λ t. or-i round rest k (in-or-out k t))
+
+-- the round before is at its end and the next is chosen, or it goes on
+abbrev pub Chosen : ℕ → ℕ → ℕ → ℕ → Type 0
+Chosen left next l m = ((left ≡ 0) × (l < 2 ^ 64) × Round next l × (m ≡ without next l)) ⊎ ((l ≡ left) × (m ≡ next))
+
+pub chosen-sum : {left next l m : ℕ} → next < 2 ^ 64 → Chosen left next l m → l + m ≡ left + next
+chosen-sum h (inl q) = let s = parts-sum h (q .1) (q .2) in omega (arith, q .0, q .3)
+chosen-sum h (inr q) = omega (arith, q .0, q .1)
+
 -- ---- what holds before each turn
 pub record ConstrainedSoFar (p : Problem) (numbers supports ds es : List ℕ) (left next all : ℕ) : Type 0 where
   pub held : ConstraintsHeld p numbers supports
@@ -96,16 +137,16 @@ pub record ConstrainedSoFar (p : Problem) (numbers supports ds es : List ℕ) (l
   pub long : length ds ≡ 16
 
 module _ (p : Problem) (numbers supports ds : List ℕ) where
-  pub constrained-begin : (todo : ℕ) → todo < 2 ^ 64 → ConstraintsPending p numbers supports ds todo → ConstrainedSoFar p numbers supports ds ds todo 0 0
+  pub constrained-begin : (todo : ℕ) → todo < 2 ^ 64 → ConstraintsPending p numbers supports ds todo → ConstrainedSoFar p numbers supports ds ds 0 todo 0
   constrained-begin todo h w = record {
     held = record { wellFormed = w .wellFormed; numbered = w .numbered; tabled = w .tabled; worded = w .worded; constraints = w .constraints };
     linked = w .linked;
     sixteen = w .given .sixteen;
-    wide = h;
-    wide-next = omega arith;
+    wide = omega arith;
+    wide-next = h;
     full = full-take (p .variables) ds (w .given .sixteen) (omega (arith, w .wellFormed .few)) (w .given .full);
-    known = λ k. ⊎-elim (w .known k) (λ q. absurd (has-0 k q));
-    others = λ k l e f b. fixed-all (p .variables) ds (w .given .sixteen) (omega (arith, w .wellFormed .few)) (constraintAt p k) (good (w .wellFormed) k l .inside) (w .others k l e b);
+    known = λ k. ⊎-elim (λ q. absurd (has-0 k q)) (w .known k);
+    others = λ k l e f b. fixed-all (p .variables) ds (w .given .sixteen) (omega (arith, w .wellFormed .few)) (constraintAt p k) (good (w .wellFormed) k l .inside) (w .others k l f b);
     ways = λ prefix. prunes-none p prefix (setsOf p ds);
     less = λ x v q. q;
     kept = λ x e. refl;
@@ -115,16 +156,16 @@ module _ (p : Problem) (numbers supports ds : List ℕ) where
   }
 
   -- the next round
-  constrained-swap : (es : List ℕ) (left next all : ℕ) → left ≡ 0 → ConstrainedSoFar p numbers supports ds es left next all → ConstrainedSoFar p numbers supports ds es next 0 all
-  constrained-swap es left next all e t = record {
+  constrained-swap : (es : List ℕ) (left next all round : ℕ) → left ≡ 0 → round < 2 ^ 64 → Round next round → ConstrainedSoFar p numbers supports ds es left next all → ConstrainedSoFar p numbers supports ds es round (without next round) all
+  constrained-swap es left next all round e h r t = record {
     held = t .held;
     linked = t .linked;
     sixteen = t .sixteen;
-    wide = t .wide-next;
-    wide-next = omega arith;
+    wide = h;
+    wide-next = lt-of-le-of-lt (and-le-l next _) (t .wide-next);
     full = t .full;
-    known = λ k. ⊎-elim (λ q. t .known k (inr q)) (λ q. absurd (has-0 k q));
-    others = λ k l f g b. t .others k l (ap (λ (n : ℕ). has n k) e ∙ has-none k) f b;
+    known = λ k. ⊎-elim (λ q. t .known k (inr (r .inside k q))) (λ q. t .known k (inr (and-e next _ k q .0)));
+    others = λ k l f g b. t .others k l (ap (λ (n : ℕ). has n k) e ∙ has-none k) (not-of (has next k) (λ q. ⊎-elim (of-not (has round k) f) (of-not (has (without next round) k) g) (in-or-out (t .wide-next) h k q))) b;
     ways = t .ways;
     less = t .less;
     kept = t .kept;
@@ -134,9 +175,8 @@ module _ (p : Problem) (numbers supports ds : List ℕ) where
   }
 
   -- after the choice of the round
-  pub constrained-on : (es : List ℕ) (left next all l m : ℕ) → ((left ≡ 0) × (l ≡ next) × (m ≡ 0)) ⊎ ((l ≡ left) × (m ≡ next)) → ConstrainedSoFar p numbers supports ds es left next all → ConstrainedSoFar p numbers supports ds es l m all
-  constrained-on es left next all l m (inl q) t =
-      subst (λ (i : ℕ). ConstrainedSoFar p numbers supports ds es i m all) (sym (q .1)) (subst (λ (i : ℕ). ConstrainedSoFar p numbers supports ds es next i all) (sym (q .2)) (constrained-swap es left next all (q .0) t))
+  pub constrained-on : (es : List ℕ) (left next all l m : ℕ) → Chosen left next l m → ConstrainedSoFar p numbers supports ds es left next all → ConstrainedSoFar p numbers supports ds es l m all
+  constrained-on es left next all l m (inl q) t = subst (λ (i : ℕ). ConstrainedSoFar p numbers supports ds es l i all) (sym (q .3)) (constrained-swap es left next all l (q .0) (q .1) (q .2) t)
   constrained-on es left next all l m (inr q) t =
       subst (λ (i : ℕ). ConstrainedSoFar p numbers supports ds es i m all) (sym (q .0)) (subst (λ (i : ℕ). ConstrainedSoFar p numbers supports ds es left i all) (sym (q .1)) t)
 

@@ -15,7 +15,7 @@ use Rattle.model.proofs.Lists.{either-l, either-r, either-e}
 use Rattle.model.proofs.Sets.{has-zero, has-suc, has-none, has-out, has-lt, mask-ext}
 use Rattle.model.proofs.Masks.{has-and, has-or, has-shr, byte-has, byte-lt}
 use Rattle.model.proofs.Members.{both-no, both-yes, either-no}
-use Rattle.constraints.specs.Lanes.{FullLanes, LaneUnion, Product}
+use Rattle.constraints.specs.Lanes.{FullLanes, LaneUnion, Product, Heads, FullHeads}
 
 cases8 : (P : ℕ → Type 0) → P 0 → P 1 → P 2 → P 3 → P 4 → P 5 → P 6 → P 7 → (j : ℕ) → j < 8 → P j
 cases8 P a b c d e f g h zero l = a
@@ -167,16 +167,25 @@ byte-fits x = lt-of-le-of-lt (and-le-r x 255) (lit< tt)
 at-spot : (x a b : ℕ) → a ≡ b → T (has x a) → T (has x b)
 at-spot x a b e t = subst (λ (z : ℕ). T (has x z)) e t
 
+pub full-heads : (x : ℕ) → FullHeads x (bitAnd (eight 1 x) ones)
+full-heads x = record {
+  heads-i = λ j w h l t. subst T (sym (masked (eight 1 x) ones (8 * j) (ones-at j h))) (eight-i 1 x (8 * j) w l (at-spot x (8 * j + w) (8 * j + 1 * w) (omega arith) t));
+  heads-e = λ j h t. let r = eight-e 1 x (8 * j) (subst T (masked (eight 1 x) ones (8 * j) (ones-at j h)) t) in (r .0, r .1, at-spot x (8 * j + 1 * r .0) (8 * j + r .0) (omega arith) (r .2));
+}
+
 pub full-lanes : (x : ℕ) → FullLanes x (gather (bitAnd (eight 1 x) ones))
 full-lanes x = record {
-  full-i = λ j w h l t. subst T (sym (first j h)) (eight-i 1 x (8 * j) w l (at-spot x (8 * j + w) (8 * j + 1 * w) (omega arith) t));
+  full-i = λ j w h l t. subst T (sym (touched-all (eight 1 x) j h)) (full-heads x .heads-i j w h l t);
   full-e = λ j t. let h : j < 8 = has-lt 8 (gather (bitAnd (eight 1 x) ones)) j (byte-lt (twice (bitAnd (twice (bitAnd (twice (bitAnd (eight 1 x) ones) 7) pairs) 14) fours) 28)) t in
-      let r = eight-e 1 x (8 * j) (subst T (first j h) t) in
-      (h, (r .0, r .1, at-spot x (8 * j + 1 * r .0) (8 * j + r .0) (omega arith) (r .2)));
+      (h, full-heads x .heads-e j h (subst T (touched-all (eight 1 x) j h) t));
 }
-  where
-    first : (j : ℕ) → j < 8 → has (gather (bitAnd (eight 1 x) ones)) j ≡ has (eight 1 x) (8 * j)
-    first j h = touched-all (eight 1 x) j h ∙ masked (eight 1 x) ones (8 * j) (ones-at j h)
+
+-- where the first bits are those of b, the lanes that are not empty are those of b
+pub lanes-of : {b s c x : ℕ} → b < 2 ^ 8 → Heads b s → FullHeads x c → c ≡ s → FullLanes x b
+lanes-of {b = b} {x = x} h p f e = record {
+  full-i = λ j w k l t. subst T (p .head j k) (subst (λ (n : ℕ). T (has n (8 * j))) e (f .heads-i j w k l t));
+  full-e = λ j t. let k = has-lt 8 b j h t in (k, f .heads-e j k (subst (λ (n : ℕ). T (has n (8 * j))) (sym e) (subst T (sym (p .head j k)) t)));
+}
 
 -- ---- the union of the lanes
 pub lane-union : (x : ℕ) → LaneUnion x (bitAnd (eight 8 x) 255)
@@ -312,8 +321,8 @@ module _ (b : ℕ) (l : b < 2 ^ 8) where
       go true e = out (bitOr r (r * 2 ^ 7 % 2 ^ 64)) ones (8 * i + w) (ones-out i w (ltb-true i 8 e) h n)
       go false e = has-out 64 s (8 * i + w) (lt-of-le-of-lt (and-le-r (bitOr r (r * 2 ^ 7 % 2 ^ 64)) ones) (lit< tt)) (omega (arith, ltb-false i 8 e))
 
-  pub product-is : (e : ℕ) → e < 256 → Product b e (bitAnd (s * 255) (e * ones))
-  product-is e h j w i k = has-and (s * 255) (e * ones) (8 * j + w) ∙ ap₂ both (filled j s w starts k ∙ spread j i) (copied e j w h i k)
+  pub spread-is : Heads b (bitAnd (bitOr (bitAnd (bitOr (bitAnd (bitOr b (b * 2 ^ 28 % 2 ^ 64)) fours) (bitAnd (bitOr b (b * 2 ^ 28 % 2 ^ 64)) fours * 2 ^ 14 % 2 ^ 64)) pairs) (bitAnd (bitOr (bitAnd (bitOr b (b * 2 ^ 28 % 2 ^ 64)) fours) (bitAnd (bitOr b (b * 2 ^ 28 % 2 ^ 64)) fours * 2 ^ 14 % 2 ^ 64)) pairs * 2 ^ 7 % 2 ^ 64)) ones)
+  spread-is = record { head = spread; only = starts; narrow = and-le-r (bitOr r (r * 2 ^ 7 % 2 ^ 64)) ones }
 
-  pub s-lt : s * 255 < 2 ^ 64
-  s-lt = omega (arith, and-le-r (bitOr r (r * 2 ^ 7 % 2 ^ 64)) ones)
+pub product-is : {b s : ℕ} → Heads b s → (e : ℕ) → e < 256 → Product b e (bitAnd (s * 255) (e * ones))
+product-is {s = s} p e h j w i k = has-and (s * 255) (e * ones) (8 * j + w) ∙ ap₂ both (filled j s w (p .only) k ∙ p .head j i) (copied e j w h i k)

@@ -1,3 +1,4 @@
+pub mod OneWord
 pub mod Bits
 pub mod Lanes
 pub mod Rows

@@ -25,6 +25,7 @@ use Rattle.layout.specs.Layout.{place}
 use Rattle.constraints.specs.Revised.{revised, Revision}
 use Rattle.constraints.specs.Steps.{Together, Joined, Together3, Joined3, Scoped, Nonempty, SetCut}
 use Rattle.constraints.proofs.Bits.{one-small}
+use Rattle.constraints.proofs.Unions.{single, joined3-none}
 use Rattle.constraints.proofs.Rows.{RowIn, PairIn, alive, pair-has, supported-e, supported-i, supported-out, revised-is}
 
 -- ---- the sets that changed
@@ -390,11 +391,14 @@ module _ {c : Constraint} {supports : List ℕ} {k x y z : ℕ} (p : Scoped c su
   pub three-dead : last ≡ 0 → Revision c ds ds DEAD
   three-dead e = dead p ds s z mz-3 (set (set (set ds x first) y second) z last) three-sets (at-z-3 ∙ e)
 
--- ---- two of three sets have one value: one set of the table cuts the third
-single : (a : ℕ) → a < 2 ^ 16 → (a ≡ 0 → ⊥) → withoutMask a (lowestOf a) ≡ 0 → (v : ℕ) → T (has a v) → v ≡ lowestOf a
-single a h n e v t =
-    ⊎-elim (λ q. absurd (has-0 v (subst (λ (z : ℕ). T (has z v)) (without-lowest-op a h ∙ e) q))) (λ q. q ∙ lowest-op 16 a) (rest-i 16 a (omega arith) h v t)
+-- the first set stays as it is
+module _ {c : Constraint} {supports : List ℕ} {k x y z : ℕ} (p : Scoped c supports k (x ∷ y ∷ z ∷ [])) (ds : List ℕ) (s : Sets 16 ds) (second last : ℕ) (g : second < 2 ^ 16) (h : last < 2 ^ 16) (j : Joined3 (Together3 supports (256 * k) (at ds x) (at ds y) (at ds z)) (at ds x) second last) where
+  pub three-rest : (n i : ℕ) → n ≡ oneIf (not (eqb second (at ds y))) y → i ≡ oneIf (not (eqb last (at ds z))) z → (last ≡ 0 → ⊥) → Revision c ds (set (set ds y second) z last) (bitOr n i)
+  three-rest n i o a e =
+      subst (λ (l : List ℕ). Revision c ds (set (set l y second) z last) (bitOr n i)) (set-at ds x)
+      (three p ds s (at ds x) second last (s .1 x) g h j 0 n i (sym (ap (λ (b : Bool). oneIf (not b) x) (eq-eqb (at ds x) (at ds x) refl))) o a e)
 
+-- ---- two of three sets have one value: one set of the table cuts the third
 module _ {c : Constraint} {supports : List ℕ} {k x y z : ℕ} (p : Scoped c supports k (x ∷ y ∷ z ∷ [])) (ds : List ℕ) (s : Sets 16 ds) (g : Nonempty (x ∷ y ∷ z ∷ []) ds) (o : withoutMask (at ds x) (lowestOf (at ds x)) ≡ 0) (q : withoutMask (at ds y) (lowestOf (at ds y)) ≡ 0) where
   abbrev u : ℕ
   u = lowestOf (at ds x)
@@ -435,17 +439,10 @@ module _ {c : Constraint} {supports : List ℕ} {k x y z : ℕ} (p : Scoped c su
       (subst (λ (i : ℕ). T (has (at supports (256 * k + 16 * i + v)) w)) (is-u a (q .0)) (subst (λ (i : ℕ). T (has (at supports (256 * k + 16 * a + i)) w)) (is-v b (q .1 .0)) (q .1 .2)))
 
   none : t ≡ 0 → Joined3 M 0 0 0
-  none e = record {
-    first-i = λ a b w q. absurd (no a b w q);
-    first-e = λ a q. absurd (has-0 a q);
-    second-i = λ a b w q. absurd (no a b w q);
-    second-e = λ a q. absurd (has-0 a q);
-    last-i = λ a b w q. absurd (no a b w q);
-    last-e = λ a q. absurd (has-0 a q);
-  }
+  none e = joined3-none never
     where
-      no : (a b w : ℕ) → M a b w → ⊥
-      no a b w q = has-0 w (subst (λ (n : ℕ). T (has n w)) e (together-e a b w q))
+      never : (a b w : ℕ) → M a b w → ⊥
+      never a b w q = has-0 w (subst (λ (n : ℕ). T (has n w)) e (together-e a b w q))
 
   some : (t ≡ 0 → ⊥) → Joined3 M (at ds x) (at ds y) t
   some n = record {

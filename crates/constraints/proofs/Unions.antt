@@ -1,6 +1,7 @@
 -- The loops that run through the members of a set and unite what each of them gives. Assumes nothing.
 use mathlib.Core.Path.{_≡_, refl, sym, ap, _∙_, subst}
 use mathlib.Core.Bool.{Bool, not}
+use mathlib.Core.Logic.{_⊎_, inl, inr, ⊎-elim}
 use mathlib.Core.List.{List}
 use Prim.Native.Nat.{ℕ, _+_, _-_, _*_, _/_, _%_, _^_, _<_}
 use native.Mathlib.Nat.{lt-of-le-of-lt}
@@ -13,13 +14,13 @@ use Rattle.model.specs.Lists.{at}
 use Rattle.model.specs.ValueSets.{has, maskOf, withoutMask, unionMask, lowestOf, oneIf}
 use Rattle.model.proofs.Lists.{T-of, both-i, both-l, both-r}
 use Rattle.model.proofs.Sets.{has-lt, mask-lt}
-use Rattle.model.proofs.Members.{low-has, Rest, rest-begin, has-0, Union, union-begin, union-end, lowest-left, others-left, others-union, and-i, and-e, or-zero-e}
+use Rattle.model.proofs.Members.{low-has, rest-i, without-lowest-op, Rest, rest-begin, has-0, Union, union-begin, union-end, lowest-left, others-left, others-union, and-i, and-e, or-zero-e}
 use Rattle.layout.specs.Places.{OTHERS, LANES}
 use Rattle.layout.specs.Tables.{Words}
-use Rattle.constraints.specs.Steps.{Together, Joined, Together3, Together8, Joined3, Touched}
+use Rattle.constraints.specs.Steps.{OneValue, Together, Joined, Together3, Together8, Joined3, Touched}
 use Rattle.constraints.specs.Lanes.{FullLanes, LaneUnion, Product}
 use Rattle.constraints.proofs.Bits.{one-small}
-use Rattle.model.proofs.Masks.{has-oneIf, union-op}
+use Rattle.model.proofs.Masks.{has-oneIf, lowest-op, union-op}
 
 -- a bound of a union of three sets is one of each
 or-parts : (n a b e : ℕ) → bitOr (bitOr a b) e < n → (a < n) × (b < n) × (e < n)
@@ -60,6 +61,11 @@ small f r e = subst (λ (z : ℕ). z < 2 ^ 16) (sym e) (mask-lt 16 f)
 -- a union without members
 pub union-none : (s t r : ℕ) → s < 2 ^ 16 → t < 2 ^ 16 → r ≡ unionMask s t → r ≡ 0 → (s ≡ 0) × (t ≡ 0)
 union-none s t r h i e z = or-zero-e s t (union-op s t h i ∙ sym e ∙ z)
+
+-- the one value of a set
+pub single : (a : ℕ) → a < 2 ^ 16 → (a ≡ 0 → ⊥) → withoutMask a (lowestOf a) ≡ 0 → (v : ℕ) → T (has a v) → v ≡ lowestOf a
+single a h n e v t =
+    ⊎-elim (λ q. absurd (has-0 v (subst (λ (z : ℕ). T (has z v)) (without-lowest-op a h ∙ e) q))) (λ q. q ∙ lowest-op 16 a) (rest-i 16 a (omega arith) h v t)
 
 -- ---- two sets by sixteen sets of a table
 module _ (t : List ℕ) (base a b : ℕ) where
@@ -103,6 +109,60 @@ module _ (t : List ℕ) (base a b : ℕ) where
     first-i = λ v w q. union-end Meets a m first e (j .firsts) v v (q .0) (refl, (w, q .1, q .2));
     first-e = λ v q. let r = j .firsts .got v q in (r .2 .1 .0, (subst (λ (z : ℕ). T (has a z)) (sym (r .2 .0)) (r .1), r .2 .1 .1, subst (λ (z : ℕ). T (has (at t (base + z)) (r .2 .1 .0))) (sym (r .2 .0)) (r .2 .1 .2)));
     last-i = λ v w q. union-end Gives a m last e (j .lasts) v w (q .0) (q .1, q .2);
+    last-e = λ w q. let r = j .lasts .got w q in (r .0, (r .1, r .2 .0, r .2 .1));
+  }
+
+  -- where each value of a gives something, a stays whole
+  joined-whole : {first all : ℕ} → Joined t base a b first all → ((v : ℕ) → T (has a v) → T (has first v)) → Joined t base a b a all
+  joined-whole j f = record { first-i = λ v w q. q .0; first-e = λ v q. j .first-e v (f v q); last-i = j .last-i; last-e = j .last-e }
+
+  -- where a has one value, that is all
+  pub joined-one : (k v : ℕ) → a < 2 ^ 16 → OneValue a → v ≡ lowestOf a → b < 2 ^ k → (bitAnd (at t (base + v)) b ≡ 0 → ⊥) → Joined t base a b a (bitAnd (at t (base + v)) b)
+  joined-one k v h o low w n =
+      joined-whole
+      (joining-end (withoutMask a (lowestOf a)) s x (o .no-more) (joining-turn k a v (withoutMask a (lowestOf a)) (joining-begin h) (o .some) low refl w refl (union-op 0 s (omega arith) (one-small (not (eqb x 0)) v lt)) refl))
+      (λ u t. subst (λ (z : ℕ). T (has s z)) (low ∙ sym (single a h (o .some) (o .no-more) u t)) (subst T (sym (has-oneIf (not (eqb x 0)) v v)) (both-i (not (eqb x 0)) (eqb v v) (T-of (not (eqb x 0)) (ap not (ne-eqb x 0 n))) (lib.Dec.eqb-refl v))))
+    where
+      x : ℕ
+      x = bitAnd (at t (base + v)) b
+
+      s : ℕ
+      s = oneIf (not (eqb (bitAnd (at t (base + v)) b) 0)) v
+
+      lt : v < 16
+      lt = lowest-left a a v (rest-begin 16 a h) (o .some) low .1
+
+  -- each value passed gives something
+  pub record Passing (m all : ℕ) : Type 0 where
+    pub rest : Rest 16 a m
+    pub firsts : (v : ℕ) → T (has a v) → ((w : ℕ) × Gives v w) ⊎ T (has m v)
+    pub lasts : Union Gives a m all
+
+  pub passing-begin : a < 2 ^ 16 → Passing a 0
+  passing-begin h = record { rest = rest-begin 16 a h; firsts = λ v q. inr q; lasts = union-begin Gives a }
+
+  pub passing-turn : (k m v m′ : ℕ) {all all′ : ℕ} → Passing m all → (m ≡ 0 → ⊥) → v ≡ lowestOf m → m′ ≡ withoutMask m (lowestOf m) → b < 2 ^ k →
+      (bitAnd (at t (base + v)) b ≡ 0 → ⊥) → all′ ≡ bitOr all (bitAnd (at t (base + v)) b) → Passing m′ all′
+  passing-turn k m v m′ {all} {all′} j n low less h z l = record {
+    rest = others-left a m v (j .rest) n low m′ less;
+    firsts = λ u q. ⊎-elim inl (λ r. ⊎-elim (λ o. inr o) (λ o. inl (subst (λ (i : ℕ). (w : ℕ) × Gives i w) (sym o) some)) (passed-i u r)) (j .firsts u q);
+    lasts = others-union a m v (j .rest) n low m′ less Gives all x all′ (j .lasts) l (λ w q. and-i (at t (base + v)) b w (q .1) (q .0)) (λ w q. let d = and-e (at t (base + v)) b w q in (d .1, d .0));
+  }
+    where
+      x : ℕ
+      x = bitAnd (at t (base + v)) b
+
+      some : (w : ℕ) × Gives v w
+      some = let q = low-has k x (omega arith) (lt-of-le-of-lt (and-le-r (at t (base + v)) b) h) .0 in let d = and-e (at t (base + v)) b (trailingZeros k x) q in (trailingZeros k x, (d .1, d .0))
+
+      passed-i : (u : ℕ) → T (has m u) → T (has m′ u) ⊎ (u ≡ v)
+      passed-i u r = ⊎-elim (λ o. inl (subst (λ (i : ℕ). T (has i u)) (without-lowest-op m (j .rest .0) ∙ sym less) o)) (λ o. inr (o ∙ lowest-op 16 m ∙ sym low)) (rest-i 16 m (omega arith) (j .rest .0) u r)
+
+  pub passing-end : (m all : ℕ) → m ≡ 0 → Passing m all → Joined t base a b a all
+  passing-end m all e j = record {
+    first-i = λ v w q. q .0;
+    first-e = λ v q. ⊎-elim (λ r. (r .0, (q, r .1 .0, r .1 .1))) (λ r. absurd (has-0 v (subst (λ (n : ℕ). T (has n v)) e r))) (j .firsts v q);
+    last-i = λ v w q. union-end Gives a m all e (j .lasts) v w (q .0) (q .1, q .2);
     last-e = λ w q. let r = j .lasts .got w q in (r .0, (r .1, r .2 .0, r .2 .1));
   }
 
@@ -151,6 +211,17 @@ module _ (t : List ℕ) (base a b e : ℕ) where
     last-e = λ w q. let r = j .lasts .got w q in (r .0, (r .2 .0, (r .1, r .2 .1)));
   }
 
+-- nothing goes together
+pub joined3-none : {M : ℕ → ℕ → ℕ → Type 0} → ((u v w : ℕ) → M u v w → ⊥) → Joined3 M 0 0 0
+joined3-none never = record {
+  first-i = λ u v w q. absurd (never u v w q);
+  first-e = λ u q. absurd (has-0 u q);
+  second-i = λ u v w q. absurd (never u v w q);
+  second-e = λ v q. absurd (has-0 v q);
+  last-i = λ u v w q. absurd (never u v w q);
+  last-e = λ w q. absurd (has-0 w q);
+}
+
 pub joined3-map : {M N : ℕ → ℕ → ℕ → Type 0} {first second last : ℕ} → ((u v w : ℕ) → M u v w → N u v w) → ((u v w : ℕ) → N u v w → M u v w) → Joined3 M first second last → Joined3 N first second last
 joined3-map f g j = record {
   first-i = λ u v w q. j .first-i u v w (g u v w q);
@@ -184,6 +255,20 @@ module _ (t : List ℕ) (base a b e inside : ℕ) (k : b < 2 ^ 8) (l : e < 2 ^ 8
     last-i = λ u v w q. g .union-i v w (has-lt 8 b v k (q .1)) (has-lt 8 e w l (q .2)) (j .last-i u (8 * v + w) (to u v w q));
     last-e = λ w q. let r = g .union-e w q in let s = j .last-e (8 * r .1 .0 + w) (r .1 .2) in (s .0, (r .1 .0, from (s .0) (r .1 .0) w (r .1 .1) (r .0) (s .1)));
   }
+
+  -- the one value of a gives nothing
+  pub joined-none : (u₀ : ℕ) → a < 2 ^ 16 → OneValue a → u₀ ≡ lowestOf a → bitAnd (at t (base + u₀)) inside ≡ 0 → Joined3 (Together8 t base a b e) 0 0 0
+  joined-none u₀ h o low z =
+      joined3-none
+      (λ u v w q. let r = to u v w q in has-0 (8 * v + w) (subst (λ (n : ℕ). T (has n (8 * v + w))) z (and-i (at t (base + u₀)) inside (8 * v + w) (subst (λ (i : ℕ). T (has (at t (base + i)) (8 * v + w))) (single a h (o .some) (o .no-more) u (r .0) ∙ sym low) (r .2)) (r .1))))
+
+-- a number that is not empty has a lane with a value
+pub lane-some : {x r : ℕ} → x < 2 ^ 64 → (x ≡ 0 → ⊥) → LaneUnion x r → r ≡ 0 → ⊥
+lane-some {x} {r} h n l e =
+    let q = low-has 64 x (omega arith) h in
+    let i = trailingZeros 64 x in
+    let f : i ≡ 8 * (i / 8) + i % 8 = omega arith in
+    has-0 (i % 8) (subst (λ (z : ℕ). T (has z (i % 8))) e (l .union-i (i / 8) (i % 8) (omega arith) (omega arith) (subst (λ (z : ℕ). T (has x z)) f (q .0))))
 
 -- the same as by the sets of the table
 module _ (numbers supports : List ℕ) (g : Words numbers supports) (k a b e : ℕ) (h : k < 32) (x : a < 2 ^ 8) (y : b < 2 ^ 8) (z : e < 2 ^ 8) where

@@ -7,12 +7,17 @@ use Prim.Native.Nat.{ℕ, suc, _+_, _*_, _≤_, _<_}
 use lib.Dec.{T, eqb}
 use lib.ListN.{length, set}
 use Rattle.model.specs.Lists.{any, at, same, ascending}
-use Rattle.model.specs.ValueSets.{has, maskOf, oneIf}
+use Rattle.model.specs.ValueSets.{has, maskOf, oneIf, withoutMask, lowestOf}
 use Rattle.model.specs.Problem.{Problem, Constraint}
 use Rattle.model.specs.WellFormed.{WellFormed}
 use Rattle.layout.specs.Places.{OTHERS, DEAD}
 use Rattle.layout.specs.Layout.{Numbers, Supports, place}
 use Rattle.layout.specs.Tables.{Words}
+
+-- a set of one value
+pub record OneValue (a : ℕ) : Type 0 where
+  pub some : a ≡ 0 → ⊥
+  pub no-more : withoutMask a (lowestOf a) ≡ 0
 
 -- v of a and w of b go together: w is in the set of the table that stands v after the base
 abbrev pub Together : List ℕ → ℕ → ℕ → ℕ → ℕ → ℕ → Type 0
@@ -75,3 +80,8 @@ pub record SetCut (ds es : List ℕ) (x t r : ℕ) : Type 0 where
 pub record Touched (numbers : List ℕ) (changed r : ℕ) : Type 0 where
   pub touched-i : (x k : ℕ) → T (has changed x) → T (has (at numbers (OTHERS + x)) k) → T (has r k)
   pub touched-e : (k : ℕ) → T (has r k) → (x : ℕ) × T (has changed x) × T (has (at numbers (OTHERS + x)) k)
+
+-- some of the constraints that are due
+pub record Round (due r : ℕ) : Type 0 where
+  pub some : r ≡ 0 → ⊥
+  pub inside : (k : ℕ) → T (has r k) → T (has due k)

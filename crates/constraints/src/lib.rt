@@ -5,7 +5,7 @@ use layout::OTHERS;
 use layout::SCOPES;
 use model::ValueSet;
 ghost use mathlib.Core.Path.{_≡_};
-ghost use mathlib.Core.Bool.{not};
+ghost use mathlib.Core.Bool.{true, not};
 ghost use mathlib.Core.List.{[], _∷_};
 ghost use Prim.Native.Nat.{_+_, _*_, _≤_, _<_};
 ghost use lib.Dec.{eqb};
@@ -18,8 +18,8 @@ ghost use Rattle.model.specs.Pruning.{Sets};
 ghost use Rattle.layout.specs.Layout.{constraintAt};
 ghost use Rattle.layout.specs.Tables.{Words};
 ghost use Rattle.constraints.specs.Revised.{Revision, ConstraintsPending, Constrained};
-ghost use Rattle.constraints.specs.Steps.{Joined, Together3, Together8, Joined3, Scoped, Nonempty, ConstraintsHeld, SetCut, Touched};
-ghost use Rattle.constraints.specs.Lanes.{FullLanes, LaneUnion, Product};
+ghost use Rattle.constraints.specs.Steps.{OneValue, Joined, Together3, Together8, Joined3, Scoped, Nonempty, ConstraintsHeld, SetCut, Touched, Round};
+ghost use Rattle.constraints.specs.Lanes.{FullLanes, LaneUnion, Product, Heads, FullHeads};
 
 // Bits of a number of eight lanes: the first of each lane, the first two of each second, the first four of each fourth.
 const ONES: u64 = 72340172838076673;
@@ -131,17 +131,33 @@ fn union_of(w: u64) -> ValueSet
     }
 }
 
+// The first bit of every lane of b.
+fn spread(b: ValueSet) -> u64
+    requires { ⌜ b .bits < 256 ⌝ }
+    ensures { λ r. ⌜ Heads (b .bits) r ⌝ }
+{
+    let p = b.bits as u64;
+    let q = (p | (p << 28)) & FOURS;
+    let r = (q | (q << 14)) & PAIRS;
+    (r | (r << 7)) & ONES
+}
+
+// The first bit of every lane that is not empty.
+fn heads(w: u64) -> u64
+    ensures { λ r. ⌜ FullHeads w r ⌝ }
+{
+    let a = w | (w >> 4);
+    let b = a | (a >> 2);
+    (b | (b >> 1)) & ONES
+}
+
 // The set e in every lane of b.
 fn product(b: ValueSet, e: ValueSet) -> u64
     requires { ⌜ b .bits < 256 ⌝ }
     requires { ⌜ e .bits < 256 ⌝ }
     ensures { λ r. ⌜ Product (b .bits) (e .bits) r ⌝ }
 {
-    let p = b.bits as u64;
-    let q = (p | (p << 28)) & FOURS;
-    let r = (q | (q << 14)) & PAIRS;
-    let s = (r | (r << 7)) & ONES;
-    (s * 255) & ((e.bits as u64) * ONES)
+    (spread(b) * 255) & ((e.bits as u64) * ONES)
 }
 
 // The same as `joined3` for sets of values below 8: a number of eight lanes for each value of the first.
@@ -170,6 +186,31 @@ fn joined8(numbers: &[u64; 384], base: usize, a: ValueSet, b: ValueSet, e: Value
         second,
         last,
     }
+}
+
+// Whether every value of three sets of values below 8 goes together with some of the other two.
+fn quiet(numbers: &[u64; 384], base: usize, a: ValueSet, b: ValueSet, e: ValueSet) -> bool
+    requires { ⌜ base + 8 ≤ 384 ⌝ }
+    requires { ⌜ a .bits < 256 ⌝ }
+    requires { ⌜ b .bits < 256 ⌝ }
+    requires { ⌜ e .bits < 256 ⌝ }
+    ensures { λ r. ⌜ (r ≡ true → Joined3 (Together8 (now (numbers .entry)) base (a .bits) (b .bits) (e .bits)) (a .bits) (b .bits) (e .bits)) ⌝ }
+{
+    let inside = product(b, e);
+    let mut all = 0u64;
+    let mut left = a;
+    while !left.is_empty() {
+        let w = numbers[base + (left.lowest() as usize)] & inside;
+        if w == 0 {
+            return false;
+        }
+        all = all | w;
+        left = left.without_lowest();
+    }
+    if union_of(all).bits == e.bits {
+        return heads(all) == spread(b);
+    }
+    false
 }
 
 // The values of three sets that go together in constraint number k.
@@ -229,7 +270,77 @@ fn revise_two(sets: &mut [u16; 16], supports: &[u16; 8192], k: usize, x: usize, 
     moved(a, first, x) | moved(b, last, y)
 }
 
-// Two sets of one value leave one look-up for the third.
+// Prunes by constraint number k, whose first set has one value: both ways along that value's number of lanes.
+fn along(
+    sets: &mut [u16; 16],
+    numbers: &[u64; 384],
+    supports: &[u16; 8192],
+    k: usize,
+    x: usize,
+    y: usize,
+    z: usize,
+) -> u64
+    requires { ⌜ Sets 16 (now sets) ⌝ }
+    requires { ⌜ Words (now numbers) (now supports) ⌝ }
+    requires { ⌜ OneValue (at (now sets) x) ⌝ }
+    requires { ⌜ (at (now sets) x < 256) × (at (now sets) y < 256) × (at (now sets) z < 256) ⌝ }
+    requires { ⌜ ((c : Constraint) × Scoped c (now supports) k (x ∷ y ∷ z ∷ [])) ⌝ }
+    ensures { λ r. ⌜ ((c : Constraint) → Scoped c (now (supports .entry)) k (x ∷ y ∷ z ∷ []) → Revision c (now (sets .entry)) (now (sets .exit)) r) ⌝ }
+{
+    let u = ValueSet { bits: sets[x] }.lowest() as usize;
+    let b = ValueSet { bits: sets[y] };
+    let e = ValueSet { bits: sets[z] };
+    let w = numbers[LANES + 8 * k + u] & product(b, e);
+    if w == 0 {
+        return DEAD;
+    }
+    let last = union_of(w);
+    if last.bits == e.bits {
+        if heads(w) == spread(b) {
+            return 0;
+        }
+    }
+    let second = full_lanes(w);
+    sets[y] = second.bits;
+    sets[z] = last.bits;
+    moved(b, second, y) | moved(e, last, z)
+}
+
+// Prunes by constraint number k: each set is left with the values that go together with some of the other two.
+fn revise_all(
+    sets: &mut [u16; 16],
+    numbers: &[u64; 384],
+    supports: &[u16; 8192],
+    k: usize,
+    x: usize,
+    y: usize,
+    z: usize,
+) -> u64
+    requires { ⌜ Sets 16 (now sets) ⌝ }
+    requires { ⌜ Words (now numbers) (now supports) ⌝ }
+    requires { ⌜ ((c : Constraint) × Scoped c (now supports) k (x ∷ y ∷ z ∷ [])) ⌝ }
+    ensures { λ r. ⌜ ((c : Constraint) → Scoped c (now (supports .entry)) k (x ∷ y ∷ z ∷ []) → Revision c (now (sets .entry)) (now (sets .exit)) r) ⌝ }
+{
+    let a = ValueSet { bits: sets[x] };
+    let b = ValueSet { bits: sets[y] };
+    let e = ValueSet { bits: sets[z] };
+    let r = together(numbers, supports, k, a, b, e);
+    let first = r.first;
+    let second = r.second;
+    let last = r.last;
+    if last.is_empty() {
+        return DEAD;
+    }
+    if ((first.bits ^ a.bits) | (second.bits ^ b.bits) | (last.bits ^ e.bits)) == 0 {
+        return 0;
+    }
+    sets[x] = first.bits;
+    sets[y] = second.bits;
+    sets[z] = last.bits;
+    moved(a, first, x) | moved(b, second, y) | moved(e, last, z)
+}
+
+// Two sets of one value leave one look-up for the third; one value of the first leaves one number of lanes.
 fn revise_three(
     sets: &mut [u16; 16],
     numbers: &[u64; 384],
@@ -247,26 +358,22 @@ fn revise_three(
 {
     let a = ValueSet { bits: sets[x] };
     let b = ValueSet { bits: sets[y] };
-    if a.without_lowest().union(b.without_lowest()).is_empty() {
+    let more = a.without_lowest();
+    if more.union(b.without_lowest()).is_empty() {
         let u = a.lowest() as usize;
         let v = b.lowest() as usize;
         return revise_one(sets, supports, 256 * k + 16 * u + v, z);
     }
     let e = ValueSet { bits: sets[z] };
-    let r = together(numbers, supports, k, a, b, e);
-    let first = r.first;
-    let second = r.second;
-    let last = r.last;
-    if last.is_empty() {
-        return DEAD;
+    if a.union(b).union(e).bits < 256 {
+        if more.is_empty() {
+            return along(sets, numbers, supports, k, x, y, z);
+        }
+        if quiet(numbers, LANES + 8 * k, a, b, e) {
+            return 0;
+        }
     }
-    if ((first.bits ^ a.bits) | (second.bits ^ b.bits) | (last.bits ^ e.bits)) == 0 {
-        return 0;
-    }
-    sets[x] = first.bits;
-    sets[y] = second.bits;
-    sets[z] = last.bits;
-    moved(a, first, x) | moved(b, second, y) | moved(e, last, z)
+    revise_all(sets, numbers, supports, k, x, y, z)
 }
 
 // Prunes by constraint number k: DEAD where a set would be empty, else the set of the variables whose sets changed.
@@ -302,27 +409,44 @@ pub fn touched(numbers: &[u64; 384], changed: u64) -> u64
     all
 }
 
+// The constraints of the next round: those of `soon` among all that are due, or the first that is due.
+fn round(due: u64, soon: u64) -> u64
+    requires { ⌜ (due ≡ 0 → ⊥) ⌝ }
+    ensures { λ r. ⌜ Round due r ⌝ }
+{
+    let first = due & soon;
+    if first != 0 {
+        return first;
+    }
+    1u64 << u64::trailing_zeros(due)
+}
+
 // Prunes by the constraints of todo, and again by those that have a changed variable in their scope, until nothing moves.
-// One that must be pruned by again waits for the next round.
+// One that must be pruned by again waits for the next round, and one that has none of the settled variables for those that have one.
 pub fn constrain(
     sets: &mut [u16; 16],
     numbers: &[u64; 384],
     supports: &[u16; 8192],
     todo: u64,
+    settled: u64,
 ) -> u64
     requires { ⌜ ((p : Problem) × ConstraintsPending p (now numbers) (now supports) (now sets) todo) ⌝ }
     ensures { λ r. ⌜ ((p : Problem) → ConstraintsPending p (now (numbers .entry)) (now (supports .entry)) (now (sets .entry)) todo → Constrained p (now (sets .entry)) (now (sets .exit)) r) ⌝ }
 {
-    let mut left = todo;
-    let mut next = 0u64;
+    if todo == 0 {
+        return 0;
+    }
+    let soon = touched(numbers, settled);
+    let mut left = 0u64;
+    let mut next = todo;
     let mut all = 0u64;
     loop {
         if left == 0 {
             if next == 0 {
                 return all;
             }
-            left = next;
-            next = 0;
+            left = round(next, soon);
+            next = next & !left;
         }
         let k = u64::trailing_zeros(left);
         let changed = revise(sets, numbers, supports, k as usize);

@@ -33,6 +33,7 @@ fn constrain(
     numbers: &[u64; 384],
     todo: u64,
     dirty: u64,
+    settled: u64,
 ) -> bool
     requires { ⌜ ((p : Problem) × ArraysHold p (now supports) (now tables) (now numbers) × Pending p (now numbers) (now sets) todo dirty) ⌝ }
     ensures { λ r. ⌜ ((p : Problem) → ArraysHold p (now (supports .entry)) (now (tables .entry)) (now (numbers .entry)) → Pending p (now (numbers .entry)) (now (sets .entry)) todo dirty → AllConstrainedOr p (now (sets .entry)) (now (sets .exit)) r) ⌝ }
@@ -45,7 +46,7 @@ fn constrain(
             return true;
         }
         left = left | constraints::touched(numbers, cut);
-        let pruned = constraints::constrain(sets, numbers, supports, left);
+        let pruned = constraints::constrain(sets, numbers, supports, left, settled);
         if pruned == DEAD {
             return true;
         }
@@ -115,7 +116,15 @@ fn fixpoint(
     let mut left = todo;
     let mut moved = dirty;
     loop {
-        if constrain(sets, supports, tables, numbers, left, moved) {
+        if constrain(
+            sets,
+            supports,
+            tables,
+            numbers,
+            left,
+            moved,
+            (1u64 << k) - 1,
+        ) {
             return true;
         }
         let old = *sets;

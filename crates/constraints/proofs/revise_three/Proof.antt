@@ -1,15 +1,14 @@
--- Two sets of one value leave a cut of the third; else all three are cut to the values that go together, if there are any. Assumes nothing.
+-- Two sets of one value leave a cut of the third; sets of values below 8 of which nothing is lost stay. Assumes nothing.
 use mathlib.Core.Path.{_≡_, refl, sym, ap₂, _∙_}
 use mathlib.Core.List.{List·Memᴰ·head, List·Memᴰ·tail}
-use Prim.Native.Nat.{ℕ, _+_, _*_, _^_, _<_}
+use Prim.Native.Nat.{ℕ, _+_, _*_, _<_}
 use native.Mathlib.Omega.{arith}
 use borrow.Author.Needs.{needs}
-use borrow.Author.Tests.{eqb-true, eqb-false}
+use borrow.Author.Tests.{eqb-true}
 use Rattle.model.specs.Lists.{at}
 use Rattle.model.specs.ValueSets.{withoutMask, lowestOf}
-use Rattle.model.proofs.Members.{or-zero-e, xor-zero-e}
-use Rattle.constraints.proofs.Unions.{small, union-none}
-use Rattle.constraints.proofs.Stores.{three, three-same, three-dead, three-last, u-has, v-has}
+use Rattle.constraints.proofs.Unions.{small, union-none, parts-lt, worded}
+use Rattle.constraints.proofs.Stores.{three-same, three-last, u-has, v-has}
 use Rattle.constraints.proofs.revise_three.Statement.{statement}
 use Rattle.constraints.proofs.revise_three.Tie as tie
 
@@ -46,21 +45,22 @@ v-lt c =
     let o = ones (c .before .before) in
     omega (arith, c .lowest2 .ensures, v-has (d .pre .1 .1 .1 .1) (d .args .sets .now) (d .pre .0) (d .pre .1 .0) (o .0) (o .1) .1)
 
--- what goes together are three sets
-narrow : (c : tie.After-together) → (c .together .result .first .bits < 2 ^ 16) × (c .together .result .second .bits < 2 ^ 16) × (c .together .result .last .bits < 2 ^ 16)
-narrow c = (search needs, search needs, search needs)
+-- all values are below 8
+parts : (c : tie.Then2) → let d = c .before .before .before .before .before .before .before .before .before .before .before .before .args in (at (d .sets .now) (d .x) < 256) × (at (d .sets .now) (d .y) < 256) × (at (d .sets .now) (d .z) < 256)
+unfolding at
+parts c = let s = c .before .before .before .before .before .before .before .before .before .before .before .before .pre .0 .1 in parts-lt 256 _ _ _ _ _ (s _) (s _) (s _) (c .before .before .before .union2 .ensures) (c .before .before .union3 .ensures) (c .if2 .taken)
 
-mul-if3 : tie.Need-mul-if3
-mul-if3 c = omega (arith, x-lt c)
+mul-t14 : tie.Need-mul-t14
+mul-t14 c = omega (arith, x-lt c)
 
-element-copy-out-if3 : tie.Need-element-copy-out-if3
-element-copy-out-if3 c = x-lt c
+element-copy-out-t17 : tie.Need-element-copy-out-t17
+element-copy-out-t17 c = x-lt c
 
-mul-if3-2 : tie.Need-mul-if3-2
-mul-if3-2 c = omega (arith, y-lt (c .before))
+mul-t14-2 : tie.Need-mul-t14-2
+mul-t14-2 c = omega (arith, y-lt (c .before))
 
-element-copy-out-if3-2 : tie.Need-element-copy-out-if3-2
-element-copy-out-if3-2 c = y-lt (c .before)
+element-copy-out-t17-2 : tie.Need-element-copy-out-t17-2
+element-copy-out-t17-2 c = y-lt (c .before)
 
 without-lowest-requires : tie.Need-without-lowest-requires
 without-lowest-requires c κs = search needs
@@ -109,78 +109,62 @@ returns c =
     let d = c .before .before .before .before .before .before .before .before .before .before .before in λ e q.
     three-last q _ (d .pre .0) (d .pre .1 .0) (o .0) (o .1) _ (ap₂ (λ (u v : ℕ). 256 * d .args .k + 16 * u + v) (c .before .before .before .lowest .ensures) (c .before .before .lowest2 .ensures)) _ _ (c .revise-one .ensures)
 
-mul-if3-3 : tie.Need-mul-if3-3
-mul-if3-3 c = omega (arith, z-lt (c .before .before .before .before .before .before .before))
+mul-t14-3 : tie.Need-mul-t14-3
+mul-t14-3 c = omega (arith, z-lt (c .before .before .before .before .before .before .before))
 
-element-copy-out-if3-3 : tie.Need-element-copy-out-if3-3
-element-copy-out-if3-3 c = z-lt (c .before .before .before .before .before .before .before)
+element-copy-out-t17-3 : tie.Need-element-copy-out-t17-3
+element-copy-out-t17-3 c = z-lt (c .before .before .before .before .before .before .before)
 
-together-requires : tie.Need-together-requires
-together-requires c κs = search needs
+union-requires-2 : tie.Need-union-requires-2
+union-requires-2 c κs = search needs
+
+union-requires-3 : tie.Need-union-requires-3
+union-requires-3 c κs = search needs
 
 is-empty-requires-2 : tie.Need-is-empty-requires-2
 is-empty-requires-2 c κs = search needs
 
-returns-2 : tie.Need-returns-2
+along-requires : tie.Need-along-requires
 unfolding at
-returns-2 c =
-    let t = c .before .before .before .before .before in
-    let n = narrow t in λ d q.
-    three-dead q _ (t .before .before .before .before .before .before .before .before .before .pre .0) _ _ _ (n .0) (n .1) (n .2) (t .together .ensures) (eqb-true _ 0 (sym (c .before .is-empty2 .ensures) ∙ c .if2 .taken))
+along-requires c κs =
+    let d = c .before .before .before .before .before .before .before .before .before .before .before .before .before .before .before in
+    (d .pre .0, (d .pre .1 .1 .0, (record { some = d .pre .1 .0 _ (List·Memᴰ·head refl); no-more = sym (c .before .before .before .before .before .before .before .before .before .before .before .before .without-lowest .ensures) ∙ eqb-true _ 0 (sym (c .before .before .is-empty2 .ensures) ∙ c .before .if3 .taken) }, (parts (c .before .before .before), d .pre .1 .1 .1))))
 
+returns-2 : tie.Need-returns-2
+returns-2 c = search needs
+
+mul-quiet : tie.Need-mul-quiet
+mul-quiet c = search needs
+
+add-quiet : tie.Need-add-quiet
+add-quiet c = search needs
+
+quiet-requires : tie.Need-quiet-requires
+unfolding at
+quiet-requires c κs = let h = parts (c .before .before) in (omega (arith, c .before .before .before .before .before .before .before .before .before .before .before .before .before .before .pre .1 .1 .1 .1 .room), (h .0, (h .1, h .2)))
+
+-- nothing is lost
 returns-3 : tie.Need-returns-3
 unfolding at
 returns-3 c =
-    let o = or-zero-e _ _ (c .if3 .taken) in
-    let i = or-zero-e _ _ (o .0) in
-    let e = c .before .before .before .before .before .before .before .before in
-    let t = e .before .before .before .before in
-    let n = narrow t in λ d q.
-    three-same q _ (t .before .before .before .before .before .before .before .before .before .pre .0) _ _ _ (n .0) (n .1) (n .2) (t .together .ensures) (xor-zero-e _ _ (i .0)) (xor-zero-e _ _ (i .1)) (xor-zero-e _ _ (o .1)) (eqb-false _ 0 (sym (e .is-empty2 .ensures) ∙ c .before .before .before .before .before .before .before .if2 .left))
+    let h = parts (c .before .before .before .before) in
+    let d = c .before .before .before .before .before .before .before .before .before .before .before .before .before .before .before .before in λ e q.
+    three-same q _ (d .pre .0) _ _ _ (d .pre .0 .1 _) (d .pre .0 .1 _) (d .pre .0 .1 _) (worded (d .args .numbers .now) (d .args .supports .now) (d .pre .1 .1 .0) _ _ _ _ (q .room) (h .0) (h .1) (h .2) _ _ _ (c .before .quiet .ensures (c .if4 .taken))) refl refl refl (d .pre .1 .0 _ (List·Memᴰ·tail (List·Memᴰ·tail (List·Memᴰ·head refl))))
 
-mul-sets : tie.Need-mul-sets
-mul-sets c = omega (arith, x-lt (c .before .before .before .before .before .before .before .before .before .before .before .before .before .before .before .before .before .before .before .before .before))
-
-element-write-sets : tie.Need-element-write-sets
-element-write-sets c = x-lt (c .before .before .before .before .before .before .before .before .before .before .before .before .before .before .before .before .before .before .before .before .before)
-
-mul-sets-2 : tie.Need-mul-sets-2
-mul-sets-2 c = omega (arith, y-lt (c .before .before .before .before .before .before .before .before .before .before .before .before .before .before .before .before .before .before .before .before .before))
-
-element-write-sets-2 : tie.Need-element-write-sets-2
-element-write-sets-2 c = y-lt (c .before .before .before .before .before .before .before .before .before .before .before .before .before .before .before .before .before .before .before .before .before)
-
-mul-sets-3 : tie.Need-mul-sets-3
-mul-sets-3 c = omega (arith, z-lt (c .before .before .before .before .before .before .before .before .before .before .before .before .before .before .before .before .before .before .before .before .before))
-
-element-write-sets-3 : tie.Need-element-write-sets-3
-element-write-sets-3 c = z-lt (c .before .before .before .before .before .before .before .before .before .before .before .before .before .before .before .before .before .before .before .before .before)
-
-moved-requires : tie.Need-moved-requires
-moved-requires c κs = x-lt (c .before .before .before .before .before .before .before .before .before .before .before .before .before .before .before .before .before .before .before .before .before)
-
-moved-requires-2 : tie.Need-moved-requires-2
-moved-requires-2 c κs = y-lt (c .before .before .before .before .before .before .before .before .before .before .before .before .before .before .before .before .before .before .before .before .before .before)
-
-moved-requires-3 : tie.Need-moved-requires-3
-moved-requires-3 c κs = z-lt (c .before .before .before .before .before .before .before .before .before .before .before .before .before .before .before .before .before .before .before .before .before .before .before)
+revise-all-requires : tie.Need-revise-all-requires
+revise-all-requires c κs = search needs
 
 returns-4 : tie.Need-returns-4
-unfolding at
-returns-4 c =
-    let e = c .before .before .before .before .before .before .before .before .before .before .before in
-    let t = e .before .before .before .before in
-    let n = narrow t in λ d q.
-    three q _ (t .before .before .before .before .before .before .before .before .before .pre .0) _ _ _ (n .0) (n .1) (n .2) (t .together .ensures) _ _ _ (c .before .before .moved .ensures) (c .before .moved2 .ensures) (c .moved3 .ensures) (eqb-false _ 0 (sym (e .is-empty2 .ensures) ∙ c .before .before .before .before .before .before .before .before .before .before .if2 .left))
+returns-4 c = search needs
 
 pub revise-three-spec : {M : Type 1} → statement M
 revise-three-spec =
     tie.close
     (tie.spec
-    mul-if3
-    element-copy-out-if3
-    mul-if3-2
-    element-copy-out-if3-2
+    mul-t14
+    element-copy-out-t17
+    mul-t14-2
+    element-copy-out-t17-2
     without-lowest-requires
     without-lowest-requires-2
     union-requires
@@ -195,19 +179,16 @@ revise-three-spec =
     add-revise-one-2
     revise-one-requires
     returns
-    mul-if3-3
-    element-copy-out-if3-3
-    together-requires
+    mul-t14-3
+    element-copy-out-t17-3
+    union-requires-2
+    union-requires-3
     is-empty-requires-2
+    along-requires
     returns-2
+    mul-quiet
+    add-quiet
+    quiet-requires
     returns-3
-    mul-sets
-    element-write-sets
-    mul-sets-2
-    element-write-sets-2
-    mul-sets-3
-    element-write-sets-3
-    moved-requires
-    moved-requires-2
-    moved-requires-3
+    revise-all-requires
     returns-4)

@@ -9,11 +9,11 @@ use Rattle.prune.proofs.constrain.Statement.{statement}
 use Rattle.prune.proofs.constrain.Tie as tie
 
 abbrev Inv-loop : tie.InvT-loop
-Inv-loop sets₀ supports tables numbers todo dirty left₀ moved₀ sets left moved =
+Inv-loop sets₀ supports tables numbers todo dirty settled left₀ moved₀ sets left moved =
     (p : Problem) → ArraysHold p supports tables numbers → Pending p numbers sets₀ todo dirty → PrunedSoFar p sets₀ sets × Pending p numbers sets left moved
 
 abbrev μ-loop : tie.MeasureT-loop
-μ-loop sets₀ supports tables numbers todo dirty left₀ moved₀ sets left moved = size sets
+μ-loop sets₀ supports tables numbers todo dirty settled left₀ moved₀ sets left moved = size sets
 
 loop-holds : tie.Need-loop-holds Inv-loop μ-loop
 loop-holds c = λ p s w. (pruned-none p _, w)

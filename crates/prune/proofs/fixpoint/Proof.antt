@@ -2,13 +2,15 @@
 use mathlib.Core.Path.{refl, subst}
 use mathlib.Core.Bool.{false}
 use mathlib.Core.List.{List}
-use Prim.Native.Nat.{ℕ}
+use Prim.Native.Nat.{ℕ, _<_}
+use native.Mathlib.Omega.{arith}
 use borrow.Author.Needs.{needs}
 use Rattle.model.specs.Lists.{at}
 use Rattle.model.specs.Problem.{Problem}
 use Rattle.model.proofs.Sets.{size}
 use Rattle.prune.specs.Steps.{ArraysHold, Blocked, BeforeFixpoint, AllConstrained, AllFilteredOr, OnlyMarks}
 use Rattle.prune.proofs.FilterLoop.{kept-none, kept-trans}
+use Rattle.prune.proofs.Starts.{some-one}
 use Rattle.prune.proofs.FixpointLoop.{after-from, constrained-dead, constrained-live, constrained-marking, filters-dead, fixpoint-end, fixpoint-turn, fixpoint-less}
 use Rattle.prune.proofs.fixpoint.Statement.{statement}
 use Rattle.prune.proofs.fixpoint.Tie as tie
@@ -33,8 +35,17 @@ all-filtered c p gs s b n =
     let k = constrained (c .before .before .before .before .before) p gs s b n in
     subst (AllFilteredOr p _ _ _ _ _) (c .if2 .left) (c .before .filters .ensures p s (n .startable .prefix-held) (constrained-live s b n k) (constrained-marking s b n k))
 
+few : (c : tie.Start Inv-loop μ-loop) → c .args .k < 64
+few c = let q = c .pre in omega (arith, q .4 .startable .prefix-held .depth, q .2 .wellFormed .few)
+
 loop-holds : tie.Need-loop-holds Inv-loop μ-loop
 loop-holds c = λ p gs s b n. (n, kept-none _ _)
+
+shl-constrain : tie.Need-shl-constrain Inv-loop μ-loop
+shl-constrain c = few (c .before .before)
+
+sub-constrain : tie.Need-sub-constrain Inv-loop μ-loop
+sub-constrain c = some-one _ (few (c .before .before))
 
 constrain-requires : tie.Need-constrain-requires Inv-loop μ-loop
 constrain-requires c κs = let q = c .before .before .pre in (q .0, q .2, c .before .loop .inv (q .0) (q .1) (q .2) (q .3) (q .4) .0 .startable .pending)
@@ -97,6 +108,8 @@ fixpoint-spec =
     Inv-loop
     μ-loop
     loop-holds
+    shl-constrain
+    sub-constrain
     constrain-requires
     returns
     filters-requires

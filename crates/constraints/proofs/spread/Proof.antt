@@ -1,0 +1,14 @@
+-- The first bit of every lane of a set. Assumes nothing.
+use borrow.Author.Needs.{needs}
+use Rattle.constraints.proofs.Lanes.{spread-is}
+use Rattle.constraints.proofs.spread.Statement.{statement}
+use Rattle.constraints.proofs.spread.Tie as tie
+
+cast-p : tie.Need-cast-p
+cast-p c = search needs
+
+returns : tie.Need-returns
+returns c = spread-is _ (search needs)
+
+pub spread-spec : {M : Type 1} → statement M
+spread-spec = tie.close (tie.spec cast-p returns)
