@@ -192,6 +192,48 @@ uint32_t planner_store_fetch(const uint8_t *store, size_t store_len, uint32_t co
 uint32_t planner_store_drop(uint8_t *store, size_t store_len, uint32_t course, uint8_t hall,
                             uint8_t *answer, size_t answer_len);
 
+/* ---- A desk for eight halls (#113). A desk is PLANNER_DESK_BYTES lent bytes, handed from call to call; all bytes 0: empty. Any bytes are
+ * a desk. Each of its eight seats, 0 to 7, holds a copy of a hall's sheet, its allowance, a list with room for 4,096 plans and the run so
+ * far, without pairs or block. What happens at one seat changes nothing at another. A hall that stays seated and not ended gets a turn
+ * within any eight turns, however others come and go; when it ends, its list, ending and figures are those of planner_run with the same
+ * allowance and room for 4,096 plans. 0 is returned where the call has answered; number * 256 + item where it refuses, and then every lent
+ * buffer, the answer too, holds the bytes it came with; PLANNER_WRONG_SIZE, likewise and asked first, where desk or answer has another size. */
+#define PLANNER_DESK_BYTES 838681
+#define PLANNER_SEATS 8
+
+/* The answer of planner_desk_turn and planner_desk_look: four 32-bit numbers, low byte first: the kind, the seat, its plans and its trials
+ * so far. */
+#define PLANNER_SEAT_ANSWER_BYTES 16
+#define PLANNER_SEAT_NONE 0     /* no run is waiting; the other numbers are 0 */
+#define PLANNER_SEAT_RUNNING 1  /* the run goes on */
+#define PLANNER_SEAT_FINISHED 2 /* it ended: nothing is left to try */
+#define PLANNER_SEAT_SPENT 3    /* it ended: a further trial is due, and the allowance is reached */
+#define PLANNER_SEAT_FULL 4     /* it ended: the last trial found a plan that the list has no room for */
+
+/* Seats a newcomer at the lowest free seat; its run waits for its first turn. The answer has PLANNER_ANSWER_BYTES bytes: kind 1, the seat,
+ * 0. Refusals: 37 (a seat is free), then 1 to 16 as planner_question gives them. */
+uint32_t planner_desk_sit(uint8_t *desk, size_t desk_len, const uint8_t *sheet, size_t sheet_len, uint32_t node_limit,
+                          uint8_t *answer, size_t answer_len);
+
+/* Goes round to the next seat after the one last served (at first, from seat 0) whose run hasn't ended and makes 64 trials of it, fewer
+ * only if it ends; an ending that needs no further trial falls in the same turn. The answer says which seat was served and how it stands;
+ * with no such seat the desk is left as it is, and the answer is PLANNER_SEAT_NONE, 0, 0, 0. */
+uint32_t planner_desk_turn(uint8_t *desk, size_t desk_len, uint8_t *answer, size_t answer_len);
+
+/* Gives each seat whose run hasn't ended up to `rounds` turns: the desk afterwards is that of so many turns one by one, until each such
+ * seat has had them or has ended; but each sheet is prepared once, which takes longer than the trials of a turn. The answer has
+ * PLANNER_ANSWER_BYTES bytes: kind 1, the seats whose run ended in this call, those whose run goes on (bit s for seat s). */
+uint32_t planner_desk_rounds(uint8_t *desk, size_t desk_len, uint32_t rounds, uint8_t *answer, size_t answer_len);
+
+/* How a seat stands, as a turn answers it. Refusal: 38 (somebody holds the seat). */
+uint32_t planner_desk_look(const uint8_t *desk, size_t desk_len, uint32_t seat, uint8_t *answer, size_t answer_len);
+
+/* Writes the plans listed so far, n bytes each, to the front of out and frees the seat; the bytes after them are unchanged. The answer has
+ * PLANNER_ANSWER_BYTES bytes: kind 1, the number of bytes written, 0. Refusals: 38 (somebody holds the seat), then 22 (out holds the plans);
+ * the hall then stays seated. */
+uint32_t planner_desk_leave(uint8_t *desk, size_t desk_len, uint32_t seat, uint8_t *out, size_t out_len, uint8_t *answer,
+                            size_t answer_len);
+
 /* ---- Every small sheet (#114): all sheets of two windows and two duties with one rule on both and at most one
  * exchange, by their position from 0. Order: first set 1 to 3, second set 1 to 3, row set 0 to 15 (bits 0 to 3
  * for 00, 01, 10, 11), 144 without an exchange; then in that same order those with one, each with all its

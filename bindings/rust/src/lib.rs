@@ -7,6 +7,7 @@ use std::{fmt, io, panic, thread};
 
 mod closed;
 mod columns;
+mod desk;
 mod enough;
 mod families;
 mod lent;
@@ -16,6 +17,7 @@ mod store;
 
 pub use closed::{closed, Closed};
 pub use columns::{columns, rows};
+pub use desk::{Desk, Rounds, Standing, DESK_BYTES, SEATS, SEAT_PLANS};
 pub use enough::{at_least, Enough};
 pub use families::families;
 pub use lent::{question_lent, run_lent, LentAnswer};

@@ -1,8 +1,7 @@
 //! The stack that a call takes at most, calls on a thread of their own, and calls from several threads at once.
 
-use planner::{
-    at_least, closed, families, report, run, run_lent, with_stack, Closed, Ending, Enough, STACK_BYTES,
-};
+use planner::{at_least, closed, families, report, run, run_lent, with_stack};
+use planner::{Closed, Desk, Ending, Enough, Rounds, STACK_BYTES};
 use std::thread;
 
 /// The sheet that goes deepest: 12 windows of 16 duties. Of two neighbours, a duty below 15 of the first has rows
@@ -62,6 +61,12 @@ fn the_stack_is_enough() {
         let enough = at_least(&sheet, &[], &[], 16, 1_000_000).unwrap();
         assert_eq!(enough, Enough::Yes { plans: 16, nodes: 192 });
         assert_eq!(closed(&sheet, &[], &[]), Ok(Closed::Yes));
+        let mut desk = Desk::new();
+        assert_eq!((desk.sit(&sheet, 1_000_000), desk.sit(&sheet, 1_000_000)), (Ok(0), Ok(1)));
+        assert_eq!(desk.turn().map(|standing| standing.nodes), Some(64));
+        assert_eq!(desk.rounds(3), Rounds { ended: vec![0, 1], going_on: vec![] });
+        assert_eq!(desk.look(1).map(|standing| (standing.plans, standing.nodes)), Ok((16, 192)));
+        assert_eq!(desk.leave(1, &mut list), Ok(16 * 12));
     };
     thread::Builder::new().stack_size(STACK_BYTES).spawn(calls).unwrap().join().unwrap();
 }
