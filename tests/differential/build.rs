@@ -21,6 +21,11 @@ const FUNCTIONS: &[&str] = &[
     "planner_store_fetch",
     "planner_store_drop",
     "planner_small_sheet",
+    "planner_desk_sit",
+    "planner_desk_turn",
+    "planner_desk_rounds",
+    "planner_desk_look",
+    "planner_desk_leave",
 ];
 
 fn main() {

@@ -2,11 +2,12 @@
 //! are read from the environment, and SHARED_BENCH for another folder of sheets with reports than
 //! ../shared/bench beside the repository. Case i of a part draws from SEED + i, so that a difference comes
 //! back with that seed and one case. Every refusal number must be reached by its part, and every ending of the filter and
-//! every answer to "at least so many plans?", to how many families there are and to whether exchanges are closed.
+//! every answer to "at least so many plans?", to how many families there are, to whether exchanges are closed and of a turn at a desk.
 
 mod block;
 mod closed;
 mod columns;
+mod desk;
 mod enough;
 mod families;
 mod filter;
@@ -20,6 +21,7 @@ mod run;
 mod small;
 mod store;
 mod tally;
+mod visits;
 
 use sheets::Rng;
 use std::collections::BTreeMap;
@@ -30,7 +32,7 @@ use tally::{Tally, WRONG_SIZE};
 
 const PARTS: &[&str] = &[
     "question", "filter", "run", "lent", "enough", "families", "closed", "retyped", "report", "columns",
-    "merge", "store", "small",
+    "merge", "store", "small", "desk",
 ];
 /// The refusal numbers that a part must reach.
 const REFUSALS: &[(&str, RangeInclusive<u32>)] = &[
@@ -55,6 +57,10 @@ const REFUSALS: &[(&str, RangeInclusive<u32>)] = &[
     ("merge", 24..=30),
     ("store", 31..=35),
     ("small", 39..=40),
+    ("desk", 1..=16),
+    ("desk", 22..=22),
+    ("desk", 37..=38),
+    ("desk", WRONG_SIZE..=WRONG_SIZE),
 ];
 const CASES: usize = 2000;
 /// With fewer cases, numbers and endings that nothing reached are no failure.
@@ -67,6 +73,8 @@ const SAID: [&str; 3] = ["yes", "no", "spent"];
 const FAMILIES: [&str; 2] = ["families counted", "dash"];
 /// Likewise of exchanges; these are asked once a case, so a tenth of the cases will do.
 const CLOSED: [&str; 2] = ["closed", "product missing"];
+/// Likewise of turns at a desk, whose run then goes on or has ended.
+const TURNS: [&str; 4] = ["goes on", "finished", "spent", "full"];
 
 fn environment(name: &str, otherwise: usize) -> usize {
     std::env::var(name)
@@ -102,6 +110,9 @@ fn main() {
     if parts.iter().any(|part| part == "closed") {
         met(CLOSED, tally.closed, cases / 10, &mut tally);
     }
+    if parts.iter().any(|part| part == "desk") {
+        met(TURNS, tally.turns, cases / 10, &mut tally);
+    }
     println!("differential: {} passed, {} failed", tally.passed, tally.failed);
     std::process::exit(if tally.failed == 0 { 0 } else { 1 });
 }
@@ -125,6 +136,7 @@ fn test(part: &str, seed: usize, cases: usize, tally: &mut Tally) {
             "merge" => merge::case(&mut rng, tally),
             "store" => store::case(&mut rng, tally),
             "small" => small::case(&mut rng, tally),
+            "desk" => desk::case(&mut rng, tally),
             _ => report::case(seed + number, &mut rng, tally),
         }
     }
@@ -144,6 +156,9 @@ fn test(part: &str, seed: usize, cases: usize, tally: &mut Tally) {
     }
     if part == "small" {
         small::all(tally);
+    }
+    if part == "desk" {
+        desk::examples(tally);
     }
     if part == "report" {
         report::many_plans(tally);

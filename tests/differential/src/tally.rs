@@ -26,6 +26,8 @@ pub struct Tally {
     pub families: [usize; 2],
     /// Runs with closed exchanges, and with a product missing.
     pub closed: [usize; 2],
+    /// Turns at a desk by the kind of their answer, from 1.
+    pub turns: [usize; 4],
     /// What is tested now, printed with a difference.
     pub case: String,
 }
@@ -75,7 +77,7 @@ pub fn code<T>(answer: &Result<T, Refusal>) -> u32 {
 }
 
 /// A lent buffer of a pattern, with a margin on both sides that nothing may change.
-#[derive(Clone)]
+#[derive(Clone, Debug, PartialEq, Eq)]
 pub struct Guarded {
     pub bytes: Vec<u8>,
     length: usize,

@@ -4,6 +4,7 @@
 pub mod block;
 pub mod closed;
 pub mod columns;
+pub mod desk;
 pub mod enough;
 pub mod families;
 pub mod lent;

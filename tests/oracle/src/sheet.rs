@@ -53,6 +53,15 @@ fn words(sheet: &[u8], at: usize, count: usize) -> Vec<usize> {
 
 /// All the questions. What an accepted sheet states, or the first refusal.
 pub fn question(sheet: &[u8]) -> Result<Problem, Refusal> {
+    read(sheet, true)
+}
+
+/// All the questions but 16.
+pub fn question_without_16(sheet: &[u8]) -> Result<Problem, Refusal> {
+    read(sheet, false)
+}
+
+fn read(sheet: &[u8], asks_16: bool) -> Result<Problem, Refusal> {
     ask(sheet.len() >= 16, 1, 0)?;
     let header = words(sheet, 0, 8);
     ask_header(&header, sheet.len())?;
@@ -68,7 +77,7 @@ pub fn question(sheet: &[u8]) -> Result<Problem, Refusal> {
         ask(within && set != 0, 8, variable)?;
     }
     read_constraints(sheet, &header, &mut problem)?;
-    read_symmetries(sheet, &header, &mut problem)?;
+    read_symmetries(sheet, &header, &mut problem, asks_16)?;
     Ok(problem)
 }
 
@@ -117,14 +126,19 @@ fn ask_constraint(constraint: &Constraint, problem: &Problem, item: usize) -> Re
 }
 
 /// Question 14, then 15 and 16 of each exchange in turn.
-fn read_symmetries(sheet: &[u8], header: &[usize], problem: &mut Problem) -> Result<(), Refusal> {
+fn read_symmetries(
+    sheet: &[u8],
+    header: &[usize],
+    problem: &mut Problem,
+    asks_16: bool,
+) -> Result<(), Refusal> {
     let (count, third) = (header[3], header[6]);
     let size = problem.variables * problem.values;
     ask(sheet.len() == third + 2 * count * size, 14, 0)?;
     for item in 0..count {
         let table = words(sheet, third + 2 * item * size, size);
         ask(problem.permutes_pairs(&table), 15, item)?;
-        ask(problem.respected_by(&table), 16, item)?;
+        ask(!asks_16 || problem.respected_by(&table), 16, item)?;
         problem.symmetries.push(table);
     }
     Ok(())
