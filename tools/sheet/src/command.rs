@@ -4,16 +4,17 @@
 use crate::problem::Problem;
 use crate::text::Fault;
 use crate::words::nearest;
-use crate::{columns, enough, explain, make, merge, page, plans, show, why};
+use crate::{columns, desk, enough, explain, make, merge, page, plans, show, why};
 use std::io::{Read, Write};
 use std::ops::RangeInclusive;
 
 /// The commands, in the order of the help.
-const COMMANDS: [Command; 10] = [
+const COMMANDS: [Command; 11] = [
     plans::COMMAND,
     enough::COMMAND,
     why::COMMAND,
     page::COMMAND,
+    desk::COMMAND,
     make::COMMAND,
     show::COMMAND,
     explain::COMMAND,
@@ -24,7 +25,7 @@ const COMMANDS: [Command; 10] = [
 
 /// The exit statuses. A command that asks a question answers yes by the first, no by the second and that it isn't known by the
 /// third; the last then stands for refusals and faults too.
-#[derive(Clone, Copy, Debug, PartialEq, Eq)]
+#[derive(Clone, Copy, Debug, PartialEq, Eq, PartialOrd, Ord)]
 pub enum Status {
     Finished = 0,
     /// Refused, or a fault in the text or the command.
@@ -268,20 +269,26 @@ pub fn main(words: &[String]) -> Status {
         note: stop.text,
         status: stop.status,
     });
-    let mut out = std::io::stdout().lock();
-    let written = out.write_all(&outcome.output).and_then(|_| out.flush());
+    let written = print(&outcome.output);
     say(&outcome.note);
     match written {
         Ok(()) => outcome.status,
-        Err(error) => {
-            say(&format!("standard output: {error}"));
-            Status::Failed
+        Err(stop) => {
+            say(&stop.text);
+            stop.status
         }
     }
 }
 
-/// Says a line on standard error, if it can be said.
-fn say(text: &str) {
+/// Writes to standard output.
+pub fn print(bytes: &[u8]) -> Result<(), Stop> {
+    let mut out = std::io::stdout().lock();
+    let written = out.write_all(bytes).and_then(|_| out.flush());
+    written.map_err(|error| Stop { status: Status::Failed, text: format!("standard output: {error}") })
+}
+
+/// Says lines on standard error, if they can be said.
+pub fn say(text: &str) {
     if !text.is_empty() {
         let _ = writeln!(std::io::stderr(), "{}", text.trim_end());
     }

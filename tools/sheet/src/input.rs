@@ -67,16 +67,17 @@ impl Input {
 
     /// The plans.
     pub fn list(&self, limits: Limits) -> Result<Listing, Stop> {
-        list_on_terminal(&self.made, limits).or_else(|refusal| self.refused(refusal))
+        self.accepted(list_on_terminal(&self.made, limits))
     }
 
     /// Are there at least so many plans?
     pub fn at_least(&self, plans: u32, limits: Limits) -> Result<Enough, Stop> {
-        at_least(&self.made, plans, limits).or_else(|refusal| self.refused(refusal))
+        self.accepted(at_least(&self.made, plans, limits))
     }
 
-    fn refused<T>(&self, refusal: Refusal) -> Result<T, Stop> {
-        refuse(format!("{}: {refusal}", self.name))
+    /// What the planner answers, or its refusal.
+    pub fn accepted<T>(&self, answer: Result<T, Refusal>) -> Result<T, Stop> {
+        answer.or_else(|refusal| refuse(format!("{}: {refusal}", self.name)))
     }
 }
 

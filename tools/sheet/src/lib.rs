@@ -1,5 +1,5 @@
 //! Halls as texts: `parse` reads a text, `compose` and `pack` make what its sheet states, `make` the sheet;
-//! `listing` runs the planner. Each command is a module: `plans`, `enough`, `why`, `page`, `make`, `show`,
+//! `listing` runs the planner. Each command is a module: `plans`, `enough`, `why`, `page`, `desk`, `make`, `show`,
 //! `explain`, `columns` (with `rows`), `merge`.
 //! Whether a sheet is accepted, and which plans it has, is always asked of the proved planner.
 
@@ -8,6 +8,7 @@ pub mod columns;
 pub mod command;
 pub mod compose;
 pub mod counts;
+pub mod desk;
 pub mod enough;
 pub mod explain;
 pub mod families;

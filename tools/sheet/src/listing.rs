@@ -1,4 +1,4 @@
-//! Runs of the proved planner: the only place that calls it for plans.
+//! Runs of the proved planner: but for halls at a desk, the only place that calls it for plans.
 
 use crate::command::{Arguments, Choice, Status, Stop};
 use crate::make::Made;
@@ -100,17 +100,7 @@ pub fn list(
         }
         allowance = allowance.saturating_mul(2).min(limits.trials);
     };
-    let (answer, counts) = (lent.answer, lent.counts);
-    let plans = room.chunks(n).take(answer.plans as usize).map(<[u8]>::to_vec).collect();
-    let has_families = answer.ending == Ending::Finished && answer.plans > 0 && made.has_exchanges();
-    let families = match has_families && !limits.first {
-        true => Some(Families {
-            count: planner::families(&made.sheet, &made.pairs, &made.block, limits.trials)?,
-            closed: planner::closed(&made.sheet, &made.pairs, &made.block)?,
-        }),
-        false => None,
-    };
-    Ok(Listing { ending: answer.ending, plans, trials: answer.nodes, counts, families, limits })
+    Ok(Listing { counts: lent.counts, ..Listing::alone(made, lent.answer, &room, limits)? })
 }
 
 /// Lists the plans, and shows on a terminal how far a long run has come.
@@ -146,6 +136,21 @@ fn so_far(answer: Answer) -> String {
 }
 
 impl Listing {
+    /// What a run without counts by window answered, and the plans at the front of its list.
+    pub fn alone(made: &Made, answer: Answer, list: &[u8], limits: Limits) -> Result<Listing, Refusal> {
+        let n = made.problem.variables.len();
+        let plans = list.chunks(n).take(answer.plans as usize).map(<[u8]>::to_vec).collect();
+        let has_families = answer.ending == Ending::Finished && answer.plans > 0 && made.has_exchanges();
+        let families = match has_families && !limits.first {
+            true => Some(Families {
+                count: planner::families(&made.sheet, &made.pairs, &made.block, limits.trials)?,
+                closed: planner::closed(&made.sheet, &made.pairs, &made.block)?,
+            }),
+            false => None,
+        };
+        Ok(Listing { ending: answer.ending, plans, trials: answer.nodes, counts: [0; 12], families, limits })
+    }
+
     /// Was one plan enough, and is it there?
     fn first_found(&self) -> bool {
         self.limits.first && !self.plans.is_empty()

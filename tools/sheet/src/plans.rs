@@ -61,20 +61,20 @@ fn run(arguments: &Arguments) -> Result<Outcome, Stop> {
     } else if arguments.has("--rows") {
         (listing.plans.concat(), ending)
     } else {
-        let gap = if listing.plans.is_empty() { "" } else { "\n" };
-        let left = if input.made.has_exchanges() { LEFT_OUT } else { "" };
         let by_window =
             if arguments.has(BY_WINDOW) { drawn(&problem.variables, &listing.counts) } else { String::new() };
-        let text = table(problem, &listing)
-            + gap
-            + &ending
-            + left
-            + &of_exchanges(&input, &listing)
-            + &in_order(&input)
-            + &by_window;
+        let text = shown(&input, &listing, listing.hint()) + &in_order(&input) + &by_window;
         (text.into_bytes(), String::new())
     };
     Ok(Outcome { output, note, status })
+}
+
+/// The table, the ending with a hint, and what the exchanges leave out.
+pub fn shown(input: &Input, listing: &Listing, hint: &str) -> String {
+    let gap = if listing.plans.is_empty() { "" } else { "\n" };
+    let left = if input.made.has_exchanges() { LEFT_OUT } else { "" };
+    let exchanges = of_exchanges(input, listing);
+    format!("{}{gap}{}{hint}\n{left}{exchanges}", table(&input.made.problem, listing), listing.ending())
 }
 
 /// Families and closed exchanges.

@@ -71,9 +71,11 @@ fn golden_files() {
     golden("enough.yes", output("enough 57 examples/stand.txt"), 0);
     golden("enough.no", output("enough 58 examples/stand.txt"), 1);
     golden("enough.spent", output("enough 58 --trials 215 examples/stand.txt"), 2);
+    golden("desk.plans", output("desk examples/stand.txt examples/a.txt examples/cycle.txt --every 2"), 0);
     golden("help", output("--help"), 0);
     golden("help.plans", output("plans --help"), 0);
     golden("help.enough", output("enough --help"), 0);
+    golden("help.desk", output("desk --help"), 0);
 }
 
 #[test]
@@ -284,9 +286,10 @@ fn reading_fails() {
     }
 }
 
-const WRITING: [&str; 8] = [
+const WRITING: [&str; 9] = [
     "plans examples/hall.txt",
     "enough 2 examples/hall.txt",
+    "desk examples/hall.txt",
     "plans --json examples/hall.txt",
     "why examples/hall.txt",
     "page examples/hall.txt",
@@ -358,6 +361,8 @@ fn readme() {
     let cycle = output("plans examples/cycle.txt");
     said(&cycle.stdout).lines().skip(5).for_each(shown);
     said(&output("enough 50 examples/stand.txt").stdout).lines().for_each(shown);
+    let desk = output("desk --every 1 examples/stand.txt examples/cycle.txt");
+    said(&desk.stderr).lines().for_each(shown);
     stand.lines().filter(|line| !line.starts_with("may") && !line.starts_with("exchange")).for_each(shown);
     let today: String = stand
         .lines()
