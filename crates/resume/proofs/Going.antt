@@ -56,6 +56,31 @@ node-below p t m =
 by-position : (p : Problem) (order : (a : List ℕ) → length a ≡ p .variables → write (below (p .variables)) a ≡ a) (rows : List (List ℕ)) → Wide (p .variables) rows → map (write (below (p .variables))) rows ≡ rows
 by-position p order rows w = map-ext (write (below (p .variables))) (λ r. r) rows (λ r m. order r (w r m)) ∙ map-id rows
 
+-- ---- the rest of a run: its walk, the widths of its rows, and that it has made no fewer nodes than before
+module _ (p : Problem) (limit room : ℕ) (s : Progress) where
+  pub rest-walk : Walk p limit room (nodesAfter p (s .last)) (s .made) (s .rows) (goOn p limit room s)
+  unfolding goOn
+  rest-walk = run-walk p limit room (nodesAfter p (s .last)) (s .made) (s .rows)
+
+  pub rest-wide : Wide (p .variables) (s .rows) → Wide (p .variables) (goOn p limit room s .rows)
+  unfolding isPlan
+  rest-wide w r m = cases (List·Memᴰ·append-cases (s .rows) (subst (List·Memᴰ r) (rest-walk .listed) m))
+    where
+      new : List (List ℕ)
+      new = take (rest-walk .passed) (nodesAfter p (s .last))
+
+      cases : List·Memᴰ r (s .rows) ⊎ List·Memᴰ r (keep (isPlan p) new) → length r ≡ p .variables
+      cases (inl i) = w r i
+      cases (inr i) = eqb→eq (length r) (p .variables) (both-l (eqb (length r) (p .variables)) (isLive p r) (keep-e (isPlan p) new r i .1))
+
+  pub rest-least : s .made ≤ nodesIn (goOn p limit room s .ending)
+  rest-least = go (goOn p limit room s .ending) (rest-walk .ended)
+    where
+      go : (x : Ending) → Ended p limit room (nodesAfter p (s .last)) (s .made) (rest-walk .passed) x → s .made ≤ nodesIn x
+      go (finished plans total) q = omega (arith, q .1)
+      go (spent plans total) q = omega (arith, q .1)
+      go (full plans total) q = omega (arith, q .0)
+
 -- ---- `go_on` where there are no nodes
 module _ (p : Problem) (s : Progress) (limit room : ℕ) (stack work supports tables numbers list : List ℕ) (step : ℕ) (h : GoesOn p s limit room stack work supports tables numbers list step) where
   abbrev all : List (List ℕ)
@@ -161,17 +186,6 @@ module _ (p : Problem) (s : Progress) (limit room : ℕ) (stack work supports ta
         let m : length (s .rows) * p .variables ≤ room / p .variables * p .variables = mul-le-mul-right (p .variables) k in
         let d = div-add-mod' room (p .variables) in omega arith
 
-    walked : Walk p limit room all (s .made) (s .rows) (search p limit room all (s .made) (s .rows))
-    walked = run-walk p limit room all (s .made) (s .rows)
-
-    wide : Wide (p .variables) (result .rows)
-    unfolding goOn isPlan
-    wide r m = cases (List·Memᴰ·append-cases (s .rows) (subst (List·Memᴰ r) (walked .listed) m))
-      where
-        cases : List·Memᴰ r (s .rows) ⊎ List·Memᴰ r (keep (isPlan p) (take (walked .passed) all)) → length r ≡ p .variables
-        cases (inl i) = h .widths e r i
-        cases (inr i) = eqb→eq (length r) (p .variables) (both-l (eqb (length r) (p .variables)) (isLive p r) (keep-e (isPlan p) (take (walked .passed) all) r i .1))
-
     -- a list of no byte has room for no row
     written-so : (rows : List (List ℕ)) → length rows * p .variables ≤ room → kept rows list ≡ written rows list
     unfolding written flat
@@ -209,15 +223,6 @@ module _ (p : Problem) (s : Progress) (limit room : ℕ) (stack work supports ta
           (ap (λ (l : List (List ℕ)). kept l list) (same-rows (s .rows) (h .widths e)) ∙ written-so (s .rows) fits ∙ h .stands .listed))
           ∙ ap (λ (k : ℕ). figures (record { tally = tallyBy (below (p .variables)) all (nodesIn (search p k room all (s .made) (s .rows) .ending) - s .made); plans = plansIn (search p k room all (s .made) (s .rows) .ending); stop = stopIn (search p k room all (s .made) (s .rows) .ending); list = kept (map (write (below (p .variables))) (search p k room all (s .made) (s .rows) .rows)) list; last = lastOf (s .last) (take (nodesIn (search p k room all (s .made) (s .rows) .ending) - s .made) all) })) (h .bounded e)
 
-      at-least : s .made ≤ nodesIn (result .ending)
-      unfolding goOn
-      at-least = go (result .ending) (walked .ended)
-        where
-          go : (x : Ending) → Ended p limit room all (s .made) (walked .passed) x → s .made ≤ nodesIn x
-          go (finished plans total) q = omega (arith, q .1)
-          go (spent plans total) q = omega (arith, q .1)
-          go (full plans total) q = omega (arith, q .0)
-
       is-last : prefixOf work′ (at work′ LAST) ≡ lastAfter p s result
       is-last = ap (λ (x : State). x .last) came
 
@@ -235,18 +240,17 @@ module _ (p : Problem) (s : Progress) (limit room : ℕ) (stack work supports ta
               (λ i l. (let v = b .0 i l in omega arith), (let l = b .1 in let f = few in omega arith))
 
       pub gone-on : GoneOn p s limit room list work′ list′ stop′ made′
-      unfolding goOn
       gone-on = record {
         stopped = ap (λ (x : State). x .stop) came;
-        made = let q : made′ ≡ nodesIn (result .ending) - s .made = ap (λ (x : State). x .tally .nodes) came in let l = at-least in omega arith;
+        made = let q : made′ ≡ nodesIn (result .ending) - s .made = ap (λ (x : State). x .tally .nodes) came in let l = rest-least p limit room s in omega arith;
         plans = ap (λ (x : State). x .plans) came;
-        counted = walked .counted;
+        counted = rest-walk p limit room s .counted;
         last = is-last;
         short = let q : at work′ LAST ≡ length (lastAfter p s result) = sym (length-prefix work′ (at work′ LAST)) ∙ ap length is-last in let l = small .1 in omega arith;
         bytes = λ i l.
             let q : at work′ LAST ≡ length (lastAfter p s result) = sym (length-prefix work′ (at work′ LAST)) ∙ ap length is-last in
             subst (λ (v : ℕ). v < 256) (sym (sym (prefix-at work′ (at work′ LAST) i l) ∙ ap (λ (t : List ℕ). at t i) is-last)) (small .0 i (omega arith));
-        wrote = ap (λ (x : State). x .list) came ∙ ap (λ (l : List (List ℕ)). kept l list) (same-rows (result .rows) wide) ∙ written-so (result .rows) (walked .roomy fits);
+        wrote = ap (λ (x : State). x .list) came ∙ ap (λ (l : List (List ℕ)). kept l list) (same-rows (result .rows) (rest-wide p limit room s (h .widths e))) ∙ written-so (result .rows) (rest-walk p limit room s .roomy fits);
       }
 
 -- ---- from `prepare_again` to `go_on`

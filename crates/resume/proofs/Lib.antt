@@ -7,3 +7,5 @@ pub mod Up
 pub mod Going
 pub mod Putting
 pub mod Prepared
+pub mod Cuts
+pub mod Whole

@@ -35,7 +35,7 @@ use Rattle.search.proofs.Whole.{Laid, numbers-kept, below-taken, first, order-p
 use Rattle.resume.specs.Resume.{PreparedAgain}
 use Rattle.resume.proofs.Prefixes.{counted-so}
 
-no-nodes : nodes (problemOf []) ≡ []
+pub no-nodes : nodes (problemOf []) ≡ []
 unfolding nodes nodesBelow problemOf headerOf «word» at
 no-nodes = refl
 

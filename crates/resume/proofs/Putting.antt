@@ -18,7 +18,7 @@ pub record Putting (k : ℕ) (path : List ℕ) (i : ℕ) (work : List ℕ) : Typ
   pub long : length work ≡ 256
   pub plans : at work PLANS ≡ k
   pub size : at work LAST ≡ length path
-  pub values : (j : ℕ) → j < i → at work j ≡ at path j
+  pub values : (j : ℕ) → j < i → (at work j ≡ at path j) × (at work j < 256)
 
 pub putting-start : (k : ℕ) (path work : List ℕ) → length work ≡ 256 → Putting k path 0 (set (set work PLANS k) LAST (length path))
 putting-start k path work l = record {
@@ -29,22 +29,29 @@ putting-start k path work l = record {
 }
 
 module _ (k : ℕ) (path work : List ℕ) (short : length path ≤ 12) (i : ℕ) (h : Putting k path i work) where
-  pub putting-next : i < length path → Putting k path (i + 1) (set work i (at path i))
-  putting-next l = record {
+  pub putting-next : i < length path → at path i < 256 → Putting k path (i + 1) (set work i (at path i))
+  putting-next l byte = record {
     long = length-set work i (at path i) ∙ h .long;
     plans = at-set-other work i (at path i) PLANS (λ e. omega arith) ∙ h .plans;
     size = at-set-other work i (at path i) LAST (λ e. omega arith) ∙ h .size;
     values = λ j m. go j m (ℕ-discrete j i);
   }
     where
-      go : (j : ℕ) → j < i + 1 → Dec (j ≡ i) → at (set work i (at path i)) j ≡ at path j
-      go j m (yes e) = subst (λ (x : ℕ). at (set work i (at path i)) x ≡ at path x) (sym e) (at-set work i (at path i) (let z = h .long in omega arith))
-      go j m (no e) = at-set-other work i (at path i) j e ∙ h .values j (omega arith)
+      put : at (set work i (at path i)) i ≡ at path i
+      put = at-set work i (at path i) (let z = h .long in omega arith)
+
+      go : (j : ℕ) → j < i + 1 → Dec (j ≡ i) → (at (set work i (at path i)) j ≡ at path j) × (at (set work i (at path i)) j < 256)
+      go j m (yes e) = subst (λ (x : ℕ). (at (set work i (at path i)) x ≡ at path x) × (at (set work i (at path i)) x < 256)) (sym e) (put, subst (λ (v : ℕ). v < 256) (sym put) byte)
+      go j m (no e) =
+          let s = at-set-other work i (at path i) j e in
+          let v = h .values j (omega arith) in
+          (s ∙ v .0, subst (λ (x : ℕ). x < 256) (sym s) (v .1))
 
   pub putting-done : length path ≤ i → Put k path work
   putting-done l = record {
     plans = h .plans;
-    last = ap (prefixOf work) (h .size) ∙ sym (prefix-is path work (length path) refl (λ j m. sym (h .values j (omega arith))));
+    last = ap (prefixOf work) (h .size) ∙ sym (prefix-is path work (length path) refl (λ j m. sym (h .values j (omega arith) .0)));
     short = let z = h .size in omega arith;
+    bytes = λ j m. let z = h .size in h .values j (omega arith) .1;
     work-length = h .long;
   }

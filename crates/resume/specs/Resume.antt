@@ -25,6 +25,7 @@ pub record Put (k : ℕ) (path work : List ℕ) : Type 0 where
   pub plans : at work PLANS ≡ k
   pub last : prefixOf work (at work LAST) ≡ path
   pub short : at work LAST ≤ 12
+  pub bytes : (i : ℕ) → i < at work LAST → at work i < 256
   pub work-length : length work ≡ 256
 
 -- new arrays, but for the first numbers of `work`

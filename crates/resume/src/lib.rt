@@ -4,8 +4,10 @@ use layout::ALL;
 use layout::DEEPER;
 use layout::LAST;
 use layout::PLANS;
+use layout::SPENT;
 use layout::VARIABLES;
 use model::ValueSet;
+use search::Ending;
 use search::Part;
 ghost use mathlib.Core.Path.{_≡_};
 ghost use Prim.Native.Nat.{ℕ, _+_, _*_, _≤_, _<_, min};
@@ -14,10 +16,28 @@ ghost use lib.ListN.{length};
 ghost use Rattle.model.specs.Lists.{at};
 ghost use Rattle.model.specs.Problem.{Problem};
 ghost use Rattle.parts.specs.Parts.{Progress};
-ghost use Rattle.layout.specs.Places.{LAST};
+ghost use Rattle.layout.specs.Places.{PLANS, LAST};
 ghost use Rattle.search.specs.Walk.{State};
+ghost use Rattle.search.specs.Pair.{prefixOf};
+ghost use Rattle.search.specs.Meaning.{endingOf};
 ghost use Rattle.resume.specs.Resume.{Put, Fresh, PreparedAgain, GoesOn, GoneOn};
+ghost use Rattle.resume.specs.Cuts.{heldBy, lastIn, Valued, endingBy, Resumes};
 ghost use Rattle.resume.specs.Steps.{aboveMask, firstMask, AtStep, AtStart, Stepped, Descended, Climb, Climbed};
+
+// Where a run is cut: its nodes, its plans, which stand at the front of the list, and its last node, as many of the values as its length says. A number that is
+// too large counts as the largest: the limit's nodes, as many plans as the list holds, twelve values.
+pub struct Cut {
+    pub nodes: u32,
+    pub plans: usize,
+    pub length: usize,
+    pub last: [u8; 12],
+}
+
+// How a part of a run ends, with the figures of the run, and where it is cut then.
+pub struct Resumed {
+    pub ending: Ending,
+    pub cut: Cut,
+}
 
 // Puts the progress of a run in `work`: the plans listed, and the last node made.
 pub fn put_progress(work: &mut [u64; 256], plans: usize, last: &[u8])
@@ -204,4 +224,117 @@ pub fn prepare_again(
         return DEEPER;
     }
     ALL
+}
+
+// The lesser of two counts of nodes.
+fn fewer(a: u32, b: u32) -> u32
+    ensures { λ r. ⌜ r ≡ min a b ⌝ }
+{
+    if a <= b { a } else { b }
+}
+
+// How many of the plans a list of this size holds, each of as many bytes as the sheet's first number says.
+fn plans_held(sheet: &[u8], plans: usize, size: usize) -> usize
+    ensures { λ r. ⌜ r ≡ heldBy (now (sheet .entry)) plans size ⌝ }
+{
+    if sheet.len() < 2 {
+        return 0;
+    }
+    let n = reader::read_word(sheet, 0);
+    if n == 0 {
+        return 0;
+    }
+    lesser(plans, size / n)
+}
+
+// Puts the progress of a run that was cut in `work`, with so many plans.
+fn put_cut(work: &mut [u64; 256], cut: Cut, plans: usize)
+    requires { ⌜ length (now work) ≡ 256 ⌝ }
+    ensures { λ _. ⌜ Put plans (lastIn cut) (now (work .exit)) ⌝ }
+{
+    let last = cut.last;
+    let length = lesser(cut.length, 12);
+    put_progress(work, plans, &last[..length]);
+}
+
+// The values of the last node in `work`, as bytes.
+fn last_values(work: &[u64; 256]) -> [u8; 12]
+    requires { ⌜ (at (now work) LAST ≤ 12) × ((i : ℕ) → i < at (now work) LAST → at (now work) i < 256) ⌝ }
+    ensures { λ r. ⌜ Valued (now (work .entry)) r ⌝ }
+{
+    let mut last = [0u8; 12];
+    let length = work[LAST] as usize;
+    let mut i = 0;
+    while i < length {
+        last[i] = work[i] as u8;
+        i += 1;
+    }
+    last
+}
+
+// The ending of a run that stopped so, with its figures.
+fn ended(plans: usize, nodes: usize, stop: u8) -> Ending
+    ensures { λ r. ⌜ endingOf r ≡ endingBy plans nodes stop ⌝ }
+{
+    if stop == ALL {
+        return Ending::Finished(plans, nodes);
+    }
+    if stop == SPENT {
+        return Ending::Spent(plans, nodes);
+    }
+    Ending::Full(plans, nodes)
+}
+
+// How a run has gone on, with its progress in `work`.
+fn finish(work: &[u64; 256], nodes: u32, stop: u8) -> Resumed
+    requires { ⌜ (at (now work) LAST ≤ 12) × ((i : ℕ) → i < at (now work) LAST → at (now work) i < 256) ⌝ }
+    ensures { λ r. ⌜ (endingOf (r .ending) ≡ endingBy (at (now (work .entry)) PLANS) nodes stop) × (r .cut .nodes ≡ nodes) × (r .cut .plans ≡ at (now (work .entry)) PLANS) × (lastIn (r .cut) ≡ prefixOf (now (work .entry)) (at (now (work .entry)) LAST)) ⌝ }
+{
+    let plans = work[PLANS] as usize;
+    let ending = ended(plans, nodes as usize, stop);
+    Resumed {
+        ending,
+        cut: Cut {
+            nodes,
+            plans,
+            length: work[LAST] as usize,
+            last: last_values(work),
+        },
+    }
+}
+
+// Goes on with the run of a sheet from where it was cut, up to a node limit, the list's plans in front: how it ends, and where it is cut then. A sheet that
+// questions 1 to 15 refuse has no nodes; question 16 is not asked again.
+pub fn resume(sheet: &[u8], cut: Cut, limit: u32, list: &mut [u8]) -> Resumed
+    ensures { λ r. ⌜ Resumes (now (sheet .entry)) cut limit (now (list .entry)) r (now (list .exit)) ⌝ }
+{
+    let mut stack = [0u16; 208];
+    let mut work = [0u64; 256];
+    let mut supports = [0u16; 8192];
+    let mut tables = [0u16; 55296];
+    let mut numbers = [0u64; 384];
+    let size = list.len();
+    let made = fewer(cut.nodes, limit);
+    let plans = plans_held(sheet, cut.plans, size);
+    put_cut(&mut work, cut, plans);
+    let step = prepare_again(
+        &mut stack,
+        &mut work,
+        &mut supports,
+        &mut tables,
+        &mut numbers,
+        sheet,
+        limit - made,
+        size,
+    );
+    let part = go_on(
+        &mut stack,
+        &mut work,
+        &supports,
+        &tables,
+        &numbers,
+        list,
+        step,
+    );
+    finish(&work, made + part.nodes, part.stop)
 }

@@ -43,7 +43,7 @@ loop-less c = search needs
 
 loop-again : tie.Need-loop-again Inv-loop μ-loop
 unfolding at
-loop-again c = let a = c .before .before in (search needs, putting-next _ _ _ (a .before .pre .1) _ (a .loop .inv .1) (c .before .loop-test .taken))
+loop-again c = let a = c .before .before in (search needs, putting-next _ _ _ (a .before .pre .1) _ (a .loop .inv .1) (c .before .loop-test .taken) (omega (arith, c .shared-slice-known .given (a .loop .i))))
 
 returns : tie.Need-returns Inv-loop μ-loop
 returns c = putting-done _ _ _ (c .before .before .pre .1) _ (c .before .loop .inv .1) (c .loop-test .left)
