@@ -8,12 +8,12 @@ use native.Mathlib.Omega.{arith}
 use lib.Dec.{T, eqb, ltb, lit<, lit≤}
 use lib.Bits.{bitAnd, bitOr, and-le-r, and-mask, shifted-half, shifted-even}
 use lib.Pow.{shl-shr, shl-exact}
-use borrow.Author.Tests.{ltb-true, ltb-false}
+use borrow.Author.Tests.{ltb-true, ltb-false, lt-ltb}
 use Rattle.model.specs.Lists.{both, either}
 use Rattle.model.specs.ValueSets.{has}
 use Rattle.model.proofs.Lists.{either-l, either-r, either-e}
 use Rattle.model.proofs.Sets.{has-zero, has-suc, has-none, has-out, has-lt, mask-ext}
-use Rattle.model.proofs.Masks.{has-and, has-or, has-shr, byte-has, byte-lt}
+use Rattle.model.proofs.Masks.{has-and, has-or, has-ones, has-shr, byte-has, byte-lt}
 use Rattle.model.proofs.Members.{both-no, both-yes, either-no}
 use Rattle.constraints.specs.Lanes.{FullLanes, LaneUnion, Product, Heads, FullHeads}
 
@@ -258,71 +258,62 @@ filled (suc j) s w f h =
     let c : 8 + 8 * j ≡ 8 * suc j = omega arith in
     ap (has (s * 255)) a ∙ sym (has-shr (s * 255) 8 (8 * j + w)) ∙ ap (λ (n : ℕ). has n (8 * j + w)) b ∙ filled j (s / 256) w (after s f) h ∙ has-shr s 8 (8 * j) ∙ ap (has s) c
 
--- one step upwards: a bit of x under the mask k that stays, and one that goes s places up
-module _ (x s k j : ℕ) (l : x < 2 ^ j) (m : j + s ≤ 64) where
-  abbrev y : ℕ
-  y = x * 2 ^ s % 2 ^ 64
+-- ---- the first bit of every lane of b: seven of its bits copied every seven places, and the eighth
+abbrev sevens : ℕ
+sevens = 567382630219905
 
-  exact : x * 2 ^ s % 2 ^ 64 ≡ x * 2 ^ s
-  exact = shl-exact j s 64 l m
+low7 : (y j : ℕ) → j < 7 → has (bitAnd y 127) j ≡ has y j
+low7 y j h = masked y 127 j (has-ones 7 j ∙ lt-ltb j 7 h)
 
-  up : (i : ℕ) → has k (s + i) ≡ true → has x (s + i) ≡ false → has (bitAnd (bitOr x (x * 2 ^ s % 2 ^ 64)) k) (s + i) ≡ has x i
-  up i h n = right x y k (s + i) h n ∙ ap (λ (z : ℕ). has z (s + i)) exact ∙ has-shl x s i
+seventh : (x j : ℕ) → x < 128 → j < 7 → has (x * sevens) (8 * j) ≡ has x j
+seventh x j h l =
+    let f : 8 * j ≡ 7 * j + j = omega arith in
+    ap (has (x * sevens)) f ∙ sym (has-shr (x * sevens) (7 * j) j) ∙ sym (low7 (x * sevens / 2 ^ (7 * j)) j l) ∙ ap (λ (n : ℕ). has n j) (and-mask (x * sevens / 2 ^ (7 * j)) 7) ∙ ap (λ (n : ℕ). has n j) (cases8 (λ j. x * sevens / 2 ^ (7 * j) % 128 ≡ x)
+    (let a : x * sevens / 2 ^ 0 ≡ x * 567382630219905 = omega arith in let b : x * 567382630219905 % 128 ≡ x = omega arith in ap (λ (n : ℕ). n % 128) a ∙ b)
+    (let a : x * sevens / 2 ^ 7 ≡ x * 4432676798593 = omega arith in let b : x * 4432676798593 % 128 ≡ x = omega arith in ap (λ (n : ℕ). n % 128) a ∙ b)
+    (let a : x * sevens / 2 ^ 14 ≡ x * 34630287489 = omega arith in let b : x * 34630287489 % 128 ≡ x = omega arith in ap (λ (n : ℕ). n % 128) a ∙ b)
+    (let a : x * sevens / 2 ^ 21 ≡ x * 270549121 = omega arith in let b : x * 270549121 % 128 ≡ x = omega arith in ap (λ (n : ℕ). n % 128) a ∙ b)
+    (let a : x * sevens / 2 ^ 28 ≡ x * 2113665 = omega arith in let b : x * 2113665 % 128 ≡ x = omega arith in ap (λ (n : ℕ). n % 128) a ∙ b)
+    (let a : x * sevens / 2 ^ 35 ≡ x * 16513 = omega arith in let b : x * 16513 % 128 ≡ x = omega arith in ap (λ (n : ℕ). n % 128) a ∙ b)
+    (let a : x * sevens / 2 ^ 42 ≡ x * 129 = omega arith in let b : x * 129 % 128 ≡ x = omega arith in ap (λ (n : ℕ). n % 128) a ∙ b)
+    (let a : x * sevens / 2 ^ 49 ≡ x * 1 = omega arith in let b : x * 1 % 128 ≡ x = omega arith in ap (λ (n : ℕ). n % 128) a ∙ b)
+    j (omega arith))
 
-  low : (i : ℕ) → i < s → has k i ≡ true → has (bitAnd (bitOr x (x * 2 ^ s % 2 ^ 64)) k) i ≡ has x i
-  low i h t = left x y k i t (ap (λ (z : ℕ). has z i) exact ∙ shl-none x s i h)
+ones-out : (i w : ℕ) → i < 8 → w < 8 → 0 < w → has ones (8 * i + w) ≡ false
+ones-out i w h k n = lane ones i w k ∙ ap (λ (n : ℕ). has n w) (cases8 (λ i. ones / 2 ^ (8 * i) % 256 ≡ 1) refl refl refl refl refl refl refl refl i h) ∙ has-out 1 1 w (lit< tt) n
 
-  high : (i : ℕ) → has k (s + i) ≡ true → has x i ≡ false → has (bitAnd (bitOr x (x * 2 ^ s % 2 ^ 64)) k) (s + i) ≡ has x (s + i)
-  high i h n = left x y k (s + i) h (ap (λ (z : ℕ). has z (s + i)) exact ∙ has-shl x s i ∙ n)
-
--- the bits of b at the starts of the lanes
 module _ (b : ℕ) (l : b < 2 ^ 8) where
-  abbrev q : ℕ
-  q = bitAnd (bitOr b (b * 2 ^ 28 % 2 ^ 64)) fours
+  abbrev low : ℕ
+  low = bitAnd b 127 * sevens
 
-  abbrev r : ℕ
-  r = bitAnd (bitOr q (q * 2 ^ 14 % 2 ^ 64)) pairs
+  abbrev high : ℕ
+  high = b / 2 ^ 7 * 2 ^ 56 % 2 ^ 64
 
-  abbrev s : ℕ
-  s = bitAnd (bitOr r (r * 2 ^ 7 % 2 ^ 64)) ones
+  low-few : bitAnd b 127 < 128
+  low-few = lt-of-le-of-lt (and-le-r b 127) (lit< tt)
 
-  q-lt : q < 2 ^ 36
-  q-lt = lt-of-le-of-lt (and-le-r (bitOr b (b * 2 ^ 28 % 2 ^ 64)) fours) (lit< tt)
+  high-is : high ≡ b / 2 ^ 7 * 2 ^ 56
+  high-is = shl-exact 1 56 64 (omega arith) (lit≤ tt)
 
-  r-lt : r < 2 ^ 50
-  r-lt = lt-of-le-of-lt (and-le-r (bitOr q (q * 2 ^ 14 % 2 ^ 64)) pairs) (lit< tt)
+  spread-at : (j : ℕ) → j < 8 → has (bitAnd (bitOr (bitAnd b 127 * sevens) (b / 2 ^ 7 * 2 ^ 56 % 2 ^ 64)) ones) (8 * j) ≡ has b j
+  spread-at j h = masked (bitOr low high) ones (8 * j) (ones-at j h) ∙ has-or low high (8 * j) ∙ ap (λ (n : ℕ). either (has low (8 * j)) (has n (8 * j))) high-is ∙ go (ltb j 7) refl
+    where
+      go : (t : Bool) → ltb j 7 ≡ t → either (has low (8 * j)) (has (b / 2 ^ 7 * 2 ^ 56) (8 * j)) ≡ has b j
+      go true e = let k = ltb-true j 7 e in ap₂ either (seventh (bitAnd b 127) j low-few k ∙ low7 b j k) (shl-none (b / 2 ^ 7) 56 (8 * j) (omega arith)) ∙ either-no (has b j)
+      go false e =
+          let k : 8 * j ≡ 56 + 0 = omega (arith, ltb-false j 7 e) in
+          let i : 7 + 0 ≡ j = omega (arith, ltb-false j 7 e) in
+          ap₂ either (has-out 56 low (8 * j) (omega (arith, low-few)) (omega (arith, ltb-false j 7 e))) (ap (has (b / 2 ^ 7 * 2 ^ 56)) k ∙ has-shl (b / 2 ^ 7) 56 0 ∙ has-shr b 7 0 ∙ ap (has b) i)
 
-  q-out : (i : ℕ) → has fours i ≡ false → has q i ≡ false
-  q-out i h = out (bitOr b (b * 2 ^ 28 % 2 ^ 64)) fours i h
-
-  r-out : (i : ℕ) → has pairs i ≡ false → has r i ≡ false
-  r-out i h = out (bitOr q (q * 2 ^ 14 % 2 ^ 64)) pairs i h
-
-  spread : (j : ℕ) → j < 8 → has s (8 * j) ≡ has b j
-  unfolding has
-  spread =
-      cases8 (λ j. has s (8 * j) ≡ has b j)
-      (low r 7 ones 50 r-lt (lit≤ tt) 0 (lit< tt) refl ∙ low q 14 pairs 36 q-lt (lit≤ tt) 0 (lit< tt) refl ∙ low b 28 fours 8 l (lit≤ tt) 0 (lit< tt) refl)
-      (up r 7 ones 50 r-lt (lit≤ tt) 1 refl (r-out 8 refl) ∙ low q 14 pairs 36 q-lt (lit≤ tt) 1 (lit< tt) refl ∙ low b 28 fours 8 l (lit≤ tt) 1 (lit< tt) refl)
-      (high r 7 ones 50 r-lt (lit≤ tt) 9 refl (r-out 9 refl) ∙ up q 14 pairs 36 q-lt (lit≤ tt) 2 refl (q-out 16 refl) ∙ low b 28 fours 8 l (lit≤ tt) 2 (lit< tt) refl)
-      (up r 7 ones 50 r-lt (lit≤ tt) 17 refl (r-out 24 refl) ∙ up q 14 pairs 36 q-lt (lit≤ tt) 3 refl (q-out 17 refl) ∙ low b 28 fours 8 l (lit≤ tt) 3 (lit< tt) refl)
-      (high r 7 ones 50 r-lt (lit≤ tt) 25 refl (r-out 25 refl) ∙ high q 14 pairs 36 q-lt (lit≤ tt) 18 refl (q-out 18 refl) ∙ up b 28 fours 8 l (lit≤ tt) 4 refl (has-out 8 b 32 l (lit≤ tt)))
-      (up r 7 ones 50 r-lt (lit≤ tt) 33 refl (r-out 40 refl) ∙ high q 14 pairs 36 q-lt (lit≤ tt) 19 refl (q-out 19 refl) ∙ up b 28 fours 8 l (lit≤ tt) 5 refl (has-out 8 b 33 l (lit≤ tt)))
-      (high r 7 ones 50 r-lt (lit≤ tt) 41 refl (r-out 41 refl) ∙ up q 14 pairs 36 q-lt (lit≤ tt) 34 refl (q-out 48 refl) ∙ up b 28 fours 8 l (lit≤ tt) 6 refl (has-out 8 b 34 l (lit≤ tt)))
-      (up r 7 ones 50 r-lt (lit≤ tt) 49 refl (r-out 56 refl) ∙ up q 14 pairs 36 q-lt (lit≤ tt) 35 refl (q-out 49 refl) ∙ up b 28 fours 8 l (lit≤ tt) 7 refl (has-out 8 b 35 l (lit≤ tt)))
-
-  ones-out : (i w : ℕ) → i < 8 → w < 8 → 0 < w → has ones (8 * i + w) ≡ false
-  ones-out i w h k n = lane ones i w k ∙ ap (λ (n : ℕ). has n w) (cases8 (λ i. ones / 2 ^ (8 * i) % 256 ≡ 1) refl refl refl refl refl refl refl refl i h) ∙ has-out 1 1 w (lit< tt) n
-
-  starts : Firsts s
+  starts : Firsts (bitAnd (bitOr (bitAnd b 127 * sevens) (b / 2 ^ 7 * 2 ^ 56 % 2 ^ 64)) ones)
   starts i w h n = go (ltb i 8) refl
     where
-      go : (t : Bool) → ltb i 8 ≡ t → has s (8 * i + w) ≡ false
-      go true e = out (bitOr r (r * 2 ^ 7 % 2 ^ 64)) ones (8 * i + w) (ones-out i w (ltb-true i 8 e) h n)
-      go false e = has-out 64 s (8 * i + w) (lt-of-le-of-lt (and-le-r (bitOr r (r * 2 ^ 7 % 2 ^ 64)) ones) (lit< tt)) (omega (arith, ltb-false i 8 e))
+      go : (t : Bool) → ltb i 8 ≡ t → has (bitAnd (bitOr low high) ones) (8 * i + w) ≡ false
+      go true e = out (bitOr low high) ones (8 * i + w) (ones-out i w (ltb-true i 8 e) h n)
+      go false e = has-out 64 (bitAnd (bitOr low high) ones) (8 * i + w) (lt-of-le-of-lt (and-le-r (bitOr low high) ones) (lit< tt)) (omega (arith, ltb-false i 8 e))
 
-  pub spread-is : Heads b (bitAnd (bitOr (bitAnd (bitOr (bitAnd (bitOr b (b * 2 ^ 28 % 2 ^ 64)) fours) (bitAnd (bitOr b (b * 2 ^ 28 % 2 ^ 64)) fours * 2 ^ 14 % 2 ^ 64)) pairs) (bitAnd (bitOr (bitAnd (bitOr b (b * 2 ^ 28 % 2 ^ 64)) fours) (bitAnd (bitOr b (b * 2 ^ 28 % 2 ^ 64)) fours * 2 ^ 14 % 2 ^ 64)) pairs * 2 ^ 7 % 2 ^ 64)) ones)
-  spread-is = record { head = spread; only = starts; narrow = and-le-r (bitOr r (r * 2 ^ 7 % 2 ^ 64)) ones }
+  pub spread-is : Heads b (bitAnd (bitOr (bitAnd b 127 * sevens) (b / 2 ^ 7 * 2 ^ 56 % 2 ^ 64)) ones)
+  spread-is = record { head = spread-at; only = starts; narrow = and-le-r (bitOr low high) ones }
 
 pub product-is : {b s : ℕ} → Heads b s → (e : ℕ) → e < 256 → Product b e (bitAnd (s * 255) (e * ones))
 product-is {s = s} p e h j w i k = has-and (s * 255) (e * ones) (8 * j + w) ∙ ap₂ both (filled j s w (p .only) k ∙ p .head j i) (copied e j w h i k)

@@ -27,18 +27,18 @@ module _ {p : Problem} {numbers supports : List ℕ} (g : ConstraintsHeld p numb
     table = λ vs l b. g .tabled k h vs (l ∙ ap length (sym e)) b;
   }
 
-  pub scoped-1 : word % 256 ≡ 1 → Scoped (constraintAt p k) supports k (word / 256 % 256 ∷ [])
-  scoped-1 e =
+  pub scoped-3 : word % 256 ≡ 3 → Scoped (constraintAt p k) supports k (word / 256 % 256 ∷ word / 65536 % 256 ∷ word / 16777216 % 256 ∷ [])
+  scoped-3 e =
       let l = sym (g .numbered .arity k h) ∙ e in
-      scoped _ (list-1 (constraintAt p k .scope) _ l (sym (g .numbered .scope k 0 h (omega (arith, l)))))
+      scoped _ (list-3 (constraintAt p k .scope) _ _ _ l (sym (g .numbered .scope k 0 h (omega (arith, l)))) (sym (g .numbered .scope k 1 h (omega (arith, l)))) (sym (g .numbered .scope k 2 h (omega (arith, l)))))
 
   pub scoped-2 : word % 256 ≡ 2 → Scoped (constraintAt p k) supports k (word / 256 % 256 ∷ word / 65536 % 256 ∷ [])
   scoped-2 e =
       let l = sym (g .numbered .arity k h) ∙ e in
       scoped _ (list-2 (constraintAt p k .scope) _ _ l (sym (g .numbered .scope k 0 h (omega (arith, l)))) (sym (g .numbered .scope k 1 h (omega (arith, l)))))
 
-  pub scoped-3 : (word % 256 ≡ 1 → ⊥) → (word % 256 ≡ 2 → ⊥) → Scoped (constraintAt p k) supports k (word / 256 % 256 ∷ word / 65536 % 256 ∷ word / 16777216 % 256 ∷ [])
-  scoped-3 a b =
+  pub scoped-1 : (word % 256 ≡ 3 → ⊥) → (word % 256 ≡ 2 → ⊥) → Scoped (constraintAt p k) supports k (word / 256 % 256 ∷ [])
+  scoped-1 a b =
       let e = g .numbered .arity k h in
-      let l : length (constraintAt p k .scope) ≡ 3 = omega (arith, good (g .wellFormed) k h .some, good (g .wellFormed) k h .few) in
-      scoped _ (list-3 (constraintAt p k .scope) _ _ _ l (sym (g .numbered .scope k 0 h (omega (arith, l)))) (sym (g .numbered .scope k 1 h (omega (arith, l)))) (sym (g .numbered .scope k 2 h (omega (arith, l)))))
+      let l : length (constraintAt p k .scope) ≡ 1 = omega (arith, good (g .wellFormed) k h .some, good (g .wellFormed) k h .few) in
+      scoped _ (list-1 (constraintAt p k .scope) _ l (sym (g .numbered .scope k 0 h (omega (arith, l)))))

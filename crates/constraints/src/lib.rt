@@ -28,6 +28,9 @@ const PAIRS: u64 = 844437815230467;
 
 const FOURS: u64 = 64424509455;
 
+// Each seventh bit of eight times seven.
+const SEVENS: u64 = 567382630219905;
+
 struct Two {
     first: ValueSet,
     last: ValueSet,
@@ -137,9 +140,7 @@ fn spread(b: ValueSet) -> u64
     ensures { λ r. ⌜ Heads (b .bits) r ⌝ }
 {
     let p = b.bits as u64;
-    let q = (p | (p << 28)) & FOURS;
-    let r = (q | (q << 14)) & PAIRS;
-    (r | (r << 7)) & ONES
+    (((p & 127) * SEVENS) | ((p >> 7) << 56)) & ONES
 }
 
 // The first bit of every lane that is not empty.
@@ -358,17 +359,19 @@ fn revise_three(
 {
     let a = ValueSet { bits: sets[x] };
     let b = ValueSet { bits: sets[y] };
-    let more = a.without_lowest();
-    if more.union(b.without_lowest()).is_empty() {
-        let u = a.lowest() as usize;
-        let v = b.lowest() as usize;
-        return revise_one(sets, supports, 256 * k + 16 * u + v, z);
-    }
     let e = ValueSet { bits: sets[z] };
-    if a.union(b).union(e).bits < 256 {
-        if more.is_empty() {
+    if a.without_lowest().is_empty() {
+        if b.without_lowest().is_empty() {
+            let u = a.lowest() as usize;
+            let v = b.lowest() as usize;
+            return revise_one(sets, supports, 256 * k + 16 * u + v, z);
+        }
+        if a.union(b).union(e).bits < 256 {
             return along(sets, numbers, supports, k, x, y, z);
         }
+        return revise_all(sets, numbers, supports, k, x, y, z);
+    }
+    if a.union(b).union(e).bits < 256 {
         if quiet(numbers, LANES + 8 * k, a, b, e) {
             return 0;
         }
@@ -385,15 +388,15 @@ fn revise(sets: &mut [u16; 16], numbers: &[u64; 384], supports: &[u16; 8192], k:
     let w = numbers[SCOPES + k];
     let arity = w % 256;
     let x = (w / 256 % 256) as usize;
-    if arity == 1 {
-        return revise_one(sets, supports, 256 * k, x);
-    }
     let y = (w / 65536 % 256) as usize;
+    if arity == 3 {
+        let z = (w / 16777216 % 256) as usize;
+        return revise_three(sets, numbers, supports, k, x, y, z);
+    }
     if arity == 2 {
         return revise_two(sets, supports, k, x, y);
     }
-    let z = (w / 16777216 % 256) as usize;
-    revise_three(sets, numbers, supports, k, x, y, z)
+    revise_one(sets, supports, 256 * k, x)
 }
 
 // The constraints, but those pruned by variable, that have one of the changed variables in their scope.

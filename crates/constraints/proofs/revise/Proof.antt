@@ -20,16 +20,17 @@ mul-w c = search needs
 element-copy-out-w : tie.Need-element-copy-out-w
 element-copy-out-w c = search needs
 
-mul-revise-one : tie.Need-mul-revise-one
-mul-revise-one c = search needs
-
-revise-one-requires : tie.Need-revise-one-requires
+revise-three-requires : tie.Need-revise-three-requires
 unfolding at
-revise-one-requires c κs = let q = c .before .before .before .pre in let s = scoped-1 (q .1 .1) _ (q .1 .2) (c .before .if1 .taken) in (q .0, (s .inside _ (List·Memᴰ·head refl), omega (arith, s .room)))
+revise-three-requires c κs =
+    let d = c .before .before .before in
+    let q = d .pre in
+    let s = scoped-3 (q .1 .1) _ (q .1 .2) (c .before .if1 .taken) in
+    (q .0, (subst (λ (z : List ℕ). Nonempty z (d .args .sets .now)) (s .is) (q .1 .3), (q .1 .1 .worded, (_, s))))
 
 returns : tie.Need-returns
 unfolding at
-returns c = λ p g h. one (scoped-1 g _ h (c .before .before .if1 .taken)) _ (c .before .before .before .before .pre .0) _ _ (c .revise-one .ensures)
+returns c = λ p g h. c .revise-three .ensures _ (scoped-3 g _ h (c .before .before .if1 .taken))
 
 revise-two-requires : tie.Need-revise-two-requires
 unfolding at
@@ -39,13 +40,16 @@ returns-2 : tie.Need-returns-2
 unfolding at
 returns-2 c = λ p g h. c .revise-two .ensures _ (scoped-2 g _ h (c .before .before .if2 .taken))
 
-revise-three-requires : tie.Need-revise-three-requires
+mul-revise-one : tie.Need-mul-revise-one
+mul-revise-one c = search needs
+
+revise-one-requires : tie.Need-revise-one-requires
 unfolding at
-revise-three-requires c κs = let q = c .before .before .before .before .pre in let s = scoped-3 (q .1 .1) _ (q .1 .2) (c .before .before .if1 .left) (c .before .if2 .left) in (q .0, (subst (λ (z : List ℕ). Nonempty z (c .before .before .before .before .args .sets .now)) (s .is) (q .1 .3), (q .1 .1 .worded, (_, s))))
+revise-one-requires c κs = let q = c .before .before .before .before .pre in let s = scoped-1 (q .1 .1) _ (q .1 .2) (c .before .before .if1 .left) (c .before .if2 .left) in (q .0, (s .inside _ (List·Memᴰ·head refl), omega (arith, s .room)))
 
 returns-3 : tie.Need-returns-3
 unfolding at
-returns-3 c = λ p g h. c .revise-three .ensures _ (scoped-3 g _ h (c .before .before .before .if1 .left) (c .before .before .if2 .left))
+returns-3 c = λ p g h. one (scoped-1 g _ h (c .before .before .before .if1 .left) (c .before .before .if2 .left)) _ (c .before .before .before .before .before .pre .0) _ _ (c .revise-one .ensures)
 
 pub revise-spec : {M : Type 1} → statement M
 revise-spec =
@@ -54,10 +58,10 @@ revise-spec =
     add-w
     mul-w
     element-copy-out-w
-    mul-revise-one
-    revise-one-requires
+    revise-three-requires
     returns
     revise-two-requires
     returns-2
-    revise-three-requires
+    mul-revise-one
+    revise-one-requires
     returns-3)
