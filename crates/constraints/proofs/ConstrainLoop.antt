@@ -137,16 +137,16 @@ pub record ConstrainedSoFar (p : Problem) (numbers supports ds es : List ℕ) (l
   pub long : length ds ≡ 16
 
 module _ (p : Problem) (numbers supports ds : List ℕ) where
-  pub constrained-begin : (todo : ℕ) → todo < 2 ^ 64 → ConstraintsPending p numbers supports ds todo → ConstrainedSoFar p numbers supports ds ds 0 todo 0
+  pub constrained-begin : (todo : ℕ) → todo < 2 ^ 64 → ConstraintsPending p numbers supports ds todo → ConstrainedSoFar p numbers supports ds ds todo 0 0
   constrained-begin todo h w = record {
     held = record { wellFormed = w .wellFormed; numbered = w .numbered; tabled = w .tabled; worded = w .worded; constraints = w .constraints };
     linked = w .linked;
     sixteen = w .given .sixteen;
-    wide = omega arith;
-    wide-next = h;
+    wide = h;
+    wide-next = omega arith;
     full = full-take (p .variables) ds (w .given .sixteen) (omega (arith, w .wellFormed .few)) (w .given .full);
-    known = λ k. ⊎-elim (λ q. absurd (has-0 k q)) (w .known k);
-    others = λ k l e f b. fixed-all (p .variables) ds (w .given .sixteen) (omega (arith, w .wellFormed .few)) (constraintAt p k) (good (w .wellFormed) k l .inside) (w .others k l f b);
+    known = λ k. ⊎-elim (w .known k) (λ q. absurd (has-0 k q));
+    others = λ k l e f b. fixed-all (p .variables) ds (w .given .sixteen) (omega (arith, w .wellFormed .few)) (constraintAt p k) (good (w .wellFormed) k l .inside) (w .others k l e b);
     ways = λ prefix. prunes-none p prefix (setsOf p ds);
     less = λ x v q. q;
     kept = λ x e. refl;

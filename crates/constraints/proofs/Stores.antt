@@ -1,7 +1,7 @@
 -- One constraint prunes the sets: the stores of the three functions, for scopes of one, two and three variables. Assumes nothing.
 use mathlib.Core.Path.{_≡_, refl, sym, ap, ap₂, _∙_, subst}
 use mathlib.Core.Bool.{Bool, true, false, not}
-use mathlib.Core.Logic.{inl, inr, ⊎-elim}
+use mathlib.Core.Logic.{inl, inr}
 use mathlib.Core.List.{List, [], _∷_, _++_, List·Memᴰ, List·Memᴰ·head, List·Memᴰ·tail, List·Memᴰ·not-nil}
 use Prim.Native.Nat.{ℕ, zero, suc, _+_, _-_, _*_, _^_, _<_}
 use native.Mathlib.Nat.{lt-of-le-of-lt}
@@ -18,8 +18,8 @@ use Rattle.model.specs.Search.{supported}
 use Rattle.model.proofs.Lists.{T-of, of-T, of-not, any-i, any-e, among-i, among-e, same-eq, same-refl, Sorted, ascending-sorted, at-set, at-set-other, set-at}
 use Rattle.model.proofs.Sets.{has-lt, mask-i, mask-e, member, set-sets}
 use Rattle.model.specs.Pruning.{Sets}
-use Rattle.model.proofs.Masks.{has-or, has-oneIf, lowest-op}
-use Rattle.model.proofs.Members.{both-no, both-yes, either-no, rest-begin, rest-i, has-0, and-i, and-e, without-lowest-op, lowest-left}
+use Rattle.model.proofs.Masks.{has-or, has-oneIf}
+use Rattle.model.proofs.Members.{both-no, both-yes, either-no, rest-begin, has-0, and-i, and-e, lowest-left}
 use Rattle.layout.specs.Places.{DEAD}
 use Rattle.layout.specs.Layout.{place}
 use Rattle.constraints.specs.Revised.{revised, Revision}

@@ -3,6 +3,7 @@ use layout::DEAD;
 use layout::LANES;
 use layout::OTHERS;
 use layout::SCOPES;
+use layout::VALUES;
 use model::ValueSet;
 ghost use mathlib.Core.Path.{_≡_};
 ghost use mathlib.Core.Bool.{true, not};
@@ -30,6 +31,9 @@ const FOURS: u64 = 64424509455;
 
 // Each seventh bit of eight times seven.
 const SEVENS: u64 = 567382630219905;
+
+// All twelve variables.
+const EVERY: u64 = 4095;
 
 struct Two {
     first: ValueSet,
@@ -412,20 +416,18 @@ pub fn touched(numbers: &[u64; 384], changed: u64) -> u64
     all
 }
 
-// The constraints of the next round: those of `soon` among all that are due, or the first that is due.
+// The constraints of the next round: those of `soon` among all that are due, or all.
 fn round(due: u64, soon: u64) -> u64
     requires { ⌜ (due ≡ 0 → ⊥) ⌝ }
     ensures { λ r. ⌜ Round due r ⌝ }
 {
     let first = due & soon;
-    if first != 0 {
-        return first;
-    }
-    1u64 << u64::trailing_zeros(due)
+    if first != 0 { first } else { due }
 }
 
 // Prunes by the constraints of todo, and again by those that have a changed variable in their scope, until nothing moves.
-// One that must be pruned by again waits for the next round, and one that has none of the settled variables for those that have one.
+// One that must be pruned by again waits for the next round, and one that has none of the settled variables for those that have one:
+// scopes ascend, so their first is settled. That pays for values below 8 alone; with more, every variable counts as settled.
 pub fn constrain(
     sets: &mut [u16; 16],
     numbers: &[u64; 384],
@@ -436,17 +438,17 @@ pub fn constrain(
     requires { ⌜ ((p : Problem) × ConstraintsPending p (now numbers) (now supports) (now sets) todo) ⌝ }
     ensures { λ r. ⌜ ((p : Problem) → ConstraintsPending p (now (numbers .entry)) (now (supports .entry)) (now (sets .entry)) todo → Constrained p (now (sets .entry)) (now (sets .exit)) r) ⌝ }
 {
-    if todo == 0 {
-        return 0;
-    }
-    let soon = touched(numbers, settled);
-    let mut left = 0u64;
-    let mut next = todo;
+    let mut soon = 0u64;
+    let mut left = todo;
+    let mut next = 0u64;
     let mut all = 0u64;
     loop {
         if left == 0 {
             if next == 0 {
                 return all;
+            }
+            if soon == 0 {
+                soon = touched(numbers, settled | (numbers[VALUES] / 9 * EVERY));
             }
             left = round(next, soon);
             next = next & !left;

@@ -1,11 +1,12 @@
 -- The loop: only the constraints left of this round, and those of the next, may take something. The measure is the number of values in all sets, then the
 -- sets of those constraints. Assumes nothing.
-use mathlib.Core.Path.{_≡_, refl, sym, ap, _∙_, subst}
+use mathlib.Core.Path.{_≡_, sym, ap, _∙_, subst}
 use mathlib.Core.Logic.{_⊎_, inl, inr, ⊎-elim}
 use Prim.Native.Nat.{_+_, _*_, _^_, _<_}
 use native.Mathlib.Omega.{arith}
 use borrow.Author.Needs.{needs}
 use lib.Count.{trailingZeros}
+use Rattle.model.specs.Lists.{at}
 use Rattle.model.specs.Problem.{Problem}
 use Rattle.model.proofs.Sets.{size}
 use Rattle.constraints.specs.Revised.{ConstraintsPending}
@@ -15,40 +16,43 @@ use Rattle.constraints.proofs.constrain.Statement.{statement}
 use Rattle.constraints.proofs.constrain.Tie as tie
 
 abbrev Inv-loop : tie.InvT-loop
-Inv-loop sets₀ numbers supports todo settled soon left₀ next₀ all₀ sets left next all = (p : Problem) → ConstraintsPending p numbers supports sets₀ todo → ConstrainedSoFar p numbers supports sets₀ sets left next all
+Inv-loop sets₀ numbers supports todo settled soon₀ left₀ next₀ all₀ sets soon left next all = (p : Problem) → ConstraintsPending p numbers supports sets₀ todo → ConstrainedSoFar p numbers supports sets₀ sets left next all
 
 abbrev μ-loop : tie.MeasureT-loop
-μ-loop sets₀ numbers supports todo settled soon left₀ next₀ all₀ sets left next all = size sets * 2 ^ 65 + (left + next)
+μ-loop sets₀ numbers supports todo settled soon₀ left₀ next₀ all₀ sets soon left next all = size sets * 2 ^ 65 + (left + next)
 
 -- after the choice of the round
-choice : (c : tie.Joined2 Inv-loop μ-loop) → Chosen (c .before .loop .left) (c .before .loop .next) (c .if2 .left) (c .if2 .next)
-choice c = ⊎-elim (λ q. inl (q .0 .taken, search needs, subst (Round (c .before .loop .next)) (sym (q .3)) (q .2 .ensures), q .4 ∙ ap (without (c .before .loop .next)) (sym (q .3)))) (λ q. inr (q .1, q .2)) (c .if2 .came)
+choice : (c : tie.Joined1 Inv-loop μ-loop) → Chosen (c .before .loop .left) (c .before .loop .next) (c .if1 .left) (c .if1 .next)
+choice c = ⊎-elim (λ q. inl (q .0 .taken, search needs, subst (Round (c .before .loop .next)) (sym (q .5)) (q .3 .ensures), q .6 ∙ ap (without (c .before .loop .next)) (sym (q .5)))) (λ q. inr (q .2, q .3)) (c .if1 .came)
 
-some : (c : tie.Joined2 Inv-loop μ-loop) → c .if2 .left ≡ 0 → ⊥
-some c e = ⊎-elim (λ q. q .2 .ensures .some (sym (q .3) ∙ e)) (λ q. q .0 .left (sym (q .1) ∙ e)) (c .if2 .came)
+some : (c : tie.Joined1 Inv-loop μ-loop) → c .if1 .left ≡ 0 → ⊥
+some c e = ⊎-elim (λ q. q .3 .ensures .some (sym (q .5) ∙ e)) (λ q. q .0 .left (sym (q .2) ∙ e)) (c .if1 .came)
 
-same-sum : (c : tie.Joined2 Inv-loop μ-loop) → c .if2 .left + c .if2 .next ≡ c .before .loop .left + c .before .loop .next
-same-sum c = chosen-sum (c .before .loop .inv (c .before .before .before .before .pre .0) (c .before .before .before .before .pre .1) .wide-next) (choice c)
+same-sum : (c : tie.Joined1 Inv-loop μ-loop) → c .if1 .left + c .if1 .next ≡ c .before .loop .left + c .before .loop .next
+same-sum c = chosen-sum (c .before .loop .inv (c .before .before .pre .0) (c .before .before .pre .1) .wide-next) (choice c)
 
 -- the invariant then, for the problem of the `requires`
-so-far : (c : tie.Joined2 Inv-loop μ-loop) → ConstrainedSoFar (c .before .before .before .before .pre .0) (c .before .before .before .before .args .numbers .now) (c .before .before .before .before .args .supports .now) (c .before .before .before .before .args .sets .now) (c .before .loop .sets) (c .if2 .left) (c .if2 .next) (c .before .loop .all)
-so-far c = constrained-on _ _ _ _ _ _ _ _ _ _ (choice c) (c .before .loop .inv (c .before .before .before .before .pre .0) (c .before .before .before .before .pre .1))
+so-far : (c : tie.Joined1 Inv-loop μ-loop) → ConstrainedSoFar (c .before .before .pre .0) (c .before .before .args .numbers .now) (c .before .before .args .supports .now) (c .before .before .args .sets .now) (c .before .loop .sets) (c .if1 .left) (c .if1 .next) (c .before .loop .all)
+so-far c = constrained-on _ _ _ _ _ _ _ _ _ _ (choice c) (c .before .loop .inv (c .before .before .pre .0) (c .before .before .pre .1))
 
-few : (c : tie.Joined2 Inv-loop μ-loop) → trailingZeros 64 (c .if2 .left) < 32
+few : (c : tie.Joined1 Inv-loop μ-loop) → trailingZeros 64 (c .if1 .left) < 32
 few c = k-few (so-far c) (some c)
-
--- nothing to do
-returns : tie.Need-returns Inv-loop μ-loop
-returns c = λ p w. constrained-end p _ _ _ _ _ _ _ refl (c .if1 .taken) (constrained-begin p _ _ _ _ (search needs) w)
-
-touched-requires : tie.Need-touched-requires Inv-loop μ-loop
-touched-requires c κs = search needs
 
 loop-holds : tie.Need-loop-holds Inv-loop μ-loop
 loop-holds c = λ p w. constrained-begin p _ _ _ _ (search needs) w
 
-returns-2 : tie.Need-returns-2 Inv-loop μ-loop
-returns-2 c = λ p w. constrained-end p _ _ _ _ _ _ _ (c .before .if2 .taken) (c .if3 .taken) (c .before .before .loop .inv p w)
+returns : tie.Need-returns Inv-loop μ-loop
+returns c = λ p w. constrained-end p _ _ _ _ _ _ _ (c .before .if1 .taken) (c .if2 .taken) (c .before .before .loop .inv p w)
+
+element-copy-out-touched : tie.Need-element-copy-out-touched Inv-loop μ-loop
+element-copy-out-touched c = search needs
+
+mul-touched : tie.Need-mul-touched Inv-loop μ-loop
+unfolding at
+mul-touched c = let w = c .before .before .before .before .before .pre .1 in omega (arith, w .numbered .values, w .wellFormed .sixteen)
+
+touched-requires : tie.Need-touched-requires Inv-loop μ-loop
+touched-requires c κs = search needs
 
 round-requires : tie.Need-round-requires Inv-loop μ-loop
 round-requires c κs = search needs
@@ -59,8 +63,8 @@ cast-revise c = omega (arith, few (c .before))
 revise-requires : tie.Need-revise-requires Inv-loop μ-loop
 revise-requires c κs = let t = so-far (c .before) in (t .sixteen, (_, t .held, k-lt t (some (c .before)), k-full t (some (c .before))))
 
-returns-3 : tie.Need-returns-3 Inv-loop μ-loop
-returns-3 c = let j = c .before .before .before in λ p w. let t = constrained-on _ _ _ _ _ _ _ _ _ _ (choice j) (j .before .loop .inv p w) in constrained-dead t (some j) (c .before .revise .ensures p (t .held) (k-lt t (some j))) (c .if4 .taken)
+returns-2 : tie.Need-returns-2 Inv-loop μ-loop
+returns-2 c = let j = c .before .before .before in λ p w. let t = constrained-on _ _ _ _ _ _ _ _ _ _ (choice j) (j .before .loop .inv p w) in constrained-dead t (some j) (c .before .revise .ensures p (t .held) (k-lt t (some j))) (c .if4 .taken)
 
 sub-left : tie.Need-sub-left Inv-loop μ-loop
 sub-left c = let n = some (c .before .before .before .before) in omega arith
@@ -92,14 +96,15 @@ constrain-spec =
     (tie.spec
     Inv-loop
     μ-loop
-    returns
-    touched-requires
     loop-holds
-    returns-2
+    returns
+    element-copy-out-touched
+    mul-touched
+    touched-requires
     round-requires
     cast-revise
     revise-requires
-    returns-3
+    returns-2
     sub-left
     touched-requires-2
     cast-next
