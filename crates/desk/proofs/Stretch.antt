@@ -1,23 +1,22 @@
 -- Turns at a stretch: up to r turns of a hall are one walk with the limit of the last of them, and how many of them it takes is told by its nodes.
 -- Assumes nothing.
-use mathlib.Core.Path.{_≡_, refl, sym, ap, ap₂, _∙_, subst}
+use mathlib.Core.Path.{_≡_, refl, sym, ap, _∙_, subst}
 use mathlib.Core.Bool.{Bool, true, false}
 use mathlib.Core.List.{List}
 use Prim.Native.Nat.{ℕ, zero, suc, _+_, _-_, _*_, _/_, _≤_, _<_, min}
 use native.Mathlib.Omega.{arith}
-use lib.Dec.{T, ltb}
-use lib.ListN.{length, take, drop, length-drop}
+use lib.Dec.{ltb}
+use lib.ListN.{length, take, length-drop}
 use borrow.Author.Tests.{ltb-true, ltb-false}
 use Rattle.model.specs.Lists.{choose}
 use Rattle.model.specs.Problem.{Problem}
 use Rattle.model.specs.Sheet.{problemOf}
 use Rattle.model.specs.Run.{Ending, finished, spent, full, nodesIn, Result}
-use Rattle.model.proofs.Lists.{of-T}
 use Rattle.model.proofs.Runs.{Ended, Walk, walk}
 use Rattle.parts.specs.Parts.{nodesAfter, lastOf, Progress, goOn, lastAfter, progressAfter, andNext}
 use Rattle.parts.proofs.Anywhere.{after-from, last-from, from-anywhere}
 use Rattle.desk.proofs.Rounds.{due-over}
-use Rattle.desk.specs.Desk.{Standing, running, over, goesOn, Hall, deskRoom, standingAfter, hallAfter, hallTurned, turned, due, given}
+use Rattle.desk.specs.Desk.{running, over, goesOn, Hall, deskRoom, standingAfter, hallAfter, hallTurned, turned, due, given}
 
 -- the walk of up to r turns
 abbrev pub stretchLimit : ℕ → Hall → ℕ

@@ -2,8 +2,8 @@
 use mathlib.Core.Path.{_≡_, refl, sym, ap, ap₂, _∙_, subst}
 use mathlib.Core.Bool.{Bool, true, false}
 use mathlib.Core.Logic.{_⊎_, inl, inr}
-use mathlib.Core.List.{List, [], _∷_, List·Memᴰ, List·Memᴰ·head, List·Memᴰ·tail}
-use Prim.Native.Nat.{ℕ, _+_, _-_, _≤_}
+use mathlib.Core.List.{List, [], _∷_, List·Memᴰ}
+use Prim.Native.Nat.{ℕ, _+_, _-_}
 use lib.Dec.{T}
 use lib.ListN.{take, drop}
 use lib.Seq.{take-add}
@@ -11,9 +11,9 @@ use Rattle.model.specs.Lists.{keep}
 use Rattle.model.specs.Problem.{Problem}
 use Rattle.model.specs.Search.{nodes}
 use Rattle.model.specs.Run.{Ending, finished, spent, full, nodesIn, Result, search}
-use Rattle.model.proofs.Lists.{T-of, not-of, of-not, keep-yes, keep-no, keep-e, sorted-keep, Sorted}
+use Rattle.model.proofs.Lists.{T-of, of-not, keep-yes, keep-no, keep-e, sorted-keep}
 use Rattle.model.proofs.Runs.{Ended, walk}
-use Rattle.parts.specs.Parts.{after, nodesAfter, lastOf, Progress, goOn, lastAfter, progressAfter, andNext}
+use Rattle.parts.specs.Parts.{after, nodesAfter, lastOf, goOn, lastAfter, andNext}
 use Rattle.parts.specs.Claims.{From-anywhere}
 use Rattle.parts.proofs.Parts.{after-trans, Later, nodes-ascend}
 use Rattle.parts.proofs.Resume.{last-in, taken, after-lasts, last-append, then, walk-parts}

@@ -1,7 +1,7 @@
 -- What the inner functions ask and leave: the way down the last node's values, and the walk along the nodes after it, from the deepest up.
 -- No reader has to believe this: it stands between proved functions.
 use mathlib.Core.Path.{_≡_}
-use mathlib.Core.Bool.{Bool, true, false, not}
+use mathlib.Core.Bool.{Bool, true, false}
 use mathlib.Core.List.{List, [], _++_, map}
 use Prim.Native.Nat.{ℕ, suc, _+_, _-_, _≤_, _<_}
 use lib.Dec.{eqb, ltb}

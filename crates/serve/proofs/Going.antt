@@ -1,7 +1,7 @@
 -- Going on with a seat's run: what is lent to it stands as the seat's bytes say, and what it leaves is put back. Assumes nothing.
 use mathlib.Core.Path.{_≡_, refl, sym, ap, ap₂, _∙_, subst}
 use mathlib.Core.List.{List, [], _++_, List·Memᴰ, append-assoc}
-use Prim.Native.Nat.{ℕ, _+_, _-_, _*_, _≤_, _<_, min}
+use Prim.Native.Nat.{ℕ, _+_, _-_, _*_, _≤_, min}
 use native.Mathlib.Nat.{mul-le-mul}
 use native.Mathlib.Omega.{arith}
 use lib.Dec.{T}
@@ -16,14 +16,12 @@ use Rattle.model.specs.Run.{written}
 use Rattle.model.proofs.Lists.{of-T}
 use Rattle.model.proofs.Room.{length-listed}
 use Rattle.parts.specs.Parts.{Progress}
-use Rattle.search.proofs.Prefix.{prefix-at}
 use Rattle.sheet.specs.Form.{compilable}
 use Rattle.desk.specs.Desk.{deskRoom}
 use Rattle.desk.specs.Layout.{sheetLength, plansAt, widthAt, rowsAt, lastAt, sheetAt, hallAt}
 use Rattle.desk.proofs.Bytes.{Small}
 use Rattle.desk.proofs.Seats.{flat-listed}
 use Rattle.desk.proofs.Turning.{Fits, at-fits, rawAt, raw-known}
-use Rattle.layout.specs.Places.{LAST}
 use Rattle.resume.specs.Resume.{Put, Stands, PreparedAgain, GoesOn, GoneOn}
 use Rattle.resume.proofs.Going.{goes-on}
 use Rattle.serve.specs.Served.{problemAt, goneOn, PartDone}
@@ -74,7 +72,7 @@ module _ (b : List ℕ) (p : ℕ) (room : p + 104835 ≤ length b) (small : Smal
         plans = put .plans ∙ sym (length-listed (widthAt b p) (plansAt b p) (take 49152 (drop (p + 55683) b)));
         last = put .last;
         short = put .short;
-        bytes = λ i l. subst (λ (x : ℕ). x < 256) (ap (λ (m : List ℕ). at m i) (sym (put .last)) ∙ prefix-at work (at work LAST) i l) (fits .last-bytes i);
+        bytes = put .bytes;
         listed = listed;
       }
 
@@ -108,7 +106,7 @@ module _ (b : List ℕ) (p : ℕ) (room : p + 104835 ≤ length b) (small : Smal
   module _ (k l n w : ℕ) (ek : k ≡ plansAt b p) (el : l ≡ min 12 (at b (p + 14))) (en : n ≡ sheetLength b p) (ew : w ≡ widthAt b p) where
     put-as : (work : List ℕ) → Put k (last-part l) work → Put (plansAt b p) (lastAt b p) work
     unfolding lastAt
-    put-as work put = record { plans = put .plans ∙ ek; last = put .last ∙ cut (p + 15) l (min 12 (at b (p + 14))) el; short = put .short; work-length = put .work-length }
+    put-as work put = record { plans = put .plans ∙ ek; last = put .last ∙ cut (p + 15) l (min 12 (at b (p + 14))) el; short = put .short; bytes = put .bytes; work-length = put .work-length }
 
     pub going : (more : ℕ) (work stack′ work′ supports′ tables′ numbers′ : List ℕ) (step : ℕ) → Put k (last-part l) work → PreparedAgain (sheet-part n) more (4096 * w) work stack′ work′ supports′ tables′ numbers′ step →
         GoesOn (problemAt b p) s (s .made + more) (deskRoom (problemAt b p)) stack′ work′ supports′ tables′ numbers′ (list-part w) step

@@ -21,7 +21,7 @@ use Rattle.desk.specs.Layout.{size, seatPlace, nextPlace, hallAt, seatOf, deskO
 use Rattle.desk.specs.Claims.{DeskBytes}
 use Rattle.desk.proofs.Seats.{seat-in, seat-out}
 use Rattle.desk.proofs.Rounds.{due-over, due-none}
-use Rattle.desk.proofs.RoundCalls.{after, Served, serve, rounds-call}
+use Rattle.desk.proofs.RoundCalls.{Served, serve, rounds-call}
 use Rattle.serve.specs.Served.{ServedAt, GivenAt}
 use Rattle.serve.specs.declared.run.Served.{Served as Result}
 use Rattle.serve.proofs.Finding.{place}
