@@ -13,7 +13,8 @@
  * each duty tried one below the other):
  *   planner_filter 4 KB, planner_question 23 KB, planner_question_lent and planner_closed 51 KB, planner_run,
  *   planner_run_lent and planner_at_least, with pairs and a block or without, 198 KB, planner_families 264 KB,
- *   planner_report 313 KB (KB: 1,000 bytes).
+ *   planner_report 313 KB, planner_desk_sit 25 KB, planner_desk_turn and planner_desk_rounds 185 KB (KB: 1,000
+ *   bytes).
  * With less the process ends by a fault at the guard page. A thread of PLANNER_STACK_BYTES is enough for
  * each; some systems give a thread less unless asked (musl: 128 KB). */
 #ifndef PLANNER_H
