@@ -7,7 +7,8 @@ use Prim.Native.Nat.{ℕ, _+_, _-_, _*_, _^_, _≤_, _<_}
 use native.Mathlib.Omega.{arith}
 use native.Mathlib.Decide.{ℕ-discrete, decLt}
 use lib.Dec.{T, eqb}
-use lib.ListN.{length, set, replicate}
+use lib.ListN.{length, set, replicate, take, drop, length-drop}
+use lib.Seq.{getD-take, getD-drop, length-take-le}
 use lib.Bits.{bitAnd, bitOr, or-lt}
 use borrow.Author.Tests.{eqb-true, not-false}
 use Rattle.model.specs.Lists.{at}
@@ -86,6 +87,32 @@ covering-end {tables} {x} {set} {cover} {m} c e = record {
   sets = c .sets;
   cover-i = λ v y w l t g. union-end (λ u z. Goes tables x u y z) set m (at cover y) e (c .unions y l) v w t g;
   cover-e = λ y w l t. c .unions y l .got w t;
+}
+
+-- ---- the row of a value v, sixteen sets of the tables, is the cover of a set with no other value
+abbrev pub row : List ℕ → ℕ → List ℕ
+row tables base = take (base + 16 - base) (drop base tables)
+
+row-at : (tables : List ℕ) (base y : ℕ) → y < 16 → at (row tables base) y ≡ at tables (base + y)
+unfolding at
+row-at tables base y l = getD-take (base + 16 - base) (drop base tables) y 0 (omega arith) ∙ getD-drop base tables y 0
+
+row-sets : (tables : List ℕ) (base : ℕ) → base + 16 ≤ length tables → Narrow tables base 16 → Sets 16 (row tables base)
+row-sets tables base fits n = (sized, λ y. go y (decLt y 16))
+  where
+    sized : length (row tables base) ≡ 16
+    sized = let k : base + 16 - base ≡ 16 = omega arith in length-take-le (base + 16 - base) (drop base tables) (omega (arith, length-drop base tables)) ∙ k
+
+    go : (y : ℕ) → Dec (y < 16) → at (row tables base) y < 2 ^ 16
+    go y (yes l) = subst (λ (s : ℕ). s < 2 ^ 16) (sym (row-at tables base y l)) (n y l)
+    go y (no m) = subst (λ (s : ℕ). s < 2 ^ 16) (sym (at-out (row tables base) y (omega (arith, sized)))) (omega arith)
+
+pub row-cover : (tables : List ℕ) (x set v : ℕ) → 256 * x + 16 * v + 16 ≤ length tables → Narrow tables (256 * x + 16 * v) 16 → T (has set v) → ((u : ℕ) → T (has set u) → u ≡ v) →
+    Cover tables x set (row tables (256 * x + 16 * v))
+row-cover tables x set v fits n t one = record {
+  sets = row-sets tables (256 * x + 16 * v) fits n;
+  cover-i = λ u y w l q g. subst (λ (s : ℕ). T (has s w)) (sym (row-at tables (256 * x + 16 * v) y l)) (subst (λ (z : ℕ). Goes tables x z y w) (one u q) g);
+  cover-e = λ y w l q. (v, t, subst (λ (s : ℕ). T (has s w)) (row-at tables (256 * x + 16 * v) y l) q);
 }
 
 -- ---- the sets that are compared with the cover: a value outside it is in `over`

@@ -1,23 +1,25 @@
 -- One cut by the set of a variable: the values that go are no loss, and those that stay go together with a value of that set. Assumes nothing.
-use mathlib.Core.Path.{_≡_, refl, sym, ap, _∙_, subst}
-use mathlib.Core.Bool.{Bool, true, false, not}
+use mathlib.Core.Path.{_≡_, refl, sym, _∙_, subst}
+use mathlib.Core.Bool.{Bool, true, false}
 use mathlib.Core.Logic.{_⊎_, inl, inr, ⊎-elim}
 use mathlib.Core.List.{List}
-use Prim.Native.Nat.{ℕ, _-_, _*_, _/_, _^_, _≤_, _<_}
+use Prim.Native.Nat.{ℕ, _+_, _*_, _/_, _^_, _≤_, _<_}
 use native.Mathlib.Nat.{lt-of-le-of-lt}
 use native.Mathlib.Omega.{arith}
-use native.Mathlib.Decide.{decLt}
-use lib.Dec.{T, eqb}
+use native.Mathlib.Decide.{ℕ-discrete, decLt}
+use lib.Dec.{T}
+use lib.ListN.{length}
 use lib.Bits.{bitAnd, and-le-l}
 use borrow.Author.Tests.{eq-eqb}
-use Rattle.model.specs.Lists.{both, at, tabulate}
+use Rattle.model.specs.Lists.{at, tabulate}
 use Rattle.model.specs.ValueSets.{has, withoutMask, lowestOf}
 use Rattle.model.specs.Problem.{Problem}
-use Rattle.model.proofs.Lists.{T-of, T-ext, both-l, both-r, either-e, at-out, at-ext, at-tabulate, length-tabulate}
-use Rattle.model.proofs.Sets.{has-lt, has-at-lt, mask-lt, mask-ext, mask-e, member, empty-i}
+use Rattle.model.proofs.Lists.{T-of, T-ext, either-e, at-out, at-ext, at-tabulate, length-tabulate}
+use Rattle.model.proofs.Sets.{has-lt, has-at-lt, mask-lt, mask-ext, member, empty-i}
 use Rattle.model.specs.Pruning.{Sets, Inside, Prunes}
 use Rattle.model.proofs.Masks.{contains-op}
 use Rattle.model.proofs.Members.{has-0, and-i, and-e, rest-begin, lowest-left}
+use Rattle.model.proofs.Lowest.{without-i, without-e}
 use Rattle.model.proofs.Firsts.{take-length, take-at, take-e, take-i, take-full, full-take}
 use Rattle.model.proofs.Prune.{Removal}
 use Rattle.model.proofs.Prunes.{prunes-none, removal-prunes}
@@ -25,6 +27,7 @@ use Rattle.layout.specs.Places.{DEAD}
 use Rattle.layout.specs.Tables.{goes}
 use Rattle.layout.specs.Pruning.{Lessened, Ended, Arc, setsOf}
 use Rattle.links.specs.Steps.{Narrow, Cover, Covered, CutToCover, CanCut, CutBy}
+use Rattle.links.proofs.Covers.{narrow-at, row, row-cover}
 use Rattle.links.proofs.Partners.{goes-free, goes-kept, row-goes-e, row-goes-i, narrow}
 
 pub bit-in : (s v : ℕ) → bitAnd (s / 2 ^ v) 1 ≡ 1 → T (has s v)
@@ -61,6 +64,16 @@ module _ {p : Problem} {tables ds : List ℕ} {loose x : ℕ} (r : CanCut p tabl
   value : (v : ℕ) → T (has (at ds x) v) → v < 16
   value v t = has-lt 16 (at ds x) v set-small t
 
+  -- the set's lowest value
+  abbrev low : ℕ
+  low = lowestOf (at ds x)
+
+  low-in : T (has (at ds x) low) × (low < 16)
+  low-in = lowest-left (at ds x) (at ds x) low (rest-begin 16 (at ds x) set-small) set-some refl
+
+  pub low-lt : (v : ℕ) → v ≡ low → v < 16
+  low-lt v e = omega (arith, low-in .1)
+
   -- ---- nothing to do
   stays : Arc p (setsOf p ds) x → CutBy p ds ds x 0
   stays a = record {
@@ -80,38 +93,26 @@ module _ {p : Problem} {tables ds : List ℕ} {loose x : ℕ} (r : CanCut p tabl
   }
 
   -- x is loose and has two values
-  pub by-loose : T (has loose x) → (withoutMask (at ds x) (lowestOf (at ds x)) ≡ 0 → ⊥) → CutBy p ds ds x 0
+  pub by-loose : T (has loose x) → (withoutMask (at ds x) low ≡ 0 → ⊥) → CutBy p ds ds x 0
   by-loose t m = stays arc
     where
-      u : ℕ
-      u = lowestOf (at ds x)
-
-      u-in : T (has (at ds x) u)
-      u-in = lowest-left (at ds x) (at ds x) u (rest-begin 16 (at ds x) set-small) set-some refl .0
-
-      other : (v : ℕ) × (v < 16) × T (has (withoutMask (at ds x) u) v)
-      other = member (withoutMask (at ds x) u) (mask-lt 16 _) m
+      other : (v : ℕ) × (v < 16) × T (has (withoutMask (at ds x) low) v)
+      other = member (withoutMask (at ds x) low) (mask-lt 16 _) m
 
       v : ℕ
       v = other .0
 
-      two : T (both (has (at ds x) v) (not (eqb v u)))
-      two = mask-e _ v (other .2) .1
-
-      v-in : T (has (at ds x) v)
-      v-in = both-l (has (at ds x) v) (not (eqb v u)) two
-
-      differ : u ≡ v → ⊥
-      differ e = subst T (ap not (eq-eqb v u (sym e))) (both-r (has (at ds x) v) (not (eqb v u)) two)
+      two : T (has (at ds x) v) × (v ≡ low → ⊥)
+      two = without-e (at ds x) low v (other .2)
 
       here : (z : ℕ) → T (has (at ds x) z) → T (has (at (setsOf p ds) x) z)
       here z q = take-i n ds s sixteen x z (r .known) q
 
       arc : Arc p (setsOf p ds) x
       arc y w q =
-          ⊎-elim (λ g. (u, (here u u-in, g))) (λ g. (v, (here v v-in, g)))
-          (either-e (goes p x u y w) (goes p x v y w)
-          (r .loosely u v y w t (r .given .inside x u (here u u-in)) (r .given .inside x v (here v v-in)) differ (r .given .inside y w q)))
+          ⊎-elim (λ g. (low, (here low (low-in .0), g))) (λ g. (v, (here v (two .0), g)))
+          (either-e (goes p x low y w) (goes p x v y w)
+          (r .loosely low v y w t (r .given .inside x low (here low (low-in .0))) (r .given .inside x v (here v (two .0))) (λ e. two .1 (sym e)) (r .given .inside y w q)))
 
   -- ---- the cover
   module _ {cover : List ℕ} (c : Cover tables x (at ds x) cover) where
@@ -255,3 +256,12 @@ module _ {p : Problem} {tables ds : List ℕ} {loose x : ℕ} (r : CanCut p tabl
         sixteen = es-sets;
         less = es-less;
       }
+
+  -- ---- x has one value v: the cover is its row
+  pub by-row : {es : List ℕ} {v a : ℕ} → v ≡ low → withoutMask (at ds x) low ≡ 0 → CutToCover ds (row tables (256 * x + 16 * v)) es a → 256 * x + 16 * v + 16 ≤ length tables → CutBy p ds es x a
+  by-row {es} {v} {a} e z k fits =
+      by-cut (row-cover tables x (at ds x) v fits (narrow-at tables x v (low-lt v e) ready-narrow) (subst (λ (u : ℕ). T (has (at ds x) u)) (sym e) (low-in .0)) (λ u t. one u t (ℕ-discrete u low))) k
+    where
+      one : (u : ℕ) → T (has (at ds x) u) → Dec (u ≡ low) → u ≡ v
+      one u t (yes q) = q ∙ sym e
+      one u t (no n) = absurd (has-0 u (subst (λ (m : ℕ). T (has m u)) z (without-i (at ds x) low u set-small t n)))

@@ -53,8 +53,8 @@ fn exceeds(sets: &[u16; 16], cover: &[u16; 16]) -> bool
 }
 
 // Cuts the sets down to the cover; the variables whose sets changed, or that one is left with nothing.
-fn cut(sets: &mut [u16; 16], cover: &[u16; 16]) -> u64
-    requires { ⌜ length (now sets) ≡ 16 ⌝ }
+fn cut(sets: &mut [u16; 16], cover: &[u16]) -> u64
+    requires { ⌜ (length (now sets) ≡ 16) × (length (now cover) ≡ 16) ⌝ }
     ensures { λ r. ⌜ CutToCover (now (sets .entry)) (now (cover .entry)) (now (sets .exit)) r ⌝ }
 {
     let mut changed = 0u64;
@@ -74,16 +74,19 @@ fn cut(sets: &mut [u16; 16], cover: &[u16; 16]) -> u64
     changed
 }
 
-// Cuts by the set of x: nothing to do where x is loose and has two values.
+// Cuts by the set of x: the cover of one value is its row of the tables, and two values leave nothing to do where x is loose.
 fn cut_by(sets: &mut [u16; 16], tables: &[u16; 55296], loose: u64, x: usize) -> u64
     requires { ⌜ ((p : Problem) × CanCut p (now tables) (now sets) loose x) ⌝ }
     ensures { λ r. ⌜ ((p : Problem) → CanCut p (now (tables .entry)) (now (sets .entry)) loose x → CutBy p (now (sets .entry)) (now (sets .exit)) x r) ⌝ }
 {
     let set = ValueSet { bits: sets[x] };
-    if !set.without_lowest().is_empty() {
-        if (loose >> x) & 1 == 1 {
-            return 0;
-        }
+    if set.without_lowest().is_empty() {
+        let base = 256 * x + 16 * (set.lowest() as usize);
+        let rows = &tables[..];
+        return cut(sets, &rows[base..base + 16]);
+    }
+    if (loose >> x) & 1 == 1 {
+        return 0;
     }
     let cover = cover_of(tables, x, set);
     if exceeds(sets, &cover) {

@@ -14,7 +14,7 @@ abbrev μ-loop : tie.MeasureT-loop
 μ-loop sets₀ cover changed₀ y₀ sets changed y = 12 - y
 
 loop-holds : tie.Need-loop-holds Inv-loop μ-loop
-loop-holds c = cutting-begin _ _ (c .pre)
+loop-holds c = cutting-begin _ _ (c .pre .0)
 
 mul-old : tie.Need-mul-old Inv-loop μ-loop
 mul-old c = omega arith
@@ -25,8 +25,8 @@ element-copy-out-old c = omega arith
 mul-new : tie.Need-mul-new Inv-loop μ-loop
 mul-new c = omega arith
 
-element-copy-out-new : tie.Need-element-copy-out-new Inv-loop μ-loop
-element-copy-out-new c = omega arith
+shared-slice-read-new : tie.Need-shared-slice-read-new Inv-loop μ-loop
+shared-slice-read-new c = omega arith
 
 returns : tie.Need-returns Inv-loop μ-loop
 unfolding at
@@ -67,7 +67,7 @@ cut-spec =
     mul-old
     element-copy-out-old
     mul-new
-    element-copy-out-new
+    shared-slice-read-new
     returns
     mul-sets
     element-write-sets

@@ -1,17 +1,18 @@
--- A loose variable with two values and a cover of all sets leave nothing to do; else the sets are cut. Assumes nothing.
+-- One value cuts the sets by its row. A loose variable with two values and a cover of all sets leave nothing to do; else the sets are cut. Assumes nothing.
 use mathlib.Core.Path.{sym, _∙_}
+use native.Mathlib.Omega.{arith}
 use borrow.Author.Needs.{needs}
-use borrow.Author.Tests.{eqb-false, not-true}
+use borrow.Author.Tests.{eqb-true, eqb-false}
 use Rattle.model.specs.Lists.{at}
-use Rattle.links.proofs.OneCut.{x-lt, ready-narrow, bit-in, by-loose, by-covered, by-cut}
+use Rattle.links.proofs.OneCut.{x-lt, low-lt, ready-narrow, bit-in, by-loose, by-covered, by-cut, by-row}
 use Rattle.links.proofs.cut_by.Statement.{statement}
 use Rattle.links.proofs.cut_by.Tie as tie
 
-mul-t7 : tie.Need-mul-t7
-mul-t7 c = search needs
+mul-t9 : tie.Need-mul-t9
+mul-t9 c = search needs
 
-element-copy-out-t10 : tie.Need-element-copy-out-t10
-element-copy-out-t10 c = search needs
+element-copy-out-t12 : tie.Need-element-copy-out-t12
+element-copy-out-t12 c = search needs
 
 without-lowest-requires : tie.Need-without-lowest-requires
 without-lowest-requires c κs = search needs
@@ -19,44 +20,104 @@ without-lowest-requires c κs = search needs
 is-empty-requires : tie.Need-is-empty-requires
 is-empty-requires c κs = search needs
 
-shr-if2 : tie.Need-shr-if2
-shr-if2 c = search needs
+mul-base : tie.Need-mul-base
+mul-base c = search needs
 
-returns : tie.Need-returns
+lowest-requires : tie.Need-lowest-requires
+lowest-requires c κs = search needs
+
+cast-base : tie.Need-cast-base
+cast-base c = search needs
+
+mul-base-2 : tie.Need-mul-base-2
+mul-base-2 c = search needs
+
+add-base : tie.Need-add-base
+add-base c = search needs
+
+add-cut : tie.Need-add-cut
+add-cut c = search needs
+
+mul-cut : tie.Need-mul-cut
+mul-cut c = search needs
+
+sub-cut : tie.Need-sub-cut
+sub-cut c = search needs
+
+part-cut-start : tie.Need-part-cut-start
+part-cut-start c = search needs
+
+part-cut-end : tie.Need-part-cut-end
 unfolding at
-returns c =
-    let n = eqb-false _ 0 (sym (c .before .before .is-empty .ensures) ∙ not-true _ (c .before .if1 .taken)) in
-    λ p w. by-loose w (bit-in _ _ (c .if2 .taken)) (λ e. n (c .before .before .before .without-lowest .ensures ∙ e))
-
-cover-of-requires : tie.Need-cover-of-requires
-cover-of-requires c κs = let w = c .before .before .before .before .pre .1 in (x-lt w, ready-narrow w)
-
-exceeds-requires : tie.Need-exceeds-requires
-exceeds-requires c κs = search needs
+part-cut-end c =
+    let i = c .before .before in
+    let w = i .before .before .before .before .before .pre .1 in
+    omega (arith, x-lt w, low-lt w _ (i .lowest .ensures))
 
 cut-requires : tie.Need-cut-requires
 cut-requires c κs = search needs
 
+returns : tie.Need-returns
+unfolding at
+returns c =
+    let i = c .before .before .before .before in
+    let e = eqb-true _ 0 (sym (i .before .before .is-empty .ensures) ∙ i .before .if1 .taken) in
+    λ p w. by-row w (i .lowest .ensures) (sym (i .before .before .before .without-lowest .ensures) ∙ e) (c .cut .ensures) (part-cut-end (c .before .before))
+
+shr-if2 : tie.Need-shr-if2
+shr-if2 c = search needs
+
 returns-2 : tie.Need-returns-2
 unfolding at
-returns-2 c = λ p w. by-cut w (c .before .before .before .before .before .before .before .cover-of .ensures) (c .cut .ensures)
+returns-2 c =
+    let n = eqb-false _ 0 (sym (c .before .before .is-empty .ensures) ∙ c .before .if1 .left) in
+    λ p w. by-loose w (bit-in _ _ (c .if2 .taken)) (λ e. n (c .before .before .before .without-lowest .ensures ∙ e))
+
+cover-of-requires : tie.Need-cover-of-requires
+cover-of-requires c κs = let w = c .before .before .before .before .before .pre .1 in (x-lt w, ready-narrow w)
+
+exceeds-requires : tie.Need-exceeds-requires
+exceeds-requires c κs = search needs
+
+slice-aggregate-cut : tie.Need-slice-aggregate-cut
+slice-aggregate-cut c = search needs
+
+cut-requires-2 : tie.Need-cut-requires-2
+cut-requires-2 c κs = search needs
 
 returns-3 : tie.Need-returns-3
 unfolding at
-returns-3 c = λ p w. by-covered w (c .before .before .before .before .cover-of .ensures) (c .before .exceeds .ensures (c .if3 .left))
+returns-3 c = λ p w. by-cut w (c .before .before .before .before .before .before .before .cover-of .ensures) (c .cut2 .ensures)
+
+returns-4 : tie.Need-returns-4
+unfolding at
+returns-4 c = λ p w. by-covered w (c .before .before .before .before .cover-of .ensures) (c .before .exceeds .ensures (c .if3 .left))
 
 pub cut-by-spec : {M : Type 1} → statement M
 cut-by-spec =
     tie.close
     (tie.spec
-    mul-t7
-    element-copy-out-t10
+    mul-t9
+    element-copy-out-t12
     without-lowest-requires
     is-empty-requires
-    shr-if2
+    mul-base
+    lowest-requires
+    cast-base
+    mul-base-2
+    add-base
+    add-cut
+    mul-cut
+    sub-cut
+    part-cut-start
+    part-cut-end
+    cut-requires
     returns
+    shr-if2
+    returns-2
     cover-of-requires
     exceeds-requires
-    cut-requires
-    returns-2
-    returns-3)
+    slice-aggregate-cut
+    cut-requires-2
+    returns-3
+    returns-4)
