@@ -1,4 +1,4 @@
--- The loop of `fixpoint`: constraints and filters by turns, and its three ends. Assumes nothing.
+-- Constraints and filters by turns: the loop of `alternate` and its ends, and the cuts by variable in front of it. Assumes nothing.
 use mathlib.Core.Path.{_≡_, refl, sym, ap, _∙_, subst}
 use mathlib.Core.Bool.{Bool, true, false, not}
 use mathlib.Core.List.{List, []}
@@ -6,7 +6,7 @@ use Prim.Native.Nat.{ℕ, _+_, _*_, _^_, _≤_, _<_}
 use native.Mathlib.Omega.{arith}
 use lib.Dec.{T, eqb, ltb}
 use lib.ListN.{length, take}
-use lib.Bits.{bitAnd}
+use lib.Bits.{bitAnd, bitOr}
 use borrow.Author.Tests.{ltb-true, ltb-false, eqb-true, eq-eqb}
 use Rattle.model.specs.Lists.{at}
 use Rattle.model.specs.ValueSets.{has, anyEmpty}
@@ -16,19 +16,21 @@ use Rattle.model.proofs.Lists.{T-of, of-T, not-of, of-not, at-ext, both-l, plac
 use Rattle.model.proofs.Sets.{has-none, mask-ext, empty-inside, inside-antisym, size, size-inside, size-strict}
 use Rattle.model.specs.Pruning.{Sets, Inside, closed, Way, Prunes}
 use Rattle.model.proofs.Masks.{has-and}
+use Rattle.model.proofs.Members.{has-0}
 use Rattle.model.proofs.Firsts.{take-sets}
 use Rattle.model.proofs.Prune.{Sized, Kept, fixed-i, largest, live-is, way-live, way-end}
 use Rattle.model.proofs.Tree.{well-sized}
-use Rattle.layout.specs.Places.{LINKED, MARKS}
+use Rattle.layout.specs.Places.{DEAD, LINKED, MARKS, SYMMETRIES}
 use Rattle.layout.specs.Pruning.{Given, Ended, setsOf}
+use Rattle.links.specs.Links.{ArcsMade}
 use Rattle.constraints.specs.Steps.{Touched}
 use Rattle.levels.proofs.Marks.{mark-mono}
 use Rattle.block.specs.BlockSets.{Ascends}
 use Rattle.block.proofs.BlockSets.{ascends-less, way-prunes-own, fixed-whole}
 use Rattle.prune.specs.Node.{MarksRight, blockOf, withOrderings}
-use Rattle.prune.specs.Steps.{ArraysHold, Blocked, AllConstrained, LiveSets, AllFiltered, EndedAt, OnlyMarks, Startable, BeforeFixpoint, AfterFixpoint, Differ}
-use Rattle.prune.proofs.Pending.{take-less, still-fixed, touched-known, still-arc}
-use Rattle.prune.proofs.FilterLoop.{same-take, kept-none, kept-trans}
+use Rattle.prune.specs.Steps.{ArraysHold, Blocked, PrunedSoFar, AllConstrained, LiveSets, AllFiltered, EndedAt, OnlyMarks, Startable, BeforeFixpoint, AfterFixpoint, Differ}
+use Rattle.prune.proofs.Pending.{pruned-none, take-less, still-fixed, touched-known, still-arc, arcs-pruned, arcs-turn}
+use Rattle.prune.proofs.FilterLoop.{same-take, kept-none, kept-trans, filtered-begin, filtered-end}
 
 -- ---- a set is empty, so the prefix is dead
 pub not-live : (p : Problem) (prefix es : List ℕ) → Way p prefix es → Sized p → T (anyEmpty es) → isLive p prefix ≡ false
@@ -90,30 +92,52 @@ module _ {p : Problem} {gs : List (List ℕ)} {supports tables numbers : List �
   pub constrained-dead : (es : List ℕ) → Ended p ds → AfterFixpoint p gs k work work es true
   constrained-dead es e = dead p gs k work work es (kept-none work k) (ends (e .0) (stays (setsOf p ds) (e .0) (e .1 .0 (take k work)) (n .way)) (e .1 .1))
 
-  module _ {es : List ℕ} (c : AllConstrained p ds es) where
-    pub constrained-live : LiveSets p es
-    constrained-live = record { sixteen = c .given .sixteen; full = c .given .full; unused = λ x l i. c .unused x l ∙ n .startable .live .unused x l i }
+  -- ---- the constraints have left es, so far
+  module _ {es : List ℕ} (r : PrunedSoFar p ds es) (g : Given p es) where
+    inside-1 : Inside (setsOf p es) (setsOf p ds)
+    inside-1 = take-less st ds es (n .startable .live .sixteen) (g .sixteen) (r .less)
 
-    pub constrained-marking : MarksRight p (setsOf p es) (take k work) work k
-    constrained-marking e l =
-        mark-mono p (setsOf p ds) (setsOf p es) (take k work) e (at work (16 * k + MARKS + e)) (take-sets (p .variables) es (c .given .sixteen) n-few .0 ∙ sym (take-sets (p .variables) ds (n .startable .live .sixteen) n-few .0))
-        (take-less st ds es (n .startable .live .sixteen) (c .given .sixteen) (c .less)) (n .startable .marking e l)
+    live-1 : LiveSets p es
+    live-1 = record { sixteen = g .sixteen; full = g .full; unused = λ x l i. r .unused x l ∙ n .startable .live .unused x l i }
+
+    marking-1 : MarksRight p (setsOf p es) (take k work) work k
+    marking-1 e l =
+        mark-mono p (setsOf p ds) (setsOf p es) (take k work) e (at work (16 * k + MARKS + e)) (take-sets (p .variables) es (g .sixteen) n-few .0 ∙ sym (take-sets (p .variables) ds (n .startable .live .sixteen) n-few .0))
+        inside-1 (n .startable .marking e l)
 
     way-1 : Way (withOrderings p gs) (take k work) (setsOf p es)
-    way-1 = stays (setsOf p ds) (setsOf p es) (c .ways (take k work)) (n .way)
+    way-1 = stays (setsOf p ds) (setsOf p es) (r .ways (take k work)) (n .way)
 
     ascends-1 : Ascends (blockOf numbers) (take k work) (setsOf p es)
-    ascends-1 = ascends-less (blockOf numbers) (take k work) (setsOf p ds) (setsOf p es) (take-less st ds es (n .startable .live .sixteen) (c .given .sixteen) (c .less)) (n .ascends)
+    ascends-1 = ascends-less (blockOf numbers) (take k work) (setsOf p ds) (setsOf p es) inside-1 (n .ascends)
+
+  -- the constraints by variable are done: the rest that is due may be done from there
+  pub arcs-done : {es : List ℕ} {cut touched due : ℕ} → ArcsMade p ds es cut → (cut ≡ DEAD → ⊥) → Touched numbers cut touched → due ≡ bitOr todo touched → BeforeFixpoint p gs work numbers es k due 0
+  arcs-done l live u d =
+      let r = arcs-pruned st (n .startable .pending) l live ds (pruned-none p ds) in
+      let w = arcs-turn st (n .startable .pending) l live u d in
+      record {
+        startable = record { prefix-held = n .startable .prefix-held; live = live-1 r (w .given); pending = w; marking = marking-1 r (w .given) };
+        way = way-1 r (w .given);
+        ascends = ascends-1 r (w .given);
+      }
+
+  module _ {es : List ℕ} (c : AllConstrained p ds es) where
+    pub constrained-live : LiveSets p es
+    constrained-live = live-1 (c .so-far) (c .given)
+
+    pub constrained-marking : MarksRight p (setsOf p es) (take k work) work k
+    constrained-marking = marking-1 (c .so-far) (c .given)
 
     pub filters-dead : (work′ fs : List ℕ) → OnlyMarks work work′ k → EndedAt p (take k work) es → AfterFixpoint p gs k work work′ fs true
-    filters-dead work′ fs r e = dead p gs k work work′ fs r (ends (e .0) (stays (setsOf p es) (e .0) (e .1 .0) way-1) (e .1 .1))
+    filters-dead work′ fs r e = dead p gs k work work′ fs r (ends (e .0) (stays (setsOf p es) (e .0) (e .1 .0) (way-1 (c .so-far) (c .given))) (e .1 .1))
 
     module _ {work′ fs : List ℕ} (s : AllFiltered p (take k work) es fs) (m : MarksRight p (setsOf p fs) (take k work) work′ k) (r : OnlyMarks work work′ k) {changed : ℕ} (d : Differ es fs changed) where
       way-2 : Way (withOrderings p gs) (take k work) (setsOf p fs)
-      way-2 = stays (setsOf p es) (setsOf p fs) (s .way) way-1
+      way-2 = stays (setsOf p es) (setsOf p fs) (s .way) (way-1 (c .so-far) (c .given))
 
       ascends-2 : Ascends (blockOf numbers) (take k work) (setsOf p fs)
-      ascends-2 = ascends-less (blockOf numbers) (take k work) (setsOf p es) (setsOf p fs) (take-less st es fs (c .given .sixteen) (s .live .sixteen) (s .less)) ascends-1
+      ascends-2 = ascends-less (blockOf numbers) (take k work) (setsOf p es) (setsOf p fs) (take-less st es fs (c .given .sixteen) (s .live .sixteen) (s .less)) (ascends-1 (c .so-far) (c .given))
 
       -- nothing moved: no constraint and no filter takes anything
       pub fixpoint-end : changed ≡ 0 → AfterFixpoint p gs k work work′ fs false
@@ -197,4 +221,13 @@ module _ {p : Problem} {gs : List (List ℕ)} {supports tables numbers : List �
         }
 
       pub fixpoint-less : changed < 2 ^ 64 → (changed ≡ 0 → ⊥) → size fs < size ds
-      fixpoint-less h z = omega (arith, fewer es fs (c .given .sixteen) (s .live .sixteen) changed d h z (s .less), size-inside es ds (c .given .sixteen .0 ∙ sym (n .startable .live .sixteen .0)) (c .less))
+      fixpoint-less h z = omega (arith, fewer es fs (c .given .sixteen) (s .live .sixteen) changed d h z (s .less), size-inside es ds (c .given .sixteen .0 ∙ sym (n .startable .live .sixteen .0)) (c .so-far .less))
+
+    -- no symmetries: there is no filter, and the marks stay as they are
+    pub bare-end : at numbers SYMMETRIES ≡ 0 → AfterFixpoint p gs k work work es false
+    bare-end z =
+        let f = filtered-end st (n .startable .prefix-held) es work es 0 (omega (arith, z)) (filtered-begin st (n .startable .prefix-held) es constrained-live constrained-marking) in
+        fixpoint-end (f .all-filtered refl) (f .marking refl) (f .kept) none refl
+      where
+        none : Differ es es 0
+        none = record { few = λ x t. absurd (has-0 x t); differ = λ x l. has-none x ∙ sym (ap not (eq-eqb (at es x) (at es x) refl)) }

@@ -1,7 +1,7 @@
 -- The loop of `constrain`: constraints by variable and the others by turns, and its ends. Assumes nothing.
 use mathlib.Core.Path.{_≡_, refl, sym, ap, _∙_, subst}
 use mathlib.Core.Bool.{Bool, true, false, not}
-use mathlib.Core.Logic.{_⊎_, ⊎-elim}
+use mathlib.Core.Logic.{⊎-elim}
 use mathlib.Core.List.{List, List·Memᴰ}
 use Prim.Native.Nat.{ℕ, _+_, _^_, _≤_, _<_}
 use native.Mathlib.Nat.{lt-of-le-of-lt}
@@ -15,7 +15,7 @@ use Rattle.model.specs.ValueSets.{has}
 use Rattle.model.specs.Problem.{Problem}
 use Rattle.model.proofs.Lists.{T-of, of-T, not-of, of-not, both-i, both-l, either-l, either-r, either-e, among-i}
 use Rattle.model.proofs.Sets.{has-none, has-lt, member, size, size-inside}
-use Rattle.model.specs.Pruning.{Sets, Inside, Prunes}
+use Rattle.model.specs.Pruning.{Sets, Inside}
 use Rattle.model.proofs.Masks.{has-or, has-and}
 use Rattle.model.proofs.Members.{low-has}
 use Rattle.model.proofs.Firsts.{take-at, take-e, take-i, full-take}
@@ -29,25 +29,18 @@ use Rattle.links.specs.Links as links
 use Rattle.constraints.specs.Revised as revised
 use Rattle.constraints.specs.Steps.{Touched}
 use Rattle.constraints.proofs.Rows.{fixed-kept}
-use Rattle.prune.specs.Steps.{ArraysHold, Pending, AllConstrained, AllConstrainedOr}
+use Rattle.prune.specs.Steps.{ArraysHold, Pending, PrunedSoFar, AllConstrained, AllConstrainedOr}
 use Rattle.prune.proofs.Arcs.{arc-kept, arc-free, arcs-fixed}
 
 -- ---- what has happened to the sets before a turn
-pub record PrunedSoFar (p : Problem) (ds es : List ℕ) : Type 0 where
-  pub ways : (prefix : List ℕ) → Prunes p prefix (setsOf p ds) (setsOf p es)
-  pub less : Inside es ds
-  pub unused : (x : ℕ) → p .variables ≤ x → at es x ≡ at ds x
-  pub length-is : length es ≡ length ds
-
 pub pruned-none : (p : Problem) (ds : List ℕ) → PrunedSoFar p ds ds
-pruned-none p ds = record { ways = λ prefix. prunes-none p prefix (setsOf p ds); less = λ x v t. t; unused = λ x h. refl; length-is = refl }
+pruned-none p ds = record { ways = λ prefix. prunes-none p prefix (setsOf p ds); less = λ x v t. t; unused = λ x h. refl }
 
-pub pruned-more : (p : Problem) (ds es fs : List ℕ) (changed : ℕ) → length fs ≡ length es → PrunedSoFar p ds es → Lessened p es fs changed → PrunedSoFar p ds fs
-pruned-more p ds es fs changed e r l = record {
+pub pruned-more : (p : Problem) (ds es fs : List ℕ) (changed : ℕ) → PrunedSoFar p ds es → Lessened p es fs changed → PrunedSoFar p ds fs
+pruned-more p ds es fs changed r l = record {
   ways = λ prefix. prunes-then p prefix (setsOf p ds) (setsOf p es) (setsOf p fs) (r .ways prefix) (l .ways prefix);
   less = λ x v t. r .less x v (l .less x v t);
   unused = λ x h. l .kept x (not-of (has changed x) (λ t. let i = l .few x t in omega arith)) ∙ r .unused x h;
-  length-is = e ∙ r .length-is;
 }
 
 pub ended-more : (p : Problem) (ds es : List ℕ) → PrunedSoFar p ds es → Ended p es → Ended p ds
@@ -111,7 +104,21 @@ module _ {p : Problem} {supports tables numbers : List ℕ} (s : ArraysHold p su
           (z .1)
       go false e = arc-kept p (setsOf p es) (setsOf p fs) x (take-less es fs (a .sixteen) (b .sixteen) less) (take-same es fs (a .sixteen) (b .sixteen) x h (kept x h e)) arc
 
-  -- ---- one turn: the constraints by variable leave fs of es, the others gs
+  -- ---- nothing is due: no constraint takes anything
+  pub nothing-due : {ds es : List ℕ} {todo dirty : ℕ} → PrunedSoFar p ds es → Pending p numbers es todo dirty → todo ≡ 0 → dirty ≡ 0 → AllConstrained p ds es
+  nothing-due {es = es} r w t d = record { so-far = r; given = w .given; fixed = λ k h. go k h (byRows p k) refl; arcs = arcs }
+    where
+      none : (a i : ℕ) → a ≡ 0 → has a i ≡ false
+      none a i e = ap (λ (n : ℕ). has n i) e ∙ has-none i
+
+      arcs : (x : ℕ) → x < p .variables → Arc p (setsOf p es) x
+      arcs x h = w .arcs x h (none _ x d)
+
+      go : (k : ℕ) → k < length (p .constraints) → (b : Bool) → byRows p k ≡ b → Fixed (setsOf p es) (constraintAt p k)
+      go k h true e = arcs-fixed p (setsOf p es) (good (s .wellFormed)) k h (T-of (byRows p k) e) arcs
+      go k h false e = w .others k h (none _ k t) e
+
+  -- ---- the first half of a turn: the constraints by variable leave fs of es
   module _ {es : List ℕ} {left moved : ℕ} (w : Pending p numbers es left moved) where
     pub arcs-pending : links.ArcsPending p numbers tables es moved
     arcs-pending = record {
@@ -123,66 +130,62 @@ module _ {p : Problem} {supports tables numbers : List ℕ} (s : ArraysHold p su
       arcs = w .arcs;
     }
 
-    module _ {fs : List ℕ} {cut : ℕ} (l : links.ArcsMade p es fs cut) (live : cut ≡ DEAD → ⊥) {touched due : ℕ} (u : Touched numbers cut touched) (d : due ≡ bitOr left touched) where
-      given-1 : Given p fs
-      given-1 = given-more es fs cut (w .given) (l .lessened live)
+    module _ {fs : List ℕ} {cut : ℕ} (l : links.ArcsMade p es fs cut) (live : cut ≡ DEAD → ⊥) where
+      pub arcs-pruned : (ds : List ℕ) → PrunedSoFar p ds es → PrunedSoFar p ds fs
+      arcs-pruned ds r = pruned-more p ds es fs cut r (l .lessened live)
 
-      pub ended-after : (ds : List ℕ) → PrunedSoFar p ds es → Ended p fs → Ended p ds
-      ended-after ds r e = ended-more p ds fs (pruned-more p ds es fs cut (l .lessened live .sixteen .0 ∙ sym (w .given .sixteen .0)) r (l .lessened live)) e
+      pub arcs-size : size fs ≤ size es
+      arcs-size = size-inside fs es (l .sixteen .0 ∙ sym (w .given .sixteen .0)) (l .less)
 
-      has-due : (k : ℕ) → has due k ≡ either (has left k) (has touched k)
-      has-due k = ap (λ (n : ℕ). has n k) d ∙ has-or left touched k
+      module _ {touched due : ℕ} (u : Touched numbers cut touched) (d : due ≡ bitOr left touched) where
+        has-due : (k : ℕ) → has due k ≡ either (has left k) (has touched k)
+        has-due k = ap (λ (n : ℕ). has n k) d ∙ has-or left touched k
 
-      pub constraints-pending : revised.ConstraintsPending p numbers supports fs due
-      constraints-pending = record {
-        given = given-1;
-        wellFormed = s .wellFormed;
-        numbered = s .indexed .numbered;
-        tabled = s .indexed .supported;
-        linked = s .indexed .linked;
-        worded = s .indexed .worded;
-        constraints = s .constraints;
-        known = λ k t. ⊎-elim (λ a. w .known k a) (λ a. touched-known cut touched u (λ x b. let i = l .lessened live .few x b in omega (arith, n-few)) k a) (either-e (has left k) (has touched k) (subst T (has-due k) t));
-        others = λ k h f r.
-            still-fixed es fs cut touched (w .given .sixteen) (l .lessened live .sixteen) (λ x i e. l .lessened live .kept x e) u k h
-            (not-of (has touched k) (λ t. of-not (has due k) f (subst T (sym (has-due k)) (either-r (has left k) (has touched k) t)))) r
-            (w .others k h (not-of (has left k) (λ t. of-not (has due k) f (subst T (sym (has-due k)) (either-l (has left k) (has touched k) t)))) r);
-      }
-
-      module _ {gs : List ℕ} {pruned : ℕ} (c : revised.Constrained p fs gs pruned) (alive : pruned ≡ DEAD → ⊥) {next : ℕ} (q : next ≡ bitAnd pruned (at numbers LINKED)) where
-        given-2 : Given p gs
-        given-2 = given-more fs gs pruned given-1 (c .lessened alive)
-
-        arcs-2 : (x : ℕ) → x < p .variables → has next x ≡ false → Arc p (setsOf p gs) x
-        arcs-2 x h f = still-arc fs gs pruned next given-1 given-2 (c .lessened alive .less) (λ y i e. c .lessened alive .kept y e) q x h f (l .arcs live x h)
-
-        pub pending-turn : Pending p numbers gs 0 next
-        pending-turn = record {
-          given = given-2;
-          known = λ k t. absurd (of-not (has 0 k) (has-none k) t);
-          others = λ k h f r. c .fixed alive k h r;
-          inner = λ x t. c .lessened alive .few x (both-l (has pruned x) (has (at numbers LINKED) x) (subst T (ap (λ (n : ℕ). has n x) q ∙ has-and pruned (at numbers LINKED) x) t));
-          arcs = arcs-2;
+        -- no variable is dirty, and the constraints of those that changed are due too
+        pub arcs-turn : Pending p numbers fs due 0
+        arcs-turn = record {
+          given = given-more es fs cut (w .given) (l .lessened live);
+          known = λ k t. ⊎-elim (λ a. w .known k a) (λ a. touched-known cut touched u (λ x b. let i = l .lessened live .few x b in omega (arith, n-few)) k a) (either-e (has left k) (has touched k) (subst T (has-due k) t));
+          others = λ k h f r.
+              still-fixed es fs cut touched (w .given .sixteen) (l .lessened live .sixteen) (λ x i e. l .lessened live .kept x e) u k h
+              (not-of (has touched k) (λ t. of-not (has due k) f (subst T (sym (has-due k)) (either-r (has left k) (has touched k) t)))) r
+              (w .others k h (not-of (has left k) (λ t. of-not (has due k) f (subst T (sym (has-due k)) (either-l (has left k) (has touched k) t)))) r);
+          inner = λ x t. absurd (of-not (has 0 x) (has-none x) t);
+          arcs = λ x h f. l .arcs live x h;
         }
 
-        pub pruned-turn : (ds : List ℕ) → PrunedSoFar p ds es → PrunedSoFar p ds gs
-        pruned-turn ds r =
-            let a = pruned-more p ds es fs cut (l .lessened live .sixteen .0 ∙ sym (w .given .sixteen .0)) r (l .lessened live) in
-            pruned-more p ds fs gs pruned (c .lessened alive .sixteen .0 ∙ sym (l .lessened live .sixteen .0)) a (c .lessened alive)
+  -- ---- the second half: the other constraints leave gs of fs
+  module _ {fs : List ℕ} {due : ℕ} (w : Pending p numbers fs due 0) where
+    pub constraints-pending : revised.ConstraintsPending p numbers supports fs due
+    constraints-pending = record {
+      given = w .given;
+      wellFormed = s .wellFormed;
+      numbered = s .indexed .numbered;
+      tabled = s .indexed .supported;
+      linked = s .indexed .linked;
+      worded = s .indexed .worded;
+      constraints = s .constraints;
+      known = w .known;
+      others = w .others;
+    }
 
-        pub pending-end : (ds : List ℕ) → PrunedSoFar p ds es → next ≡ 0 → AllConstrained p ds gs
-        pending-end ds r z =
-            let f = pruned-turn ds r in
-            let arcs : (x : ℕ) → x < p .variables → Arc p (setsOf p gs) x = λ x h. arcs-2 x h (ap (λ (n : ℕ). has n x) z ∙ has-none x) in
-            record { ways = f .ways; given = given-2; less = f .less; unused = f .unused; fixed = λ k h. go k h arcs (byRows p k) refl; arcs = arcs }
-          where
-            go : (k : ℕ) → k < length (p .constraints) → ((x : ℕ) → x < p .variables → Arc p (setsOf p gs) x) → (b : Bool) → byRows p k ≡ b → Fixed (setsOf p gs) (constraintAt p k)
-            go k h arcs true e = arcs-fixed p (setsOf p gs) (good (s .wellFormed)) k h (T-of (byRows p k) e) arcs
-            go k h arcs false e = c .fixed alive k h e
+    module _ {gs : List ℕ} {pruned : ℕ} (c : revised.Constrained p fs gs pruned) (alive : pruned ≡ DEAD → ⊥) {next : ℕ} (q : next ≡ bitAnd pruned (at numbers LINKED)) where
+      given-2 : Given p gs
+      given-2 = given-more fs gs pruned (w .given) (c .lessened alive)
 
-        pub pending-less : pruned < 2 ^ 64 → (next ≡ 0 → ⊥) → size gs < size es
-        pending-less h n =
-            let m = low-has 64 next (omega arith) (subst (λ (z : ℕ). z < 2 ^ 64) (sym q) (lt-of-le-of-lt (and-le-l pruned (at numbers LINKED)) h)) .0 in
-            let a : size gs < size fs = c .smaller alive (trailingZeros 64 next) (both-l (has pruned (trailingZeros 64 next)) (has (at numbers LINKED) (trailingZeros 64 next)) (subst T (ap (λ (z : ℕ). has z (trailingZeros 64 next)) q ∙ has-and pruned (at numbers LINKED) (trailingZeros 64 next)) m)) in
-            let b = size-inside fs es (l .lessened live .sixteen .0 ∙ sym (w .given .sixteen .0)) (l .lessened live .less) in
-            omega (arith, a, b)
+      pub pending-turn : Pending p numbers gs 0 next
+      pending-turn = record {
+        given = given-2;
+        known = λ k t. absurd (of-not (has 0 k) (has-none k) t);
+        others = λ k h f r. c .fixed alive k h r;
+        inner = λ x t. c .lessened alive .few x (both-l (has pruned x) (has (at numbers LINKED) x) (subst T (ap (λ (n : ℕ). has n x) q ∙ has-and pruned (at numbers LINKED) x) t));
+        arcs = λ x h f. still-arc fs gs pruned next (w .given) given-2 (c .lessened alive .less) (λ y i e. c .lessened alive .kept y e) q x h f (w .arcs x h (has-none x));
+      }
+
+      pub pruned-turn : (ds : List ℕ) → PrunedSoFar p ds fs → PrunedSoFar p ds gs
+      pruned-turn ds r = pruned-more p ds fs gs pruned r (c .lessened alive)
+
+      pub pending-less : pruned < 2 ^ 64 → (next ≡ 0 → ⊥) → size gs < size fs
+      pending-less h n =
+          let m = low-has 64 next (omega arith) (subst (λ (z : ℕ). z < 2 ^ 64) (sym q) (lt-of-le-of-lt (and-le-l pruned (at numbers LINKED)) h)) .0 in
+          c .smaller alive (trailingZeros 64 next) (both-l (has pruned (trailingZeros 64 next)) (has (at numbers LINKED) (trailingZeros 64 next)) (subst T (ap (λ (z : ℕ). has z (trailingZeros 64 next)) q ∙ has-and pruned (at numbers LINKED) (trailingZeros 64 next)) m))

@@ -36,12 +36,16 @@ pub record Pending (p : Problem) (numbers sets : List ℕ) (todo dirty : ℕ) : 
   pub inner : (x : ℕ) → T (has dirty x) → x < p .variables
   pub arcs : (x : ℕ) → x < p .variables → has dirty x ≡ false → Arc p (setsOf p sets) x
 
--- no constraint takes anything; on the way only values went that a round of pruning takes too, at any prefix
-pub record AllConstrained (p : Problem) (sets sets′ : List ℕ) : Type 0 where
+-- on the way only values went that a round of pruning takes too, at any prefix
+pub record PrunedSoFar (p : Problem) (sets sets′ : List ℕ) : Type 0 where
   pub ways : (prefix : List ℕ) → Prunes p prefix (setsOf p sets) (setsOf p sets′)
-  pub given : Given p sets′
   pub less : Inside sets′ sets
   pub unused : (x : ℕ) → p .variables ≤ x → at sets′ x ≡ at sets x
+
+-- and no constraint takes anything more
+pub record AllConstrained (p : Problem) (sets sets′ : List ℕ) : Type 0 where
+  pub so-far : PrunedSoFar p sets sets′
+  pub given : Given p sets′
   pub fixed : (k : ℕ) → k < length (p .constraints) → Fixed (setsOf p sets′) (constraintAt p k)
   pub arcs : (x : ℕ) → x < p .variables → Arc p (setsOf p sets′) x
 

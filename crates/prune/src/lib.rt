@@ -99,8 +99,8 @@ fn difference(old: &[u16; 16], new: &[u16; 16]) -> u64
     all
 }
 
-// The constraints that are due and the filters by turns until nothing moves; true where the prefix is dead.
-fn fixpoint(
+// The constraints that are due and the filters by turns until nothing moves, with nothing left to cut by variable; true where the prefix is dead.
+fn alternate(
     sets: &mut [u16; 16],
     work: &mut [u64; 256],
     supports: &[u16; 8192],
@@ -108,13 +108,12 @@ fn fixpoint(
     numbers: &[u64; 384],
     k: usize,
     todo: u64,
-    dirty: u64,
 ) -> bool
-    requires { ⌜ ((p : Problem) × (gs : List (List ℕ)) × ArraysHold p (now supports) (now tables) (now numbers) × Blocked p gs (now numbers) × BeforeFixpoint p gs (now work) (now numbers) (now sets) k todo dirty) ⌝ }
-    ensures { λ r. ⌜ ((p : Problem) (gs : List (List ℕ)) → ArraysHold p (now (supports .entry)) (now (tables .entry)) (now (numbers .entry)) → Blocked p gs (now (numbers .entry)) → BeforeFixpoint p gs (now (work .entry)) (now (numbers .entry)) (now (sets .entry)) k todo dirty → AfterFixpoint p gs k (now (work .entry)) (now (work .exit)) (now (sets .exit)) r) ⌝ }
+    requires { ⌜ ((p : Problem) × (gs : List (List ℕ)) × ArraysHold p (now supports) (now tables) (now numbers) × Blocked p gs (now numbers) × BeforeFixpoint p gs (now work) (now numbers) (now sets) k todo 0) ⌝ }
+    ensures { λ r. ⌜ ((p : Problem) (gs : List (List ℕ)) → ArraysHold p (now (supports .entry)) (now (tables .entry)) (now (numbers .entry)) → Blocked p gs (now (numbers .entry)) → BeforeFixpoint p gs (now (work .entry)) (now (numbers .entry)) (now (sets .entry)) k todo 0 → AfterFixpoint p gs k (now (work .entry)) (now (work .exit)) (now (sets .exit)) r) ⌝ }
 {
     let mut left = todo;
-    let mut moved = dirty;
+    let mut moved = 0u64;
     loop {
         if constrain(
             sets,
@@ -138,6 +137,31 @@ fn fixpoint(
         moved = changed & numbers[LINKED];
         left = constraints::touched(numbers, changed);
     }
+}
+
+// First the cuts by variable, where most dead prefixes end; then the rest that is due, if any is. True where the prefix is dead.
+fn fixpoint(
+    sets: &mut [u16; 16],
+    work: &mut [u64; 256],
+    supports: &[u16; 8192],
+    tables: &[u16; 55296],
+    numbers: &[u64; 384],
+    k: usize,
+    todo: u64,
+    dirty: u64,
+) -> bool
+    requires { ⌜ ((p : Problem) × (gs : List (List ℕ)) × ArraysHold p (now supports) (now tables) (now numbers) × Blocked p gs (now numbers) × BeforeFixpoint p gs (now work) (now numbers) (now sets) k todo dirty) ⌝ }
+    ensures { λ r. ⌜ ((p : Problem) (gs : List (List ℕ)) → ArraysHold p (now (supports .entry)) (now (tables .entry)) (now (numbers .entry)) → Blocked p gs (now (numbers .entry)) → BeforeFixpoint p gs (now (work .entry)) (now (numbers .entry)) (now (sets .entry)) k todo dirty → AfterFixpoint p gs k (now (work .entry)) (now (work .exit)) (now (sets .exit)) r) ⌝ }
+{
+    let cut = links::arcs(sets, tables, numbers, dirty);
+    if cut == DEAD {
+        return true;
+    }
+    let left = todo | constraints::touched(numbers, cut);
+    if (left | numbers[SYMMETRIES]) == 0 {
+        return false;
+    }
+    alternate(sets, work, supports, tables, numbers, k, left)
 }
 
 fn load(stack: &[u16; 208], k: usize, sets: &mut [u16; 16])

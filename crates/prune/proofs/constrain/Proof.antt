@@ -1,10 +1,11 @@
 -- The loop: only the constraints left and those by variable of the variables that moved may take something. Assumes nothing.
 use mathlib.Core.Path.{refl}
+use native.Mathlib.Nat.{lt-of-lt-of-le}
 use borrow.Author.Needs.{needs}
 use Rattle.model.specs.Problem.{Problem}
 use Rattle.model.proofs.Sets.{size}
-use Rattle.prune.specs.Steps.{ArraysHold, Pending}
-use Rattle.prune.proofs.Pending.{PrunedSoFar, pruned-none, ended-more, all-constrained-dead, all-constrained-live, arcs-pending, constraints-pending, ended-after, pending-turn, pruned-turn, pending-end, pending-less}
+use Rattle.prune.specs.Steps.{ArraysHold, Pending, PrunedSoFar}
+use Rattle.prune.proofs.Pending.{pruned-none, ended-more, all-constrained-dead, all-constrained-live, nothing-due, arcs-pending, arcs-pruned, arcs-size, arcs-turn, constraints-pending, pending-turn, pruned-turn, pending-less}
 use Rattle.prune.proofs.constrain.Statement.{statement}
 use Rattle.prune.proofs.constrain.Tie as tie
 
@@ -35,15 +36,15 @@ constrain-requires c κs =
     let h = c .before .before .before .before .before in
     let q = h .before .pre in
     let i = h .loop .inv (q .0) (q .1) (q .2) in
-    (q .0, constraints-pending (q .1) (i .1) (c .before .before .before .arcs .ensures (q .0) (arcs-pending (q .1) (i .1))) (c .before .before .if1 .left) (c .before .touched .ensures) refl)
+    (q .0, constraints-pending (q .1) (arcs-turn (q .1) (i .1) (c .before .before .before .arcs .ensures (q .0) (arcs-pending (q .1) (i .1))) (c .before .before .if1 .left) (c .before .touched .ensures) refl))
 
 returns-2 : tie.Need-returns-2 Inv-loop μ-loop
 returns-2 c = λ p s w.
     let i = c .before .before .before .before .before .before .before .loop .inv p s w in
     let l = c .before .before .before .before .before .arcs .ensures p (arcs-pending s (i .1)) in
     let live = c .before .before .before .before .if1 .left in
-    let u = c .before .before .before .touched .ensures in
-    all-constrained-dead p _ _ (ended-after s (i .1) l live u refl _ (i .0) (c .before .constrain .ensures p (constraints-pending s (i .1) l live u refl) .ended (c .if2 .taken)))
+    let n = arcs-turn s (i .1) l live (c .before .before .before .touched .ensures) refl in
+    all-constrained-dead p _ _ (ended-more p _ _ (arcs-pruned s (i .1) l live _ (i .0)) (c .before .constrain .ensures p (constraints-pending s n) .ended (c .if2 .taken)))
 
 element-copy-out-moved : tie.Need-element-copy-out-moved Inv-loop μ-loop
 element-copy-out-moved c = search needs
@@ -54,8 +55,10 @@ returns-3 c = λ p s w.
     let i = c .before .before .before .before .before .before .before .before .before .loop .inv p s w in
     let l = c .before .before .before .before .before .before .before .arcs .ensures p (arcs-pending s (i .1)) in
     let live = c .before .before .before .before .before .before .if1 .left in
-    let u = c .before .before .before .before .before .touched .ensures in
-    all-constrained-live p _ _ (pending-end s (i .1) l live u refl (c .before .before .before .constrain .ensures p (constraints-pending s (i .1) l live u refl)) (c .before .before .if2 .left) refl _ (i .0) (c .if3 .taken))
+    let n = arcs-turn s (i .1) l live (c .before .before .before .before .before .touched .ensures) refl in
+    let k = c .before .before .before .constrain .ensures p (constraints-pending s n) in
+    let alive = c .before .before .if2 .left in
+    all-constrained-live p _ _ (nothing-due s (pruned-turn s n k alive refl _ (arcs-pruned s (i .1) l live _ (i .0))) (pending-turn s n k alive refl) refl (c .if3 .taken))
 
 loop-less : tie.Need-loop-less Inv-loop μ-loop
 unfolding Rattle.model.specs.Lists.at
@@ -65,8 +68,8 @@ loop-less c =
     let i = h .loop .inv (q .0) (q .1) (q .2) in
     let l = c .before .before .before .before .before .before .before .arcs .ensures (q .0) (arcs-pending (q .1) (i .1)) in
     let live = c .before .before .before .before .before .before .if1 .left in
-    let u = c .before .before .before .before .before .touched .ensures in
-    pending-less (q .1) (i .1) l live u refl (c .before .before .before .constrain .ensures (q .0) (constraints-pending (q .1) (i .1) l live u refl)) (c .before .before .if2 .left) refl (search needs) (c .if3 .left)
+    let n = arcs-turn (q .1) (i .1) l live (c .before .before .before .before .before .touched .ensures) refl in
+    lt-of-lt-of-le (pending-less (q .1) n (c .before .before .before .constrain .ensures (q .0) (constraints-pending (q .1) n)) (c .before .before .if2 .left) refl (search needs) (c .if3 .left)) (arcs-size (q .1) (i .1) l live)
 
 loop-again : tie.Need-loop-again Inv-loop μ-loop
 unfolding Rattle.model.specs.Lists.at
@@ -74,9 +77,10 @@ loop-again c = λ p s w.
     let i = c .before .before .before .before .before .before .before .before .before .loop .inv p s w in
     let l = c .before .before .before .before .before .before .before .arcs .ensures p (arcs-pending s (i .1)) in
     let live = c .before .before .before .before .before .before .if1 .left in
-    let u = c .before .before .before .before .before .touched .ensures in
-    let k = c .before .before .before .constrain .ensures p (constraints-pending s (i .1) l live u refl) in
-    (pruned-turn s (i .1) l live u refl k (c .before .before .if2 .left) refl _ (i .0), pending-turn s (i .1) l live u refl k (c .before .before .if2 .left) refl)
+    let n = arcs-turn s (i .1) l live (c .before .before .before .before .before .touched .ensures) refl in
+    let k = c .before .before .before .constrain .ensures p (constraints-pending s n) in
+    let alive = c .before .before .if2 .left in
+    (pruned-turn s n k alive refl _ (arcs-pruned s (i .1) l live _ (i .0)), pending-turn s n k alive refl)
 
 pub constrain-spec : {M : Type 1} → statement M
 constrain-spec =
