@@ -112,19 +112,15 @@ fn alternate(
     requires { ⌜ ((p : Problem) × (gs : List (List ℕ)) × ArraysHold p (now supports) (now tables) (now numbers) × Blocked p gs (now numbers) × BeforeFixpoint p gs (now work) (now numbers) (now sets) k todo 0) ⌝ }
     ensures { λ r. ⌜ ((p : Problem) (gs : List (List ℕ)) → ArraysHold p (now (supports .entry)) (now (tables .entry)) (now (numbers .entry)) → Blocked p gs (now (numbers .entry)) → BeforeFixpoint p gs (now (work .entry)) (now (numbers .entry)) (now (sets .entry)) k todo 0 → AfterFixpoint p gs k (now (work .entry)) (now (work .exit)) (now (sets .exit)) r) ⌝ }
 {
+    let settled = (1u64 << k) - 1;
     let mut left = todo;
     let mut moved = 0u64;
     loop {
-        if constrain(
-            sets,
-            supports,
-            tables,
-            numbers,
-            left,
-            moved,
-            (1u64 << k) - 1,
-        ) {
+        if constrain(sets, supports, tables, numbers, left, moved, settled) {
             return true;
+        }
+        if numbers[SYMMETRIES] == 0 {
+            return false;
         }
         let old = *sets;
         if filters(sets, work, supports, tables, numbers, k) {
