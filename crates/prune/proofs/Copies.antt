@@ -11,7 +11,9 @@ use Rattle.model.specs.Lists.{at}
 use Rattle.model.specs.ValueSets.{oneIf}
 use Rattle.model.specs.Filling as filling
 use Rattle.model.proofs.Filling as loops
-use Rattle.prune.specs.Steps.{Differ, Stored}
+use Rattle.layout.specs.Places.{MARKS}
+use Rattle.prune.specs.Steps.{Differ, Stored, MarksCopied}
+use Rattle.prune.proofs.FilterLoop.{kept-none}
 
 -- ---- i numbers stored from a base on
 abbrev pub Filled : (ℕ → ℕ) → ℕ → List ℕ → List ℕ → ℕ → Type 0
@@ -33,6 +35,16 @@ from-start f ds es i h l r = (r .size ∙ l, λ x k. let e : x ≡ 0 + x = omega
 
 pub stored : (f : ℕ → ℕ) (list es : List ℕ) (k i : ℕ) → i ≡ 16 → Filled f (16 * k) list es i → Stored list k f es
 stored f list es k i h r = record { here = λ x l. r .here x (omega arith); before = λ j l. r .other j (λ x k e. omega arith); after = λ j l. r .other j (λ x k e. omega arith); size = r .size }
+
+-- the marks of depth k stored at depth k + 1; there are none where there are no symmetries
+pub copied : (work work′ : List ℕ) (g k : ℕ) → Stored work (k + 2) (λ e. at work (16 * k + MARKS + e)) work′ → MarksCopied work g k work′
+copied work work′ g k s = record {
+  here = λ e l h. let q : 16 * (k + 1) + MARKS + e ≡ 16 * (k + 2) + e = omega arith in ap (at work′) q ∙ s .here e h;
+  kept = record { before = λ j h. s .before j (omega arith); after = λ j h. s .after j (omega arith); size = s .size };
+}
+
+pub copied-none : (work : List ℕ) (g k : ℕ) → g ≡ 0 → MarksCopied work g k work
+copied-none work g k z = record { here = λ e l h. absurd (omega arith); kept = kept-none work (k + 1) }
 
 -- ---- the variables below i whose sets differ
 abbrev pub Differing : List ℕ → List ℕ → ℕ → ℕ → Type 0

@@ -25,7 +25,7 @@ use Rattle.model.proofs.Members.{one-bit, only-member}
 use Rattle.model.proofs.Firsts.{take-at, take-e, take-i, take-sets, take-length, take-full}
 use Rattle.model.proofs.Prune.{narrowed-e, Largest, largest, fixed-e, way-start, setsAt-live, setsAt-sets, live-closed}
 use Rattle.model.proofs.Tree.{well-sized}
-use Rattle.layout.specs.Places.{INITIAL, LINKED, MARKS, OTHERS, VARIABLES}
+use Rattle.layout.specs.Places.{INITIAL, LINKED, MARKS, OTHERS, SYMMETRIES, VARIABLES}
 use Rattle.layout.specs.Layout.{constraintAt}
 use Rattle.layout.specs.Tables.{byRows}
 use Rattle.layout.proofs.Links.{is-one, good}
@@ -38,7 +38,7 @@ use Rattle.levels.proofs.Marks.{mark-start, mark-mono, mark-longer}
 use Rattle.block.specs.BlockSets.{Ascends, cutAfter}
 use Rattle.block.proofs.BlockSets.{root-ascends, child-way, child-ascends}
 use Rattle.prune.specs.Node.{Ready, MarksRight, AtNode, Reached, longer, blockOf, withOrderings}
-use Rattle.prune.specs.Steps.{ArraysHold, Blocked, Startable, BeforeFixpoint, AfterFixpoint, Loaded, Stored}
+use Rattle.prune.specs.Steps.{ArraysHold, Blocked, Startable, BeforeFixpoint, AfterFixpoint, Loaded, Stored, MarksCopied}
 use Rattle.prune.proofs.Arcs.{arc-kept, arc-free}
 use Rattle.prune.proofs.Pending.{touched-known}
 
@@ -263,18 +263,18 @@ module _ {p : Problem} {gs : List (List ℕ)} {stack work supports tables number
           subst (λ (z : ℕ). T (has (at (p .initial) j) z)) (r .1 (omega (arith, prefix-length)) ∙ at-take k work j l) (r .0)
 
   -- ---- `work` with the marks of depth k at depth k + 1 too
-  module _ (middle : List ℕ) (c : Stored work (k + 2) (λ e. at work (16 * k + MARKS + e)) middle) where
+  module _ (middle : List ℕ) (c : MarksCopied work (at numbers SYMMETRIES) k middle) where
     pub child-early : (j : ℕ) → j < 16 * (k + 1) + MARKS → at middle j ≡ at work j
-    child-early j h = c .before j (omega arith)
+    child-early = c .kept .before
 
     child-late : (j : ℕ) → 16 * (k + 1) + MARKS + 16 ≤ j → at middle j ≡ at work j
-    child-late j h = c .after j (omega arith)
+    child-late = c .kept .after
 
     pub value-is : at middle k ≡ at work k
     value-is = child-early k (omega arith)
 
     middle-length : length middle ≡ 256
-    middle-length = c .size ∙ a .ready .work-length
+    middle-length = c .kept .size ∙ a .ready .work-length
 
     pub child-prefix : take (k + 1) middle ≡ longer work k
     child-prefix =
@@ -408,10 +408,7 @@ module _ {p : Problem} {gs : List (List ℕ)} {stack work supports tables number
           let m = mark-longer p (setsAt tree (take k work)) (take k work) (at work k) e (at work (16 * k + MARKS + e)) (a .marked e h) in
           let n = mark-mono p (setsAt tree (take k work)) (setsOf p (set sets k one)) (longer work k) e (at work (16 * k + MARKS + e)) (take-sets (p .variables) (set sets k one) after n-16′ .0 ∙ sym (parent-sets .0)) start-inside m in
           subst (λ (z : List ℕ). Mark p (setsOf p (set sets k one)) z e (at middle (16 * (k + 1) + MARKS + e))) (sym child-prefix)
-          (subst (Mark p (setsOf p (set sets k one)) (longer work k) e) (sym (ap (at middle) slot ∙ c .here e (omega (arith, h, a .ready .symmetries)))) n)
-        where
-          slot : 16 * (k + 1) + MARKS + e ≡ 16 * (k + 2) + e
-          slot = omega arith
+          (subst (Mark p (setsOf p (set sets k one)) (longer work k) e) (sym (c .here e (omega (arith, h, a .ready .indexed .numbered .symmetries)) (omega (arith, h, a .ready .symmetries)))) n)
 
       start-initial : Inside (setsOf p (set sets k one)) (p .initial)
       start-initial x v t = narrowed-e (take k work) (p .initial) x v (parent-largest .inside x v (start-inside x v t)) .0
@@ -444,7 +441,7 @@ module _ {p : Problem} {gs : List (List ℕ)} {stack work supports tables number
           )
 
     pub child-dead : (sets work′ : List ℕ) (r : Bool) → AfterFixpoint p gs (k + 1) middle work′ sets r → r ≡ true → Reached p gs (longer work k) (k + 1) stack work stack work′ true
-    child-dead sets work′ r e q = reached-dead p gs n-16′ (longer work k) sets (k + 1) stack work middle work′ child-prefix (c .size) child-early child-late (subst (AfterFixpoint p gs (k + 1) middle work′ sets) q e)
+    child-dead sets work′ r e q = reached-dead p gs n-16′ (longer work k) sets (k + 1) stack work middle work′ child-prefix (c .kept .size) child-early child-late (subst (AfterFixpoint p gs (k + 1) middle work′ sets) q e)
 
     pub child-live : (sets work′ stack′ : List ℕ) (r : Bool) → AfterFixpoint p gs (k + 1) middle work′ sets r → r ≡ false → Stored stack (k + 1) (at sets) stack′ → Reached p gs (longer work k) (k + 1) stack work stack′ work′ false
-    child-live sets work′ stack′ r e q t = reached-live p gs n-16′ (longer work k) sets (k + 1) stack work middle work′ child-prefix (c .size) child-early child-late stack′ (subst (AfterFixpoint p gs (k + 1) middle work′ sets) q e) t
+    child-live sets work′ stack′ r e q t = reached-live p gs n-16′ (longer work k) sets (k + 1) stack work middle work′ child-prefix (c .kept .size) child-early child-late stack′ (subst (AfterFixpoint p gs (k + 1) middle work′ sets) q e) t

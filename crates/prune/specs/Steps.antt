@@ -145,3 +145,8 @@ pub record Stored (list : List ℕ) (k : ℕ) (sixteen : ℕ → ℕ) (list′ :
   pub before : (i : ℕ) → i < 16 * k → at list′ i ≡ at list i
   pub after : (i : ℕ) → 16 * k + 16 ≤ i → at list′ i ≡ at list i
   pub size : length list′ ≡ length list
+
+-- the marks of g symmetries at depth k are those of depth k + 1 too
+pub record MarksCopied (work : List ℕ) (g k : ℕ) (work′ : List ℕ) : Type 0 where
+  pub here : (e : ℕ) → e < g → e < 16 → at work′ (16 * (k + 1) + MARKS + e) ≡ at work (16 * k + MARKS + e)
+  pub kept : OnlyMarks work work′ (k + 1)

@@ -12,7 +12,7 @@ use model::ValueSet;
 ghost use mathlib.Core.Path.{_≡_};
 ghost use mathlib.Core.Bool.{not};
 ghost use mathlib.Core.List.{List, []};
-ghost use Prim.Native.Nat.{ℕ, _+_, _*_, _%_, _<_};
+ghost use Prim.Native.Nat.{ℕ, _+_, _%_, _<_};
 ghost use lib.Dec.{T, ltb};
 ghost use lib.ListN.{length, take};
 ghost use Rattle.model.specs.Lists.{both, at};
@@ -20,10 +20,10 @@ ghost use Rattle.model.specs.ValueSets.{has, maskOf};
 ghost use Rattle.model.specs.Problem.{Problem};
 ghost use Rattle.model.specs.Pruning.{Sets};
 ghost use Rattle.block.specs.BlockSets.{cutAfter};
-ghost use Rattle.layout.specs.Places.{INITIAL, MARKS};
+ghost use Rattle.layout.specs.Places.{INITIAL, SYMMETRIES};
 ghost use Rattle.layout.specs.Pruning.{setsOf};
 ghost use Rattle.prune.specs.Node.{Ready, MarksRight, AtNode, Reached, longer};
-ghost use Rattle.prune.specs.Steps.{ArraysHold, Blocked, Pending, AllConstrainedOr, PrefixHeld, LiveSets, AllFilteredOr, BeforeFixpoint, AfterFixpoint, Differ, cutBelow, CutOr, Loaded, Stored};
+ghost use Rattle.prune.specs.Steps.{ArraysHold, Blocked, Pending, AllConstrainedOr, PrefixHeld, LiveSets, AllFilteredOr, BeforeFixpoint, AfterFixpoint, Differ, cutBelow, CutOr, Loaded, Stored, MarksCopied};
 
 // Prunes by the constraints until nothing moves, those by variable and the others by turns; true where a set is empty.
 fn constrain(
@@ -255,11 +255,14 @@ fn clear_marks(work: &mut [u64; 256])
     }
 }
 
-// What is known at depth k is known at depth k + 1.
-fn copy_marks(work: &mut [u64; 256], k: usize)
+// What is known of the symmetries at depth k, where there are any, is known at depth k + 1.
+fn copy_marks(work: &mut [u64; 256], numbers: &[u64; 384], k: usize)
     requires { ⌜ (k < 12) × (length (now work) ≡ 256) ⌝ }
-    ensures { λ _. ⌜ Stored (now (work .entry)) (k + 2) (λ e. at (now (work .entry)) (16 * k + MARKS + e)) (now (work .exit)) ⌝ }
+    ensures { λ _. ⌜ MarksCopied (now (work .entry)) (at (now (numbers .entry)) SYMMETRIES) k (now (work .exit)) ⌝ }
 {
+    if numbers[SYMMETRIES] == 0 {
+        return;
+    }
     let mut e = 0;
     while e < 16 {
         let here = 16 * k + MARKS + e;
@@ -315,7 +318,7 @@ pub fn child(
 {
     let mut sets = [1u16; 16];
     load(stack, k, &mut sets);
-    copy_marks(work, k);
+    copy_marks(work, numbers, k);
     let old = ValueSet { bits: sets[k] };
     let v = (work[k] % 16) as u16;
     let one = old.only(v);

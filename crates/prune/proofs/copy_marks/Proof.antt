@@ -1,18 +1,25 @@
--- The marks of a depth are stored for the next, one after another. Assumes nothing.
+-- The marks of a depth are stored for the next, one after another; without symmetries there are none. Assumes nothing.
 use Prim.Native.Nat.{_+_, _*_, _-_, _≤_}
 use native.Mathlib.Omega.{arith}
 use borrow.Author.Needs.{needs}
 use Rattle.model.specs.Lists.{at}
 use Rattle.layout.specs.Places.{MARKS}
-use Rattle.prune.proofs.Copies.{Filled, filled-begin, filled-with, stored}
+use Rattle.prune.proofs.Copies.{Filled, filled-begin, filled-with, stored, copied, copied-none}
 use Rattle.prune.proofs.copy_marks.Statement.{statement}
 use Rattle.prune.proofs.copy_marks.Tie as tie
 
 abbrev Inv-loop : tie.InvT-loop
-Inv-loop work₀ k e₀ work e = (e ≤ 16) × Filled (λ i. at work₀ (16 * k + MARKS + i)) (16 * (k + 2)) work₀ work e
+Inv-loop work₀ numbers k e₀ work e = (e ≤ 16) × Filled (λ i. at work₀ (16 * k + MARKS + i)) (16 * (k + 2)) work₀ work e
 
 abbrev μ-loop : tie.MeasureT-loop
-μ-loop work₀ k e₀ work e = 16 - e
+μ-loop work₀ numbers k e₀ work e = 16 - e
+
+element-copy-out-if1 : tie.Need-element-copy-out-if1 Inv-loop μ-loop
+element-copy-out-if1 c = search needs
+
+returns : tie.Need-returns Inv-loop μ-loop
+unfolding at
+returns c = copied-none _ _ _ (c .if1 .taken)
 
 loop-holds : tie.Need-loop-holds Inv-loop μ-loop
 loop-holds c = (search needs, filled-begin _ _ _)
@@ -62,8 +69,8 @@ loop-again c =
     let i = c .before .before .loop .inv .1 in
     (search needs, filled-with _ _ _ _ _ _ _ i (omega arith) (omega arith) (i .other _ (λ x l e. omega arith)))
 
-returns : tie.Need-returns Inv-loop μ-loop
-returns c = stored _ _ _ _ _ (search needs) (c .before .loop .inv .1)
+returns-2 : tie.Need-returns-2 Inv-loop μ-loop
+returns-2 c = copied _ _ _ _ (stored _ _ _ _ _ (search needs) (c .before .loop .inv .1))
 
 pub copy-marks-spec : {M : Type 1} → statement M
 copy-marks-spec =
@@ -71,6 +78,8 @@ copy-marks-spec =
     (tie.spec
     Inv-loop
     μ-loop
+    element-copy-out-if1
+    returns
     loop-holds
     mul-here
     add-here
@@ -86,4 +95,4 @@ copy-marks-spec =
     add-e
     loop-less
     loop-again
-    returns)
+    returns-2)
