@@ -99,7 +99,7 @@ fn difference(old: &[u16; 16], new: &[u16; 16]) -> u64
     all
 }
 
-// The constraints that are due and the filters by turns until nothing moves, with nothing left to cut by variable; true where the prefix is dead.
+// The constraints that are due and the filters by turns until nothing moves; the cuts by variable are done at the start. True where the prefix is dead.
 fn alternate(
     sets: &mut [u16; 16],
     work: &mut [u64; 256],
