@@ -52,14 +52,16 @@ fn exceeds(sets: &[u16; 16], cover: &[u16; 16]) -> bool
     over != 0
 }
 
-// Cuts the sets down to the cover; the variables whose sets changed, or that one is left with nothing.
+// Cuts the sets down to the cover; the variables whose sets changed, or that one is left with nothing. From the last variable down: they are settled in
+// order, so the sets that can lose their last value stand at the end, and a dead end is seen sooner.
 fn cut(sets: &mut [u16; 16], cover: &[u16]) -> u64
     requires { ⌜ (length (now sets) ≡ 16) × (length (now cover) ≡ 16) ⌝ }
     ensures { λ r. ⌜ CutToCover (now (sets .entry)) (now (cover .entry)) (now (sets .exit)) r ⌝ }
 {
     let mut changed = 0u64;
-    let mut y = 0;
-    while y < 12 {
+    let mut y = 12;
+    while 0 < y {
+        y -= 1;
         let old = sets[y];
         let new = old & cover[y];
         if new != old {
@@ -69,7 +71,6 @@ fn cut(sets: &mut [u16; 16], cover: &[u16]) -> u64
             sets[y] = new;
             changed = changed | (1u64 << y);
         }
-        y += 1;
     }
     changed
 }

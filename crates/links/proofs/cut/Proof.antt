@@ -1,9 +1,7 @@
--- The loop: the sets before y are cut, the others are as they came, and `changed` has those that are smaller. Assumes nothing.
-use mathlib.Core.Logic.{⊎-elim}
-use Prim.Native.Nat.{_-_}
+-- The loop: the sets from y on are cut, those before are as they came, and `changed` has those that are smaller. Assumes nothing.
 use native.Mathlib.Omega.{arith}
 use Rattle.model.specs.Lists.{at}
-use Rattle.links.proofs.Cuts.{Cutting, cutting-begin, cutting-end, cutting-dead, cutting-stored, cutting-stayed}
+use Rattle.links.proofs.Cuts.{Cutting, cutting-begin, cutting-end, cutting-dead, cutting-less, cutting-same}
 use Rattle.links.proofs.cut.Statement.{statement}
 use Rattle.links.proofs.cut.Tie as tie
 
@@ -11,10 +9,13 @@ abbrev Inv-loop : tie.InvT-loop
 Inv-loop sets₀ cover changed₀ y₀ sets changed y = Cutting sets₀ cover sets changed y
 
 abbrev μ-loop : tie.MeasureT-loop
-μ-loop sets₀ cover changed₀ y₀ sets changed y = 12 - y
+μ-loop sets₀ cover changed₀ y₀ sets changed y = y
 
 loop-holds : tie.Need-loop-holds Inv-loop μ-loop
 loop-holds c = cutting-begin _ _ (c .pre .0)
+
+sub-y : tie.Need-sub-y Inv-loop μ-loop
+sub-y c = omega arith
 
 mul-old : tie.Need-mul-old Inv-loop μ-loop
 mul-old c = omega arith
@@ -41,18 +42,19 @@ element-write-sets c = omega arith
 shl-changed : tie.Need-shl-changed Inv-loop μ-loop
 shl-changed c = omega arith
 
-add-y : tie.Need-add-y Inv-loop μ-loop
-add-y c = omega arith
-
 loop-less : tie.Need-loop-less Inv-loop μ-loop
 loop-less c = omega arith
 
 loop-again : tie.Need-loop-again Inv-loop μ-loop
 unfolding at
-loop-again c =
-    let i = c .before .before .before in
-    ⊎-elim (λ w. cutting-stored (i .before .loop .inv) (i .loop-test .taken) (w .0 .taken) (w .1 .left) (w .2) (w .3))
-    (λ w. cutting-stayed (i .before .loop .inv) (i .loop-test .taken) (w .0 .left) (w .1) (w .2)) (c .if1 .came)
+loop-again c = let i = c .before .before .before .before in cutting-less (i .before .loop .inv) (i .loop-test .taken) (c .before .if1 .taken) (c .if2 .left)
+
+loop-less-2 : tie.Need-loop-less-2 Inv-loop μ-loop
+loop-less-2 c = omega arith
+
+loop-again-2 : tie.Need-loop-again-2 Inv-loop μ-loop
+unfolding at
+loop-again-2 c = let i = c .before .before .before in cutting-same (i .before .loop .inv) (i .loop-test .taken) (c .if1 .left)
 
 returns-2 : tie.Need-returns-2 Inv-loop μ-loop
 returns-2 c = cutting-end (c .before .loop .inv) (omega arith)
@@ -64,6 +66,7 @@ cut-spec =
     Inv-loop
     μ-loop
     loop-holds
+    sub-y
     mul-old
     element-copy-out-old
     mul-new
@@ -72,7 +75,8 @@ cut-spec =
     mul-sets
     element-write-sets
     shl-changed
-    add-y
     loop-less
     loop-again
+    loop-less-2
+    loop-again-2
     returns-2)
