@@ -54,8 +54,8 @@ fn exceeds(sets: &[u16; 16], cover: &[u16; 16]) -> bool
 
 // Cuts the sets down to the cover; the variables whose sets changed, or that one is left with nothing. From the last variable down: they are settled in
 // order, so the sets that can lose their last value stand at the end, and a dead end is seen sooner.
-fn cut(sets: &mut [u16; 16], cover: &[u16]) -> u64
-    requires { ⌜ (length (now sets) ≡ 16) × (length (now cover) ≡ 16) ⌝ }
+fn cut(sets: &mut [u16; 16], cover: &[u16; 16]) -> u64
+    requires { ⌜ length (now sets) ≡ 16 ⌝ }
     ensures { λ r. ⌜ CutToCover (now (sets .entry)) (now (cover .entry)) (now (sets .exit)) r ⌝ }
 {
     let mut changed = 0u64;
@@ -64,6 +64,28 @@ fn cut(sets: &mut [u16; 16], cover: &[u16]) -> u64
         y -= 1;
         let old = sets[y];
         let new = old & cover[y];
+        if new != old {
+            if new == 0 {
+                return DEAD;
+            }
+            sets[y] = new;
+            changed = changed | (1u64 << y);
+        }
+    }
+    changed
+}
+
+// Cuts the sets down to a row of the tables, as `cut` does to a cover. They are two functions, since a function with one caller is compiled into it.
+fn cut_row(sets: &mut [u16; 16], row: &[u16]) -> u64
+    requires { ⌜ (length (now sets) ≡ 16) × (length (now row) ≡ 16) ⌝ }
+    ensures { λ r. ⌜ CutToCover (now (sets .entry)) (now (row .entry)) (now (sets .exit)) r ⌝ }
+{
+    let mut changed = 0u64;
+    let mut y = 12;
+    while 0 < y {
+        y -= 1;
+        let old = sets[y];
+        let new = old & row[y];
         if new != old {
             if new == 0 {
                 return DEAD;
@@ -84,7 +106,7 @@ fn cut_by(sets: &mut [u16; 16], tables: &[u16; 55296], loose: u64, x: usize) -> 
     if set.without_lowest().is_empty() {
         let base = 256 * x + 16 * (set.lowest() as usize);
         let rows = &tables[..];
-        return cut(sets, &rows[base..base + 16]);
+        return cut_row(sets, &rows[base..base + 16]);
     }
     if (loose >> x) & 1 == 1 {
         return 0;

@@ -12,7 +12,7 @@ abbrev μ-loop : tie.MeasureT-loop
 μ-loop sets₀ cover changed₀ y₀ sets changed y = y
 
 loop-holds : tie.Need-loop-holds Inv-loop μ-loop
-loop-holds c = cutting-begin _ _ (c .pre .0)
+loop-holds c = cutting-begin _ _ (c .pre)
 
 sub-y : tie.Need-sub-y Inv-loop μ-loop
 sub-y c = omega arith
@@ -26,8 +26,8 @@ element-copy-out-old c = omega arith
 mul-new : tie.Need-mul-new Inv-loop μ-loop
 mul-new c = omega arith
 
-shared-slice-read-new : tie.Need-shared-slice-read-new Inv-loop μ-loop
-shared-slice-read-new c = omega arith
+element-copy-out-new : tie.Need-element-copy-out-new Inv-loop μ-loop
+element-copy-out-new c = omega arith
 
 returns : tie.Need-returns Inv-loop μ-loop
 unfolding at
@@ -70,7 +70,7 @@ cut-spec =
     mul-old
     element-copy-out-old
     mul-new
-    shared-slice-read-new
+    element-copy-out-new
     returns
     mul-sets
     element-write-sets

@@ -35,34 +35,34 @@ mul-base-2 c = search needs
 add-base : tie.Need-add-base
 add-base c = search needs
 
-add-cut : tie.Need-add-cut
-add-cut c = search needs
+add-cut-row : tie.Need-add-cut-row
+add-cut-row c = search needs
 
-mul-cut : tie.Need-mul-cut
-mul-cut c = search needs
+mul-cut-row : tie.Need-mul-cut-row
+mul-cut-row c = search needs
 
-sub-cut : tie.Need-sub-cut
-sub-cut c = search needs
+sub-cut-row : tie.Need-sub-cut-row
+sub-cut-row c = search needs
 
-part-cut-start : tie.Need-part-cut-start
-part-cut-start c = search needs
+part-cut-row-start : tie.Need-part-cut-row-start
+part-cut-row-start c = search needs
 
-part-cut-end : tie.Need-part-cut-end
+part-cut-row-end : tie.Need-part-cut-row-end
 unfolding at
-part-cut-end c =
+part-cut-row-end c =
     let i = c .before .before in
     let w = i .before .before .before .before .before .pre .1 in
     omega (arith, x-lt w, low-lt w _ (i .lowest .ensures))
 
-cut-requires : tie.Need-cut-requires
-cut-requires c κs = search needs
+cut-row-requires : tie.Need-cut-row-requires
+cut-row-requires c κs = search needs
 
 returns : tie.Need-returns
 unfolding at
 returns c =
     let i = c .before .before .before .before in
     let e = eqb-true _ 0 (sym (i .before .before .is-empty .ensures) ∙ i .before .if1 .taken) in
-    λ p w. by-row w (i .lowest .ensures) (sym (i .before .before .before .without-lowest .ensures) ∙ e) (c .cut .ensures) (part-cut-end (c .before .before))
+    λ p w. by-row w (i .lowest .ensures) (sym (i .before .before .before .without-lowest .ensures) ∙ e) (c .cut-row .ensures) (part-cut-row-end (c .before .before))
 
 shr-if2 : tie.Need-shr-if2
 shr-if2 c = search needs
@@ -79,15 +79,12 @@ cover-of-requires c κs = let w = c .before .before .before .before .before .pre
 exceeds-requires : tie.Need-exceeds-requires
 exceeds-requires c κs = search needs
 
-slice-aggregate-cut : tie.Need-slice-aggregate-cut
-slice-aggregate-cut c = search needs
-
-cut-requires-2 : tie.Need-cut-requires-2
-cut-requires-2 c κs = search needs
+cut-requires : tie.Need-cut-requires
+cut-requires c κs = search needs
 
 returns-3 : tie.Need-returns-3
 unfolding at
-returns-3 c = λ p w. by-cut w (c .before .before .before .before .before .before .before .cover-of .ensures) (c .cut2 .ensures)
+returns-3 c = λ p w. by-cut w (c .before .before .before .before .before .before .before .cover-of .ensures) (c .cut .ensures)
 
 returns-4 : tie.Need-returns-4
 unfolding at
@@ -106,18 +103,17 @@ cut-by-spec =
     cast-base
     mul-base-2
     add-base
-    add-cut
-    mul-cut
-    sub-cut
-    part-cut-start
-    part-cut-end
-    cut-requires
+    add-cut-row
+    mul-cut-row
+    sub-cut-row
+    part-cut-row-start
+    part-cut-row-end
+    cut-row-requires
     returns
     shr-if2
     returns-2
     cover-of-requires
     exceeds-requires
-    slice-aggregate-cut
-    cut-requires-2
+    cut-requires
     returns-3
     returns-4)
