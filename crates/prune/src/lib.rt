@@ -99,7 +99,7 @@ fn difference(old: &[u16; 16], new: &[u16; 16]) -> u64
     all
 }
 
-// The constraints that are due and the filters by turns until nothing moves; the cuts by variable are done at the start. True where the prefix is dead.
+// The constraints that are due and the filters by turns until nothing moves. True where the prefix is dead.
 fn alternate(
     sets: &mut [u16; 16],
     work: &mut [u64; 256],
@@ -108,13 +108,14 @@ fn alternate(
     numbers: &[u64; 384],
     k: usize,
     todo: u64,
+    dirty: u64,
 ) -> bool
-    requires { ⌜ ((p : Problem) × (gs : List (List ℕ)) × ArraysHold p (now supports) (now tables) (now numbers) × Blocked p gs (now numbers) × BeforeFixpoint p gs (now work) (now numbers) (now sets) k todo 0) ⌝ }
-    ensures { λ r. ⌜ ((p : Problem) (gs : List (List ℕ)) → ArraysHold p (now (supports .entry)) (now (tables .entry)) (now (numbers .entry)) → Blocked p gs (now (numbers .entry)) → BeforeFixpoint p gs (now (work .entry)) (now (numbers .entry)) (now (sets .entry)) k todo 0 → AfterFixpoint p gs k (now (work .entry)) (now (work .exit)) (now (sets .exit)) r) ⌝ }
+    requires { ⌜ ((p : Problem) × (gs : List (List ℕ)) × ArraysHold p (now supports) (now tables) (now numbers) × Blocked p gs (now numbers) × BeforeFixpoint p gs (now work) (now numbers) (now sets) k todo dirty) ⌝ }
+    ensures { λ r. ⌜ ((p : Problem) (gs : List (List ℕ)) → ArraysHold p (now (supports .entry)) (now (tables .entry)) (now (numbers .entry)) → Blocked p gs (now (numbers .entry)) → BeforeFixpoint p gs (now (work .entry)) (now (numbers .entry)) (now (sets .entry)) k todo dirty → AfterFixpoint p gs k (now (work .entry)) (now (work .exit)) (now (sets .exit)) r) ⌝ }
 {
     let settled = (1u64 << k) - 1;
     let mut left = todo;
-    let mut moved = 0u64;
+    let mut moved = dirty;
     loop {
         if constrain(sets, supports, tables, numbers, left, moved, settled) {
             return true;
@@ -157,7 +158,7 @@ fn fixpoint(
     if (left | numbers[SYMMETRIES]) == 0 {
         return false;
     }
-    alternate(sets, work, supports, tables, numbers, k, left)
+    alternate(sets, work, supports, tables, numbers, k, left, 0)
 }
 
 fn load(stack: &[u16; 208], k: usize, sets: &mut [u16; 16])
@@ -287,7 +288,7 @@ pub fn root(
     initial(numbers, &mut sets);
     clear_marks(work);
     let todo = constraints::touched(numbers, (1u64 << numbers[VARIABLES]) - 1);
-    let dead = fixpoint(
+    let dead = alternate(
         &mut sets,
         work,
         supports,

@@ -16,11 +16,11 @@ use Rattle.prune.proofs.alternate.Statement.{statement}
 use Rattle.prune.proofs.alternate.Tie as tie
 
 abbrev Inv-loop : tie.InvT-loop
-Inv-loop sets₀ work₀ supports tables numbers k todo settled left₀ moved₀ sets work left moved =
-    (p : Problem) (gs : List (List ℕ)) → ArraysHold p supports tables numbers → Blocked p gs numbers → BeforeFixpoint p gs work₀ numbers sets₀ k todo 0 → BeforeFixpoint p gs work numbers sets k left moved × OnlyMarks work₀ work k
+Inv-loop sets₀ work₀ supports tables numbers k todo dirty settled left₀ moved₀ sets work left moved =
+    (p : Problem) (gs : List (List ℕ)) → ArraysHold p supports tables numbers → Blocked p gs numbers → BeforeFixpoint p gs work₀ numbers sets₀ k todo dirty → BeforeFixpoint p gs work numbers sets k left moved × OnlyMarks work₀ work k
 
 abbrev μ-loop : tie.MeasureT-loop
-μ-loop sets₀ work₀ supports tables numbers k todo settled left₀ moved₀ sets work left moved = size sets
+μ-loop sets₀ work₀ supports tables numbers k todo dirty settled left₀ moved₀ sets work left moved = size sets
 
 -- what the constraints left, where no set is empty
 constrained : (c : tie.Else1 Inv-loop μ-loop) (p : Problem) (gs : List (List ℕ)) → ArraysHold p (c .before .before .before .before .args .supports .now) (c .before .before .before .before .args .tables .now) (c .before .before .before .before .args .numbers .now) → Blocked p gs (c .before .before .before .before .args .numbers .now) →

@@ -26,12 +26,12 @@ sub-touched c = some-one _ (some-few (c .before .before .before .before .before 
 touched-requires : tie.Need-touched-requires
 touched-requires c κs = search needs
 
-element-copy-out-fixpoint : tie.Need-element-copy-out-fixpoint
-element-copy-out-fixpoint c = search needs
+element-copy-out-alternate : tie.Need-element-copy-out-alternate
+element-copy-out-alternate c = search needs
 
-fixpoint-requires : tie.Need-fixpoint-requires
+alternate-requires : tie.Need-alternate-requires
 unfolding at
-fixpoint-requires c κs =
+alternate-requires c κs =
     let r = c .before .before .before .before .before .before .before .before .before .pre .2 in
     let i = c .before .before .before .before .before .before .before .initial .ensures in
     (_, _, arrays-hold r, blocked r, root-start r _ (i .0) (i .1) _ refl _ (c .before .before .before .touched .ensures) _ (c .before .before .before .before .before .clear-marks .ensures))
@@ -40,7 +40,7 @@ returns : tie.Need-returns
 unfolding at
 returns c = λ p gs r.
     let i = c .before .before .before .before .before .before .before .before .before .initial .ensures in
-    root-dead r (c .before .before .before .before .before .before .before .before .before .initial .last .1 .0) (i .0) (i .1) _ refl _ (c .before .before .before .before .before .touched .ensures) _ (c .before .before .before .before .before .before .before .clear-marks .ensures) _ _ _ (c .before .fixpoint .ensures p gs (arrays-hold r) (blocked r) (root-start r _ (i .0) (i .1) _ refl _ (c .before .before .before .before .before .touched .ensures) _ (c .before .before .before .before .before .before .before .clear-marks .ensures))) (c .if1 .taken)
+    root-dead r (c .before .before .before .before .before .before .before .before .before .initial .last .1 .0) (i .0) (i .1) _ refl _ (c .before .before .before .before .before .touched .ensures) _ (c .before .before .before .before .before .before .before .clear-marks .ensures) _ _ _ (c .before .alternate .ensures p gs (arrays-hold r) (blocked r) (root-start r _ (i .0) (i .1) _ refl _ (c .before .before .before .before .before .touched .ensures) _ (c .before .before .before .before .before .before .before .clear-marks .ensures))) (c .if1 .taken)
 
 store-requires : tie.Need-store-requires
 store-requires c κs = search needs
@@ -49,7 +49,7 @@ returns-2 : tie.Need-returns-2
 unfolding at
 returns-2 c = λ p gs r.
     let i = c .before .before .before .before .before .before .before .before .before .before .before .before .initial .ensures in
-    root-live r (c .before .before .before .before .before .before .before .before .before .before .before .before .initial .last .1 .0) (i .0) (i .1) _ refl _ (c .before .before .before .before .before .before .before .before .touched .ensures) _ (c .before .before .before .before .before .before .before .before .before .before .clear-marks .ensures) _ _ _ _ (c .before .before .before .before .fixpoint .ensures p gs (arrays-hold r) (blocked r) (root-start r _ (i .0) (i .1) _ refl _ (c .before .before .before .before .before .before .before .before .touched .ensures) _ (c .before .before .before .before .before .before .before .before .before .before .clear-marks .ensures))) (c .before .before .before .if1 .left) (c .store .ensures)
+    root-live r (c .before .before .before .before .before .before .before .before .before .before .before .before .initial .last .1 .0) (i .0) (i .1) _ refl _ (c .before .before .before .before .before .before .before .before .touched .ensures) _ (c .before .before .before .before .before .before .before .before .before .before .clear-marks .ensures) _ _ _ _ (c .before .before .before .before .alternate .ensures p gs (arrays-hold r) (blocked r) (root-start r _ (i .0) (i .1) _ refl _ (c .before .before .before .before .before .before .before .before .touched .ensures) _ (c .before .before .before .before .before .before .before .before .before .before .clear-marks .ensures))) (c .before .before .before .if1 .left) (c .store .ensures)
 
 pub root-spec : {M : Type 1} → statement M
 root-spec =
@@ -61,8 +61,8 @@ root-spec =
     shl-touched
     sub-touched
     touched-requires
-    element-copy-out-fixpoint
-    fixpoint-requires
+    element-copy-out-alternate
+    alternate-requires
     returns
     store-requires
     returns-2)
