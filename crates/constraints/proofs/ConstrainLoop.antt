@@ -1,17 +1,17 @@
--- The loop of `constrain`: what holds before each turn, one turn, and both ends. Assumes nothing.
+-- The loops of `constrain8` and `constrain16`: what holds before each turn, one turn, and both ends, whichever constraints a round takes. Assumes nothing.
 use mathlib.Core.Path.{_≡_, refl, sym, ap, _∙_, subst}
 use mathlib.Core.Bool.{Bool, true, false, not}
 use mathlib.Core.Logic.{_⊎_, inl, inr, ⊎-elim}
 use mathlib.Core.List.{List, List·Memᴰ}
-use Prim.Native.Nat.{ℕ, _+_, _-_, _*_, _%_, _^_, _≤_, _<_}
+use Prim.Native.Nat.{ℕ, _+_, _-_, _*_, _^_, _≤_, _<_}
 use native.Mathlib.Nat.{lt-of-le-of-lt}
 use native.Mathlib.Omega.{arith}
 use native.Mathlib.Decide.{ℕ-discrete}
-use lib.Dec.{T, eqb, ltb, eqb→eq, eqb-refl}
+use lib.Dec.{T, eqb, ltb, eqb-refl}
 use lib.ListN.{length}
 use lib.Bits.{bitAnd, bitOr, and-le-l, or-lt, or-zero-r, or-disjoint}
 use lib.Count.{trailingZeros}
-use lib.Pow.{pow-lt}
+use lib.Pow.{pow-mono}
 use borrow.Author.Tests.{ltb-true, ltb-false, eqb-true, eq-eqb}
 use Rattle.model.specs.Lists.{both, any, at}
 use Rattle.model.specs.ValueSets.{has}
@@ -20,18 +20,18 @@ use Rattle.model.proofs.Lists.{T-of, of-T, T-ext, not-of, of-not, both-i, both-
 use Rattle.model.proofs.Sets.{has-none, has-lt, mask-ext, inside-antisym, size, size-inside, size-strict}
 use Rattle.model.specs.Pruning.{Sets, Inside, Prunes}
 use Rattle.model.proofs.Masks.{has-one}
-use Rattle.model.proofs.Members.{low-has, rest-e, rest-i, rest-less, one-bit, one-has, has-0, or-i, or-e, and-e}
-use Rattle.model.proofs.Firsts.{take-full, take-empty, full-take}
+use Rattle.model.proofs.Members.{low-has, rest-e, rest-i, rest-less, has-0, or-i, or-e, and-e}
+use Rattle.model.proofs.Firsts.{take-i, take-full, take-empty, full-take}
 use Rattle.model.proofs.Prunes.{prunes-none, prunes-then}
 use Rattle.model.specs.WellFormed.{GoodConstraint}
-use Rattle.layout.specs.Places.{OTHERS, DEAD}
+use Rattle.layout.specs.Places.{VALUES, OTHERS, DEAD}
 use Rattle.layout.specs.Layout.{constraintAt}
 use Rattle.layout.specs.Tables.{Linked, byRows}
 use Rattle.layout.specs.Pruning.{Fixed, setsOf}
 use Rattle.layout.proofs.Links.{is-one, good}
 use Rattle.constraints.specs.Revised.{revised, Revision, ConstraintsPending, Constrained}
-use Rattle.constraints.specs.Steps.{ConstraintsHeld, Nonempty, Touched, Round}
-use Rattle.constraints.proofs.Bits.{without-has}
+use Rattle.constraints.specs.Steps.{ConstraintsHeld, Nonempty, Narrow, Waiting, Round}
+use Rattle.constraints.proofs.Bits.{without-has, inside-le}
 use Rattle.constraints.proofs.Rows.{revised-sets, revised-inside, revised-fixed, revised-out, fixed-kept}
 use Rattle.constraints.proofs.Removal.{fixed-take, fixed-all, revised-prunes}
 
@@ -71,12 +71,11 @@ module _ (c : Constraint) (ds es : List ℕ) (changed : ℕ) (s : Sets 16 ds) (r
       go true q = ltb-true (size es) (size ds) q
       go false q = absurd (differs x t (ap (λ (l : List ℕ). at l x) (inside-antisym 16 es ds after s inside (size-strict es ds (after .0 ∙ sym (s .0)) (s .1) inside (ltb-false (size es) (size ds) q)))))
 
--- a constraint that is not pruned by variable and not touched has no changed variable in its scope
-pub untouched : {p : Problem} {numbers : List ℕ} {changed g : ℕ} → Linked p numbers → Touched numbers changed g → (k : ℕ) → k < length (p .constraints) → byRows p k ≡ false → (T (has g k) → ⊥) → (y : ℕ) → y < 16 → List·Memᴰ y (constraintAt p k .scope) → has changed y ≡ false
-untouched {p} {numbers} {changed} {g} n u k h b f y l m =
-    not-of (has changed y)
-    (λ t. f (u .touched-i y k t (T-of (has (at numbers (OTHERS + y)) k)
-    (n .touching y k l h ∙ of-T (both (any (eqb y) (constraintAt p k .scope)) (not (byRows p k))) (both-i (any (eqb y) (constraintAt p k .scope)) (not (byRows p k)) (among-i y (constraintAt p k .scope) m) (T-of (not (byRows p k)) (ap not b)))))))
+-- a constraint that is not pruned by variable is among the others of each variable of its scope
+among-others : {p : Problem} {numbers : List ℕ} → Linked p numbers → (k : ℕ) → k < length (p .constraints) → byRows p k ≡ false → (y : ℕ) → y < 16 → List·Memᴰ y (constraintAt p k .scope) → T (has (at numbers (OTHERS + y)) k)
+among-others {p} {numbers} n k h b y l m =
+    T-of (has (at numbers (OTHERS + y)) k)
+    (n .touching y k l h ∙ of-T (both (any (eqb y) (constraintAt p k .scope)) (not (byRows p k))) (both-i (any (eqb y) (constraintAt p k .scope)) (not (byRows p k)) (among-i y (constraintAt p k .scope) m) (T-of (not (byRows p k)) (ap not b))))
 
 -- ---- a round is taken out of what is due
 abbrev pub without : ℕ → ℕ → ℕ
@@ -113,11 +112,25 @@ module _ {due round : ℕ} (h : due < 2 ^ 64) (i : round < 2 ^ 64) where
 
 -- the round before is at its end and the next is chosen, or it goes on
 abbrev pub Chosen : ℕ → ℕ → ℕ → ℕ → Type 0
-Chosen left next l m = ((left ≡ 0) × (l < 2 ^ 64) × Round next l × (m ≡ without next l)) ⊎ ((l ≡ left) × (m ≡ next))
+Chosen left next l m = ((left ≡ 0) × (l < 2 ^ 64) × Round next l × (m ≡ without next l)) ⊎ ((left ≡ 0 → ⊥) × (l ≡ left) × (m ≡ next))
 
-pub chosen-sum : {left next l m : ℕ} → next < 2 ^ 64 → Chosen left next l m → l + m ≡ left + next
+-- a round of some that are due, and one of all
+pub some-due : {left next l m r : ℕ} → left ≡ 0 → r < 2 ^ 64 → Round next r → l ≡ r → m ≡ without next r → Chosen left next l m
+some-due {left} {next} {l} {m} e h r f g = subst (λ (i : ℕ). Chosen left next i m) (sym f) (inl (e, h, r, g))
+
+pub all-due : {left next l m : ℕ} → left ≡ 0 → next < 2 ^ 64 → (next ≡ 0 → ⊥) → l ≡ next → m ≡ 0 → Chosen left next l m
+all-due {next = next} e h n f g = some-due e h all f (let s = parts-sum h h all in omega (arith, g))
+  where
+    all : Round next next
+    all = record { some = n; inside = λ k t. t }
+
+pub chosen-some : {left next l m : ℕ} → Chosen left next l m → l ≡ 0 → ⊥
+chosen-some (inl q) e = q .2 .some e
+chosen-some (inr q) e = q .0 (sym (q .1) ∙ e)
+
+chosen-sum : {left next l m : ℕ} → next < 2 ^ 64 → Chosen left next l m → l + m ≡ left + next
 chosen-sum h (inl q) = let s = parts-sum h (q .1) (q .2) in omega (arith, q .0, q .3)
-chosen-sum h (inr q) = omega (arith, q .0, q .1)
+chosen-sum h (inr q) = omega (arith, q .1, q .2)
 
 -- ---- what holds before each turn
 pub record ConstrainedSoFar (p : Problem) (numbers supports ds es : List ℕ) (left next all : ℕ) : Type 0 where
@@ -135,6 +148,13 @@ pub record ConstrainedSoFar (p : Problem) (numbers supports ds es : List ℕ) (l
   pub few : (x : ℕ) → T (has all x) → x < p .variables
   pub shrunk : (x : ℕ) → T (has all x) → size es < size ds
   pub long : length ds ≡ 16
+
+-- the loop's invariant and its measure: the number of values in all sets, then the sets of the constraints
+abbrev pub SoFar : List ℕ → List ℕ → List ℕ → ℕ → List ℕ → ℕ → ℕ → ℕ → Type 0
+SoFar numbers supports ds todo es left next all = (p : Problem) → ConstraintsPending p numbers supports ds todo → ConstrainedSoFar p numbers supports ds es left next all
+
+abbrev pub measure : List ℕ → ℕ → ℕ → ℕ
+measure es left next = size es * 2 ^ 65 + (left + next)
 
 module _ (p : Problem) (numbers supports ds : List ℕ) where
   pub constrained-begin : (todo : ℕ) → todo < 2 ^ 64 → ConstraintsPending p numbers supports ds todo → ConstrainedSoFar p numbers supports ds ds todo 0 0
@@ -175,10 +195,10 @@ module _ (p : Problem) (numbers supports ds : List ℕ) where
   }
 
   -- after the choice of the round
-  pub constrained-on : (es : List ℕ) (left next all l m : ℕ) → Chosen left next l m → ConstrainedSoFar p numbers supports ds es left next all → ConstrainedSoFar p numbers supports ds es l m all
+  constrained-on : (es : List ℕ) (left next all l m : ℕ) → Chosen left next l m → ConstrainedSoFar p numbers supports ds es left next all → ConstrainedSoFar p numbers supports ds es l m all
   constrained-on es left next all l m (inl q) t = subst (λ (i : ℕ). ConstrainedSoFar p numbers supports ds es l i all) (sym (q .3)) (constrained-swap es left next all l (q .0) (q .1) (q .2) t)
   constrained-on es left next all l m (inr q) t =
-      subst (λ (i : ℕ). ConstrainedSoFar p numbers supports ds es i m all) (sym (q .0)) (subst (λ (i : ℕ). ConstrainedSoFar p numbers supports ds es left i all) (sym (q .1)) t)
+      subst (λ (i : ℕ). ConstrainedSoFar p numbers supports ds es i m all) (sym (q .1)) (subst (λ (i : ℕ). ConstrainedSoFar p numbers supports ds es left i all) (sym (q .2)) t)
 
   pub constrained-end : (es : List ℕ) (left next all : ℕ) → left ≡ 0 → next ≡ 0 → ConstrainedSoFar p numbers supports ds es left next all → Constrained p ds es all
   constrained-end es left next all e f t = record {
@@ -193,12 +213,18 @@ module _ (p : Problem) (numbers supports ds : List ℕ) where
   }
 
 -- ---- one turn: constraint k has pruned
-module _ {p : Problem} {numbers supports ds es : List ℕ} {left next all : ℕ} (t : ConstrainedSoFar p numbers supports ds es left next all) (n : left ≡ 0 → ⊥) where
+module _ {p : Problem} {numbers supports ds es : List ℕ} {left₀ next₀ left next all : ℕ} (s : ConstrainedSoFar p numbers supports ds es left₀ next₀ all) (o : Chosen left₀ next₀ left next) where
+  t : ConstrainedSoFar p numbers supports ds es left next all
+  t = constrained-on p numbers supports ds es left₀ next₀ all left next o s
+
+  some : left ≡ 0 → ⊥
+  some = chosen-some o
+
   abbrev k : ℕ
   k = trailingZeros 64 left
 
   low : T (has left (trailingZeros 64 left)) × (trailingZeros 64 left < 64)
-  low = low-has 64 left (omega arith) (t .wide)
+  low = low-has 64 left (let n = some in omega arith) (t .wide)
 
   pub k-lt : trailingZeros 64 left < length (p .constraints)
   k-lt = t .known k (inl (low .0))
@@ -215,11 +241,21 @@ module _ {p : Problem} {numbers supports ds es : List ℕ} {left next all : ℕ}
   pub k-full : Nonempty (constraintAt p (trailingZeros 64 left) .scope) es
   k-full x m = t .full x (c-good .inside x m)
 
+  -- sets inside narrow ones are narrow
+  pub k-narrow : {todo : ℕ} → ConstraintsPending p numbers supports ds todo → at numbers VALUES < 9 → Narrow (constraintAt p (trailingZeros 64 left) .scope) es
+  k-narrow w h x m =
+      let l = c-good .inside x m in
+      let a = inside-le (at es x) (at (p .initial) x) (t .sixteen .1 x) (λ v q. w .given .inside x v (take-i (p .variables) ds (w .given .sixteen) (omega (arith, w .wellFormed .few)) x v l (t .less x v q))) in
+      let b = w .wellFormed .narrow x l in
+      let e : p .values ≤ 8 = omega (arith, w .numbered .values) in
+      let d : 2 ^ p .values ≤ 2 ^ 8 = pow-mono e in
+      omega arith
+
   abbrev others : ℕ
   others = bitAnd left (left - 1)
 
   others-i : (j : ℕ) → T (has left j) → T (has others j) ⊎ (j ≡ k)
-  others-i = rest-i 64 left (omega arith) (t .wide)
+  others-i = rest-i 64 left (let n = some in omega arith) (t .wide)
 
   module _ {fs : List ℕ} {changed : ℕ} (r : Revision (constraintAt p (trailingZeros 64 left)) es fs changed) where
     way : (prefix : List ℕ) → Prunes p prefix (setsOf p ds) (setsOf p (revised es (constraintAt p (trailingZeros 64 left))))
@@ -261,30 +297,35 @@ module _ {p : Problem} {numbers supports ds es : List ℕ} {left next all : ℕ}
           ⊎-elim (λ i. let a = t .shrunk x i in let b = fewer c es fs changed (t .sixteen) r l in omega (arith, a, b))
           (λ i. let a = less-if c es fs changed (t .sixteen) r l x i in let b = size-inside es ds (t .sixteen .0 ∙ sym (t .long)) (t .less) in omega (arith, a, b)) (or-e all changed x q)
 
-      -- the constraints of g may have something to take: those that are not left wait for the next round
-      module _ {g : ℕ} (u : Touched numbers changed g) (m : ℕ) (w : m < 2 ^ 64) (old : (j : ℕ) → T (has next j) → T (has m j)) (new : (j : ℕ) → T (has g j) → (T (has m j) ⊎ T (has others j)) ⊎ (j ≡ k)) (back : (j : ℕ) → T (has m j) → T (has next j) ⊎ T (has g j)) where
-        turn-known : (j : ℕ) → T (has others j) ⊎ T (has m j) → j < length (p .constraints)
+      -- the constraints of g wait for the next round
+      module _ {g : ℕ} (h : g < 2 ^ 64) (u : Waiting numbers changed k (bitAnd left (left - 1)) g) where
+        turn-known : (j : ℕ) → T (has others j) ⊎ T (has (bitOr next g) j) → j < length (p .constraints)
         turn-known j =
-            ⊎-elim (λ q. t .known j (inl (rest-e 64 left (omega arith) (t .wide) j q)))
-            (λ q. ⊎-elim (λ i. t .known j (inr i)) (λ i. let x = u .touched-e j i in has-lt (length (p .constraints)) (at numbers (OTHERS + x .0)) j (t .linked .touching-few (x .0) (changed-lt (x .0) (x .1))) (x .2)) (back j q))
+            ⊎-elim (λ q. t .known j (inl (rest-e 64 left (let n = some in omega arith) (t .wide) j q)))
+            (λ q. ⊎-elim (λ i. t .known j (inr i)) (λ i. let x = u .waiting-e j i in has-lt (length (p .constraints)) (at numbers (OTHERS + x .0)) j (t .linked .touching-few (x .0) (changed-lt (x .0) (x .1))) (x .2)) (or-e next g j q))
 
-        turn-others : (j : ℕ) → j < length (p .constraints) → has others j ≡ false → has m j ≡ false → byRows p j ≡ false → Fixed fs (constraintAt p j)
+        turn-others : (j : ℕ) → j < length (p .constraints) → has others j ≡ false → has (bitOr next g) j ≡ false → byRows p j ≡ false → Fixed fs (constraintAt p j)
         turn-others j i e f b = go (ℕ-discrete j k)
           where
+            out : T (has next j) ⊎ T (has g j) → ⊥
+            out q = of-not (has (bitOr next g) j) f (or-i next g j q)
+
             go : Dec (j ≡ k) → Fixed fs (constraintAt p j)
             go (yes q) = subst (λ (i : ℕ). Fixed fs (constraintAt p i)) (sym q) (subst (λ (m : List ℕ). Fixed m c) (sym (r .sets l)) (revised-fixed es c (t .sixteen .1) (ascending-sorted (c .scope) (c-good .ordered))))
             go (no q) =
                 fixed-kept (constraintAt p j) es fs
-                (t .others j i (not-of (has left j) (λ z. ⊎-elim (of-not (has others j) e) q (others-i j z))) (not-of (has next j) (λ z. of-not (has m j) f (old j z))) b)
-                (λ y z. still c es fs changed (t .sixteen) r l y (untouched (t .linked) u j i b (λ o. ⊎-elim (⊎-elim (of-not (has m j) f) (of-not (has others j) e)) q (new j o)) y (let h = good (t .held .wellFormed) j i .inside y z in omega (arith, t .held .wellFormed .few)) z))
+                (t .others j i (not-of (has left j) (λ z. ⊎-elim (of-not (has others j) e) q (others-i j z))) (not-of (has next j) (λ z. out (inl z))) b)
+                (λ y z. still c es fs changed (t .sixteen) r l y
+                (not-of (has changed y)
+                (λ a. ⊎-elim (λ v. out (inr v)) (⊎-elim (of-not (has others j) e) q) (u .waiting-i y j a (among-others (t .linked) j i b y (let d = good (t .held .wellFormed) j i .inside y z in omega (arith, t .held .wellFormed .few)) z)))))
 
-        turned : ConstrainedSoFar p numbers supports ds fs (bitAnd left (left - 1)) m (bitOr all changed)
-        turned = record {
+        pub constrained-more : ConstrainedSoFar p numbers supports ds fs (bitAnd left (left - 1)) (bitOr next g) (bitOr all changed)
+        constrained-more = record {
           held = t .held;
           linked = t .linked;
           sixteen = after c es fs changed (t .sixteen) r l;
           wide = lt-of-le-of-lt (and-le-l left (left - 1)) (t .wide);
-          wide-next = w;
+          wide-next = or-lt 64 next g (t .wide-next) h;
           full = turn-full;
           known = turn-known;
           others = turn-others;
@@ -296,48 +337,20 @@ module _ {p : Problem} {numbers supports ds es : List ℕ} {left next all : ℕ}
           long = t .long;
         }
 
+        -- something changed: a value less is left
+        pub more-less : changed < 2 ^ 64 → (changed ≡ 0 → ⊥) → measure fs (bitAnd left (left - 1)) (bitOr next g) < measure es left₀ next₀
+        more-less i n =
+            let a = less-if c es fs changed (t .sixteen) r l (trailingZeros 64 changed) (low-has 64 changed (omega arith) i .0) in
+            let b : others < 2 ^ 64 = lt-of-le-of-lt (and-le-l left (left - 1)) (t .wide) in
+            let d = or-lt 64 next g (t .wide-next) h in
+            omega arith
+
       -- nothing changed: a constraint less is left
       pub constrained-same : changed ≡ 0 → ConstrainedSoFar p numbers supports ds fs (bitAnd left (left - 1)) next all
       constrained-same e =
           subst (ConstrainedSoFar p numbers supports ds fs (bitAnd left (left - 1)) next) (ap (bitOr all) e ∙ or-zero-r all)
-          (turned {g = 0} record { touched-i = λ x j q i. absurd (has-0 x (subst (λ (z : ℕ). T (has z x)) e q)); touched-e = λ j q. absurd (has-0 j q) } next (t .wide-next) (λ j q. q) (λ j q. absurd (has-0 j q)) (λ j q. inl q))
+          (subst (λ (i : ℕ). ConstrainedSoFar p numbers supports ds fs (bitAnd left (left - 1)) i (bitOr all changed)) (or-zero-r next)
+          (constrained-more {g = 0} (omega arith) record { waiting-i = λ x j q i. absurd (has-0 x (subst (λ (z : ℕ). T (has z x)) e q)); waiting-e = λ j q. absurd (has-0 j q) }))
 
-      pub same-less : (z : ℕ) → left + next ≡ z → size fs * 2 ^ 65 + (bitAnd left (left - 1) + next) < size es * 2 ^ 65 + z
-      same-less z e = let a = rest-less left n in let b = fewer c es fs changed (t .sixteen) r l in omega arith
-
-      -- something changed: a value less is left
-      module _ (g : ℕ) (h : g < 2 ^ 64) where
-        abbrev done : ℕ
-        done = bitOr (1 * 2 ^ trailingZeros 64 left % 2 ^ 64) (bitAnd left (left - 1))
-
-        abbrev more : ℕ
-        more = bitOr next (bitAnd g ((2 ^ 64 - 1) - bitOr (1 * 2 ^ trailingZeros 64 left % 2 ^ 64) (bitAnd left (left - 1))))
-
-        done-lt : done < 2 ^ 64
-        done-lt = or-lt 64 (1 * 2 ^ k % 2 ^ 64) others (subst (λ (z : ℕ). z < 2 ^ 64) (sym (one-bit 64 k (low .1))) (pow-lt (low .1))) (lt-of-le-of-lt (and-le-l left (left - 1)) (t .wide))
-
-        more-lt : more < 2 ^ 64
-        more-lt = or-lt 64 next (bitAnd g ((2 ^ 64 - 1) - done)) (t .wide-next) (lt-of-le-of-lt (and-le-l g ((2 ^ 64 - 1) - done)) h)
-
-        new : (j : ℕ) → T (has g j) → (T (has more j) ⊎ T (has others j)) ⊎ (j ≡ k)
-        new j q = go (has done j) refl
-          where
-            i : j < 64
-            i = has-lt 64 g j h q
-
-            go : (b : Bool) → has done j ≡ b → (T (has more j) ⊎ T (has others j)) ⊎ (j ≡ k)
-            go true e = ⊎-elim (λ o. inr (eqb→eq j k (subst T (one-has 64 k j (low .1)) o))) (λ o. inl (inr o)) (or-e (1 * 2 ^ k % 2 ^ 64) others j (T-of (has done j) e))
-            go false e = inl (inl (or-i next (bitAnd g ((2 ^ 64 - 1) - done)) j (inr (subst T (sym (without-has 64 g done j done-lt i)) (both-i (has g j) (not (has done j)) q (T-of (not (has done j)) (ap not e)))))))
-
-        back : (j : ℕ) → T (has more j) → T (has next j) ⊎ T (has g j)
-        back j q = ⊎-elim inl (λ o. inr (and-e g ((2 ^ 64 - 1) - done) j o .0)) (or-e next (bitAnd g ((2 ^ 64 - 1) - done)) j q)
-
-        pub constrained-more : Touched numbers changed g → ConstrainedSoFar p numbers supports ds fs (bitAnd left (left - 1)) more (bitOr all changed)
-        constrained-more u = turned u more more-lt (λ j q. or-i next (bitAnd g ((2 ^ 64 - 1) - done)) j (inl q)) new back
-
-        pub more-less : changed < 2 ^ 64 → (changed ≡ 0 → ⊥) → (z : ℕ) → left + next ≡ z → size fs * 2 ^ 65 + (bitAnd left (left - 1) + more) < size es * 2 ^ 65 + z
-        more-less i o z e =
-            let a = less-if c es fs changed (t .sixteen) r l (trailingZeros 64 changed) (low-has 64 changed (omega arith) i .0) in
-            let b : others < 2 ^ 64 = lt-of-le-of-lt (and-le-l left (left - 1)) (t .wide) in
-            let d = more-lt in
-            omega arith
+      pub same-less : measure fs (bitAnd left (left - 1)) next < measure es left₀ next₀
+      same-less = let a = rest-less left some in let b = fewer c es fs changed (t .sixteen) r l in let z = chosen-sum (s .wide-next) o in omega arith

@@ -1,6 +1,6 @@
 -- What the arrays of a problem say of one of its constraints: its scope and its table. Assumes nothing.
-use mathlib.Core.Path.{_≡_, sym, ap, _∙_, subst}
-use mathlib.Core.List.{List, [], _∷_, List·Memᴰ}
+use mathlib.Core.Path.{_≡_, refl, sym, ap, _∙_, subst}
+use mathlib.Core.List.{List, [], _∷_, List·Memᴰ, List·Memᴰ·head, List·Memᴰ·tail}
 use Prim.Native.Nat.{ℕ, _+_, _/_, _%_, _<_}
 use native.Mathlib.Omega.{arith}
 use lib.Dec.{T}
@@ -12,6 +12,17 @@ use Rattle.layout.specs.Places.{SCOPES}
 use Rattle.layout.specs.Layout.{constraintAt}
 use Rattle.layout.proofs.Links.{good}
 use Rattle.constraints.specs.Steps.{ConstraintsHeld, Scoped}
+
+-- the scope of three variables that a number holds
+abbrev pub scope3 : ℕ → List ℕ
+scope3 w = w / 256 % 256 ∷ w / 65536 % 256 ∷ w / 16777216 % 256 ∷ []
+
+-- what holds of each variable of such a scope
+pub of-three : {P : ℕ → Type 0} {scope : List ℕ} {x y z : ℕ} → scope ≡ x ∷ y ∷ z ∷ [] → ((i : ℕ) → List·Memᴰ i scope → P i) → P x × P y × P z
+of-three {scope = scope} {x} {y} {z} e f = (f _ (here (List·Memᴰ·head refl)), f _ (here (List·Memᴰ·tail (List·Memᴰ·head refl))), f _ (here (List·Memᴰ·tail (List·Memᴰ·tail (List·Memᴰ·head refl)))))
+  where
+    here : {i : ℕ} → List·Memᴰ i (x ∷ y ∷ z ∷ []) → List·Memᴰ i scope
+    here {i} m = subst (λ (l : List ℕ). List·Memᴰ i l) (sym e) m
 
 module _ {p : Problem} {numbers supports : List ℕ} (g : ConstraintsHeld p numbers supports) (k : ℕ) (h : k < length (p .constraints)) where
   -- the scope as the code reads it
@@ -27,7 +38,7 @@ module _ {p : Problem} {numbers supports : List ℕ} (g : ConstraintsHeld p numb
     table = λ vs l b. g .tabled k h vs (l ∙ ap length (sym e)) b;
   }
 
-  pub scoped-3 : word % 256 ≡ 3 → Scoped (constraintAt p k) supports k (word / 256 % 256 ∷ word / 65536 % 256 ∷ word / 16777216 % 256 ∷ [])
+  pub scoped-3 : word % 256 ≡ 3 → Scoped (constraintAt p k) supports k (scope3 (at numbers (SCOPES + k)))
   scoped-3 e =
       let l = sym (g .numbered .arity k h) ∙ e in
       scoped _ (list-3 (constraintAt p k .scope) _ _ _ l (sym (g .numbered .scope k 0 h (omega (arith, l)))) (sym (g .numbered .scope k 1 h (omega (arith, l)))) (sym (g .numbered .scope k 2 h (omega (arith, l)))))

@@ -12,7 +12,7 @@ use lib.ListN.{length, set, length-set}
 use lib.Bits.{bitAnd, bitOr, and-le-l, or-lt}
 use borrow.Author.Tests.{eq-eqb, ne-eqb}
 use Rattle.model.specs.Lists.{both, either, any, at, same, ascending}
-use Rattle.model.specs.ValueSets.{has, withoutMask, lowestOf, oneIf}
+use Rattle.model.specs.ValueSets.{has, lowestOf, oneIf}
 use Rattle.model.specs.Problem.{Constraint}
 use Rattle.model.specs.Search.{supported}
 use Rattle.model.proofs.Lists.{T-of, of-T, of-not, any-i, any-e, among-i, among-e, same-eq, same-refl, Sorted, ascending-sorted, at-set, at-set-other, set-at}
@@ -23,7 +23,7 @@ use Rattle.model.proofs.Members.{both-no, both-yes, either-no, rest-begin, has-
 use Rattle.layout.specs.Places.{DEAD}
 use Rattle.layout.specs.Layout.{place}
 use Rattle.constraints.specs.Revised.{revised, Revision}
-use Rattle.constraints.specs.Steps.{Together, Joined, Together3, Joined3, Scoped, Nonempty, SetCut}
+use Rattle.constraints.specs.Steps.{OneValue, Together, Joined, Together3, Joined3, Scoped, SetCut}
 use Rattle.constraints.proofs.Bits.{one-small}
 use Rattle.constraints.proofs.Unions.{single, joined3-none}
 use Rattle.constraints.proofs.Rows.{RowIn, PairIn, alive, pair-has, supported-e, supported-i, supported-out, revised-is}
@@ -399,7 +399,7 @@ module _ {c : Constraint} {supports : List ℕ} {k x y z : ℕ} (p : Scoped c su
       (three p ds s (at ds x) second last (s .1 x) g h j 0 n i (sym (ap (λ (b : Bool). oneIf (not b) x) (eq-eqb (at ds x) (at ds x) refl))) o a e)
 
 -- ---- two of three sets have one value: one set of the table cuts the third
-module _ {c : Constraint} {supports : List ℕ} {k x y z : ℕ} (p : Scoped c supports k (x ∷ y ∷ z ∷ [])) (ds : List ℕ) (s : Sets 16 ds) (g : Nonempty (x ∷ y ∷ z ∷ []) ds) (o : withoutMask (at ds x) (lowestOf (at ds x)) ≡ 0) (q : withoutMask (at ds y) (lowestOf (at ds y)) ≡ 0) where
+module _ {c : Constraint} {supports : List ℕ} {k x y z : ℕ} (p : Scoped c supports k (x ∷ y ∷ z ∷ [])) (ds : List ℕ) (s : Sets 16 ds) (o : OneValue (at ds x)) (q : OneValue (at ds y)) where
   abbrev u : ℕ
   u = lowestOf (at ds x)
 
@@ -412,23 +412,17 @@ module _ {c : Constraint} {supports : List ℕ} {k x y z : ℕ} (p : Scoped c su
   abbrev M : ℕ → ℕ → ℕ → Type 0
   M = Together3 supports (256 * k) (at ds x) (at ds y) (at ds z)
 
-  x-full : at ds x ≡ 0 → ⊥
-  x-full = g x (List·Memᴰ·head refl)
-
-  y-full : at ds y ≡ 0 → ⊥
-  y-full = g y (List·Memᴰ·tail (List·Memᴰ·head refl))
-
   is-u : (i : ℕ) → T (has (at ds x) i) → i ≡ u
-  is-u = single (at ds x) (s .1 x) x-full o
+  is-u = single (at ds x) (s .1 x) o
 
   is-v : (i : ℕ) → T (has (at ds y) i) → i ≡ v
-  is-v = single (at ds y) (s .1 y) y-full q
+  is-v = single (at ds y) (s .1 y) q
 
   pub u-has : T (has (at ds x) (lowestOf (at ds x))) × (lowestOf (at ds x) < 16)
-  u-has = lowest-left (at ds x) (at ds x) _ (rest-begin 16 (at ds x) (s .1 x)) x-full refl
+  u-has = lowest-left (at ds x) (at ds x) _ (rest-begin 16 (at ds x) (s .1 x)) (o .some) refl
 
   pub v-has : T (has (at ds y) (lowestOf (at ds y))) × (lowestOf (at ds y) < 16)
-  v-has = lowest-left (at ds y) (at ds y) _ (rest-begin 16 (at ds y) (s .1 y)) y-full refl
+  v-has = lowest-left (at ds y) (at ds y) _ (rest-begin 16 (at ds y) (s .1 y)) (q .some) refl
 
   together-i : (w : ℕ) → T (has t w) → M u v w
   together-i w h = let q = and-e (at ds z) (at supports (256 * k + 16 * u + v)) w h in (u-has .0, (v-has .0, q .0, q .1))

@@ -1,15 +1,15 @@
 -- The loops that run through the members of a set and unite what each of them gives. Assumes nothing.
 use mathlib.Core.Path.{_≡_, refl, sym, ap, _∙_, subst}
-use mathlib.Core.Bool.{Bool, not}
+use mathlib.Core.Bool.{Bool, true, not}
 use mathlib.Core.Logic.{_⊎_, inl, inr, ⊎-elim}
 use mathlib.Core.List.{List}
 use Prim.Native.Nat.{ℕ, _+_, _-_, _*_, _/_, _%_, _^_, _<_}
 use native.Mathlib.Nat.{lt-of-le-of-lt}
 use native.Mathlib.Omega.{arith}
 use lib.Dec.{T, eqb}
-use lib.Bits.{bitAnd, bitOr, and-le-l, and-le-r, or-add-and}
+use lib.Bits.{bitAnd, bitOr, and-le-r}
 use lib.Count.{trailingZeros}
-use borrow.Author.Tests.{eq-eqb, ne-eqb}
+use borrow.Author.Tests.{eqb-true, eq-eqb, ne-eqb}
 use Rattle.model.specs.Lists.{at}
 use Rattle.model.specs.ValueSets.{has, maskOf, withoutMask, unionMask, lowestOf, oneIf}
 use Rattle.model.proofs.Lists.{T-of, both-i, both-l, both-r}
@@ -21,22 +21,6 @@ use Rattle.constraints.specs.Steps.{OneValue, Together, Joined, Together
 use Rattle.constraints.specs.Lanes.{FullLanes, LaneUnion, Product}
 use Rattle.constraints.proofs.Bits.{one-small}
 use Rattle.model.proofs.Masks.{has-oneIf, lowest-op, union-op}
-
--- a bound of a union of three sets is one of each
-or-parts : (n a b e : ℕ) → bitOr (bitOr a b) e < n → (a < n) × (b < n) × (e < n)
-or-parts n a b e h =
-    let p = or-add-and (bitOr a b) e in
-    let q = or-add-and a b in
-    let i = and-le-l (bitOr a b) e in
-    let j = and-le-r (bitOr a b) e in
-    let k = and-le-l a b in
-    let l = and-le-r a b in
-    (omega arith, omega arith, omega arith)
-
-pub parts-lt : (n a b e s t : ℕ) → a < 2 ^ 16 → b < 2 ^ 16 → e < 2 ^ 16 → s ≡ unionMask a b → t ≡ unionMask s e → t < n → (a < n) × (b < n) × (e < n)
-parts-lt n a b e s t ha hb he es et h =
-    or-parts n a b e
-    (subst (λ (z : ℕ). z < n) (et ∙ sym (union-op s e (subst (λ (z : ℕ). z < 2 ^ 16) (sym es) (mask-lt 16 _)) he) ∙ ap (λ (z : ℕ). bitOr z e) (es ∙ sym (union-op a b ha hb))) h)
 
 pub and-wide : (a b : ℕ) → b < 2 ^ 16 → bitAnd a b < 2 ^ 64
 and-wide a b h = omega (arith, and-le-r a b)
@@ -62,10 +46,14 @@ small f r e = subst (λ (z : ℕ). z < 2 ^ 16) (sym e) (mask-lt 16 f)
 pub union-none : (s t r : ℕ) → s < 2 ^ 16 → t < 2 ^ 16 → r ≡ unionMask s t → r ≡ 0 → (s ≡ 0) × (t ≡ 0)
 union-none s t r h i e z = or-zero-e s t (union-op s t h i ∙ sym e ∙ z)
 
+-- a set that is empty without its lowest value
+pub one-value : (a r : ℕ) (b : Bool) → (a ≡ 0 → ⊥) → r ≡ withoutMask a (lowestOf a) → b ≡ eqb r 0 → b ≡ true → OneValue a
+one-value a r b n e q t = record { some = n; no-more = sym e ∙ eqb-true r 0 (sym q ∙ t) }
+
 -- the one value of a set
-pub single : (a : ℕ) → a < 2 ^ 16 → (a ≡ 0 → ⊥) → withoutMask a (lowestOf a) ≡ 0 → (v : ℕ) → T (has a v) → v ≡ lowestOf a
-single a h n e v t =
-    ⊎-elim (λ q. absurd (has-0 v (subst (λ (z : ℕ). T (has z v)) (without-lowest-op a h ∙ e) q))) (λ q. q ∙ lowest-op 16 a) (rest-i 16 a (omega arith) h v t)
+pub single : (a : ℕ) → a < 2 ^ 16 → OneValue a → (v : ℕ) → T (has a v) → v ≡ lowestOf a
+single a h o v t =
+    ⊎-elim (λ q. absurd (has-0 v (subst (λ (z : ℕ). T (has z v)) (without-lowest-op a h ∙ o .no-more) q))) (λ q. q ∙ lowest-op 16 a) (rest-i 16 a (omega arith) h v t)
 
 -- ---- two sets by sixteen sets of a table
 module _ (t : List ℕ) (base a b : ℕ) where
@@ -121,7 +109,7 @@ module _ (t : List ℕ) (base a b : ℕ) where
   joined-one k v h o low w n =
       joined-whole
       (joining-end (withoutMask a (lowestOf a)) s x (o .no-more) (joining-turn k a v (withoutMask a (lowestOf a)) (joining-begin h) (o .some) low refl w refl (union-op 0 s (omega arith) (one-small (not (eqb x 0)) v lt)) refl))
-      (λ u t. subst (λ (z : ℕ). T (has s z)) (low ∙ sym (single a h (o .some) (o .no-more) u t)) (subst T (sym (has-oneIf (not (eqb x 0)) v v)) (both-i (not (eqb x 0)) (eqb v v) (T-of (not (eqb x 0)) (ap not (ne-eqb x 0 n))) (lib.Dec.eqb-refl v))))
+      (λ u t. subst (λ (z : ℕ). T (has s z)) (low ∙ sym (single a h o u t)) (subst T (sym (has-oneIf (not (eqb x 0)) v v)) (both-i (not (eqb x 0)) (eqb v v) (T-of (not (eqb x 0)) (ap not (ne-eqb x 0 n))) (lib.Dec.eqb-refl v))))
     where
       x : ℕ
       x = bitAnd (at t (base + v)) b
@@ -260,7 +248,7 @@ module _ (t : List ℕ) (base a b e inside : ℕ) (k : b < 2 ^ 8) (l : e < 2 ^ 8
   pub joined-none : (u₀ : ℕ) → a < 2 ^ 16 → OneValue a → u₀ ≡ lowestOf a → bitAnd (at t (base + u₀)) inside ≡ 0 → Joined3 (Together8 t base a b e) 0 0 0
   joined-none u₀ h o low z =
       joined3-none
-      (λ u v w q. let r = to u v w q in has-0 (8 * v + w) (subst (λ (n : ℕ). T (has n (8 * v + w))) z (and-i (at t (base + u₀)) inside (8 * v + w) (subst (λ (i : ℕ). T (has (at t (base + i)) (8 * v + w))) (single a h (o .some) (o .no-more) u (r .0) ∙ sym low) (r .2)) (r .1))))
+      (λ u v w q. let r = to u v w q in has-0 (8 * v + w) (subst (λ (n : ℕ). T (has n (8 * v + w))) z (and-i (at t (base + u₀)) inside (8 * v + w) (subst (λ (i : ℕ). T (has (at t (base + i)) (8 * v + w))) (single a h o u (r .0) ∙ sym low) (r .2)) (r .1))))
 
 -- a number that is not empty has a lane with a value
 pub lane-some : {x r : ℕ} → x < 2 ^ 64 → (x ≡ 0 → ⊥) → LaneUnion x r → r ≡ 0 → ⊥

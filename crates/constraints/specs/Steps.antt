@@ -2,6 +2,7 @@
 -- No reader has to believe this: it stands between proved functions.
 use mathlib.Core.Path.{_≡_}
 use mathlib.Core.Bool.{not}
+use mathlib.Core.Logic.{_⊎_}
 use mathlib.Core.List.{List, [], _∷_, _++_, List·Memᴰ}
 use Prim.Native.Nat.{ℕ, suc, _+_, _*_, _≤_, _<_}
 use lib.Dec.{T, eqb}
@@ -60,6 +61,10 @@ pub record Scoped (c : Constraint) (supports : List ℕ) (k : ℕ) (scope : List
 abbrev pub Nonempty : List ℕ → List ℕ → Type 0
 Nonempty scope sets = (x : ℕ) → List·Memᴰ x scope → at sets x ≡ 0 → ⊥
 
+-- the sets of these variables have values below 8
+abbrev pub Narrow : List ℕ → List ℕ → Type 0
+Narrow scope sets = (x : ℕ) → List·Memᴰ x scope → at sets x < 256
+
 -- the arrays hold the constraints of p
 pub record ConstraintsHeld (p : Problem) (numbers supports : List ℕ) : Type 0 where
   pub wellFormed : WellFormed p
@@ -80,6 +85,11 @@ pub record SetCut (ds es : List ℕ) (x t r : ℕ) : Type 0 where
 pub record Touched (numbers : List ℕ) (changed r : ℕ) : Type 0 where
   pub touched-i : (x k : ℕ) → T (has changed x) → T (has (at numbers (OTHERS + x)) k) → T (has r k)
   pub touched-e : (k : ℕ) → T (has r k) → (x : ℕ) × T (has changed x) × T (has (at numbers (OTHERS + x)) k)
+
+-- those of them that wait for the next round: not number k, which has just pruned, nor those left of this round
+pub record Waiting (numbers : List ℕ) (changed k left r : ℕ) : Type 0 where
+  pub waiting-i : (x j : ℕ) → T (has changed x) → T (has (at numbers (OTHERS + x)) j) → T (has r j) ⊎ (T (has left j) ⊎ (j ≡ k))
+  pub waiting-e : (j : ℕ) → T (has r j) → (x : ℕ) × T (has changed x) × T (has (at numbers (OTHERS + x)) j)
 
 -- some of the constraints that are due
 pub record Round (due r : ℕ) : Type 0 where

@@ -7,8 +7,8 @@ use layout::VALUES;
 use model::ValueSet;
 ghost use mathlib.Core.Path.{_≡_};
 ghost use mathlib.Core.Bool.{true, not};
-ghost use mathlib.Core.List.{[], _∷_};
-ghost use Prim.Native.Nat.{_+_, _*_, _≤_, _<_};
+ghost use mathlib.Core.List.{List, [], _∷_};
+ghost use Prim.Native.Nat.{ℕ, _+_, _*_, _%_, _≤_, _<_};
 ghost use lib.Dec.{eqb};
 ghost use lib.Bits.{bitAnd};
 ghost use lib.ListN.{length};
@@ -16,10 +16,11 @@ ghost use Rattle.model.specs.Lists.{at};
 ghost use Rattle.model.specs.ValueSets.{oneIf};
 ghost use Rattle.model.specs.Problem.{Problem, Constraint};
 ghost use Rattle.model.specs.Pruning.{Sets};
+ghost use Rattle.layout.specs.Places.{SCOPES, VALUES};
 ghost use Rattle.layout.specs.Layout.{constraintAt};
 ghost use Rattle.layout.specs.Tables.{Words};
 ghost use Rattle.constraints.specs.Revised.{Revision, ConstraintsPending, Constrained};
-ghost use Rattle.constraints.specs.Steps.{OneValue, Joined, Together3, Together8, Joined3, Scoped, Nonempty, ConstraintsHeld, SetCut, Touched, Round};
+ghost use Rattle.constraints.specs.Steps.{OneValue, Joined, Together3, Together8, Joined3, Scoped, Nonempty, Narrow, ConstraintsHeld, SetCut, Touched, Waiting, Round};
 ghost use Rattle.constraints.specs.Lanes.{FullLanes, LaneUnion, Product, Heads, FullHeads};
 
 // Bits of a number of eight lanes: the first of each lane, the first two of each second, the first four of each fourth.
@@ -31,9 +32,6 @@ const FOURS: u64 = 64424509455;
 
 // Each seventh bit of eight times seven.
 const SEVENS: u64 = 567382630219905;
-
-// All twelve variables.
-const EVERY: u64 = 4095;
 
 struct Two {
     first: ValueSet,
@@ -218,26 +216,6 @@ fn quiet(numbers: &[u64; 384], base: usize, a: ValueSet, b: ValueSet, e: ValueSe
     false
 }
 
-// The values of three sets that go together in constraint number k.
-fn together(
-    numbers: &[u64; 384],
-    supports: &[u16; 8192],
-    k: usize,
-    a: ValueSet,
-    b: ValueSet,
-    e: ValueSet,
-) -> Three
-    requires { ⌜ k < 32 ⌝ }
-    requires { ⌜ Words (now numbers) (now supports) ⌝ }
-    ensures { λ r. ⌜ Joined3 (Together3 (now (supports .entry)) (256 * k) (a .bits) (b .bits) (e .bits)) (r .first .bits) (r .second .bits) (r .last .bits) ⌝ }
-{
-    let all = a.union(b).union(e);
-    if all.bits < 256 {
-        return joined8(numbers, LANES + 8 * k, a, b, e);
-    }
-    joined3(supports, 256 * k, a, b, e)
-}
-
 // Prunes one set by a set of the table.
 fn revise_one(sets: &mut [u16; 16], supports: &[u16; 8192], offset: usize, x: usize) -> u64
     requires { ⌜ Sets 16 (now sets) ⌝ }
@@ -311,10 +289,9 @@ fn along(
     moved(b, second, y) | moved(e, last, z)
 }
 
-// Prunes by constraint number k: each set is left with the values that go together with some of the other two.
-fn revise_all(
+// Prunes by constraint number k, whose first two sets have one value each: one set of the table cuts the third.
+fn revise_last(
     sets: &mut [u16; 16],
-    numbers: &[u64; 384],
     supports: &[u16; 8192],
     k: usize,
     x: usize,
@@ -322,17 +299,27 @@ fn revise_all(
     z: usize,
 ) -> u64
     requires { ⌜ Sets 16 (now sets) ⌝ }
-    requires { ⌜ Words (now numbers) (now supports) ⌝ }
+    requires { ⌜ OneValue (at (now sets) x) × OneValue (at (now sets) y) ⌝ }
     requires { ⌜ ((c : Constraint) × Scoped c (now supports) k (x ∷ y ∷ z ∷ [])) ⌝ }
     ensures { λ r. ⌜ ((c : Constraint) → Scoped c (now (supports .entry)) k (x ∷ y ∷ z ∷ []) → Revision c (now (sets .entry)) (now (sets .exit)) r) ⌝ }
+{
+    let u = ValueSet { bits: sets[x] }.lowest() as usize;
+    let v = ValueSet { bits: sets[y] }.lowest() as usize;
+    revise_one(sets, supports, 256 * k + 16 * u + v, z)
+}
+
+// Leaves of each of three sets the values t that go together with some of the other two.
+fn leave(sets: &mut [u16; 16], x: usize, y: usize, z: usize, t: Three) -> u64
+    requires { ⌜ Sets 16 (now sets) ⌝ }
+    requires { ⌜ (x < 16) × (y < 16) × (z < 16) ⌝ }
+    ensures { λ r. ⌜ ((c : Constraint) (supports : List ℕ) (k : ℕ) → Scoped c supports k (x ∷ y ∷ z ∷ []) → Joined3 (Together3 supports (256 * k) (at (now (sets .entry)) x) (at (now (sets .entry)) y) (at (now (sets .entry)) z)) (t .first .bits) (t .second .bits) (t .last .bits) → Revision c (now (sets .entry)) (now (sets .exit)) r) ⌝ }
 {
     let a = ValueSet { bits: sets[x] };
     let b = ValueSet { bits: sets[y] };
     let e = ValueSet { bits: sets[z] };
-    let r = together(numbers, supports, k, a, b, e);
-    let first = r.first;
-    let second = r.second;
-    let last = r.last;
+    let first = t.first;
+    let second = t.second;
+    let last = t.last;
     if last.is_empty() {
         return DEAD;
     }
@@ -345,62 +332,74 @@ fn revise_all(
     moved(a, first, x) | moved(b, second, y) | moved(e, last, z)
 }
 
-// Two sets of one value leave one look-up for the third; one value of the first leaves one number of lanes.
-fn revise_three(
-    sets: &mut [u16; 16],
-    numbers: &[u64; 384],
-    supports: &[u16; 8192],
-    k: usize,
-    x: usize,
-    y: usize,
-    z: usize,
-) -> u64
+// Prunes by constraint number k, on one or two variables.
+fn revise_few(sets: &mut [u16; 16], numbers: &[u64; 384], supports: &[u16; 8192], k: usize) -> u64
     requires { ⌜ Sets 16 (now sets) ⌝ }
-    requires { ⌜ Nonempty (x ∷ y ∷ z ∷ []) (now sets) ⌝ }
-    requires { ⌜ Words (now numbers) (now supports) ⌝ }
-    requires { ⌜ ((c : Constraint) × Scoped c (now supports) k (x ∷ y ∷ z ∷ [])) ⌝ }
-    ensures { λ r. ⌜ ((c : Constraint) → Scoped c (now (supports .entry)) k (x ∷ y ∷ z ∷ []) → Revision c (now (sets .entry)) (now (sets .exit)) r) ⌝ }
+    requires { ⌜ (at (now numbers) (SCOPES + k) % 256 ≡ 3 → ⊥) ⌝ }
+    requires { ⌜ ((p : Problem) × ConstraintsHeld p (now numbers) (now supports) × (k < length (p .constraints))) ⌝ }
+    ensures { λ r. ⌜ ((p : Problem) → ConstraintsHeld p (now (numbers .entry)) (now (supports .entry)) → k < length (p .constraints) → Revision (constraintAt p k) (now (sets .entry)) (now (sets .exit)) r) ⌝ }
 {
-    let a = ValueSet { bits: sets[x] };
-    let b = ValueSet { bits: sets[y] };
-    let e = ValueSet { bits: sets[z] };
-    if a.without_lowest().is_empty() {
-        if b.without_lowest().is_empty() {
-            let u = a.lowest() as usize;
-            let v = b.lowest() as usize;
-            return revise_one(sets, supports, 256 * k + 16 * u + v, z);
-        }
-        if a.union(b).union(e).bits < 256 {
-            return along(sets, numbers, supports, k, x, y, z);
-        }
-        return revise_all(sets, numbers, supports, k, x, y, z);
+    let w = numbers[SCOPES + k];
+    let x = (w / 256 % 256) as usize;
+    if w % 256 == 2 {
+        let y = (w / 65536 % 256) as usize;
+        return revise_two(sets, supports, k, x, y);
     }
-    if a.union(b).union(e).bits < 256 {
-        if quiet(numbers, LANES + 8 * k, a, b, e) {
-            return 0;
-        }
-    }
-    revise_all(sets, numbers, supports, k, x, y, z)
+    revise_one(sets, supports, 256 * k, x)
 }
 
 // Prunes by constraint number k: DEAD where a set would be empty, else the set of the variables whose sets changed.
-fn revise(sets: &mut [u16; 16], numbers: &[u64; 384], supports: &[u16; 8192], k: usize) -> u64
+fn revise16(sets: &mut [u16; 16], numbers: &[u64; 384], supports: &[u16; 8192], k: usize) -> u64
     requires { ⌜ Sets 16 (now sets) ⌝ }
     requires { ⌜ ((p : Problem) × ConstraintsHeld p (now numbers) (now supports) × (k < length (p .constraints)) × Nonempty (constraintAt p k .scope) (now sets)) ⌝ }
     ensures { λ r. ⌜ ((p : Problem) → ConstraintsHeld p (now (numbers .entry)) (now (supports .entry)) → k < length (p .constraints) → Revision (constraintAt p k) (now (sets .entry)) (now (sets .exit)) r) ⌝ }
 {
     let w = numbers[SCOPES + k];
-    let arity = w % 256;
+    if w % 256 != 3 {
+        return revise_few(sets, numbers, supports, k);
+    }
     let x = (w / 256 % 256) as usize;
     let y = (w / 65536 % 256) as usize;
-    if arity == 3 {
-        let z = (w / 16777216 % 256) as usize;
-        return revise_three(sets, numbers, supports, k, x, y, z);
+    let z = (w / 16777216 % 256) as usize;
+    let a = ValueSet { bits: sets[x] };
+    let b = ValueSet { bits: sets[y] };
+    if a.without_lowest().is_empty() {
+        if b.without_lowest().is_empty() {
+            return revise_last(sets, supports, k, x, y, z);
+        }
     }
-    if arity == 2 {
-        return revise_two(sets, supports, k, x, y);
+    let e = ValueSet { bits: sets[z] };
+    let t = joined3(supports, 256 * k, a, b, e);
+    leave(sets, x, y, z, t)
+}
+
+// The same for sets of values below 8, by numbers of lanes: one number where the first set has one value, and no store where nothing is lost.
+fn revise8(sets: &mut [u16; 16], numbers: &[u64; 384], supports: &[u16; 8192], k: usize) -> u64
+    requires { ⌜ Sets 16 (now sets) ⌝ }
+    requires { ⌜ ((p : Problem) × ConstraintsHeld p (now numbers) (now supports) × (k < length (p .constraints)) × Nonempty (constraintAt p k .scope) (now sets) × Narrow (constraintAt p k .scope) (now sets)) ⌝ }
+    ensures { λ r. ⌜ ((p : Problem) → ConstraintsHeld p (now (numbers .entry)) (now (supports .entry)) → k < length (p .constraints) → Revision (constraintAt p k) (now (sets .entry)) (now (sets .exit)) r) ⌝ }
+{
+    let w = numbers[SCOPES + k];
+    if w % 256 != 3 {
+        return revise_few(sets, numbers, supports, k);
     }
-    revise_one(sets, supports, 256 * k, x)
+    let x = (w / 256 % 256) as usize;
+    let y = (w / 65536 % 256) as usize;
+    let z = (w / 16777216 % 256) as usize;
+    let a = ValueSet { bits: sets[x] };
+    let b = ValueSet { bits: sets[y] };
+    if a.without_lowest().is_empty() {
+        if b.without_lowest().is_empty() {
+            return revise_last(sets, supports, k, x, y, z);
+        }
+        return along(sets, numbers, supports, k, x, y, z);
+    }
+    let e = ValueSet { bits: sets[z] };
+    if quiet(numbers, LANES + 8 * k, a, b, e) {
+        return 0;
+    }
+    let t = joined8(numbers, LANES + 8 * k, a, b, e);
+    leave(sets, x, y, z, t)
 }
 
 // The constraints, but those pruned by variable, that have one of the changed variables in their scope.
@@ -416,6 +415,14 @@ pub fn touched(numbers: &[u64; 384], changed: u64) -> u64
     all
 }
 
+// The constraints that have one of the changed variables in their scope and wait for the next round: not number k, nor those left of this one.
+fn waiting(numbers: &[u64; 384], changed: u64, k: u32, left: u64) -> u64
+    requires { ⌜ k < 64 ⌝ }
+    ensures { λ r. ⌜ Waiting (now (numbers .entry)) changed k left r ⌝ }
+{
+    touched(numbers, changed) & !((1u64 << k) | left)
+}
+
 // The constraints of the next round: those of `soon` among all that are due, or all.
 fn round(due: u64, soon: u64) -> u64
     requires { ⌜ (due ≡ 0 → ⊥) ⌝ }
@@ -426,15 +433,44 @@ fn round(due: u64, soon: u64) -> u64
 }
 
 // Prunes by the constraints of todo, and again by those that have a changed variable in their scope, until nothing moves.
-// One that must be pruned by again waits for the next round, and one that has none of the settled variables for those that have one:
-// scopes ascend, so their first is settled. That pays for values below 8 alone; with more, every variable counts as settled.
-pub fn constrain(
+// One that must be pruned by again waits for the next round.
+fn constrain16(sets: &mut [u16; 16], numbers: &[u64; 384], supports: &[u16; 8192], todo: u64) -> u64
+    requires { ⌜ ((p : Problem) × ConstraintsPending p (now numbers) (now supports) (now sets) todo) ⌝ }
+    ensures { λ r. ⌜ ((p : Problem) → ConstraintsPending p (now (numbers .entry)) (now (supports .entry)) (now (sets .entry)) todo → Constrained p (now (sets .entry)) (now (sets .exit)) r) ⌝ }
+{
+    let mut left = todo;
+    let mut next = 0u64;
+    let mut all = 0u64;
+    loop {
+        if left == 0 {
+            if next == 0 {
+                return all;
+            }
+            left = next;
+            next = 0;
+        }
+        let k = u64::trailing_zeros(left);
+        let changed = revise16(sets, numbers, supports, k as usize);
+        if changed == DEAD {
+            return DEAD;
+        }
+        left = left & (left - 1);
+        if changed != 0 {
+            all = all | changed;
+            next = next | waiting(numbers, changed, k, left);
+        }
+    }
+}
+
+// The same for values below 8. A constraint that has none of the settled variables waits for those that have one: scopes ascend, so their first is settled.
+fn constrain8(
     sets: &mut [u16; 16],
     numbers: &[u64; 384],
     supports: &[u16; 8192],
     todo: u64,
     settled: u64,
 ) -> u64
+    requires { ⌜ at (now numbers) VALUES < 9 ⌝ }
     requires { ⌜ ((p : Problem) × ConstraintsPending p (now numbers) (now supports) (now sets) todo) ⌝ }
     ensures { λ r. ⌜ ((p : Problem) → ConstraintsPending p (now (numbers .entry)) (now (supports .entry)) (now (sets .entry)) todo → Constrained p (now (sets .entry)) (now (sets .exit)) r) ⌝ }
 {
@@ -448,20 +484,37 @@ pub fn constrain(
                 return all;
             }
             if soon == 0 {
-                soon = touched(numbers, settled | (numbers[VALUES] / 9 * EVERY));
+                soon = touched(numbers, settled);
             }
             left = round(next, soon);
             next = next & !left;
         }
         let k = u64::trailing_zeros(left);
-        let changed = revise(sets, numbers, supports, k as usize);
+        let changed = revise8(sets, numbers, supports, k as usize);
         if changed == DEAD {
             return DEAD;
         }
         left = left & (left - 1);
         if changed != 0 {
             all = all | changed;
-            next = next | (touched(numbers, changed) & !((1u64 << k) | left));
+            next = next | waiting(numbers, changed, k, left);
         }
     }
+}
+
+// Prunes by the constraints of todo until nothing moves. The settled variables say which come first, where the values are below 8.
+pub fn constrain(
+    sets: &mut [u16; 16],
+    numbers: &[u64; 384],
+    supports: &[u16; 8192],
+    todo: u64,
+    settled: u64,
+) -> u64
+    requires { ⌜ ((p : Problem) × ConstraintsPending p (now numbers) (now supports) (now sets) todo) ⌝ }
+    ensures { λ r. ⌜ ((p : Problem) → ConstraintsPending p (now (numbers .entry)) (now (supports .entry)) (now (sets .entry)) todo → Constrained p (now (sets .entry)) (now (sets .exit)) r) ⌝ }
+{
+    if numbers[VALUES] < 9 {
+        return constrain8(sets, numbers, supports, todo, settled);
+    }
+    constrain16(sets, numbers, supports, todo)
 }

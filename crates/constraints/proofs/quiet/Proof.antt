@@ -1,7 +1,6 @@
 -- The loop: each value passed of a goes together with something, and what goes together with them. The measure is the set of the values left, as a
 -- number. Assumes nothing.
 use mathlib.Core.Path.{_≡_, refl, sym, _∙_, subst}
-use mathlib.Core.Bool.{true, false}
 use Prim.Native.Nat.{_<_}
 use native.Mathlib.Omega.{arith}
 use borrow.Author.Needs.{needs}
