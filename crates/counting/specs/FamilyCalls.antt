@@ -15,7 +15,7 @@ use Rattle.closed.specs.declared.Answer as CA
 use Rattle.closed.specs.declared.Answer.the-variants as CV
 use Rattle.search.specs.Demands.{plansFrom}
 use Rattle.search.specs.DemandsLent.{CallLent}
-use Rattle.search.specs.declared.Tally.{Tally}
+use Rattle.walk.specs.declared.Tally.{Tally}
 use Rattle.search.specs.declared.Ending.the-variants.{Finished as Done}
 use Rattle.search.specs.declared.Answer as SA
 use Rattle.search.specs.declared.Answer.the-variants.{Ended}

@@ -18,11 +18,11 @@ use Rattle.model.proofs.Lists.{at-set, at-set-other, at-take}
 use Rattle.model.proofs.Room.{Wide, length-listed, listed-wide}
 use Rattle.parts.specs.Parts.{Progress, goOn}
 use Rattle.layout.specs.Places.{PLANS, LAST}
-use Rattle.search.specs.Walk.{stopIn}
-use Rattle.search.specs.Pair.{prefixOf}
+use Rattle.walk.specs.Walk.{stopIn}
+use Rattle.walk.specs.Pair.{prefixOf}
 use Rattle.search.specs.Meaning.{endingOf}
 use Rattle.resume.specs.Resume.{treeOf, Put, Stands, PreparedAgain, GoesOn, GoneOn}
-use Rattle.search.proofs.Prefix.{prefix-is}
+use Rattle.walk.proofs.Prefix.{prefix-is}
 use Rattle.resume.specs.Cuts.{heldBy, lastIn, progressOf, Valued, endingBy, Resumes}
 use Rattle.resume.specs.declared.Cut.{Cut}
 use Rattle.resume.specs.declared.Resumed.{Resumed}

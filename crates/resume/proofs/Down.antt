@@ -19,10 +19,10 @@ use Rattle.model.proofs.Sets.{has-lt, members-i, members-e}
 use Rattle.parts.specs.Parts.{candidatesAt}
 use Rattle.layout.specs.Places.{LAST}
 use Rattle.prune.specs.Node.{AtNode, Reached, longer}
-use Rattle.search.specs.Walk.{begun}
-use Rattle.search.specs.Pair.{prefixOf, ownIn, AtPrefix}
-use Rattle.search.proofs.Prefix.{prefix-is}
-use Rattle.search.proofs.Turns.{all-values}
+use Rattle.walk.specs.Walk.{begun}
+use Rattle.walk.specs.Pair.{prefixOf, ownIn, AtPrefix}
+use Rattle.walk.proofs.Prefix.{prefix-is}
+use Rattle.settle.proofs.Turns.{all-values}
 use Rattle.resume.specs.Steps.{OnPath, Down, AtStep, SameValues, Stepped, Descended}
 use Rattle.resume.proofs.Levels.{leaves, left-goes, left-out, left-dead, left-last, left-end}
 use Rattle.resume.proofs.Prefixes as pre

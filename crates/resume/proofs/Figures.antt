@@ -10,7 +10,7 @@ use Rattle.model.specs.Search.{isPlan}
 use Rattle.model.specs.Run.{settledBy}
 use Rattle.order.specs.Reordered.{write}
 use Rattle.layout.specs.Places.{ALL}
-use Rattle.search.specs.Walk.{State, listed, counted, exhausted, visit, walk}
+use Rattle.walk.specs.Walk.{State, listed, counted, exhausted, visit, walk}
 
 -- a state without its counts
 abbrev pub figures : State → State

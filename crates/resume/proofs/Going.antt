@@ -27,11 +27,11 @@ use Rattle.parts.specs.Parts.{after, nodesAfter, candidatesAt, reached, lastOf,
 use Rattle.parts.proofs.Resume.{node-reached, last-in, taken}
 use Rattle.layout.specs.Places.{LIMIT, ROOM, PLANS, LAST, ALL, DEEPER}
 use Rattle.sheet.specs.Form.{compilable}
-use Rattle.search.specs.Walk.{State, noNodes, begun, kept, walk, stopIn, tallyBy}
-use Rattle.search.specs.Pair.{prefixOf, orderIn, ownIn, stateOf, AtPrefix, AtValues, WalkedOn, tried}
-use Rattle.search.proofs.Outcome.{kept-none, kept-over, outcome-on}
-use Rattle.search.proofs.Whole.{room-fits, room-most}
-use Rattle.search.proofs.Prefix.{length-prefix, prefix-at, prefix-ext}
+use Rattle.walk.specs.Walk.{State, noNodes, begun, kept, walk, stopIn, tallyBy}
+use Rattle.walk.specs.Pair.{prefixOf, orderIn, ownIn, stateOf, AtPrefix, AtValues, WalkedOn, tried}
+use Rattle.walk.proofs.Outcome.{kept-none, kept-over, outcome-on}
+use Rattle.prepare.proofs.Prepared.{room-fits, room-most}
+use Rattle.walk.proofs.Prefix.{length-prefix, prefix-at, prefix-ext}
 use Rattle.resume.specs.Steps.{firstMask, plainState, upper, AtStart, Descended, Climb, Climbed}
 use Rattle.resume.specs.Resume.{treeOf, Stands, PreparedAgain, GoesOn, GoneOn}
 use Rattle.resume.proofs.Figures.{figures, figures-walk}

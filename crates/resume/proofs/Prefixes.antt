@@ -18,10 +18,10 @@ use Rattle.model.proofs.Lists.{T-of}
 use Rattle.layout.specs.Places.{ROOM, PLANS}
 use Rattle.prune.specs.Node.{Holds, Marked, AtNode, Reached, longer}
 use Rattle.prune.proofs.Marks.{marked-on}
-use Rattle.search.specs.Walk.{Summed, begun}
-use Rattle.search.specs.Pair.{prefixOf, ownIn, ListRoom, AtPrefix}
-use Rattle.search.proofs.Prefix.{prefix-ext, prefix-take, prefix-snoc}
-use Rattle.search.proofs.Turns.{ready-on, held-on}
+use Rattle.walk.specs.Walk.{Summed, begun}
+use Rattle.walk.specs.Pair.{prefixOf, ownIn, ListRoom, AtPrefix}
+use Rattle.walk.proofs.Prefix.{prefix-ext, prefix-take, prefix-snoc}
+use Rattle.settle.proofs.Turns.{ready-on, held-on}
 use Rattle.resume.specs.Steps.{SameValues}
 
 pub begun-summed : (made : ℕ) → Summed (begun made)

@@ -9,8 +9,8 @@ use lib.ListN.{length, set, length-set}
 use Rattle.model.specs.Lists.{at}
 use Rattle.model.proofs.Lists.{at-set, at-set-other}
 use Rattle.layout.specs.Places.{PLANS, LAST}
-use Rattle.search.specs.Pair.{prefixOf}
-use Rattle.search.proofs.Prefix.{prefix-is}
+use Rattle.walk.specs.Pair.{prefixOf}
+use Rattle.walk.proofs.Prefix.{prefix-is}
 use Rattle.resume.specs.Resume.{Put}
 
 -- the first i values are put

@@ -17,10 +17,10 @@ use Rattle.model.proofs.Sets.{has-mask, mask-e, mask-ext, mask-lt}
 use Rattle.parts.specs.Parts.{nodesAfter, nodesOf, candidatesAt, levelNodes, down}
 use Rattle.parts.proofs.Parts.{members-above}
 use Rattle.layout.specs.Places.{LIMIT, ROOM, ALL, LAST}
-use Rattle.search.specs.Walk.{State, begun, walk, nodesFor}
-use Rattle.search.specs.Pair.{prefixOf, orderIn, stateOf, AtPrefix, AtValues, WalkedOn, tried}
-use Rattle.search.proofs.Walk.{walk-append, walk-stopped}
-use Rattle.search.proofs.Turns.{values-ask, tried-all, prefix-on}
+use Rattle.walk.specs.Walk.{State, begun, walk, nodesFor}
+use Rattle.walk.specs.Pair.{prefixOf, orderIn, stateOf, AtPrefix, AtValues, WalkedOn, tried}
+use Rattle.walk.proofs.Walk.{walk-append, walk-stopped}
+use Rattle.settle.proofs.Turns.{values-ask, tried-all, prefix-on}
 use Rattle.resume.specs.Steps.{aboveMask, firstMask, plainState, upper, OnPath, Descended, Climb, Climbed}
 use Rattle.resume.proofs.Figures.{figures, figures-walk}
 use Rattle.resume.proofs.Prefixes.{counted-so}

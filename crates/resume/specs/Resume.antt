@@ -13,8 +13,8 @@ use Rattle.model.specs.Run.{plansIn, nodesIn, written}
 use Rattle.parts.specs.Parts.{Progress, goOn, lastAfter}
 use Rattle.layout.specs.Places.{LIMIT, ROOM, PLANS, LAST, DEEPER}
 use Rattle.sheet.specs.Form.{Zeros, compilable}
-use Rattle.search.specs.Walk.{begun, stopIn}
-use Rattle.search.specs.Pair.{prefixOf, orderIn, AtPrefix}
+use Rattle.walk.specs.Walk.{begun, stopIn}
+use Rattle.walk.specs.Pair.{prefixOf, orderIn, AtPrefix}
 
 -- the problem of some bytes: those that questions 1 to 15 refuse count as the sheet of no bytes, which has no nodes
 abbrev pub treeOf : List ℕ → Problem

@@ -12,8 +12,8 @@ use Rattle.model.specs.Problem.{Problem}
 use Rattle.model.specs.Search.{nodesBelow}
 use Rattle.parts.specs.Parts.{nodesAfter, nodesLeft, levelNodes, down}
 use Rattle.layout.specs.Places.{LIMIT, ROOM, LAST}
-use Rattle.search.specs.Walk.{State, begun, walk}
-use Rattle.search.specs.Pair.{orderIn, stateOf, AtPrefix}
+use Rattle.walk.specs.Walk.{State, begun, walk}
+use Rattle.walk.specs.Pair.{orderIn, stateOf, AtPrefix}
 
 -- the members above v
 abbrev pub aboveMask : ℕ → ℕ → ℕ

@@ -8,7 +8,7 @@ use layout::SPENT;
 use layout::VARIABLES;
 use model::ValueSet;
 use search::Ending;
-use search::Part;
+use settle::Part;
 ghost use mathlib.Core.Path.{_≡_};
 ghost use Prim.Native.Nat.{ℕ, _+_, _*_, _≤_, _<_, min};
 ghost use mathlib.Core.List.{List};
@@ -17,8 +17,8 @@ ghost use Rattle.model.specs.Lists.{at};
 ghost use Rattle.model.specs.Problem.{Problem};
 ghost use Rattle.parts.specs.Parts.{Progress};
 ghost use Rattle.layout.specs.Places.{PLANS, LAST};
-ghost use Rattle.search.specs.Walk.{State};
-ghost use Rattle.search.specs.Pair.{prefixOf};
+ghost use Rattle.walk.specs.Walk.{State};
+ghost use Rattle.walk.specs.Pair.{prefixOf};
 ghost use Rattle.search.specs.Meaning.{endingOf};
 ghost use Rattle.resume.specs.Resume.{Put, Fresh, PreparedAgain, GoesOn, GoneOn};
 ghost use Rattle.resume.specs.Cuts.{heldBy, lastIn, Valued, endingBy, Resumes};
@@ -161,7 +161,7 @@ fn climb(
         }
         k -= 1;
         let m = values_above(stack, work, k);
-        let next = search::walk_values(stack, work, supports, tables, numbers, list, nodes, k, m);
+        let next = settle::walk_values(stack, work, supports, tables, numbers, list, nodes, k, m);
         stop = next.stop;
         nodes = next.nodes;
     }
@@ -190,7 +190,7 @@ pub fn go_on(
     }
     let k = descend(stack, work, supports, tables, numbers);
     let m = first_values(stack, work, k);
-    let part = search::walk_values(stack, work, supports, tables, numbers, list, 0, k, m);
+    let part = settle::walk_values(stack, work, supports, tables, numbers, list, 0, k, m);
     climb(stack, work, supports, tables, numbers, list, k, part)
 }
 
@@ -212,12 +212,12 @@ pub fn prepare_again(
     let mut images = [0u8; 26112];
     if sheet::recompile(sheet, numbers, supports, &mut images) {
         let n = numbers[VARIABLES] as usize;
-        search::put_bounds(numbers, more as u64, (size / n) as u64);
+        prepare::put_bounds(numbers, more as u64, (size / n) as u64);
         let mut order = [0u8; 16];
-        search::by_position(&mut order);
+        prepare::by_position(&mut order);
         index::index(numbers, supports, &images, tables);
-        search::put_order(numbers, &order);
-        search::put_block(numbers, 0);
+        prepare::put_order(numbers, &order);
+        prepare::put_block(numbers, 0);
         if prune::root(stack, work, supports, tables, numbers) {
             return ALL;
         }

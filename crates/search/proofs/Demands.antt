@@ -18,8 +18,9 @@ use Rattle.model.proofs.Lists.{rowsAscend-take}
 use Rattle.model.proofs.Room.{length-flat}
 use Rattle.model.proofs.Runs.{rows-counted, rows-sized}
 use Rattle.model.proofs.Demands as M
-use Rattle.search.specs.Meaning.{endingOf, means, tallyIn}
-use Rattle.search.specs.declared.Tally.{Tally}
+use Rattle.walk.specs.Meaning.{tallyIn}
+use Rattle.search.specs.Meaning.{endingOf, means}
+use Rattle.walk.specs.declared.Tally.{Tally}
 use Rattle.search.specs.declared.Ending.{Ending}
 use Rattle.search.specs.declared.Ending.the-variants.{Finished, Spent, Full}
 use Rattle.search.specs.declared.Answer.{Answer}

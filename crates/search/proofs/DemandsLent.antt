@@ -21,8 +21,9 @@ use Rattle.lent.specs.Lent.{verdictLent, problemWith, orderLent, answerLent, li
 use Rattle.lent.proofs.Lent as L
 use Rattle.lent.proofs.LentQuestions.{refused-lent}
 use Rattle.lent.proofs.LentTally.{tally-lent}
-use Rattle.search.specs.Meaning.{endingOf, means, tallyIn}
-use Rattle.search.specs.declared.Tally.{Tally}
+use Rattle.walk.specs.Meaning.{tallyIn}
+use Rattle.search.specs.Meaning.{endingOf, means}
+use Rattle.walk.specs.declared.Tally.{Tally}
 use Rattle.search.specs.declared.Ending.{Ending}
 use Rattle.search.specs.declared.Ending.the-variants.{Finished}
 use Rattle.search.specs.declared.Answer.{Answer}

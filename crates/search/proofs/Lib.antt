@@ -1,12 +1,3 @@
-pub mod Laws
-pub mod Walk
-pub mod Outcome
-pub mod Steps
-pub mod Prefix
-pub mod Written
-pub mod Listing
-pub mod Turns
-pub mod Facts
 pub mod Sheets
 pub mod Whole
 pub mod Tasks
@@ -14,7 +5,3 @@ pub mod Demands
 pub mod DemandsLent
 pub mod RetypedCalls
 pub mod EnoughCalls
-pub mod Reborrow
-pub mod Loans
-pub mod Locals
-pub mod Elements

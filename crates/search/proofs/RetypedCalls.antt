@@ -1,7 +1,7 @@
 -- Two callers whose sheets differ only in the order of their exchanges hold the same (paper 02, #109). Assumes nothing.
 use mathlib.Core.Path.{sym, _∙_}
 use Rattle.retyped.proofs.LentRetyped.{retyped-lent, retyped-accepted-lent}
-use Rattle.search.specs.Meaning.{tallyIn}
+use Rattle.walk.specs.Meaning.{tallyIn}
 use Rattle.search.specs.RetypedCalls.{Retyped-calls}
 
 pub retyped-calls : Retyped-calls

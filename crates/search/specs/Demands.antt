@@ -12,8 +12,9 @@ use Rattle.model.specs.Verdict.{accepted, refused}
 use Rattle.model.specs.Sheet.{verdictOf, problemOf}
 use Rattle.model.specs.Run.{answerOf, listOf, listedPlans, plansIn, nodesIn, tallyOf}
 use Rattle.model.specs.Claims.{leaders, CountsAt, Tallied, Chain, OneMore}
-use Rattle.search.specs.Meaning.{endingOf, means, tallyIn}
-use Rattle.search.specs.declared.Tally.{Tally}
+use Rattle.walk.specs.Meaning.{tallyIn}
+use Rattle.search.specs.Meaning.{endingOf, means}
+use Rattle.walk.specs.declared.Tally.{Tally}
 use Rattle.search.specs.declared.Ending.{Ending}
 use Rattle.search.specs.declared.Ending.the-variants.{Finished}
 use Rattle.search.specs.declared.Answer.{Answer}

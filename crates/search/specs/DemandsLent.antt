@@ -16,9 +16,10 @@ use Rattle.model.specs.Claims.{OneMore}
 use Rattle.order.specs.Reordered.{read, ChainBy}
 use Rattle.order.specs.RunBy.{leadersBy, CountsBy, placeCounts}
 use Rattle.lent.specs.Lent.{verdictLent, problemWith, orderLent, problemLent, answerLent, listLent, tallyLent}
-use Rattle.search.specs.Meaning.{endingOf, means, tallyIn}
+use Rattle.walk.specs.Meaning.{tallyIn}
+use Rattle.search.specs.Meaning.{endingOf, means}
 use Rattle.search.specs.Demands.{plansFrom}
-use Rattle.search.specs.declared.Tally.{Tally}
+use Rattle.walk.specs.declared.Tally.{Tally}
 use Rattle.search.specs.declared.Ending.{Ending}
 use Rattle.search.specs.declared.Ending.the-variants.{Finished}
 use Rattle.search.specs.declared.Answer.{Answer}

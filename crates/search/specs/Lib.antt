@@ -1,6 +1,4 @@
--- A run as a walk along the nodes of the tree, what the functions of the search ask and leave, and what a run answers.
-pub mod Walk
-pub mod Pair
+-- What a run answers, and what its callers hold.
 pub mod Meaning
 pub mod Tasks
 pub mod Whole

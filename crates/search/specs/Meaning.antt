@@ -1,7 +1,6 @@
--- What the answers of `run`, and a tally, mean in the words of model's definitions.
+-- What the answers of `run` mean in the words of model's definitions.
 use Rattle.model.specs.Run.{finished, spent, full, refusal, ended}
 use Rattle.model.specs.Run as Run
-use Rattle.search.specs.declared.Tally.{Tally}
 use Rattle.search.specs.declared.Ending.{Ending}
 use Rattle.search.specs.declared.Ending.the-variants.{Finished, Spent, Full}
 use Rattle.search.specs.declared.Answer.{Answer}
@@ -20,10 +19,6 @@ endingOf (Full plans nodes) = full plans nodes
 abbrev pub means : Answer → Run.Answer
 means (Refused number item) = refusal number item
 means (Ended e) = ended (endingOf e)
-
--- a tally has the nodes made and twelve counts of them
-abbrev pub tallyIn : Tally → Run.Tally
-tallyIn t = record { nodes = t .nodes; counts = t .counts }
 
 -- and what is said of "at least m plans"
 abbrev pub saidEnough : Enough → L.EnoughAnswer

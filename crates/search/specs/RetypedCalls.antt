@@ -6,9 +6,10 @@ use Prim.Native.Nat.{ℕ}
 use Rattle.model.specs.Verdict.{accepted}
 use Rattle.lent.specs.Lent.{verdictLent}
 use Rattle.retyped.specs.Retyped.{SameButOrder}
-use Rattle.search.specs.Meaning.{means, tallyIn}
+use Rattle.walk.specs.Meaning.{tallyIn}
+use Rattle.search.specs.Meaning.{means}
 use Rattle.search.specs.DemandsLent.{CallLent}
-use Rattle.search.specs.declared.Tally.{Tally}
+use Rattle.walk.specs.declared.Tally.{Tally}
 use Rattle.search.specs.declared.Answer.{Answer}
 
 abbrev pub Retyped-calls : Type 0

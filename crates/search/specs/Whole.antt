@@ -1,91 +1,25 @@
 -- What the parts of a run ask and leave, around the search itself. No reader has to believe this: it stands between proved functions.
 use mathlib.Core.Path.{_≡_}
-use mathlib.Core.Bool.{false}
-use mathlib.Core.List.{List, [], map}
-use Prim.Native.Nat.{ℕ, zero, suc, _+_, _-_, _*_, _/_, _^_, _<_}
-use lib.Dec.{eqb}
-use lib.ListN.{length, set}
-use Rattle.model.specs.Lists.{at, choose, below}
+use mathlib.Core.List.{List, map}
+use Prim.Native.Nat.{ℕ, _^_, _<_}
+use lib.ListN.{length}
+use Rattle.model.specs.Lists.{at}
 use Rattle.model.specs.Problem.{Problem}
-use Rattle.model.specs.Search.{isLive, nodes}
+use Rattle.model.specs.Search.{nodes}
 use Rattle.model.specs.Verdict.{accepted, refused}
 use Rattle.model.specs.Run.{refusal, ended, plansIn, nodesIn, Result, resultOf, Tally}
 use Rattle.model.specs.Run as Run
 use Rattle.model.specs.Sheet.{problemOf}
-use Rattle.model.specs.Filling.{Gathered}
 use Rattle.order.specs.Reordered.{write}
-use Rattle.block.specs.Block.{inLent}
-use Rattle.lent.specs.Lent.{verdictLent, orderLent, problemLent}
-use Rattle.prune.specs.Node.{withOrderings}
-use Rattle.layout.specs.Places.{SYMMETRIES, LIMIT, ROOM, ORDER, PLANS, NUMBER, ITEM, ALL, DEEPER, REFUSED}
-use Rattle.sheet.specs.Form.{Zeros}
-use Rattle.search.specs.Walk.{noNodes, Summed, kept, stopIn, tallyBy}
-use Rattle.search.specs.Pair.{orderIn, AtPrefix}
+use Rattle.lent.specs.Lent.{verdictLent}
+use Rattle.layout.specs.Places.{PLANS, NUMBER, ITEM, DEEPER, REFUSED}
+use Rattle.walk.specs.Walk.{Summed, kept, stopIn, tallyBy}
 use Rattle.search.specs.Meaning.{means}
 use Rattle.search.specs.declared.Answer.{Answer}
-
--- the first k numbers of an order are put
-unfoldable pub ordered : List ℕ → ℕ → List ℕ → List ℕ
-ordered order zero numbers = numbers
-ordered order (suc k) numbers = set (ordered order k numbers) (ORDER + k) (at order k)
-
--- ---- the task of a run, which stands in `work` before it
--- at BARE whether the symmetries are left out; at WANTED how many plans are asked for, 0 where they are listed
-abbrev pub BARE : ℕ
-BARE = 224
-
-abbrev pub WANTED : ℕ
-WANTED = 225
-
--- the problem whose tree is walked, and the order by which it writes: a bare run writes by position
-abbrev pub treeOf : ℕ → List ℕ → List ℕ → List ℕ → Problem
-treeOf bare b pairs block = withOrderings (problemLent b pairs block) (choose (eqb bare 0) (problemLent b pairs block .symmetries) [])
-
-abbrev pub orderOf : ℕ → List ℕ → List ℕ → List ℕ
-orderOf bare b pairs = choose (eqb bare 0) (orderLent b pairs) (below (problemOf b .variables))
-
--- how many plans of n bytes there is room for, and that room in bytes: the list's, else one less than are asked for
-abbrev pub roomFor : ℕ → ℕ → ℕ → ℕ
-roomFor wanted n size = choose (eqb wanted 0) (size / n) (wanted - 1)
-
-abbrev pub bytesFor : ℕ → ℕ → ℕ → ℕ
-bytesFor wanted n size = choose (eqb wanted 0) size ((wanted - 1) * n)
+use Rattle.prepare.specs.Prepared.{BARE, WANTED, treeOf, orderOf, bytesFor, Refusal}
 
 abbrev pub resultFor : List ℕ → List ℕ → List ℕ → List ℕ → ℕ → ℕ → Result
 resultFor task b pairs block limit size = resultOf (treeOf (at task BARE) b pairs block) limit (bytesFor (at task WANTED) (problemOf b .variables) size)
-
--- new arrays but for the task; where plans are asked for, no byte is lent to list them
-pub record Blank (stack work supports tables numbers : List ℕ) (size : ℕ) : Type 0 where
-  pub stack-length : length stack ≡ 208
-  pub work-length : length work ≡ 256
-  pub none-listed : at work PLANS ≡ 0
-  pub supports-blank : Zeros 8192 supports
-  pub tables-length : length tables ≡ 55296
-  pub numbers-blank : Zeros 384 numbers
-  pub unlisted : (at work WANTED ≡ 0 → ⊥) → size ≡ 0
-
--- the positions of the block's variables are known; of a bare run there are none, the symmetries are left out, and the order is 0, 1, ..
-pub record Arranged (bare : ℕ) (block : List ℕ) (n : ℕ) (numbers order numbers′ order′ : List ℕ) (positions : ℕ) : Type 0 where
-  pub whole : bare ≡ 0 → (numbers′ ≡ numbers) × (order′ ≡ order) × Gathered (λ i. inLent block (at order i)) n positions
-  pub bared : (bare ≡ 0 → ⊥) → (numbers′ ≡ set numbers SYMMETRIES 0) × (length order′ ≡ 16) × ((k : ℕ) → k < 16 → at order′ k ≡ k) × (positions ≡ 0)
-
--- a refusal's number and item stand in `work`
-pub record Refusal (b pairs block work : List ℕ) : Type 0 where
-  pub verdict : verdictLent b pairs block ≡ refused (at work NUMBER) (at work ITEM)
-  pub number : at work NUMBER < 2 ^ 8
-
--- the sheet b with these pairs and block is refused, or all that the search reads of it is made, for this task and a list of this size: the empty
--- prefix of the problem whose tree the run walks is dead, or the search may begin
-pub record Prepared (task b pairs block : List ℕ) (limit size : ℕ) (stack work supports tables numbers : List ℕ) (step : ℕ) : Type 0 where
-  pub refused : step ≡ REFUSED → Refusal b pairs block work
-  pub accepted : (step ≡ REFUSED → ⊥) → verdictLent b pairs block ≡ accepted
-  pub begun : (step ≡ REFUSED → ⊥) → at work PLANS ≡ 0
-  pub dead : step ≡ ALL → isLive (treeOf (at task BARE) b pairs block) [] ≡ false
-  pub known : (step ≡ REFUSED → ⊥) → (step ≡ ALL → ⊥) → step ≡ DEEPER
-  pub bounded : step ≡ DEEPER → at numbers LIMIT ≡ limit
-  pub roomy : step ≡ DEEPER → at numbers ROOM ≡ roomFor (at task WANTED) (problemOf b .variables) size
-  pub order : step ≡ DEEPER → orderIn numbers (problemOf b .variables) ≡ orderOf (at task BARE) b pairs
-  pub live : step ≡ DEEPER → (list : List ℕ) → length list ≡ size → AtPrefix (treeOf (at task BARE) b pairs block) stack work supports tables numbers list noNodes 0
 
 -- the run of p, whose variables are a sheet's in an order, has come to its end: the tally, the plans, how it stopped, and the list
 pub record RunTo (p : Problem) (order : List ℕ) (r : Result) (list work′ list′ : List ℕ) (tally′ : Tally) (stop : ℕ) : Type 0 where

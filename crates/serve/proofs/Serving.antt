@@ -11,8 +11,8 @@ use Rattle.model.specs.Lists.{at, flat, choose}
 use Rattle.model.specs.Written.{placed}
 use Rattle.model.specs.Run.{Ending, finished, spent, full, nodesIn, Result}
 use Rattle.model.proofs.Lists.{T-of, of-T}
-use Rattle.search.specs.Pair.{prefixOf}
-use Rattle.search.specs.Walk.{stopIn}
+use Rattle.walk.specs.Pair.{prefixOf}
+use Rattle.walk.specs.Walk.{stopIn}
 use Rattle.parts.specs.Parts.{goOn}
 use Rattle.desk.specs.Desk.{Standing, running, over, goesOn, Hall, deskRoom, standingAfter, hallAfter, hallTurned, turned, Seat, taken, waits, seatTurned, seatAt, Found, none-found, seat, roundFrom, toServe, turn, DeskReply, idle, served, servedAs, turnReply, denied, due, given}
 use Rattle.desk.specs.Layout.{size, seatPlace, nextPlace, long, standingBy, nodesAt, hallAt, seatOf, deskOf, standingByte, runBytes, withRun, turnBytes, replyOn, bytesAfter}

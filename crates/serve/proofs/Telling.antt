@@ -12,7 +12,7 @@ use Rattle.model.specs.Bytes.{fourBytes}
 use Rattle.model.specs.Filling.{Filled}
 use Rattle.model.proofs.Lists.{at-ext, at-append, at-skip, at-replicate}
 use Rattle.layout.specs.Places.{PLANS}
-use Rattle.search.proofs.Prefix.{length-prefix, prefix-at}
+use Rattle.walk.proofs.Prefix.{length-prefix, prefix-at}
 use Rattle.desk.specs.Desk.{Hall}
 use Rattle.desk.specs.Layout.{standingByte, figureBytes, runBytes}
 use Rattle.layout.specs.Places.{LAST}

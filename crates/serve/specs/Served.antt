@@ -11,8 +11,8 @@ use Rattle.model.specs.Written.{placed}
 use Rattle.model.specs.Run.{nodesIn, Result}
 use Rattle.layout.specs.Places.{PLANS, LAST}
 use Rattle.parts.specs.Parts.{goOn, lastAfter}
-use Rattle.search.specs.Pair.{prefixOf}
-use Rattle.search.specs.Walk.{stopIn}
+use Rattle.walk.specs.Pair.{prefixOf}
+use Rattle.walk.specs.Walk.{stopIn}
 use Rattle.desk.specs.Desk.{Hall, deskRoom, given, due, dueAt}
 use Rattle.desk.specs.Layout.{seatPlace, sheetAt, hallAt, seatOf, standingByte, withRun}
 use Rattle.serve.specs.declared.run.Served.{Served}

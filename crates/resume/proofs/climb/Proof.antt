@@ -7,7 +7,7 @@ use lib.ListN.{length}
 use borrow.Author.Needs.{needs}
 use Rattle.model.specs.Lists.{at}
 use Rattle.model.specs.Problem.{Problem}
-use Rattle.search.specs.Walk.{State}
+use Rattle.walk.specs.Walk.{State}
 use Rattle.resume.specs.Steps.{Climb}
 use Rattle.resume.proofs.Up.{climb-stops, climb-ends, up-few, up-byte, up-asks, up-goes}
 use Rattle.resume.proofs.climb.Statement.{statement}

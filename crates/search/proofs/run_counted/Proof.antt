@@ -39,25 +39,26 @@ use denote.Struct.Steps.{spelt}
 use denote.Struct.Laws as SL
 use denote.Enum.Laws as EL
 use Rattle.lent.specs.Lent.{answerLent, listLent, tallyLent}
-use Rattle.search.specs.Walk.{noNodes}
-use Rattle.search.specs.Pair.{Cleared}
-use Rattle.search.specs.Meaning.{means, tallyIn}
-use Rattle.search.specs.declared.Tally.{Tally}
+use Rattle.walk.specs.Walk.{noNodes}
+use Rattle.walk.specs.Pair.{Cleared}
+use Rattle.walk.specs.Meaning.{tallyIn}
+use Rattle.search.specs.Meaning.{means}
+use Rattle.walk.specs.declared.Tally.{Tally}
 use Rattle.search.specs.declared.Answer.{Answer}
 use Rattle.search.specs.declared.CountedRun.{CountedRun}
-use Rattle.search.proofs.Tally as T
-use Rattle.search.proofs.Tally.Laws as T′
+use Rattle.walk.proofs.Tally as T
+use Rattle.walk.proofs.Tally.Laws as T′
 use Rattle.search.proofs.Answer as O
 use Rattle.search.proofs.Answer.Laws as O′
 use Rattle.search.proofs.CountedRun as R
 use Rattle.search.proofs.CountedRun.Laws as R′
-use Rattle.search.proofs.Locals.{lies-in, lies-out}
-use Rattle.search.proofs.Loans as loan
-use Rattle.search.proofs.Loans.{One, Loans, at-sl, calls-lent}
-use Rattle.search.proofs.no_nodes as no-nodes
-use Rattle.search.proofs.no_nodes.Symbol as no-nodes-def
-use Rattle.search.proofs.no_nodes.Symbol.{name as #search·no-nodes}
-use Rattle.search.proofs.no_nodes.Met as no-nodes-thm
+use Rattle.settle.proofs.Locals.{lies-in, lies-out}
+use Rattle.settle.proofs.Loans as loan
+use Rattle.settle.proofs.Loans.{One, Loans, at-sl, calls-lent}
+use Rattle.walk.proofs.no_nodes as no-nodes
+use Rattle.walk.proofs.no_nodes.Symbol as no-nodes-def
+use Rattle.walk.proofs.no_nodes.Symbol.{name as #walk·no-nodes}
+use Rattle.walk.proofs.no_nodes.Met as no-nodes-thm
 use Rattle.search.proofs.run_lent as run-lent
 use Rattle.search.proofs.run_lent.Symbol as run-lent-def
 use Rattle.search.proofs.run_lent.Symbol.{name as #search·run-lent}
@@ -108,7 +109,7 @@ module _ {M : Type 1} (𝓤 : URA M) (H : Heap 𝓤) (A : Atoms 𝓤) (W : Given
   idle = loan.idle 𝓤 H A W
 
   module _ (κ₀ κ₁ κ₂ κ₃ : Lft) (q₀ q₁ q₂ q₃ : Share) (s₀ s₁ s₂ : RefT (List ℕ)) (lb lo n : ℕ) (γ₃ : GName) (room₀ : Room u8 (length (s₀ .now))) (room₁ : Room u8 (length (s₁ .now))) (room₂ : Room u8 (length (s₂ .now))) (room : Room u8 n)
-      (C : Calls 𝓤 H) (Λ : Loops 𝓤 H) (fm : FmC 𝓤 H (W .laws) C) (known-none : Triple 𝓤 (C #search·no-nodes) None) (known-run : Triple 𝓤 (C #search·run-lent) RunLent) where
+      (C : Calls 𝓤 H) (Λ : Loops 𝓤 H) (fm : FmC 𝓤 H (W .laws) C) (known-none : Triple 𝓤 (C #walk·no-nodes) None) (known-run : Triple 𝓤 (C #search·run-lent) RunLent) where
     abbrev vl : Val
     vl = sliceVal (lb, lo) n
 
@@ -220,7 +221,7 @@ module _ {M : Type 1} (𝓤 : URA M) (H : Heap 𝓤) (A : Atoms 𝓤) (W : Given
           keep ! (0 ∷ []) $ by ! (exits r is _ (f₁ .1 .1 .1 .0) (said₁ .0, said₁ .1, said₁ .2 ∙ ap (tallyLent (s₀ .now) (s₁ .now) (s₂ .now) a ls) (said₀ .is)))))))))))))))))))
 
 module _ {M : Type 1} (𝓤 : URA M) (H : Heap 𝓤) (A : Atoms 𝓤) (W : Given 𝓤 H A) (mem : Memory → SProp 𝓤) (run : Routine → Fun 𝓤) where
-  run-counted-walks : (C : Calls 𝓤 H) (Λ : Loops 𝓤 H) → FmC 𝓤 H (W .laws) C → Triple 𝓤 (C #search·no-nodes) (None 𝓤 H A W mem run) → Triple 𝓤 (C #search·run-lent) (RunLent 𝓤 H A W mem run) → Walks 𝓤 H A counted.ended stayed (WpFn 𝓤 H C Λ code.function) (counted.clauses 𝓤 H A mem run)
+  run-counted-walks : (C : Calls 𝓤 H) (Λ : Loops 𝓤 H) → FmC 𝓤 H (W .laws) C → Triple 𝓤 (C #walk·no-nodes) (None 𝓤 H A W mem run) → Triple 𝓤 (C #search·run-lent) (RunLent 𝓤 H A W mem run) → Walks 𝓤 H A counted.ended stayed (WpFn 𝓤 H C Λ code.function) (counted.clauses 𝓤 H A mem run)
   run-counted-walks C Λ fm x r =
       walked 𝓤 H A counted.ended stayed (counted.clauses 𝓤 H A mem run) (WpFn 𝓤 H C Λ code.function) (λ κs. (slice-vals, (slice-vals, (slice-vals, (uint-vals w32, (slice-vals, tt))))))
       (λ κs. (shr-slice-tells (named 0) (κs .0) u8, (shr-slice-tells (named 1) (κs .1 .0) u8, (shr-slice-tells (named 2) (κs .1 .1 .0) u8, (uint-tells w32, (mut-slice-tells (named 3) (κs .1 .1 .1 .0) u8, tt))))))
@@ -228,7 +229,7 @@ module _ {M : Type 1} (𝓤 : URA M) (H : Heap 𝓤) (A : Atoms 𝓤) (W : Given
       (walk 𝓤 H A W mem run (κs .0) (κs .1 .0) (κs .1 .1 .0) (κs .1 .1 .1 .0) (qs .0) (qs .1 .0) (qs .1 .1 .0) (qs .1 .1 .1 .0) (a .0) (a .1 .0) (a .1 .1 .0) (a .1 .1 .1 .1 .0 .ptr .0) (a .1 .1 .1 .1 .0 .ptr .1) (length (a .1 .1 .1 .1 .0 .now)) (a .1 .1 .1 .1 .0 .name) (are .0 .0 .1) (are .1 .0 .0 .1) (are .1 .1 .0 .0 .1) (are .1 .1 .1 .1 .0 .0 .1) C Λ fm x r
       (a .1 .1 .1 .1 .0 .now) refl (a .1 .1 .1 .0) (are .1 .1 .1 .0 .1)))
 
-  run-counted-meets : (𝓣 : Tables 𝓤 H) → Triple 𝓤 (𝓣 .C #search·no-nodes) (None 𝓤 H A W mem run) → Triple 𝓤 (𝓣 .C #search·run-lent) (RunLent 𝓤 H A W mem run) → Meets 𝓤 H A counted.signature (WpFn 𝓤 H (𝓣 .C) (𝓣 .Λ) code.function) (counted.spec 𝓤 H A mem run)
+  run-counted-meets : (𝓣 : Tables 𝓤 H) → Triple 𝓤 (𝓣 .C #walk·no-nodes) (None 𝓤 H A W mem run) → Triple 𝓤 (𝓣 .C #search·run-lent) (RunLent 𝓤 H A W mem run) → Meets 𝓤 H A counted.signature (WpFn 𝓤 H (𝓣 .C) (𝓣 .Λ) code.function) (counted.spec 𝓤 H A mem run)
   run-counted-meets 𝓣 x r =
       walk-meets 𝓤 H A counted.ended stayed W (goes-dropped 𝓤 H A W 4 (shrSliceOf (0 ∷ []) tt bytes) yes (λ κs x f. refl), (goes-dropped 𝓤 H A W 4 (shrSliceOf (1 ∷ []) tt bytes) yes (λ κs x f. refl), (goes-dropped 𝓤 H A W 4 (shrSliceOf (2 ∷ []) tt bytes) yes (λ κs x f. refl), (goes-dropped 𝓤 H A W 4 (plain (λ _. u32)) yes (λ κs x f. refl), (goes-slice 𝓤 H A W 4 3 tt bytes, tt))))) (counted.clauses 𝓤 H A mem run)
       (WpFn 𝓤 H (𝓣 .C) (𝓣 .Λ) code.function) (WpFn-mono 𝓤 H (W .laws) 𝓣 code.function) (run-counted-walks (𝓣 .C) (𝓣 .Λ) (fmOf 𝓤 H (W .laws) 𝓣) x r)
@@ -240,5 +241,5 @@ run-counted-spec 𝓤 H 𝓜 𝓖 𝓡 =
     entered 𝓤 H (tripleOf 𝓤 H (𝓖 .A) counted.signature (counted.spec 𝓤 H (𝓖 .A) (𝓜 .mem) (𝓡 .run)))
     (tables 𝓤 H 𝓜 𝓡 code.env .C) (tables 𝓤 H 𝓜 𝓡 code.env .Λ) #search·run-counted code.function (code.unfolded 𝓤 H 𝓜 𝓡)
     (run-counted-meets 𝓤 H (𝓖 .A) W (𝓜 .mem) (𝓡 .run) (tablesOf 𝓤 H 𝓜 (tables 𝓤 H 𝓜 𝓡 code.env))
-    (cited 𝓤 H (None 𝓤 H (𝓖 .A) W (𝓜 .mem) (𝓡 .run)) 𝓜 𝓡 code.env #search·no-nodes no-nodes-def.routine code.calls-search·no-nodes (no-nodes-thm.met 𝓤 H 𝓜 𝓖 𝓡))
+    (cited 𝓤 H (None 𝓤 H (𝓖 .A) W (𝓜 .mem) (𝓡 .run)) 𝓜 𝓡 code.env #walk·no-nodes no-nodes-def.routine code.calls-walk·no-nodes (no-nodes-thm.met 𝓤 H 𝓜 𝓖 𝓡))
     (cited 𝓤 H (RunLent 𝓤 H (𝓖 .A) W (𝓜 .mem) (𝓡 .run)) 𝓜 𝓡 code.env #search·run-lent run-lent-def.routine code.calls-search·run-lent (run-lent-thm.met 𝓤 H 𝓜 𝓖 𝓡)))

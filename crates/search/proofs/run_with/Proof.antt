@@ -1,5 +1,5 @@
 -- `search::run_with` meets its contract: a walk of its MIR, by hand. `run_lent` is lent the sheet, two slices of no byte, the list and the tally
--- (`Loans.antt`), and they come back; an empty lending changes nothing (crate lent). Assumes nothing.
+-- (settle's `Loans`), and they come back; an empty lending changes nothing (crate lent). Assumes nothing.
 use mathlib.Core.Path.{_≡_, refl, ap, _∙_}
 use Prim.Native.Nat.{ℕ, _<_, _^_}
 use native.Mathlib.Omega.{arith}
@@ -39,14 +39,15 @@ use denote.Enum.Laws as EL
 use Rattle.model.specs.Run.{answerOf, listOf, tallyOf}
 use Rattle.lent.specs.Lent.{answerLent, listLent, tallyLent}
 use Rattle.lent.proofs.LentTally.{nothing-lent}
-use Rattle.search.specs.Meaning.{means, tallyIn}
-use Rattle.search.specs.declared.Tally.{Tally}
+use Rattle.walk.specs.Meaning.{tallyIn}
+use Rattle.search.specs.Meaning.{means}
+use Rattle.walk.specs.declared.Tally.{Tally}
 use Rattle.search.specs.declared.Answer.{Answer}
-use Rattle.search.proofs.Tally as T
+use Rattle.walk.proofs.Tally as T
 use Rattle.search.proofs.Answer as O
 use Rattle.search.proofs.Answer.Laws as O′
-use Rattle.search.proofs.Loans as loan
-use Rattle.search.proofs.Loans.{One, Loans, at-ref, at-sl, calls-lent}
+use Rattle.settle.proofs.Loans as loan
+use Rattle.settle.proofs.Loans.{One, Loans, at-ref, at-sl, calls-lent}
 use Rattle.search.proofs.run_lent as run-lent
 use Rattle.search.proofs.run_lent.Symbol as run-lent-def
 use Rattle.search.proofs.run_lent.Symbol.{name as #search·run-lent}

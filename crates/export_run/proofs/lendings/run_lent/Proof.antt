@@ -4,8 +4,9 @@ use mathlib.Core.List.{List, _++_}
 use Prim.Native.Nat.{ℕ}
 use Rattle.model.specs.Run.{refusal, ended}
 use Rattle.lent.specs.Lent.{verdictLent}
-use Rattle.search.specs.Meaning.{endingOf, means, tallyIn}
-use Rattle.search.specs.Walk.{noNodes}
+use Rattle.walk.specs.Meaning.{tallyIn}
+use Rattle.search.specs.Meaning.{endingOf, means}
+use Rattle.walk.specs.Walk.{noNodes}
 use Rattle.export_run.specs.Run.{endingBytes}
 use Rattle.export_run.specs.Tallied.{numbersOf}
 use Rattle.wire.proofs.Codes.{refused-small}

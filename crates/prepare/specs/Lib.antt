@@ -1,0 +1,2 @@
+-- What is made of a lending before the search.
+pub mod Prepared

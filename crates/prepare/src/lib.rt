@@ -1,0 +1,153 @@
+// What is made of a sheet, pairs and a block before the search: the compiled problem with the limit, the room, the order and the block among its numbers.
+use layout::ALL;
+use layout::BLOCK;
+use layout::DEEPER;
+use layout::ITEM;
+use layout::LIMIT;
+use layout::NUMBER;
+use layout::ORDER;
+use layout::REFUSED;
+use layout::ROOM;
+use layout::SYMMETRIES;
+use layout::VARIABLES;
+ghost use mathlib.Core.Path.{_≡_};
+ghost use Prim.Native.Nat.{ℕ, _+_, _≤_, _<_};
+ghost use lib.ListN.{length, set};
+ghost use Rattle.model.specs.Lists.{at};
+ghost use Rattle.layout.specs.Places.{LIMIT, ROOM, ORDER, BLOCK};
+ghost use Rattle.prepare.specs.Prepared.{BARE, WANTED, roomFor, Arranged, ordered, Blank, Prepared};
+
+// The task of a run, in `work` before it: whether the symmetries are left out, and how many plans are asked for, 0 where they are listed.
+pub const BARE: usize = 224;
+
+pub const WANTED: usize = 225;
+
+// Puts the node limit and the number of plans that there is room for among the numbers, which are lent as a slice: that tells their length.
+pub fn put_bounds(numbers: &mut [u64], limit: u64, room: u64)
+    requires { ⌜ ROOM < length (now numbers) ⌝ }
+    ensures { λ _. ⌜ now (numbers .exit) ≡ set (set (now (numbers .entry)) LIMIT limit) ROOM room ⌝ }
+{
+    numbers[LIMIT] = limit;
+    numbers[ROOM] = room;
+}
+
+// A byte as a number.
+fn wide(x: u8) -> u64
+    ensures { λ r. ⌜ r ≡ x ⌝ }
+{
+    x as u64
+}
+
+// Puts the order of the variables among the numbers.
+pub fn put_order(numbers: &mut [u64], order: &[u8; 16])
+    requires { ⌜ ORDER + 12 ≤ length (now numbers) ⌝ }
+    ensures { λ _. ⌜ now (numbers .exit) ≡ ordered (now (order .entry)) 12 (now (numbers .entry)) ⌝ }
+{
+    let mut k = 0;
+    while k < 12 {
+        numbers[ORDER + k] = wide(order[k]);
+        k += 1;
+    }
+}
+
+// Puts the set of the positions of the block's variables among the numbers.
+pub fn put_block(numbers: &mut [u64], positions: u64)
+    requires { ⌜ BLOCK < length (now numbers) ⌝ }
+    ensures { λ _. ⌜ now (numbers .exit) ≡ set (now (numbers .entry)) BLOCK positions ⌝ }
+{
+    numbers[BLOCK] = positions;
+}
+
+// The number of plans that there is room for, with n variables: the list's, else one less than are asked for.
+fn room_for(work: &[u64; 256], n: usize, size: usize) -> u64
+    requires { ⌜ 0 < n ⌝ }
+    ensures { λ r. ⌜ r ≡ roomFor (at (now (work .entry)) WANTED) n size ⌝ }
+{
+    let wanted = work[WANTED];
+    if wanted == 0 {
+        return (size / n) as u64;
+    }
+    wanted - 1
+}
+
+// The order 0, 1, ..
+pub fn by_position(order: &mut [u8; 16])
+    requires { ⌜ length (now order) ≡ 16 ⌝ }
+    ensures { λ _. ⌜ (length (now (order .exit)) ≡ 16) × ((k : ℕ) → k < 16 → at (now (order .exit)) k ≡ k) ⌝ }
+{
+    let mut k = 0;
+    while k < 16 {
+        order[k] = k as u8;
+        k += 1;
+    }
+}
+
+// The set of the positions of the block's variables. A bare run has none, no symmetries, and writes by position.
+fn arrange(
+    work: &[u64; 256],
+    numbers: &mut [u64; 384],
+    order: &mut [u8; 16],
+    block: &[u8],
+    n: usize,
+) -> u64
+    requires { ⌜ (n ≤ 16) × (length (now numbers) ≡ 384) × (length (now order) ≡ 16) ⌝ }
+    ensures { λ r. ⌜ Arranged (at (now (work .entry)) BARE) (now (block .entry)) n (now (numbers .entry)) (now (order .entry)) (now (numbers .exit)) (now (order .exit)) r ⌝ }
+{
+    if work[BARE] == 0 {
+        return orderings::positions(block, n, order);
+    }
+    numbers[SYMMETRIES] = 0;
+    by_position(order);
+    0
+}
+
+// Puts the questions to what is lent, and makes of it all that the search reads: REFUSED where it is, and its number and item then stand in `work`;
+// ALL where the empty prefix is dead, else DEEPER.
+pub fn prepare(
+    stack: &mut [u16; 208],
+    work: &mut [u64; 256],
+    supports: &mut [u16; 8192],
+    tables: &mut [u16; 55296],
+    numbers: &mut [u64; 384],
+    sheet: &[u8],
+    pairs: &[u8],
+    block: &[u8],
+    limit: u32,
+    size: usize,
+) -> u8
+    requires { ⌜ Blank (now stack) (now work) (now supports) (now tables) (now numbers) size ⌝ }
+    ensures { λ r. ⌜ Prepared (now (work .entry)) (now (sheet .entry)) (now (pairs .entry)) (now (block .entry)) limit size (now (stack .exit)) (now (work .exit)) (now (supports .exit)) (now (tables .exit)) (now (numbers .exit)) r ⌝ }
+{
+    let mut images = [0u8; 26112];
+    let mut order = [0u8; 16];
+    let verdict = lent::compile(
+        sheet,
+        pairs,
+        block,
+        numbers,
+        supports,
+        &mut images,
+        &mut order,
+    );
+    match verdict {
+        sheet::Answer::Accepted => {
+            let n = numbers[VARIABLES] as usize;
+            let room = room_for(work, n, size);
+            put_bounds(numbers, limit as u64, room);
+            let positions = arrange(work, numbers, &mut order, block, n);
+            index::index(numbers, supports, &images, tables);
+            put_order(numbers, &order);
+            put_block(numbers, positions);
+            if prune::root(stack, work, supports, tables, numbers) {
+                ALL
+            } else {
+                DEEPER
+            }
+        }
+        sheet::Answer::Refused { number, item } => {
+            work[NUMBER] = number as u64;
+            work[ITEM] = item as u64;
+            REFUSED
+        }
+    }
+}

@@ -1,0 +1,7 @@
+pub mod Laws
+pub mod Steps
+pub mod Turns
+pub mod Facts
+pub mod Reborrow
+pub mod Loans
+pub mod Locals

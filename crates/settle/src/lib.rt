@@ -1,0 +1,151 @@
+// The walk along the tree (paper 01): to settle a variable is to try its values; to try a value is to settle the next variable.
+use layout::ALL;
+use layout::DEEPER;
+use layout::LAST;
+use layout::SPENT;
+use layout::VARIABLES;
+use model::ValueSet;
+use walk::Tally;
+ghost use Rattle.model.specs.Problem.{Problem};
+ghost use Rattle.model.specs.Run as Run;
+ghost use Rattle.walk.specs.Walk.{begun};
+ghost use Rattle.walk.specs.Pair.{AtValues, AtValue, Walked, Entered, tried, lowestTried, WalkedOn};
+ghost use Rattle.walk.specs.Meaning.{tallyIn};
+
+// Makes the node of the lowest of the values m of variable k: ALL where it is dead or its plan was listed, FULL where a plan has no room,
+// DEEPER where the next variable is to be settled.
+fn enter(
+    stack: &mut [u16; 208],
+    work: &mut [u64; 256],
+    supports: &[u16; 8192],
+    tables: &[u16; 55296],
+    numbers: &[u64; 384],
+    list: &mut [u8],
+    k: usize,
+    m: u16,
+) -> u8
+    requires { ⌜ ((p : Problem) × ((tally : Run.Tally) × AtValue p (now stack) (now work) (now supports) (now tables) (now numbers) (now list) tally k m)) ⌝ }
+    ensures { λ r. ⌜ ((p : Problem) (tally : Run.Tally) → AtValue p (now (stack .entry)) (now (work .entry)) (now (supports .entry)) (now (tables .entry)) (now (numbers .entry)) (now (list .entry)) tally k m → Entered p (now (stack .entry)) (now (work .entry)) (now (supports .entry)) (now (tables .entry)) (now (numbers .entry)) (now (list .entry)) tally k m (now (stack .exit)) (now (work .exit)) (now (list .exit)) r) ⌝ }
+{
+    let values = ValueSet { bits: m };
+    let lowest = values.lowest();
+    work[k] = lowest as u64;
+    work[LAST] = (k + 1) as u64;
+    if prune::child(stack, work, supports, tables, numbers, k) {
+        return ALL;
+    }
+    if k + 1 == numbers[VARIABLES] as usize {
+        return walk::list_plan(work, numbers, list);
+    }
+    DEEPER
+}
+
+// Walks along the nodes of the values m of variable k, lowest first: ALL, or SPENT or FULL once the run is.
+pub fn settle(
+    stack: &mut [u16; 208],
+    work: &mut [u64; 256],
+    supports: &[u16; 8192],
+    tables: &[u16; 55296],
+    numbers: &[u64; 384],
+    list: &mut [u8],
+    tally: &mut Tally,
+    k: usize,
+    m: u16,
+) -> u8
+    requires { ⌜ ((p : Problem) × AtValues p (now stack) (now work) (now supports) (now tables) (now numbers) (now list) (tallyIn (now tally)) k m) ⌝ }
+    ensures { λ r. ⌜ ((p : Problem) → AtValues p (now (stack .entry)) (now (work .entry)) (now (supports .entry)) (now (tables .entry)) (now (numbers .entry)) (now (list .entry)) (tallyIn (now (tally .entry))) k m → Walked p (tried p (now (work .entry)) k m) (now (stack .entry)) (now (work .entry)) (now (numbers .entry)) (now (list .entry)) (tallyIn (now (tally .entry))) k (now (stack .exit)) (now (work .exit)) (now (list .exit)) (tallyIn (now (tally .exit))) r) ⌝ }
+{
+    if m == 0 {
+        return ALL;
+    }
+    if walk::nodes_made(tally) == walk::limit(numbers) {
+        return SPENT;
+    }
+    let stop = try_value(stack, work, supports, tables, numbers, list, tally, k, m);
+    if stop != ALL {
+        return stop;
+    }
+    settle(
+        stack,
+        work,
+        supports,
+        tables,
+        numbers,
+        list,
+        tally,
+        k,
+        walk::rest(m),
+    )
+}
+
+// Walks along the node of the lowest of the values m of variable k and those below it, which are the next variable's.
+fn try_value(
+    stack: &mut [u16; 208],
+    work: &mut [u64; 256],
+    supports: &[u16; 8192],
+    tables: &[u16; 55296],
+    numbers: &[u64; 384],
+    list: &mut [u8],
+    tally: &mut Tally,
+    k: usize,
+    m: u16,
+) -> u8
+    requires { ⌜ ((p : Problem) × AtValue p (now stack) (now work) (now supports) (now tables) (now numbers) (now list) (tallyIn (now tally)) k m) ⌝ }
+    ensures { λ r. ⌜ ((p : Problem) → AtValue p (now (stack .entry)) (now (work .entry)) (now (supports .entry)) (now (tables .entry)) (now (numbers .entry)) (now (list .entry)) (tallyIn (now (tally .entry))) k m → Walked p (lowestTried p (now (work .entry)) k m) (now (stack .entry)) (now (work .entry)) (now (numbers .entry)) (now (list .entry)) (tallyIn (now (tally .entry))) k (now (stack .exit)) (now (work .exit)) (now (list .exit)) (tallyIn (now (tally .exit))) r) ⌝ }
+{
+    let x = walk::variable_at(numbers, k);
+    walk::add_node(tally, x);
+    let step = enter(stack, work, supports, tables, numbers, list, k, m);
+    if step != DEEPER {
+        return step;
+    }
+    let values = walk::candidates(stack, k + 1);
+    settle(
+        stack,
+        work,
+        supports,
+        tables,
+        numbers,
+        list,
+        tally,
+        k + 1,
+        values,
+    )
+}
+
+// How a part of a run stopped, and the nodes made by then.
+pub struct Part {
+    pub stop: u8,
+    pub nodes: u32,
+}
+
+// Walks along the nodes of the values m of variable k, lowest first, in a run that has made so many nodes.
+pub fn walk_values(
+    stack: &mut [u16; 208],
+    work: &mut [u64; 256],
+    supports: &[u16; 8192],
+    tables: &[u16; 55296],
+    numbers: &[u64; 384],
+    list: &mut [u8],
+    made: u32,
+    k: usize,
+    m: u16,
+) -> Part
+    requires { ⌜ ((p : Problem) × AtValues p (now stack) (now work) (now supports) (now tables) (now numbers) (now list) (begun made) k m) ⌝ }
+    ensures { λ r. ⌜ ((p : Problem) → AtValues p (now (stack .entry)) (now (work .entry)) (now (supports .entry)) (now (tables .entry)) (now (numbers .entry)) (now (list .entry)) (begun made) k m → WalkedOn p (tried p (now (work .entry)) k m) (now (stack .entry)) (now (work .entry)) (now (numbers .entry)) (now (list .entry)) made k (now (stack .exit)) (now (work .exit)) (now (list .exit)) (r .nodes) (r .stop)) ⌝ }
+{
+    let mut tally = walk::nodes_before(made);
+    let stop = settle(
+        stack,
+        work,
+        supports,
+        tables,
+        numbers,
+        list,
+        &mut tally,
+        k,
+        m,
+    );
+    let nodes = walk::nodes_made(&tally);
+    Part { stop, nodes }
+}

@@ -1,0 +1,6 @@
+pub mod Walk
+pub mod Outcome
+pub mod Prefix
+pub mod Written
+pub mod Listing
+pub mod Elements

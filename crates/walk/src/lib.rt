@@ -1,0 +1,146 @@
+// A run as a walk along the nodes of the tree (paper 01, "The search"): its tally, its list, and what it reads of the arrays.
+use layout::ALL;
+use layout::FULL;
+use layout::LIMIT;
+use layout::ORDER;
+use layout::PLANS;
+use layout::ROOM;
+use layout::VARIABLES;
+use model::ValueSet;
+ghost use mathlib.Core.Path.{_≡_};
+ghost use Prim.Native.Nat.{ℕ, _+_, _*_, _^_, _≤_, _<_};
+ghost use lib.ListN.{length};
+ghost use Rattle.model.specs.Lists.{at};
+ghost use Rattle.model.specs.ValueSets.{withoutMask, lowestOf};
+ghost use Rattle.order.specs.Order.{Ordering};
+ghost use Rattle.order.specs.Reordered.{write};
+ghost use Rattle.layout.specs.Places.{VARIABLES, LIMIT, ROOM, PLANS};
+ghost use Rattle.walk.specs.Walk.{begun, overwritten, noted};
+ghost use Rattle.walk.specs.Pair.{prefixOf, settling, orderIn, Countable, Counted, Cleared, ListRoom, Listed};
+ghost use Rattle.walk.specs.Meaning.{tallyIn};
+
+// What a run counts (the paper's tally): the nodes made (its trials), and of these the nodes that settle each of twelve variables.
+pub struct Tally {
+    pub nodes: u32,
+    pub counts: [u32; 12],
+}
+
+// Adds a node that settles variable x.
+pub fn add_node(t: &mut Tally, x: usize)
+    requires { ⌜ Countable x (tallyIn (now t)) ⌝ }
+    ensures { λ _. ⌜ Counted x (tallyIn (now (t .entry))) (tallyIn (now (t .exit))) ⌝ }
+{
+    t.counts[x] = t.counts[x] + 1;
+    t.nodes = t.nodes + 1;
+}
+
+// The tally of nothing.
+pub fn no_nodes() -> Tally
+    ensures { λ r. ⌜ Cleared (tallyIn r) ⌝ }
+{
+    Tally {
+        nodes: 0,
+        counts: [0; 12],
+    }
+}
+
+// Sets a tally to nothing.
+pub fn reset(t: &mut Tally)
+    ensures { λ _. ⌜ Cleared (tallyIn (now (t .exit))) ⌝ }
+{
+    *t = no_nodes();
+}
+
+// The nodes made.
+pub fn nodes_made(t: &Tally) -> u32
+    ensures { λ r. ⌜ r ≡ now (t .entry) .nodes ⌝ }
+{
+    t.nodes
+}
+
+// Writes the first n numbers of `work`, each a byte, over the list from `start` on: a variable's value at the variable's number.
+fn keep(list: &mut [u8], work: &[u64], numbers: &[u64; 384], n: usize, start: usize)
+    requires { ⌜ (n ≤ 12) × (n ≤ length (now work)) × (start + n ≤ length (now list)) ⌝ }
+    requires { ⌜ ((i : ℕ) → i < n → at (now work) i < 256) × Ordering n (orderIn (now numbers) n) ⌝ }
+    ensures { λ _. ⌜ now (list .exit) ≡ overwritten start (write (orderIn (now (numbers .entry)) n) (prefixOf (now (work .entry)) n)) (now (list .entry)) ⌝ }
+{
+    let mut i = 0;
+    while i < n {
+        let x = numbers[ORDER + i] as usize;
+        list[start + x] = work[i] as u8;
+        i += 1;
+    }
+}
+
+// Lists the plan after so many others; a list of no byte stays as it is.
+fn note(list: &mut [u8], work: &[u64], numbers: &[u64; 384], plans: usize)
+    requires { ⌜ ListRoom (at (now numbers) VARIABLES) (at (now numbers) ROOM) (now list) plans × (plans ≡ at (now numbers) ROOM → ⊥) ⌝ }
+    requires { ⌜ (at (now numbers) VARIABLES ≤ 12) × (at (now numbers) VARIABLES ≤ length (now work)) × ((i : ℕ) → i < at (now numbers) VARIABLES → at (now work) i < 256) × Ordering (at (now numbers) VARIABLES) (orderIn (now numbers) (at (now numbers) VARIABLES)) ⌝ }
+    ensures { λ _. ⌜ now (list .exit) ≡ noted (plans * at (now (numbers .entry)) VARIABLES) (write (orderIn (now (numbers .entry)) (at (now (numbers .entry)) VARIABLES)) (prefixOf (now (work .entry)) (at (now (numbers .entry)) VARIABLES))) (now (list .entry)) ⌝ }
+{
+    if list.len() == 0 {
+        return;
+    }
+    let n = numbers[VARIABLES] as usize;
+    keep(list, work, numbers, n, plans * n);
+}
+
+// A plan was found: FULL where it has no room, else it is counted, and listed in a list that isn't empty.
+pub fn list_plan(work: &mut [u64; 256], numbers: &[u64; 384], list: &mut [u8]) -> u8
+    requires { ⌜ ListRoom (at (now numbers) VARIABLES) (at (now numbers) ROOM) (now list) (at (now work) PLANS) ⌝ }
+    requires { ⌜ (at (now numbers) VARIABLES ≤ 12) × ((i : ℕ) → i < at (now numbers) VARIABLES → at (now work) i < 256) × (length (now work) ≡ 256) × Ordering (at (now numbers) VARIABLES) (orderIn (now numbers) (at (now numbers) VARIABLES)) ⌝ }
+    ensures { λ r. ⌜ Listed (at (now (numbers .entry)) VARIABLES) (at (now (numbers .entry)) ROOM) (orderIn (now (numbers .entry)) (at (now (numbers .entry)) VARIABLES)) (now (work .entry)) (now (list .entry)) (now (work .exit)) (now (list .exit)) r ⌝ }
+{
+    let plans = work[PLANS] as usize;
+    if plans == numbers[ROOM] as usize {
+        return FULL;
+    }
+    note(list, work, numbers, plans);
+    work[PLANS] = (plans + 1) as u64;
+    ALL
+}
+
+// The values of the set of variable k at depth k.
+pub fn candidates(stack: &[u16; 208], k: usize) -> u16
+    requires { ⌜ k < 12 ⌝ }
+    ensures { λ r. ⌜ r ≡ at (now (stack .entry)) (17 * k) ⌝ }
+{
+    stack[17 * k]
+}
+
+// The values but the lowest.
+pub fn rest(m: u16) -> u16
+    ensures { λ r. ⌜ r ≡ withoutMask m (lowestOf m) ⌝ }
+{
+    let values = ValueSet { bits: m };
+    let others = values.without_lowest();
+    others.bits
+}
+
+// The number of nodes that a run may make.
+pub fn limit(numbers: &[u64; 384]) -> u32
+    requires { ⌜ at (now numbers) LIMIT < 2 ^ 32 ⌝ }
+    ensures { λ r. ⌜ r ≡ at (now (numbers .entry)) LIMIT ⌝ }
+{
+    numbers[LIMIT] as u32
+}
+
+// The variable that is settled at depth k.
+pub fn variable_at(numbers: &[u64; 384], k: usize) -> usize
+    requires { ⌜ k < 12 ⌝ }
+    ensures { λ r. ⌜ r ≡ settling (now (numbers .entry)) k ⌝ }
+{
+    numbers[ORDER + k] as usize
+}
+
+// The tally of so many nodes, all counted as the first variable's.
+pub fn nodes_before(made: u32) -> Tally
+    ensures { λ r. ⌜ tallyIn r ≡ begun made ⌝ }
+{
+    let mut counts = [0; 12];
+    counts[0] = made;
+    Tally {
+        nodes: made,
+        counts: counts,
+    }
+}
