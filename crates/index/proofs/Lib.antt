@@ -7,4 +7,5 @@ pub mod Scopes
 pub mod LinkNumbers
 pub mod RowTables
 pub mod LooseVariables
+pub mod LookScopes
 pub mod Assembled

@@ -3,14 +3,14 @@
 use mathlib.Core.Path.{_≡_}
 use mathlib.Core.Bool.{Bool, true, false}
 use mathlib.Core.List.{List, [], _∷_}
-use Prim.Native.Nat.{ℕ, _+_, _*_, _%_, _≤_, _<_}
+use Prim.Native.Nat.{ℕ, _+_, _*_, _/_, _%_, _≤_, _<_}
 use lib.Dec.{T, eqb, ltb, leb}
 use lib.ListN.{length, set}
 use Rattle.model.specs.Lists.{any, at, keep, same, either}
 use Rattle.model.specs.ValueSets.{has, maskOf, members}
 use Rattle.model.specs.Problem.{Problem}
 use Rattle.model.specs.WellFormed.{WellFormed}
-use Rattle.layout.specs.Places.{INITIAL, VARIABLES, LINKED, LOOSE, SMALLER, OWN}
+use Rattle.layout.specs.Places.{INITIAL, SCOPES, VARIABLES, CONSTRAINTS, LINKED, LOOSE, SMALLER, OWN}
 use Rattle.layout.specs.Layout.{constraintAt, Numbers, Supports}
 use Rattle.layout.specs.Tables.{linkOf, Linked}
 
@@ -108,3 +108,8 @@ pub record LooseTo (numbers tables : List ℕ) (x i : ℕ) : Type 0 where
 pub record LooseSet (numbers tables : List ℕ) (i r : ℕ) : Type 0 where
   pub below : (x : ℕ) → T (has r x) → x < i
   pub loose : (x : ℕ) → T (has r x) → LooseTo numbers tables x (at numbers VARIABLES)
+
+-- ---- look-ups
+-- each constraint of r has three variables, and the second is the last of the first k
+abbrev pub LookScopes : List ℕ → ℕ → ℕ → Type 0
+LookScopes numbers k r = (c : ℕ) → T (has r c) → (c < at numbers CONSTRAINTS) × (at numbers (SCOPES + c) % 256 ≡ 3) × (at numbers (SCOPES + c) / 65536 % 256 + 1 ≡ k)

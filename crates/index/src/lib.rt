@@ -1,11 +1,12 @@
-// The search's tables, made once from the compiled problem: constraints on two variables by variable, constraints on three in numbers of eight lanes,
-// and for each symmetry and pair the images of the smaller values.
+// The search's tables, made once from the compiled problem: constraints on two variables by variable, constraints on three in numbers of eight lanes
+// and by the depth of their look-ups, and for each symmetry and pair the images of the smaller values.
 use layout::LOOSE;
 ghost use Rattle.model.specs.Problem.{Problem};
 ghost use Rattle.index.specs.Index.{Compact, Made};
 
 mod image_tables;
 mod linked;
+mod looks;
 mod loose;
 mod rows;
 mod sets;
@@ -24,6 +25,7 @@ pub fn index(
     rows::rows(numbers, supports, tables);
     let set = loose::loose(numbers, tables);
     numbers[LOOSE] = set;
+    looks::looks(numbers);
     words::words(numbers, supports);
     image_tables::image_tables(numbers, images, tables);
 }

@@ -47,6 +47,9 @@ ORDER = 96
 abbrev pub BLOCK : ℕ
 BLOCK = 108
 
+abbrev pub LOOKS : ℕ
+LOOKS = 112
+
 abbrev pub LANES : ℕ
 LANES = 128
 

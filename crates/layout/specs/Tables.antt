@@ -9,7 +9,7 @@ use lib.Dec.{T, eqb, ltb, leb}
 use Rattle.model.specs.Lists.{any, at, keep, same, both, either}
 use Rattle.model.specs.ValueSets.{has, maskOf, members, least}
 use Rattle.model.specs.Problem.{Problem}
-use Rattle.layout.specs.Places.{LINKED, BY-ROWS, OTHERS, LOOSE, LANES, SMALLER, OWN}
+use Rattle.layout.specs.Places.{LINKED, BY-ROWS, OTHERS, LOOSE, LOOKS, LANES, SMALLER, OWN}
 use Rattle.layout.specs.Layout.{constraintAt, symmetryAt, imageCode, Numbers, Supports}
 
 -- ---- constraints on two variables, by variable
@@ -52,6 +52,17 @@ abbrev pub Words : List ℕ → List ℕ → Type 0
 Words numbers supports =
     (k u v w : ℕ) → k < 32 → u < 8 → v < 8 → w < 8 → has (at numbers (LANES + 8 * k + u)) (8 * v + w) ≡ has (at supports (256 * k + 16 * u + v)) w
 
+-- ---- constraints on three variables, by look-ups
+-- constraint c is on three variables, and the second is the last of the first k
+pub record LooksUp (p : Problem) (k c : ℕ) : Type 0 where
+  pub known : c < length (p .constraints)
+  pub three : length (constraintAt p c .scope) ≡ 3
+  pub second : at (constraintAt p c .scope) 1 + 1 ≡ k
+
+-- `numbers`: for each depth some of these constraints
+abbrev pub Looks : Problem → List ℕ → Type 0
+Looks p numbers = (k c : ℕ) → k < 13 → T (has (at numbers (LOOKS + k)) c) → LooksUp p k c
+
 -- ---- symmetries
 -- the code of the image of the pair (x, v) under symmetry e
 abbrev pub imageOf : Problem → ℕ → ℕ → ℕ → ℕ
@@ -74,4 +85,5 @@ pub record Indexed (p : Problem) (numbers supports tables : List ℕ) : Type 0 w
   pub linked : Linked p numbers
   pub rowed : Rows p tables
   pub worded : Words numbers supports
+  pub looks : Looks p numbers
   pub imageTables : ImageTables p tables

@@ -38,6 +38,10 @@ pub const ORDER: usize = 96;
 // The set of the block's variables (paper 02, #111); empty where no block is lent.
 pub const BLOCK: usize = 108;
 
+// From here on, for each depth from 0 to 12, the constraints on three variables whose first two have one value each from there on: look-ups for the third.
+// Empty where there are fewer than nine values.
+pub const LOOKS: usize = 112;
+
 // From here on the constraints on three variables in lanes.
 pub const LANES: usize = 128;
 

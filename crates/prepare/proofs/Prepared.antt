@@ -30,7 +30,7 @@ use Rattle.lent.specs.Compile.{WithinLimits, CompiledLent}
 use Rattle.lent.proofs.Lent.{passed-all}
 use Rattle.block.proofs.Tables.{well-formed-with}
 use Rattle.lent.proofs.Blocked.{own-first, block-walked, block-inside}
-use Rattle.layout.specs.Places.{INITIAL, SCOPES, VARIABLES, VALUES, CONSTRAINTS, SYMMETRIES, LIMIT, ROOM, LINKED, BY-ROWS, OTHERS, LOOSE, ORDER, BLOCK, LANES, PLANS, NUMBER, ITEM, ALL, DEEPER, REFUSED}
+use Rattle.layout.specs.Places.{INITIAL, SCOPES, VARIABLES, VALUES, CONSTRAINTS, SYMMETRIES, LIMIT, ROOM, LINKED, BY-ROWS, OTHERS, LOOSE, ORDER, BLOCK, LOOKS, LANES, PLANS, NUMBER, ITEM, ALL, DEEPER, REFUSED}
 use Rattle.layout.specs.Layout.{constraintAt, Numbers, Compiled}
 use Rattle.layout.specs.Tables.{Linked, Indexed}
 use Rattle.sheet.specs.Meaning as S
@@ -71,7 +71,7 @@ linked-kept p numbers numbers′ e h = record {
   loose = λ x u v y w t. h .loose x u v y w (subst (λ (s : ℕ). T (has s x)) (e LOOSE (omega arith)) t);
 }
 
-indexed-kept : (p : Problem) (numbers numbers′ supports tables : List ℕ) → p .variables ≤ 12 → length (p .constraints) ≤ 32 → ((i : ℕ) → i < ORDER → at numbers′ i ≡ at numbers i) → ((i : ℕ) → LANES ≤ i → at numbers′ i ≡ at numbers i) →
+indexed-kept : (p : Problem) (numbers numbers′ supports tables : List ℕ) → p .variables ≤ 12 → length (p .constraints) ≤ 32 → ((i : ℕ) → i < ORDER → at numbers′ i ≡ at numbers i) → ((i : ℕ) → LOOKS ≤ i → at numbers′ i ≡ at numbers i) →
     Indexed p numbers supports tables → Indexed p numbers′ supports tables
 indexed-kept p numbers numbers′ supports tables f c low high h = record {
   numbered = numbers-kept p numbers numbers′ f c (λ i l. low i (omega arith)) (h .numbered);
@@ -79,6 +79,7 @@ indexed-kept p numbers numbers′ supports tables f c low high h = record {
   linked = linked-kept p numbers numbers′ low (h .linked);
   rowed = h .rowed;
   worded = λ k u v w a b d e. ap (λ (s : ℕ). has s (8 * v + w)) (high (LANES + 8 * k + u) (omega arith)) ∙ h .worded k u v w a b d e;
+  looks = λ k j l t. h .looks k j l (subst (λ (s : ℕ). T (has s j)) (high (LOOKS + k) (omega arith)) t);
   imageTables = h .imageTables;
 }
 
@@ -279,7 +280,7 @@ module _ (p own : Problem) (order numbers supports images bytes : List ℕ) (pos
     low : (i : ℕ) → i < ORDER → at numbers′ i ≡ at indexed i
     low i l = other i (λ e. omega arith) ∙ ordered-other bytes 12 i indexed (λ j m e. omega arith)
 
-    high : (i : ℕ) → LANES ≤ i → at numbers′ i ≡ at indexed i
+    high : (i : ℕ) → LOOKS ≤ i → at numbers′ i ≡ at indexed i
     high i l = other i (λ e. omega arith) ∙ ordered-other bytes 12 i indexed (λ j m e. omega arith)
 
     pub first : (i : ℕ) → i < LINKED → at numbers′ i ≡ at numbers i

@@ -1,0 +1,46 @@
+// The constraints on three variables whose first two are settled at a depth: one look-up for the third.
+use crate::sets::one_if;
+use layout::CONSTRAINTS;
+use layout::LOOKS;
+use layout::SCOPES;
+use layout::VALUES;
+ghost use mathlib.Core.Path.{_≡_};
+ghost use Prim.Native.Nat.{_+_, _≤_};
+ghost use lib.ListN.{length};
+ghost use Rattle.model.specs.Lists.{at};
+ghost use Rattle.model.specs.Filling.{Filled};
+ghost use Rattle.layout.specs.Places.{CONSTRAINTS, LOOKS};
+ghost use Rattle.index.specs.Steps.{LookScopes};
+
+// Those whose second variable is the last of the first k: an arity of 3 and that variable in one number.
+// None where there are fewer than nine values: there the numbers of lanes are faster.
+fn at_depth(numbers: &[u64; 384], k: usize) -> u64
+    requires { ⌜ (at (now numbers) CONSTRAINTS ≤ 32) × (k ≤ 12) ⌝ }
+    ensures { λ r. ⌜ LookScopes (now (numbers .entry)) k r ⌝ }
+{
+    if numbers[VALUES] < 9 {
+        return 0;
+    }
+    let c = numbers[CONSTRAINTS] as usize;
+    let key = 3 + 256 * (k as u64);
+    let mut all = 0u64;
+    let mut i = 0;
+    while i < c {
+        let w = numbers[SCOPES + i];
+        all = all | one_if(w % 256 + 256 * (w / 65536 % 256 + 1) == key, i);
+        i += 1;
+    }
+    all
+}
+
+// A set for each of thirteen depths.
+pub fn looks(numbers: &mut [u64; 384])
+    requires { ⌜ (at (now numbers) CONSTRAINTS ≤ 32) × (length (now numbers) ≡ 384) ⌝ }
+    ensures { λ _. ⌜ Filled (λ k. LOOKS + k) (LookScopes (now (numbers .entry))) 13 (now (numbers .entry)) (now (numbers .exit)) ⌝ }
+{
+    let mut k = 0;
+    while k < 13 {
+        numbers[LOOKS + k] = at_depth(numbers, k);
+        k += 1;
+    }
+}
