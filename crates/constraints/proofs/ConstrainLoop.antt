@@ -274,7 +274,7 @@ module _ {p : Problem} {numbers supports ds es : List ℕ} {left₀ next₀ left
     }
 
     module _ (l : changed ≡ DEAD → ⊥) where
-      changed-lt : (x : ℕ) → T (has changed x) → x < 16
+      pub changed-lt : (x : ℕ) → T (has changed x) → x < 16
       changed-lt x q = let i = c-good .inside x (in-scope-if c es fs changed (t .sixteen) r l x q) in omega (arith, t .held .wellFormed .few)
 
       turn-full : (x : ℕ) → x < p .variables → at fs x ≡ 0 → ⊥

@@ -5,5 +5,7 @@ pub mod Rows
 pub mod Scopes
 pub mod Stores
 pub mod ConstrainLoop
+pub mod Touching
+pub mod LookUpLoop
 pub mod Unions
 pub mod Removal

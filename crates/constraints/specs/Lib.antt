@@ -1,3 +1,4 @@
 pub mod Lanes
+pub mod LookUps
 pub mod Revised
 pub mod Steps

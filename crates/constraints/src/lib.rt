@@ -21,6 +21,7 @@ ghost use Rattle.layout.specs.Layout.{constraintAt};
 ghost use Rattle.layout.specs.Tables.{Words};
 ghost use Rattle.constraints.specs.Revised.{Revision, ConstraintsPending, Constrained};
 ghost use Rattle.constraints.specs.Steps.{OneValue, Joined, Together3, Together8, Joined3, Scoped, Nonempty, Narrow, ConstraintsHeld, SetCut, Touched, Waiting, Round};
+ghost use Rattle.constraints.specs.LookUps.{LookUp, LookUpsPending, LookedUp};
 ghost use Rattle.constraints.specs.Lanes.{FullLanes, LaneUnion, Product, Heads, FullHeads};
 
 // Bits of a number of eight lanes: the first of each lane, the first two of each second, the first four of each fourth.
@@ -517,4 +518,42 @@ pub fn constrain(
         return constrain8(sets, numbers, supports, todo, settled);
     }
     constrain16(sets, numbers, supports, todo)
+}
+
+// Prunes by constraint number k on three variables, whose first two sets have one value each: one set of the table for the third.
+fn look_up(sets: &mut [u16; 16], numbers: &[u64; 384], supports: &[u16; 8192], k: usize) -> u64
+    requires { ⌜ Sets 16 (now sets) ⌝ }
+    requires { ⌜ ((p : Problem) × ConstraintsHeld p (now numbers) (now supports) × LookUp p (now sets) k × Nonempty (constraintAt p k .scope) (now sets)) ⌝ }
+    ensures { λ r. ⌜ ((p : Problem) → ConstraintsHeld p (now (numbers .entry)) (now (supports .entry)) → LookUp p (now (sets .entry)) k → Nonempty (constraintAt p k .scope) (now (sets .entry)) → Revision (constraintAt p k) (now (sets .entry)) (now (sets .exit)) r) ⌝ }
+{
+    let w = numbers[SCOPES + k];
+    let x = (w / 256 % 256) as usize;
+    let y = (w / 65536 % 256) as usize;
+    let z = (w / 16777216 % 256) as usize;
+    let u = ValueSet { bits: sets[x] }.lowest() as usize;
+    let v = ValueSet { bits: sets[y] }.lowest() as usize;
+    revise_one(sets, supports, 256 * k + 16 * u + v, z)
+}
+
+// The same for each constraint of `some`, once: DEAD where a set would be empty, else the set of the variables whose sets changed.
+pub fn look_ups(
+    sets: &mut [u16; 16],
+    numbers: &[u64; 384],
+    supports: &[u16; 8192],
+    some: u64,
+) -> u64
+    requires { ⌜ ((p : Problem) × (todo : ℕ) × LookUpsPending p (now numbers) (now supports) (now sets) todo some) ⌝ }
+    ensures { λ r. ⌜ ((p : Problem) (todo : ℕ) → LookUpsPending p (now (numbers .entry)) (now (supports .entry)) (now (sets .entry)) todo some → LookedUp p (now (numbers .entry)) (now (supports .entry)) (now (sets .entry)) (now (sets .exit)) todo some r) ⌝ }
+{
+    let mut all = 0u64;
+    let mut left = some;
+    while left != 0 {
+        let changed = look_up(sets, numbers, supports, u64::trailing_zeros(left) as usize);
+        if changed == DEAD {
+            return DEAD;
+        }
+        all = all | changed;
+        left = left & (left - 1);
+    }
+    all
 }

@@ -1,0 +1,179 @@
+-- Look-ups: one constraint whose first two sets have one value each, and the loop over some of them. Assumes nothing.
+use mathlib.Core.Path.{_≡_, refl, sym, ap, _∙_, subst}
+use mathlib.Core.Bool.{Bool, false, not}
+use mathlib.Core.Logic.{_⊎_, inl, inr, ⊎-elim}
+use mathlib.Core.List.{List, [], _∷_, List·Memᴰ·head, List·Memᴰ·tail}
+use Prim.Native.Nat.{ℕ, _+_, _-_, _*_, _/_, _%_, _^_, _≤_, _<_}
+use native.Mathlib.Nat.{lt-of-le-of-lt}
+use native.Mathlib.Omega.{arith}
+use lib.Dec.{T, eqb, eqb-refl}
+use borrow.Author.Tests.{eq-eqb}
+use lib.ListN.{length}
+use lib.Bits.{bitAnd, bitOr, and-le-l}
+use lib.Count.{trailingZeros}
+use Rattle.model.specs.Lists.{at, both}
+use Rattle.model.specs.ValueSets.{has, withoutMask, lowestOf, anyEmpty}
+use Rattle.model.specs.Problem.{Problem}
+use Rattle.model.specs.Pruning.{Sets}
+use Rattle.model.proofs.Lists.{not-of, of-not, T-of, both-i, both-l, both-r}
+use Rattle.model.proofs.Sets.{has-none, has-lt, mask-lt, mask-ext, mask-e}
+use Rattle.model.proofs.Masks.{has-one}
+use Rattle.model.proofs.Members.{rest-begin, lowest-left, low-has, or-i, or-e, and-e, rest-e}
+use Rattle.model.proofs.Firsts.{take-full}
+use Rattle.layout.specs.Places.{SCOPES, OTHERS, DEAD}
+use Rattle.layout.specs.Layout.{constraintAt}
+use Rattle.layout.specs.Pruning.{setsOf}
+use Rattle.layout.proofs.Links.{good}
+use Rattle.constraints.specs.Revised.{Revision}
+use Rattle.constraints.specs.Steps.{Scoped, Nonempty, ConstraintsHeld, SetCut, Touched}
+use Rattle.constraints.specs.LookUps.{Single, LookUp, LookUpsPending, LookedUp}
+use Rattle.constraints.proofs.Bits.{without-has}
+use Rattle.constraints.proofs.Removal.{fixed-take}
+use Rattle.constraints.proofs.Scopes.{scoped-3}
+use Rattle.constraints.proofs.Stores.{three-last, u-has, v-has}
+use Rattle.constraints.proofs.Touching.{touchedOf, touched-lt, touched-of}
+use Rattle.constraints.proofs.ConstrainLoop.{without, ConstrainedSoFar, constrained-begin, changed-lt, constrained-dead, constrained-more}
+
+-- ---- one constraint
+-- a set of one value has no other than its lowest
+no-more : (a : ℕ) → a < 2 ^ 16 → (a ≡ 0 → ⊥) → Single a → withoutMask a (lowestOf a) ≡ 0
+no-more a h n s = mask-ext 16 (withoutMask a (lowestOf a)) 0 (mask-lt 16 other) (omega arith) (λ v l. not-of (has (withoutMask a (lowestOf a)) v) (none v) ∙ sym (has-none v))
+  where
+    other : ℕ → Bool
+    other v = both (has a v) (not (eqb v (lowestOf a)))
+
+    none : (v : ℕ) → T (has (withoutMask a (lowestOf a)) v) → ⊥
+    none v t =
+        let q = mask-e other v t .1 in
+        let e = s v (lowestOf a) (both-l (has a v) (not (eqb v (lowestOf a))) q) (lowest-left a a _ (rest-begin 16 a h) n refl .0) in
+        subst T (ap not (eq-eqb v (lowestOf a) e)) (both-r (has a v) (not (eqb v (lowestOf a))) q)
+
+module _ {p : Problem} {numbers supports ds : List ℕ} {k : ℕ} (g : ConstraintsHeld p numbers supports) (s : Sets 16 ds) (l : LookUp p ds k) (n : Nonempty (constraintAt p k .scope) ds) where
+  -- the scope as the code reads it
+  abbrev x : ℕ
+  x = at numbers (SCOPES + k) / 256 % 256
+
+  abbrev y : ℕ
+  y = at numbers (SCOPES + k) / 65536 % 256
+
+  abbrev z : ℕ
+  z = at numbers (SCOPES + k) / 16777216 % 256
+
+  pub look-scoped : Scoped (constraintAt p k) supports k (at numbers (SCOPES + k) / 256 % 256 ∷ at numbers (SCOPES + k) / 65536 % 256 ∷ at numbers (SCOPES + k) / 16777216 % 256 ∷ [])
+  look-scoped = scoped-3 g k (l .known) (g .numbered .arity k (l .known) ∙ l .three)
+
+  full : Nonempty (x ∷ y ∷ z ∷ []) ds
+  full = subst (λ (m : List ℕ). Nonempty m ds) (look-scoped .is) n
+
+  one-x : withoutMask (at ds x) (lowestOf (at ds x)) ≡ 0
+  one-x = no-more (at ds x) (s .1 x) (full x (List·Memᴰ·head refl)) (subst (λ (i : ℕ). Single (at ds i)) (sym (g .numbered .scope k 0 (l .known) (omega (arith, l .three)))) (l .first))
+
+  one-y : withoutMask (at ds y) (lowestOf (at ds y)) ≡ 0
+  one-y = no-more (at ds y) (s .1 y) (full y (List·Memᴰ·tail (List·Memᴰ·head refl))) (subst (λ (i : ℕ). Single (at ds i)) (sym (g .numbered .scope k 1 (l .known) (omega (arith, l .three)))) (l .second))
+
+  pub look-values : (lowestOf (at ds (at numbers (SCOPES + k) / 256 % 256)) < 16) × (lowestOf (at ds (at numbers (SCOPES + k) / 65536 % 256)) < 16)
+  look-values = (u-has look-scoped ds s full one-x one-y .1, v-has look-scoped ds s full one-x one-y .1)
+
+  pub look-revises : (i : ℕ) → i ≡ 256 * k + 16 * lowestOf (at ds (at numbers (SCOPES + k) / 256 % 256)) + lowestOf (at ds (at numbers (SCOPES + k) / 65536 % 256)) → (es : List ℕ) (r : ℕ) →
+      SetCut ds es (at numbers (SCOPES + k) / 16777216 % 256) (bitAnd (at ds (at numbers (SCOPES + k) / 16777216 % 256)) (at supports i)) r → Revision (constraintAt p k) ds es r
+  look-revises = three-last look-scoped ds s full one-x one-y
+
+-- ---- the loop
+-- only the constraints left, those of `todo` that are not looked up, and those of the changed variables may take something
+pub record LookedSoFar (p : Problem) (numbers supports ds es : List ℕ) (todo some left all : ℕ) : Type 0 where
+  pub next : ℕ
+  pub so-far : ConstrainedSoFar p numbers supports ds es left next all
+  pub due : (j : ℕ) → T (has next j) → T (has (without todo some) j) ⊎ ((x : ℕ) × T (has all x) × T (has (at numbers (OTHERS + x)) j))
+  pub among : (j : ℕ) → T (has left j) → T (has some j)
+
+module _ {p : Problem} {numbers supports ds : List ℕ} {todo some : ℕ} (w : LookUpsPending p numbers supports ds todo some) where
+  n-few : p .variables ≤ 16
+  n-few = omega (arith, w .pending .wellFormed .few)
+
+  pub looked-begin : some < 2 ^ 64 → LookedSoFar p numbers supports ds ds todo some some 0
+  looked-begin h = record { next = without todo some; so-far = begin; due = λ j q. inl q; among = λ j q. q }
+    where
+      t : ConstrainedSoFar p numbers supports ds ds todo 0 0
+      t = constrained-begin p numbers supports ds todo (w .wide) (w .pending)
+
+      undue : (k : ℕ) → k < length (p .constraints) → has some k ≡ false → has (without todo some) k ≡ false → has todo k ≡ false
+      undue k l e f = not-of (has todo k) (λ q. of-not (has (without todo some) k) f (subst T (sym (without-has 64 todo some k h (omega (arith, w .pending .constraints)))) (both-i (has todo k) (not (has some k)) q (T-of (not (has some k)) (ap not e)))))
+
+      begin : ConstrainedSoFar p numbers supports ds ds some (without todo some) 0
+      begin = record {
+        held = t .held;
+        linked = t .linked;
+        sixteen = t .sixteen;
+        wide = h;
+        wide-next = lt-of-le-of-lt (and-le-l todo _) (w .wide);
+        full = t .full;
+        known = λ k. ⊎-elim (λ q. w .looks k q .known) (λ q. w .pending .known k (and-e todo _ k q .0));
+        others = λ k l e f b. t .others k l (undue k l e f) (has-none k) b;
+        ways = t .ways;
+        less = t .less;
+        kept = t .kept;
+        few = t .few;
+        shrunk = t .shrunk;
+        long = t .long;
+      }
+
+  module _ {es : List ℕ} {left all : ℕ} (t : LookedSoFar p numbers supports ds es todo some left all) where
+    -- the end
+    pub looked-end : left ≡ 0 → LookedUp p numbers supports ds es todo some all
+    looked-end e = record {
+      ended = λ q. let i : 16 < p .variables = u .few 16 (subst (λ (n : ℕ). T (has n 16)) (sym q) (subst T (sym (has-one 16 16)) (eqb-refl 16))) in absurd (omega (arith, n-few));
+      lessened = λ n. record { ways = u .ways; sixteen = u .sixteen; full = full; less = u .less; kept = u .kept; few = u .few };
+      pending = λ n g v. record {
+        given = record { sixteen = u .sixteen; full = full; inside = λ x i q. w .pending .given .inside x i (u .ways [] .less x i q) };
+        wellFormed = w .pending .wellFormed;
+        numbered = w .pending .numbered;
+        tabled = w .pending .tabled;
+        linked = w .pending .linked;
+        worded = w .pending .worded;
+        constraints = w .pending .constraints;
+        known = λ k q. ⊎-elim (λ i. w .pending .known k (and-e todo _ k i .0)) (λ i. known g v k i) (or-e (without todo some) g k q);
+        others = λ k l f b.
+            fixed-take (p .variables) es (u .sixteen) n-few (constraintAt p k) (good (w .pending .wellFormed) k l .inside)
+            (u .others k l (ap (λ (n : ℕ). has n k) e ∙ has-none k)
+            (not-of (has (t .next) k) (λ q. of-not (has (bitOr (without todo some) g) k) f (or-i (without todo some) g k (⊎-elim inl (λ i. inr (v .touched-i (i .0) k (i .1) (i .2))) (t .due k q))))) b);
+      };
+    }
+      where
+        u : ConstrainedSoFar p numbers supports ds es left (t .next) all
+        u = t .so-far
+
+        full : anyEmpty (setsOf p es) ≡ false
+        full = take-full (p .variables) es (u .sixteen) n-few (u .full)
+
+        known : (g : ℕ) → Touched numbers all g → (k : ℕ) → T (has g k) → k < length (p .constraints)
+        known g v k q = let x = v .touched-e k q in has-lt (length (p .constraints)) (at numbers (OTHERS + x .0)) k (w .pending .linked .touching-few (x .0) (let i = u .few (x .0) (x .1) in omega (arith, n-few))) (x .2)
+
+    -- one turn
+    module _ (n : left ≡ 0 → ⊥) where
+      abbrev k : ℕ
+      k = trailingZeros 64 left
+
+      pub look-next : LookUp p es (trailingZeros 64 left)
+      look-next =
+          let l = w .looks k (t .among k (low-has 64 left (omega arith) (t .so-far .wide) .0)) in
+          record {
+            known = l .known;
+            three = l .three;
+            first = λ a b q i. l .first a b (t .so-far .less _ a q) (t .so-far .less _ b i);
+            second = λ a b q i. l .second a b (t .so-far .less _ a q) (t .so-far .less _ b i);
+          }
+
+      module _ {fs : List ℕ} {changed : ℕ} (r : Revision (constraintAt p (trailingZeros 64 left)) es fs changed) where
+        pub looked-dead : changed ≡ DEAD → LookedUp p numbers supports ds fs todo some DEAD
+        looked-dead e = record { ended = λ q. constrained-dead (t .so-far) n r e .ended refl; lessened = λ m. absurd (m refl); pending = λ m. absurd (m refl) }
+
+        pub looked-turn : (changed ≡ DEAD → ⊥) → LookedSoFar p numbers supports ds fs todo some (bitAnd left (left - 1)) (bitOr all changed)
+        looked-turn l = record {
+          next = _;
+          so-far = constrained-more (t .so-far) n r l (touchedOf numbers changed) (touched-lt numbers changed) touched;
+          due = λ j q. ⊎-elim (λ i. ⊎-elim inl (λ d. inr (d .0, or-i all changed (d .0) (inl (d .1)), d .2)) (t .due j i)) (λ i. let x = touched .touched-e j (and-e (touchedOf numbers changed) _ j i .0) in inr (x .0, or-i all changed (x .0) (inr (x .1)), x .2)) (or-e (t .next) _ j q);
+          among = λ j q. t .among j (rest-e 64 left (omega arith) (t .so-far .wide) j q);
+        }
+          where
+            touched : Touched numbers changed (touchedOf numbers changed)
+            touched = touched-of (t .so-far .linked) (t .so-far .held .constraints) changed (changed-lt (t .so-far) n r l)

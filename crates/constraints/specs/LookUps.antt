@@ -1,0 +1,38 @@
+-- Constraints on three variables whose first two sets have one value each: what the functions that look the third up ask and leave.
+-- No reader has to believe this: it stands between proved functions.
+use mathlib.Core.Path.{_≡_}
+use mathlib.Core.List.{List}
+use Prim.Native.Nat.{ℕ, _-_, _^_, _<_}
+use lib.Dec.{T}
+use lib.ListN.{length}
+use lib.Bits.{bitAnd, bitOr}
+use Rattle.model.specs.Lists.{at}
+use Rattle.model.specs.ValueSets.{has}
+use Rattle.model.specs.Problem.{Problem}
+use Rattle.layout.specs.Places.{DEAD}
+use Rattle.layout.specs.Layout.{constraintAt}
+use Rattle.layout.specs.Pruning.{Lessened, Ended}
+use Rattle.constraints.specs.Revised.{ConstraintsPending}
+use Rattle.constraints.specs.Steps.{Touched}
+
+-- at most one value
+abbrev pub Single : ℕ → Type 0
+Single a = (u v : ℕ) → T (has a u) → T (has a v) → u ≡ v
+
+pub record LookUp (p : Problem) (sets : List ℕ) (k : ℕ) : Type 0 where
+  pub known : k < length (p .constraints)
+  pub three : length (constraintAt p k .scope) ≡ 3
+  pub first : Single (at sets (at (constraintAt p k .scope) 0))
+  pub second : Single (at sets (at (constraintAt p k .scope) 1))
+
+-- ready to look up the constraints of `some`, where those of `todo` are due
+pub record LookUpsPending (p : Problem) (numbers supports sets : List ℕ) (todo some : ℕ) : Type 0 where
+  pub pending : ConstraintsPending p numbers supports sets todo
+  pub wide : todo < 2 ^ 64
+  pub looks : (k : ℕ) → T (has some k) → LookUp p sets k
+
+-- the answer is DEAD at a dead end, else the variables whose sets changed: their constraints are due, and of `todo` those that were not looked up
+pub record LookedUp (p : Problem) (numbers supports sets sets′ : List ℕ) (todo some r : ℕ) : Type 0 where
+  pub ended : r ≡ DEAD → Ended p sets
+  pub lessened : (r ≡ DEAD → ⊥) → Lessened p sets sets′ r
+  pub pending : (r ≡ DEAD → ⊥) → (g : ℕ) → Touched numbers r g → ConstraintsPending p numbers supports sets′ (bitOr (bitAnd todo ((2 ^ 64 - 1) - some)) g)
