@@ -1,35 +1,42 @@
--- Constraints and filters by turns: the loop of `alternate` and its ends, and the cuts by variable in front of it. Assumes nothing.
+-- Constraints and filters by turns: the loop of `alternate` and its ends, and the look-ups and the cuts by variable in front of it. Assumes nothing.
 use mathlib.Core.Path.{_≡_, refl, sym, ap, _∙_, subst}
 use mathlib.Core.Bool.{Bool, true, false, not}
-use mathlib.Core.List.{List, []}
-use Prim.Native.Nat.{ℕ, _+_, _*_, _^_, _≤_, _<_}
+use mathlib.Core.List.{List, [], List·Memᴰ·head}
+use Prim.Native.Nat.{ℕ, _+_, _-_, _*_, _^_, _≤_, _<_}
+use native.Mathlib.Nat.{lt-of-le-of-lt}
 use native.Mathlib.Omega.{arith}
 use lib.Dec.{T, eqb, ltb}
 use lib.ListN.{length, take}
-use lib.Bits.{bitAnd, bitOr}
+use lib.Bits.{bitAnd, bitOr, and-le-l}
+use lib.Seq.{length-take-le}
 use borrow.Author.Tests.{ltb-true, ltb-false, eqb-true, eq-eqb}
-use Rattle.model.specs.Lists.{at}
+use Rattle.model.specs.Lists.{at, ascending}
 use Rattle.model.specs.ValueSets.{has, anyEmpty}
 use Rattle.model.specs.Problem.{Problem, Constraint}
 use Rattle.model.specs.Search.{pruned, setsAt, isLive, supported}
-use Rattle.model.proofs.Lists.{T-of, of-T, not-of, of-not, at-ext, both-l, place-of}
+use Rattle.model.proofs.Lists.{T-of, of-T, not-of, of-not, at-ext, both-l, place-of, list-3, ascending-sorted}
 use Rattle.model.proofs.Sets.{has-none, mask-ext, empty-inside, inside-antisym, size, size-inside, size-strict}
 use Rattle.model.specs.Pruning.{Sets, Inside, closed, Way, Prunes}
 use Rattle.model.proofs.Masks.{has-and}
-use Rattle.model.proofs.Members.{has-0}
-use Rattle.model.proofs.Firsts.{take-sets}
-use Rattle.model.proofs.Prune.{Sized, Kept, fixed-i, largest, live-is, way-live, way-end}
+use Rattle.model.proofs.Members.{has-0, and-e}
+use Rattle.model.proofs.Firsts.{take-sets, take-i}
+use Rattle.model.proofs.Prune.{narrowed-e, Sized, Kept, fixed-i, largest, live-is, way-live, way-end}
 use Rattle.model.proofs.Tree.{well-sized}
-use Rattle.layout.specs.Places.{DEAD, LINKED, MARKS, SYMMETRIES}
+use Rattle.layout.specs.Places.{DEAD, LINKED, LOOKS, MARKS, SYMMETRIES}
+use Rattle.layout.specs.Layout.{constraintAt}
+use Rattle.layout.specs.Tables.{LooksUp}
+use Rattle.layout.proofs.Links.{good}
 use Rattle.layout.specs.Pruning.{Given, Ended, setsOf}
 use Rattle.links.specs.Links.{ArcsMade}
 use Rattle.constraints.specs.Steps.{Touched}
+use Rattle.constraints.specs.LookUps.{Single, LookUp, LookUpsPending, LookedUp}
+use Rattle.constraints.proofs.Touching.{touchedOf, touched-of, touched-parts}
 use Rattle.levels.proofs.Marks.{mark-mono}
 use Rattle.block.specs.BlockSets.{Ascends}
 use Rattle.block.proofs.BlockSets.{ascends-less, way-prunes-own, fixed-whole}
 use Rattle.prune.specs.Node.{MarksRight, blockOf, withOrderings}
-use Rattle.prune.specs.Steps.{ArraysHold, Blocked, PrunedSoFar, AllConstrained, LiveSets, AllFiltered, EndedAt, OnlyMarks, Startable, BeforeFixpoint, AfterFixpoint, Differ}
-use Rattle.prune.proofs.Pending.{pruned-none, take-less, still-fixed, touched-known, still-arc, arcs-pruned, arcs-turn}
+use Rattle.prune.specs.Steps.{ArraysHold, Blocked, Pending, PrunedSoFar, AllConstrained, LiveSets, AllFiltered, EndedAt, OnlyMarks, Startable, BeforeFixpoint, AfterFixpoint, Differ}
+use Rattle.prune.proofs.Pending.{pruned-none, pruned-more, take-less, still-fixed, touched-known, still-arc, constraints-pending, looked-few, looks-turn, arcs-pruned, arcs-turn}
 use Rattle.prune.proofs.FilterLoop.{same-take, kept-none, kept-trans, filtered-begin, filtered-end}
 
 -- ---- a set is empty, so the prefix is dead
@@ -111,16 +118,18 @@ module _ {p : Problem} {gs : List (List ℕ)} {supports tables numbers : List �
     ascends-1 : Ascends (blockOf numbers) (take k work) (setsOf p es)
     ascends-1 = ascends-less (blockOf numbers) (take k work) (setsOf p ds) (setsOf p es) inside-1 (n .ascends)
 
-  -- the constraints by variable are done: the rest that is due may be done from there
-  pub arcs-done : {es : List ℕ} {cut touched due : ℕ} → ArcsMade p ds es cut → (cut ≡ DEAD → ⊥) → Touched numbers cut touched → due ≡ bitOr todo touched → BeforeFixpoint p gs work numbers es k due 0
-  arcs-done l live u d =
-      let r = arcs-pruned st (n .startable .pending) l live ds (pruned-none p ds) in
-      let w = arcs-turn st (n .startable .pending) l live u d in
-      record {
-        startable = record { prefix-held = n .startable .prefix-held; live = live-1 r (w .given); pending = w; marking = marking-1 r (w .given) };
-        way = way-1 r (w .given);
-        ascends = ascends-1 r (w .given);
-      }
+    -- so much is done: what is due from there on
+    pruned-start : {due moved : ℕ} → Pending p numbers es due moved → BeforeFixpoint p gs work numbers es k due moved
+    pruned-start w = record { startable = record { prefix-held = n .startable .prefix-held; live = live-1; pending = w; marking = marking-1 }; way = way-1; ascends = ascends-1 }
+
+  -- the look-ups are done
+  pub looks-done : {fs : List ℕ} {looks looked : ℕ} → LookedUp p numbers supports ds fs todo looks looked → (looked ≡ DEAD → ⊥) →
+      BeforeFixpoint p gs work numbers fs k (bitOr (bitAnd todo ((2 ^ 64 - 1) - looks)) (touchedOf numbers looked)) (bitOr dirty (bitAnd looked (at numbers LINKED)))
+  looks-done {fs = fs} {looked = looked} l live = let w = looks-turn st (n .startable .pending) l live in pruned-start (pruned-more p ds ds fs looked (pruned-none p ds) (l .lessened live)) (w .given) w
+
+  -- the constraints by variable are done
+  arcs-done : {es : List ℕ} {cut touched due : ℕ} → ArcsMade p ds es cut → (cut ≡ DEAD → ⊥) → Touched numbers cut touched → due ≡ bitOr todo touched → BeforeFixpoint p gs work numbers es k due 0
+  arcs-done l live u d = let w = arcs-turn st (n .startable .pending) l live u d in pruned-start (arcs-pruned st (n .startable .pending) l live ds (pruned-none p ds)) (w .given) w
 
   module _ {es : List ℕ} (c : AllConstrained p ds es) where
     pub constrained-live : LiveSets p es
@@ -231,3 +240,36 @@ module _ {p : Problem} {gs : List (List ℕ)} {supports tables numbers : List �
       where
         none : Differ es es 0
         none = record { few = λ x t. absurd (has-0 x t); differ = λ x l. has-none x ∙ sym (ap not (eq-eqb (at es x) (at es x) refl)) }
+
+-- ---- before the turns: the look-ups, and then the constraints by variable
+module _ {p : Problem} {gs : List (List ℕ)} {supports tables numbers : List ℕ} (st : ArraysHold p supports tables numbers) (bl : Blocked p gs numbers) {work ds : List ℕ} {k todo dirty : ℕ} (n : BeforeFixpoint p gs work numbers ds k todo dirty) (wide : todo < 2 ^ 64) where
+  -- a settled variable has one value at most
+  settled : (x : ℕ) → x < k → Single (at ds x)
+  settled x h u v s t = value u s ∙ sym (value v t)
+    where
+      value : (w : ℕ) → T (has (at ds x) w) → w ≡ at (take k work) x
+      value w q =
+          narrowed-e (take k work) (p .initial) x w (n .way .inside x w (take-i (p .variables) ds (n .startable .live .sixteen) (omega (arith, st .wellFormed .few)) x w (omega (arith, n .startable .prefix-held .depth)) q)) .1
+          (subst (λ (m : ℕ). x < m) (sym (length-take-le k work (omega (arith, n .startable .prefix-held .depth, st .wellFormed .few, n .startable .prefix-held .work-length)))) h)
+
+  pub looks-pending : LookUpsPending p numbers supports ds todo (bitAnd todo (at numbers (LOOKS + k)))
+  looks-pending = record { pending = constraints-pending st (n .startable .pending); wide = wide; looks = look }
+    where
+      look : (c : ℕ) → T (has (bitAnd todo (at numbers (LOOKS + k))) c) → LookUp p ds c
+      look c t = record { known = l .known; three = l .three; first = settled _ (omega (arith, l .second, order)); second = settled _ (omega (arith, l .second)) }
+        where
+          l : LooksUp p k c
+          l = st .indexed .looks k c (omega (arith, n .startable .prefix-held .depth, st .wellFormed .few)) (and-e todo (at numbers (LOOKS + k)) c t .1)
+
+          order : at (constraintAt p c .scope) 0 < at (constraintAt p c .scope) 1
+          order = ascending-sorted _ (subst (λ (z : List ℕ). T (ascending z)) (list-3 (constraintAt p c .scope) _ _ _ (l .three) refl refl refl) (good (st .wellFormed) c (l .known) .ordered)) .0 _ (List·Memᴰ·head refl)
+
+  -- both are done: the rest that is due may be done from there
+  pub cuts-done : {fs hs : List ℕ} {looked cut t : ℕ} → LookedUp p numbers supports ds fs todo (bitAnd todo (at numbers (LOOKS + k))) looked → (looked ≡ DEAD → ⊥) → ArcsMade p fs hs cut → (cut ≡ DEAD → ⊥) → t < 2 ^ 64 → Touched numbers (bitOr looked cut) t →
+      BeforeFixpoint p gs work numbers hs k (bitOr (bitAnd todo ((2 ^ 64 - 1) - bitAnd todo (at numbers (LOOKS + k)))) t) 0
+  cuts-done {looked = looked} {cut = cut} {t = t} l live a alive h u =
+      arcs-done st bl (looks-done st bl n l live) a alive (touched-of (st .indexed .linked) (st .constraints) cut few)
+      (touched-parts (st .indexed .linked) (st .constraints) looked cut t _ (looked-few st (n .startable .pending) l live) few (lt-of-le-of-lt (and-le-l todo _) wide) h u)
+    where
+      few : (x : ℕ) → T (has cut x) → x < 16
+      few x q = let i = a .lessened alive .few x q in omega (arith, st .wellFormed .few)

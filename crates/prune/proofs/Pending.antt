@@ -1,9 +1,9 @@
 -- The loop of `constrain`: constraints by variable and the others by turns, and its ends. Assumes nothing.
 use mathlib.Core.Path.{_≡_, refl, sym, ap, _∙_, subst}
 use mathlib.Core.Bool.{Bool, true, false, not}
-use mathlib.Core.Logic.{⊎-elim}
+use mathlib.Core.Logic.{inl, inr, ⊎-elim}
 use mathlib.Core.List.{List, List·Memᴰ}
-use Prim.Native.Nat.{ℕ, _+_, _^_, _≤_, _<_}
+use Prim.Native.Nat.{ℕ, _+_, _-_, _^_, _≤_, _<_}
 use native.Mathlib.Nat.{lt-of-le-of-lt}
 use native.Mathlib.Omega.{arith}
 use lib.Dec.{T, eqb}
@@ -17,7 +17,7 @@ use Rattle.model.proofs.Lists.{T-of, of-T, not-of, of-not, both-i, both-l, eith
 use Rattle.model.proofs.Sets.{has-none, has-lt, member, size, size-inside}
 use Rattle.model.specs.Pruning.{Sets, Inside}
 use Rattle.model.proofs.Masks.{has-or, has-and}
-use Rattle.model.proofs.Members.{low-has}
+use Rattle.model.proofs.Members.{low-has, or-i, or-e, and-e}
 use Rattle.model.proofs.Firsts.{take-at, take-e, take-i, full-take}
 use Rattle.model.proofs.Prunes.{prunes-none, prunes-then}
 use Rattle.layout.specs.Places.{DEAD, LINKED, OTHERS}
@@ -28,7 +28,9 @@ use Rattle.layout.specs.Pruning.{Given, Lessened, Ended, Fixed, Arc, setsOf}
 use Rattle.links.specs.Links as links
 use Rattle.constraints.specs.Revised as revised
 use Rattle.constraints.specs.Steps.{Touched}
+use Rattle.constraints.specs.LookUps.{LookedUp}
 use Rattle.constraints.proofs.Rows.{fixed-kept}
+use Rattle.constraints.proofs.Touching.{touchedOf, touched-of}
 use Rattle.prune.specs.Steps.{ArraysHold, Pending, PrunedSoFar, AllConstrained, AllConstrainedOr}
 use Rattle.prune.proofs.Arcs.{arc-kept, arc-free, arcs-fixed}
 
@@ -118,8 +120,42 @@ module _ {p : Problem} {supports tables numbers : List ℕ} (s : ArraysHold p su
       go k h true e = arcs-fixed p (setsOf p es) (good (s .wellFormed)) k h (T-of (byRows p k) e) arcs
       go k h false e = w .others k h (none _ k t) e
 
-  -- ---- the first half of a turn: the constraints by variable leave fs of es
   module _ {es : List ℕ} {left moved : ℕ} (w : Pending p numbers es left moved) where
+    pub constraints-pending : revised.ConstraintsPending p numbers supports es left
+    constraints-pending = record {
+      given = w .given;
+      wellFormed = s .wellFormed;
+      numbered = s .indexed .numbered;
+      tabled = s .indexed .supported;
+      linked = s .indexed .linked;
+      worded = s .indexed .worded;
+      constraints = s .constraints;
+      known = w .known;
+      others = w .others;
+    }
+
+    -- ---- look-ups leave fs of es
+    module _ {fs : List ℕ} {looks looked : ℕ} (l : LookedUp p numbers supports es fs left looks looked) (live : looked ≡ DEAD → ⊥) where
+      pub looked-few : (x : ℕ) → T (has looked x) → x < 16
+      looked-few x t = let i = l .lessened live .few x t in omega (arith, n-few)
+
+      after : revised.ConstraintsPending p numbers supports fs (bitOr (bitAnd left ((2 ^ 64 - 1) - looks)) (touchedOf numbers looked))
+      after = l .pending live (touchedOf numbers looked) (touched-of (s .indexed .linked) (s .constraints) looked looked-few)
+
+      -- the variables that changed are dirty too
+      pub looks-turn : Pending p numbers fs (bitOr (bitAnd left ((2 ^ 64 - 1) - looks)) (touchedOf numbers looked)) (bitOr moved (bitAnd looked (at numbers LINKED)))
+      looks-turn = record {
+        given = after .given;
+        known = after .known;
+        others = after .others;
+        inner = λ x t. ⊎-elim (w .inner x) (λ q. l .lessened live .few x (and-e looked (at numbers LINKED) x q .0)) (or-e moved (bitAnd looked (at numbers LINKED)) x t);
+        arcs = λ x h f.
+            still-arc es fs looked (bitAnd looked (at numbers LINKED)) (w .given) (after .given) (l .lessened live .less) (λ y i e. l .lessened live .kept y e) refl x h
+            (not-of (has (bitAnd looked (at numbers LINKED)) x) (λ t. of-not (has (bitOr moved (bitAnd looked (at numbers LINKED))) x) f (or-i moved (bitAnd looked (at numbers LINKED)) x (inr t))))
+            (w .arcs x h (not-of (has moved x) (λ t. of-not (has (bitOr moved (bitAnd looked (at numbers LINKED))) x) f (or-i moved (bitAnd looked (at numbers LINKED)) x (inl t)))));
+      }
+
+    -- ---- the first half of a turn: the constraints by variable leave fs of es
     pub arcs-pending : links.ArcsPending p numbers tables es moved
     arcs-pending = record {
       given = w .given;
@@ -156,19 +192,6 @@ module _ {p : Problem} {supports tables numbers : List ℕ} (s : ArraysHold p su
 
   -- ---- the second half: the other constraints leave gs of fs
   module _ {fs : List ℕ} {due : ℕ} (w : Pending p numbers fs due 0) where
-    pub constraints-pending : revised.ConstraintsPending p numbers supports fs due
-    constraints-pending = record {
-      given = w .given;
-      wellFormed = s .wellFormed;
-      numbered = s .indexed .numbered;
-      tabled = s .indexed .supported;
-      linked = s .indexed .linked;
-      worded = s .indexed .worded;
-      constraints = s .constraints;
-      known = w .known;
-      others = w .others;
-    }
-
     module _ {gs : List ℕ} {pruned : ℕ} (c : revised.Constrained p fs gs pruned) (alive : pruned ≡ DEAD → ⊥) {next : ℕ} (q : next ≡ bitAnd pruned (at numbers LINKED)) where
       given-2 : Given p gs
       given-2 = given-more fs gs pruned (w .given) (c .lessened alive)

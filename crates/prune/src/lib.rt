@@ -4,6 +4,7 @@ use layout::DEAD;
 use layout::FAILED;
 use layout::INITIAL;
 use layout::LINKED;
+use layout::LOOKS;
 use layout::MARKS;
 use layout::OTHERS;
 use layout::SYMMETRIES;
@@ -136,7 +137,8 @@ fn alternate(
     }
 }
 
-// First the cuts by variable, where most dead prefixes end; then the rest that is due, if any is. True where the prefix is dead.
+// First the look-ups that the last settled variable allows and the cuts by variable, where most dead prefixes end; then the rest that is due, if any is.
+// True where the prefix is dead.
 fn fixpoint(
     sets: &mut [u16; 16],
     work: &mut [u64; 256],
@@ -150,11 +152,16 @@ fn fixpoint(
     requires { ⌜ ((p : Problem) × (gs : List (List ℕ)) × ArraysHold p (now supports) (now tables) (now numbers) × Blocked p gs (now numbers) × BeforeFixpoint p gs (now work) (now numbers) (now sets) k todo dirty) ⌝ }
     ensures { λ r. ⌜ ((p : Problem) (gs : List (List ℕ)) → ArraysHold p (now (supports .entry)) (now (tables .entry)) (now (numbers .entry)) → Blocked p gs (now (numbers .entry)) → BeforeFixpoint p gs (now (work .entry)) (now (numbers .entry)) (now (sets .entry)) k todo dirty → AfterFixpoint p gs k (now (work .entry)) (now (work .exit)) (now (sets .exit)) r) ⌝ }
 {
-    let cut = links::arcs(sets, tables, numbers, dirty);
+    let looks = todo & numbers[LOOKS + k];
+    let looked = constraints::look_ups(sets, numbers, supports, looks);
+    if looked == DEAD {
+        return true;
+    }
+    let cut = links::arcs(sets, tables, numbers, dirty | (looked & numbers[LINKED]));
     if cut == DEAD {
         return true;
     }
-    let left = todo | constraints::touched(numbers, cut);
+    let left = (todo & !looks) | constraints::touched(numbers, looked | cut);
     if (left | numbers[SYMMETRIES]) == 0 {
         return false;
     }
