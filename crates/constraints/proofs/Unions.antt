@@ -1,29 +1,26 @@
 -- The loops that run through the members of a set and unite what each of them gives. Assumes nothing.
 use mathlib.Core.Path.{_≡_, refl, sym, ap, _∙_, subst}
-use mathlib.Core.Bool.{Bool, true, not}
+use mathlib.Core.Bool.{Bool, true, false, not}
 use mathlib.Core.Logic.{_⊎_, inl, inr, ⊎-elim}
 use mathlib.Core.List.{List}
-use Prim.Native.Nat.{ℕ, _+_, _-_, _*_, _/_, _%_, _^_, _<_}
+use Prim.Native.Nat.{ℕ, _+_, _*_, _/_, _%_, _^_, _≤_, _<_}
 use native.Mathlib.Nat.{lt-of-le-of-lt}
 use native.Mathlib.Omega.{arith}
-use lib.Dec.{T, eqb}
+use lib.Dec.{T, eqb, ltb}
 use lib.Bits.{bitAnd, bitOr, and-le-r}
 use lib.Count.{trailingZeros}
-use borrow.Author.Tests.{eqb-true, eq-eqb, ne-eqb}
+use borrow.Author.Tests.{eqb-true, ltb-true, ltb-false, eq-eqb, ne-eqb}
 use Rattle.model.specs.Lists.{at}
 use Rattle.model.specs.ValueSets.{has, maskOf, withoutMask, unionMask, lowestOf, oneIf}
-use Rattle.model.proofs.Lists.{T-of, both-i, both-l, both-r}
+use Rattle.model.proofs.Lists.{T-of, of-not, both-i, both-l, both-r}
 use Rattle.model.proofs.Sets.{has-lt, mask-lt}
-use Rattle.model.proofs.Members.{low-has, rest-i, without-lowest-op, Rest, rest-begin, has-0, Union, union-begin, union-end, lowest-left, others-left, others-union, and-i, and-e, or-zero-e}
+use Rattle.model.proofs.Members.{low-has, rest-i, without-lowest-op, Rest, rest-begin, has-0, Union, union-begin, union-end, lowest-left, others-left, others-union, or-i, or-e, and-i, and-e}
 use Rattle.layout.specs.Places.{OTHERS, LANES}
 use Rattle.layout.specs.Tables.{Words}
 use Rattle.constraints.specs.Steps.{OneValue, Together, Joined, Together3, Together8, Joined3, Touched}
 use Rattle.constraints.specs.Lanes.{FullLanes, LaneUnion, Product}
 use Rattle.constraints.proofs.Bits.{one-small}
 use Rattle.model.proofs.Masks.{has-oneIf, lowest-op, union-op}
-
-pub and-wide : (a b : ℕ) → b < 2 ^ 16 → bitAnd a b < 2 ^ 64
-and-wide a b h = omega (arith, and-le-r a b)
 
 -- the member itself where some set is not empty
 pub one-i : (s u : ℕ) → (v : ℕ) → T (has s v) → T (has (oneIf (not (eqb s 0)) u) u)
@@ -41,10 +38,6 @@ one-lt s b v e h = subst (λ (z : ℕ). z < 2 ^ 16) (sym e) (one-small b v h)
 
 pub small : (f : ℕ → Bool) (r : ℕ) → r ≡ maskOf f → r < 2 ^ 16
 small f r e = subst (λ (z : ℕ). z < 2 ^ 16) (sym e) (mask-lt 16 f)
-
--- a union without members
-pub union-none : (s t r : ℕ) → s < 2 ^ 16 → t < 2 ^ 16 → r ≡ unionMask s t → r ≡ 0 → (s ≡ 0) × (t ≡ 0)
-union-none s t r h i e z = or-zero-e s t (union-op s t h i ∙ sym e ∙ z)
 
 -- a set that is empty without its lowest value
 pub one-value : (a r : ℕ) (b : Bool) → (a ≡ 0 → ⊥) → r ≡ withoutMask a (lowestOf a) → b ≡ eqb r 0 → b ≡ true → OneValue a
@@ -120,39 +113,66 @@ module _ (t : List ℕ) (base a b : ℕ) where
       lt : v < 16
       lt = lowest-left a a v (rest-begin 16 a h) (o .some) low .1
 
-  -- each value passed gives something
-  pub record Passing (m all : ℕ) : Type 0 where
-    pub rest : Rest 16 a m
-    pub firsts : (v : ℕ) → T (has a v) → ((w : ℕ) × Gives v w) ⊎ T (has m v)
-    pub lasts : Union Gives a m all
+  -- the values below u are passed
+  pub record Passing (u first all : ℕ) : Type 0 where
+    pub narrow : first < 2 ^ 16
+    pub first-i : (v w : ℕ) → v < u → Together t base a b v w → T (has first v)
+    pub first-e : (v : ℕ) → T (has first v) → (w : ℕ) × Together t base a b v w
+    pub last-i : (v w : ℕ) → v < u → Together t base a b v w → T (has all w)
+    pub last-e : (w : ℕ) → T (has all w) → (v : ℕ) × Together t base a b v w
 
-  pub passing-begin : a < 2 ^ 16 → Passing a 0
-  passing-begin h = record { rest = rest-begin 16 a h; firsts = λ v q. inr q; lasts = union-begin Gives a }
+  pub passing-begin : Passing 0 0 0
+  passing-begin = record {
+    narrow = omega arith;
+    first-i = λ v w h q. absurd (omega arith);
+    first-e = λ v q. absurd (has-0 v q);
+    last-i = λ v w h q. absurd (omega arith);
+    last-e = λ w q. absurd (has-0 w q);
+  }
 
-  pub passing-turn : (k m v m′ : ℕ) {all all′ : ℕ} → Passing m all → (m ≡ 0 → ⊥) → v ≡ lowestOf m → m′ ≡ withoutMask m (lowestOf m) → b < 2 ^ k →
-      (bitAnd (at t (base + v)) b ≡ 0 → ⊥) → all′ ≡ bitOr all (bitAnd (at t (base + v)) b) → Passing m′ all′
-  passing-turn k m v m′ {all} {all′} j n low less h z l = record {
-    rest = others-left a m v (j .rest) n low m′ less;
-    firsts = λ u q. ⊎-elim inl (λ r. ⊎-elim (λ o. inr o) (λ o. inl (subst (λ (i : ℕ). (w : ℕ) × Gives i w) (sym o) some)) (passed-i u r)) (j .firsts u q);
-    lasts = others-union a m v (j .rest) n low m′ less Gives all x all′ (j .lasts) l (λ w q. and-i (at t (base + v)) b w (q .1) (q .0)) (λ w q. let d = and-e (at t (base + v)) b w q in (d .1, d .0));
+  -- x has what goes together with u
+  abbrev pub Given : ℕ → ℕ → Type 0
+  Given u x = ((has a u ≡ true) × (x ≡ bitAnd (at t (base + u)) b)) ⊎ ((has a u ≡ false) × (x ≡ 0))
+
+  given-i : (u x w : ℕ) → Given u x → Together t base a b u w → T (has x w)
+  given-i u x w (inl g) q = subst (λ (z : ℕ). T (has z w)) (sym (g .1)) (and-i (at t (base + u)) b w (q .2) (q .1))
+  given-i u x w (inr g) q = absurd (of-not (has a u) (g .0) (q .0))
+
+  given-e : (u x w : ℕ) → Given u x → T (has x w) → Together t base a b u w
+  given-e u x w (inl g) q = let d = and-e (at t (base + u)) b w (subst (λ (z : ℕ). T (has z w)) (g .1) q) in (T-of (has a u) (g .0), d .1, d .0)
+  given-e u x w (inr g) q = absurd (has-0 w (subst (λ (z : ℕ). T (has z w)) (g .1) q))
+
+  pub passing-turn : (k u x : ℕ) {first s first′ all : ℕ} → Passing u first all → u < 16 → x < 2 ^ k → Given u x → s ≡ oneIf (not (eqb x 0)) u → first′ ≡ unionMask first s → Passing (u + 1) first′ (bitOr all x)
+  passing-turn k u x {first} {s} {first′} {all} j l h g e q = record {
+    narrow = small _ first′ q;
+    first-i = λ v w i o. subst (λ (z : ℕ). T (has z v)) (sym whole) (or-i first one v (now v i (λ c. inl (j .first-i v w c o)) (λ c. inr (subst (λ (z : ℕ). T (has one z)) (sym c) (one-i x u w (given-i u x w g (here w c o)))))));
+    first-e = λ v o. ⊎-elim (j .first-e v) (λ c. let r = one-e k x u v h c in (r .1 .0, subst (λ (z : ℕ). Together t base a b z (r .1 .0)) (sym (r .0)) (given-e u x (r .1 .0) g (r .1 .1)))) (or-e first one v (subst (λ (z : ℕ). T (has z v)) whole o));
+    last-i = λ v w i o. or-i all x w (now v i (λ c. inl (j .last-i v w c o)) (λ c. inr (given-i u x w g (here w c o))));
+    last-e = λ w o. ⊎-elim (j .last-e w) (λ c. (u, given-e u x w g c)) (or-e all x w o);
   }
     where
-      x : ℕ
-      x = bitAnd (at t (base + v)) b
+      one : ℕ
+      one = oneIf (not (eqb x 0)) u
 
-      some : (w : ℕ) × Gives v w
-      some = let q = low-has k x (omega arith) (lt-of-le-of-lt (and-le-r (at t (base + v)) b) h) .0 in let d = and-e (at t (base + v)) b (trailingZeros k x) q in (trailingZeros k x, (d .1, d .0))
+      whole : first′ ≡ bitOr first one
+      whole = q ∙ ap (unionMask first) e ∙ sym (union-op first one (j .narrow) (one-small (not (eqb x 0)) u l))
 
-      passed-i : (u : ℕ) → T (has m u) → T (has m′ u) ⊎ (u ≡ v)
-      passed-i u r = ⊎-elim (λ o. inl (subst (λ (i : ℕ). T (has i u)) (without-lowest-op m (j .rest .0) ∙ sym less) o)) (λ o. inr (o ∙ lowest-op 16 m ∙ sym low)) (rest-i 16 m (omega arith) (j .rest .0) u r)
+      here : {v : ℕ} (w : ℕ) → v ≡ u → Together t base a b v w → Together t base a b u w
+      here w c o = subst (λ (z : ℕ). Together t base a b z w) c o
 
-  pub passing-end : (m all : ℕ) → m ≡ 0 → Passing m all → Joined t base a b a all
-  passing-end m all e j = record {
-    first-i = λ v w q. q .0;
-    first-e = λ v q. ⊎-elim (λ r. (r .0, (q, r .1 .0, r .1 .1))) (λ r. absurd (has-0 v (subst (λ (n : ℕ). T (has n v)) e r))) (j .firsts v q);
-    last-i = λ v w q. union-end Gives a m all e (j .lasts) v w (q .0) (q .1, q .2);
-    last-e = λ w q. let r = j .lasts .got w q in (r .0, (r .1, r .2 .0, r .2 .1));
-  }
+      now : {A : Type 0} (v : ℕ) → v < u + 1 → (v < u → A) → (v ≡ u → A) → A
+      now {A} v i y n = go (ltb v u) refl
+        where
+          go : (d : Bool) → ltb v u ≡ d → A
+          go true c = y (ltb-true v u c)
+          go false c = n (omega (arith, ltb-false v u c))
+
+  -- at the end, where a stays whole
+  pub passing-end : (k : ℕ) {u first all : ℕ} → a < 2 ^ k → k ≤ u → first ≡ a → Passing u first all → Joined t base a b a all
+  passing-end k {u} {all = all} h i e j = subst (λ (z : ℕ). Joined t base a b z all) e record { first-i = λ v w q. j .first-i v w (passed v (q .0)) q; first-e = j .first-e; last-i = λ v w q. j .last-i v w (passed v (q .0)) q; last-e = j .last-e }
+    where
+      passed : (v : ℕ) → T (has a v) → v < u
+      passed v q = let l = has-lt k a v h q in omega arith
 
 -- ---- three sets by 256 sets of a table
 module _ (t : List ℕ) (base a b e : ℕ) where

@@ -201,18 +201,23 @@ fn quiet(numbers: &[u64; 384], base: usize, a: ValueSet, b: ValueSet, e: ValueSe
     ensures { λ r. ⌜ (r ≡ true → Joined3 (Together8 (now (numbers .entry)) base (a .bits) (b .bits) (e .bits)) (a .bits) (b .bits) (e .bits)) ⌝ }
 {
     let inside = product(b, e);
+    let mut first = ValueSet::EMPTY;
     let mut all = 0u64;
-    let mut left = a;
-    while !left.is_empty() {
-        let w = numbers[base + (left.lowest() as usize)] & inside;
-        if w == 0 {
-            return false;
-        }
+    let mut u = 0u32;
+    while u < 8 {
+        let w = if a.contains(u as u16) {
+            numbers[base + (u as usize)] & inside
+        } else {
+            0
+        };
+        first = first.union(one_if(w != 0, u));
         all = all | w;
-        left = left.without_lowest();
+        u = u + 1;
     }
-    if union_of(all).bits == e.bits {
-        return heads(all) == spread(b);
+    if first.bits == a.bits {
+        if union_of(all).bits == e.bits {
+            return heads(all) == spread(b);
+        }
     }
     false
 }
