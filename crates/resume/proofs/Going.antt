@@ -30,7 +30,7 @@ use Rattle.sheet.specs.Form.{compilable}
 use Rattle.walk.specs.Walk.{State, noNodes, begun, kept, walk, stopIn, tallyBy}
 use Rattle.walk.specs.Pair.{prefixOf, orderIn, ownIn, stateOf, AtPrefix, AtValues, WalkedOn, tried}
 use Rattle.walk.proofs.Outcome.{kept-none, kept-over, outcome-on}
-use Rattle.prepare.proofs.Prepared.{room-fits, room-most}
+use Rattle.explore.proofs.Prepared.{room-fits, room-most}
 use Rattle.walk.proofs.Prefix.{length-prefix, prefix-at, prefix-ext}
 use Rattle.resume.specs.Steps.{firstMask, plainState, upper, AtStart, Descended, Climb, Climbed}
 use Rattle.resume.specs.Resume.{treeOf, Stands, PreparedAgain, GoesOn, GoneOn}

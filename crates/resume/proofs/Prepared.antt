@@ -29,9 +29,9 @@ use Rattle.sheet.proofs.Compilable.{compilable-fits, compilable-well}
 use Rattle.index.specs.Index.{Compact, Made}
 use Rattle.prune.specs.Node.{Reached, withOrderings}
 use Rattle.walk.specs.Pair.{ownIn}
-use Rattle.prepare.specs.Prepared.{ordered}
+use Rattle.task.specs.Task.{ordered}
 use Rattle.settle.proofs.Laws.{dead-below}
-use Rattle.prepare.proofs.Prepared.{Laid, numbers-kept, below-taken, first, order-put, start}
+use Rattle.explore.proofs.Prepared.{Laid, numbers-kept, below-taken, first, order-put, start}
 use Rattle.resume.specs.Resume.{PreparedAgain}
 use Rattle.resume.proofs.Prefixes.{counted-so}
 

@@ -212,12 +212,12 @@ pub fn prepare_again(
     let mut images = [0u8; 26112];
     if sheet::recompile(sheet, numbers, supports, &mut images) {
         let n = numbers[VARIABLES] as usize;
-        prepare::put_bounds(numbers, more as u64, (size / n) as u64);
+        task::put_bounds(numbers, more as u64, (size / n) as u64);
         let mut order = [0u8; 16];
-        prepare::by_position(&mut order);
+        task::by_position(&mut order);
         index::index(numbers, supports, &images, tables);
-        prepare::put_order(numbers, &order);
-        prepare::put_block(numbers, 0);
+        task::put_order(numbers, &order);
+        task::put_block(numbers, 0);
         if prune::root(stack, work, supports, tables, numbers) {
             return ALL;
         }

@@ -28,7 +28,7 @@ use Rattle.enough.specs.AtLeast.{Enough, enough, tooFew, unknown, enoughOf, nod
 use Rattle.enough.specs.Lent.{answered, enoughLentFor, enoughLent}
 use Rattle.enough.proofs.AtLeast.{enough-none, enough-run}
 use Rattle.search.specs.Meaning.{means}
-use Rattle.prepare.specs.Prepared.{bytesFor}
+use Rattle.explore.specs.Prepared.{bytesFor}
 use Rattle.search.specs.Whole.{Done}
 use Rattle.search.specs.Tasks.{bareLent, answerBareFor, answerBare, listBareFor, listBare, enoughNoneFor, enoughNone, enoughFor}
 use Rattle.search.specs.declared.Answer.{Answer}

@@ -5,11 +5,9 @@ use layout::NUMBER;
 use layout::PLANS;
 use layout::REFUSED;
 use layout::SPENT;
-use prepare::BARE;
-use prepare::WANTED;
 use walk::Tally;
 ghost use mathlib.Core.Path.{_≡_};
-ghost use lib.ListN.{length, set};
+ghost use lib.ListN.{length};
 ghost use Rattle.model.specs.Run.{answerOf, listOf, tallyOf};
 ghost use Rattle.lent.specs.Lent.{answerLent, listLent, tallyLent};
 ghost use Rattle.walk.specs.Walk.{noNodes};
@@ -17,8 +15,7 @@ ghost use Rattle.walk.specs.Meaning.{tallyIn};
 ghost use Rattle.search.specs.Meaning.{means, saidEnough};
 ghost use Rattle.search.specs.Tasks.{answerBare, listBare, enoughNone, enoughFor};
 ghost use Rattle.enough.specs.Lent.{enoughLent};
-ghost use Rattle.prepare.specs.Prepared.{BARE, WANTED, Blank};
-ghost use Rattle.search.specs.Whole.{Explored, Stopped, Answered, Done};
+ghost use Rattle.search.specs.Whole.{Stopped, Answered, Done};
 
 // How a run ends; each ending carries the plans listed and the nodes made.
 pub enum Ending {
@@ -68,46 +65,6 @@ fn answered(work: &[u64; 256], made: u32, stop: u8) -> Answer
     Answer::Ended(Ending::Full(plans, nodes))
 }
 
-// The run on arrays that are lent: the questions, then the search. REFUSED where a question is answered "no", else how the search stopped.
-fn explore(
-    stack: &mut [u16; 208],
-    work: &mut [u64; 256],
-    supports: &mut [u16; 8192],
-    tables: &mut [u16; 55296],
-    numbers: &mut [u64; 384],
-    sheet: &[u8],
-    pairs: &[u8],
-    block: &[u8],
-    limit: u32,
-    list: &mut [u8],
-    tally: &mut Tally,
-) -> u8
-    requires { ⌜ Blank (now stack) (now work) (now supports) (now tables) (now numbers) (length (now list)) ⌝ }
-    ensures { λ r. ⌜ Explored (now (work .entry)) (now (sheet .entry)) (now (pairs .entry)) (now (block .entry)) limit (now (list .entry)) (tallyIn (now (tally .entry))) (now (work .exit)) (now (list .exit)) (tallyIn (now (tally .exit))) r ⌝ }
-{
-    let step = prepare::prepare(
-        stack,
-        work,
-        supports,
-        tables,
-        numbers,
-        sheet,
-        pairs,
-        block,
-        limit,
-        list.len(),
-    );
-    if step == REFUSED {
-        return step;
-    }
-    walk::reset(tally);
-    if step == ALL {
-        return step;
-    }
-    let m = walk::candidates(stack, 0);
-    settle::settle(stack, work, supports, tables, numbers, list, tally, 0, m)
-}
-
 // A run that is lent a sheet, pairs and a block (paper 02, #108 and #111) and counts its nodes in a tally that is lent: the questions first, then the
 // search, with a node limit (the paper's allowance) and a list for the plans. The tally is set to nothing once the questions are passed; a refusal
 // leaves it as it came.
@@ -126,7 +83,7 @@ pub fn run_lent(
     let mut supports = [0u16; 8192];
     let mut tables = [0u16; 55296];
     let mut numbers = [0u64; 384];
-    let stop = explore(
+    let stop = explore::explore(
         &mut stack,
         &mut work,
         &mut supports,
@@ -140,15 +97,6 @@ pub fn run_lent(
         tally,
     );
     answered(&work, walk::nodes_made(tally), stop)
-}
-
-// Puts a run's task in `work`.
-fn put_task(work: &mut [u64; 256], bare: u64, wanted: u64)
-    requires { ⌜ length (now work) ≡ 256 ⌝ }
-    ensures { λ _. ⌜ now (work .exit) ≡ set (set (now (work .entry)) BARE bare) WANTED wanted ⌝ }
-{
-    work[BARE] = bare;
-    work[WANTED] = wanted;
 }
 
 // A run that carries out a task, with a tally of its own.
@@ -169,9 +117,9 @@ fn run_task(
     let mut supports = [0u16; 8192];
     let mut tables = [0u16; 55296];
     let mut numbers = [0u64; 384];
-    put_task(&mut work, bare, wanted);
+    task::put_task(&mut work, bare, wanted);
     let mut tally = walk::no_nodes();
-    let stop = explore(
+    let stop = explore::explore(
         &mut stack,
         &mut work,
         &mut supports,

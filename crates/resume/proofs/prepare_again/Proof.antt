@@ -7,7 +7,7 @@ use lib.ListN.{set}
 use borrow.Author.Needs.{needs}
 use Rattle.model.specs.Lists.{at}
 use Rattle.layout.specs.Places.{BLOCK}
-use Rattle.prepare.proofs.Prepared.{ready}
+use Rattle.explore.proofs.Prepared.{ready}
 use Rattle.resume.proofs.Prepared.{some-variables, indexes, laid, again-refused, again-dead, again-live}
 use Rattle.resume.proofs.prepare_again.Statement.{statement}
 use Rattle.resume.proofs.prepare_again.Tie as tie

@@ -42,8 +42,10 @@ use Rattle.lent.specs.Lent.{answerLent, listLent, tallyLent}
 use Rattle.layout.specs.Places.{PLANS}
 use Rattle.walk.specs.Meaning.{tallyIn}
 use Rattle.search.specs.Meaning.{means}
-use Rattle.prepare.specs.Prepared.{BARE, WANTED, Blank}
-use Rattle.search.specs.Whole.{Explored, Stopped, Answered}
+use Rattle.task.specs.Task.{BARE, WANTED}
+use Rattle.explore.specs.Prepared.{Blank}
+use Rattle.explore.specs.Explored.{Explored}
+use Rattle.search.specs.Whole.{Stopped, Answered}
 use Rattle.walk.specs.declared.Tally.{Tally}
 use Rattle.search.specs.declared.Answer.{Answer}
 use Rattle.walk.proofs.Tally as T
@@ -54,10 +56,10 @@ use Rattle.search.proofs.Whole.{stopped, ran-so, said}
 use Rattle.settle.proofs.Locals.{zeros-typed, zeros-in, array-out}
 use Rattle.settle.proofs.Loans as loan
 use Rattle.settle.proofs.Loans.{One, Loans, at-ref, at-sl, calls-lent}
-use Rattle.search.proofs.explore as explore
-use Rattle.search.proofs.explore.Symbol as explore-def
-use Rattle.search.proofs.explore.Symbol.{name as #search·explore}
-use Rattle.search.proofs.explore.Met as explore-thm
+use Rattle.explore.proofs.explore as explore
+use Rattle.explore.proofs.explore.Symbol as explore-def
+use Rattle.explore.proofs.explore.Symbol.{name as #explore·explore}
+use Rattle.explore.proofs.explore.Met as explore-thm
 use Rattle.walk.proofs.nodes_made as nodes-made
 use Rattle.walk.proofs.nodes_made.Symbol as nodes-made-def
 use Rattle.walk.proofs.nodes_made.Symbol.{name as #walk·nodes-made}
@@ -128,7 +130,7 @@ module _ {M : Type 1} (𝓤 : URA M) (H : Heap 𝓤) (A : Atoms 𝓤) (W : Given
 
   module _ (κ₀ κ₁ κ₂ κ₃ κ₄ : Lft) (q₀ q₁ q₂ q₃ q₄ : Share) (s₀ s₁ s₂ : RefT (List ℕ)) (lb lo n b o : ℕ) (γ₃ γ₄ : GName) (room₀ : Room u8 (length (s₀ .now))) (room₁ : Room u8 (length (s₁ .now))) (room₂ : Room u8 (length (s₂ .now))) (room : Room u8 n)
       (C : Calls 𝓤 H) (Λ : Loops 𝓤 H) (fm : FmC 𝓤 H (W .laws) C)
-      (known-explore : Triple 𝓤 (C #search·explore) Explore) (known-nodes-made : Triple 𝓤 (C #walk·nodes-made) NodesMade) (known-answered : Triple 𝓤 (C #search·answered) Answers) where
+      (known-explore : Triple 𝓤 (C #explore·explore) Explore) (known-nodes-made : Triple 𝓤 (C #walk·nodes-made) NodesMade) (known-answered : Triple 𝓤 (C #search·answered) Answers) where
     abbrev vl : Val
     vl = sliceVal (lb, lo) n
 
@@ -299,7 +301,7 @@ module _ {M : Type 1} (𝓤 : URA M) (H : Heap 𝓤) (A : Atoms 𝓤) (W : Given
           keep ! (0 ∷ []) $ by ! (exits r₃ is₃ ls₁ ta₁ l₁′ (let e = said (replicate 256 0) (s₀ .now) (s₁ .now) (s₂ .now) a ls (tallyIn ta) ls₁ (tallyIn ta₁) r₃ (ran-so (replicate 256 0) (s₀ .now) (s₁ .now) (s₂ .now) a ls (tallyIn ta) wk₁ ls₁ (tallyIn ta₁) r₁ said₁ r₂ said₂ r₃ said₃) (zeros 256 .blank BARE) (zeros 256 .blank WANTED) in (e .answer, e .lists, e .counts)))))))))))))))))))))))))))))))))))
 
 module _ {M : Type 1} (𝓤 : URA M) (H : Heap 𝓤) (A : Atoms 𝓤) (W : Given 𝓤 H A) (mem : Memory → SProp 𝓤) (run : Routine → Fun 𝓤) where
-  run-lent-walks : (C : Calls 𝓤 H) (Λ : Loops 𝓤 H) → FmC 𝓤 H (W .laws) C → Triple 𝓤 (C #search·explore) (Explore 𝓤 H A W mem run) → Triple 𝓤 (C #walk·nodes-made) (NodesMade 𝓤 H A W mem run) → Triple 𝓤 (C #search·answered) (Answers 𝓤 H A W mem run) → Walks 𝓤 H A run-lent.ended stayed (WpFn 𝓤 H C Λ code.function) (run-lent.clauses 𝓤 H A mem run)
+  run-lent-walks : (C : Calls 𝓤 H) (Λ : Loops 𝓤 H) → FmC 𝓤 H (W .laws) C → Triple 𝓤 (C #explore·explore) (Explore 𝓤 H A W mem run) → Triple 𝓤 (C #walk·nodes-made) (NodesMade 𝓤 H A W mem run) → Triple 𝓤 (C #search·answered) (Answers 𝓤 H A W mem run) → Walks 𝓤 H A run-lent.ended stayed (WpFn 𝓤 H C Λ code.function) (run-lent.clauses 𝓤 H A mem run)
   run-lent-walks C Λ fm x t r =
       walked 𝓤 H A run-lent.ended stayed (run-lent.clauses 𝓤 H A mem run) (WpFn 𝓤 H C Λ code.function) (λ κs. (slice-vals, (slice-vals, (slice-vals, (uint-vals w32, (slice-vals, (ptr-vals, tt)))))))
       (λ κs. (shr-slice-tells (named 0) (κs .0) u8, (shr-slice-tells (named 1) (κs .1 .0) u8, (shr-slice-tells (named 2) (κs .1 .1 .0) u8, (uint-tells w32, (mut-slice-tells (named 3) (κs .1 .1 .1 .0) u8, (mut-tells (named 4) (κs .1 .1 .1 .1 .0) T.the-row, tt)))))))
@@ -307,7 +309,7 @@ module _ {M : Type 1} (𝓤 : URA M) (H : Heap 𝓤) (A : Atoms 𝓤) (W : Given
       (walk 𝓤 H A W mem run (κs .0) (κs .1 .0) (κs .1 .1 .0) (κs .1 .1 .1 .0) (κs .1 .1 .1 .1 .0) (qs .0) (qs .1 .0) (qs .1 .1 .0) (qs .1 .1 .1 .0) (qs .1 .1 .1 .1 .0) (a .0) (a .1 .0) (a .1 .1 .0) (a .1 .1 .1 .1 .0 .ptr .0) (a .1 .1 .1 .1 .0 .ptr .1) (length (a .1 .1 .1 .1 .0 .now)) (a .1 .1 .1 .1 .1 .0 .ptr .0) (a .1 .1 .1 .1 .1 .0 .ptr .1) (a .1 .1 .1 .1 .0 .name) (a .1 .1 .1 .1 .1 .0 .name) (are .0 .0 .1) (are .1 .0 .0 .1) (are .1 .1 .0 .0 .1) (are .1 .1 .1 .1 .0 .0 .1) C Λ fm x t r
       (a .1 .1 .1 .1 .0 .now) refl (a .1 .1 .1 .1 .1 .0 .now) (a .1 .1 .1 .0) (are .1 .1 .1 .0 .1)))
 
-  run-lent-meets : (𝓣 : Tables 𝓤 H) → Triple 𝓤 (𝓣 .C #search·explore) (Explore 𝓤 H A W mem run) → Triple 𝓤 (𝓣 .C #walk·nodes-made) (NodesMade 𝓤 H A W mem run) → Triple 𝓤 (𝓣 .C #search·answered) (Answers 𝓤 H A W mem run) → Meets 𝓤 H A run-lent.signature (WpFn 𝓤 H (𝓣 .C) (𝓣 .Λ) code.function) (run-lent.spec 𝓤 H A mem run)
+  run-lent-meets : (𝓣 : Tables 𝓤 H) → Triple 𝓤 (𝓣 .C #explore·explore) (Explore 𝓤 H A W mem run) → Triple 𝓤 (𝓣 .C #walk·nodes-made) (NodesMade 𝓤 H A W mem run) → Triple 𝓤 (𝓣 .C #search·answered) (Answers 𝓤 H A W mem run) → Meets 𝓤 H A run-lent.signature (WpFn 𝓤 H (𝓣 .C) (𝓣 .Λ) code.function) (run-lent.spec 𝓤 H A mem run)
   run-lent-meets 𝓣 x t r =
       walk-meets 𝓤 H A run-lent.ended stayed W (goes-dropped 𝓤 H A W 5 (shrSliceOf (0 ∷ []) tt bytes) yes (λ κs x f. refl), (goes-dropped 𝓤 H A W 5 (shrSliceOf (1 ∷ []) tt bytes) yes (λ κs x f. refl), (goes-dropped 𝓤 H A W 5 (shrSliceOf (2 ∷ []) tt bytes) yes (λ κs x f. refl), (goes-dropped 𝓤 H A W 5 (plain (λ _. u32)) yes (λ κs x f. refl), (goes-slice 𝓤 H A W 5 3 tt bytes, (goes-ref 𝓤 H A W 5 4 tt counts, tt)))))) (run-lent.clauses 𝓤 H A mem run)
       (WpFn 𝓤 H (𝓣 .C) (𝓣 .Λ) code.function) (WpFn-mono 𝓤 H (W .laws) 𝓣 code.function) (run-lent-walks (𝓣 .C) (𝓣 .Λ) (fmOf 𝓤 H (W .laws) 𝓣) x t r)
@@ -319,6 +321,6 @@ run-lent-spec 𝓤 H 𝓜 𝓖 𝓡 =
     entered 𝓤 H (tripleOf 𝓤 H (𝓖 .A) run-lent.signature (run-lent.spec 𝓤 H (𝓖 .A) (𝓜 .mem) (𝓡 .run)))
     (tables 𝓤 H 𝓜 𝓡 code.env .C) (tables 𝓤 H 𝓜 𝓡 code.env .Λ) #search·run-lent code.function (code.unfolded 𝓤 H 𝓜 𝓡)
     (run-lent-meets 𝓤 H (𝓖 .A) W (𝓜 .mem) (𝓡 .run) (tablesOf 𝓤 H 𝓜 (tables 𝓤 H 𝓜 𝓡 code.env))
-    (cited 𝓤 H (Explore 𝓤 H (𝓖 .A) W (𝓜 .mem) (𝓡 .run)) 𝓜 𝓡 code.env #search·explore explore-def.routine code.calls-search·explore (explore-thm.met 𝓤 H 𝓜 𝓖 𝓡))
+    (cited 𝓤 H (Explore 𝓤 H (𝓖 .A) W (𝓜 .mem) (𝓡 .run)) 𝓜 𝓡 code.env #explore·explore explore-def.routine code.calls-explore·explore (explore-thm.met 𝓤 H 𝓜 𝓖 𝓡))
     (cited 𝓤 H (NodesMade 𝓤 H (𝓖 .A) W (𝓜 .mem) (𝓡 .run)) 𝓜 𝓡 code.env #walk·nodes-made nodes-made-def.routine code.calls-walk·nodes-made (nodes-made-thm.met 𝓤 H 𝓜 𝓖 𝓡))
     (cited 𝓤 H (Answers 𝓤 H (𝓖 .A) W (𝓜 .mem) (𝓡 .run)) 𝓜 𝓡 code.env #search·answered answered-def.routine code.calls-search·answered (answered-thm.met 𝓤 H 𝓜 𝓖 𝓡)))

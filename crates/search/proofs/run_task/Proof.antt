@@ -37,8 +37,10 @@ use denote.Triple.Spec.{Meets, tripleOf}
 use denote.Triple.Table.{entered, cited}
 use denote.Triple.Walked.{says, needs, Stays, stay-slice, stay-dropped, walkOf, Walks, ends-at, walked, goes-dropped, goes-slice, walk-meets}
 use Rattle.walk.specs.Meaning.{tallyIn}
-use Rattle.prepare.specs.Prepared.{BARE, WANTED, Blank}
-use Rattle.search.specs.Whole.{Explored, Stopped, Answered, Done}
+use Rattle.task.specs.Task.{BARE, WANTED}
+use Rattle.explore.specs.Prepared.{Blank}
+use Rattle.explore.specs.Explored.{Explored}
+use Rattle.search.specs.Whole.{Stopped, Answered, Done}
 use Rattle.walk.specs.declared.Tally.{Tally}
 use Rattle.search.specs.declared.Answer.{Answer}
 use Rattle.sheet.proofs.Whole.{zeros}
@@ -53,10 +55,10 @@ use Rattle.walk.proofs.Tally as T
 use Rattle.search.proofs.Answer as O
 use Rattle.search.proofs.Answer.Laws as O′
 use Rattle.settle.proofs.Loans as loan
-use Rattle.search.proofs.explore as explore
-use Rattle.search.proofs.explore.Symbol as explore-def
-use Rattle.search.proofs.explore.Symbol.{name as #search·explore}
-use Rattle.search.proofs.explore.Met as explore-thm
+use Rattle.explore.proofs.explore as explore
+use Rattle.explore.proofs.explore.Symbol as explore-def
+use Rattle.explore.proofs.explore.Symbol.{name as #explore·explore}
+use Rattle.explore.proofs.explore.Met as explore-thm
 use Rattle.walk.proofs.nodes_made as nodes-made
 use Rattle.walk.proofs.nodes_made.Symbol as nodes-made-def
 use Rattle.walk.proofs.nodes_made.Symbol.{name as #walk·nodes-made}
@@ -71,10 +73,10 @@ use Rattle.walk.proofs.no_nodes as no-nodes
 use Rattle.walk.proofs.no_nodes.Symbol as no-nodes-def
 use Rattle.walk.proofs.no_nodes.Symbol.{name as #walk·no-nodes}
 use Rattle.walk.proofs.no_nodes.Met as no-nodes-thm
-use Rattle.search.proofs.put_task as put-task
-use Rattle.search.proofs.put_task.Symbol as put-task-def
-use Rattle.search.proofs.put_task.Symbol.{name as #search·put-task}
-use Rattle.search.proofs.put_task.Met as put-task-thm
+use Rattle.task.proofs.put_task as put-task
+use Rattle.task.proofs.put_task.Symbol as put-task-def
+use Rattle.task.proofs.put_task.Symbol.{name as #task·put-task}
+use Rattle.task.proofs.put_task.Met as put-task-thm
 use Rattle.search.proofs.run_task as run-task
 use Rattle.search.proofs.run_task.Key.{name as #search·run-task}
 use Rattle.search.proofs.run_task.Statement as stated
@@ -141,7 +143,7 @@ module _ {M : Type 1} (𝓤 : URA M) (H : Heap 𝓤) (A : Atoms 𝓤) (W : Given
 
   module _ (κ₀ κ₁ κ₂ κ₃ : Lft) (q₀ q₁ q₂ q₃ : Share) (s₀ s₁ s₂ : RefT (List ℕ)) (lb lo n : ℕ) (γ₃ : GName) (room₀ : Room u8 (length (s₀ .now))) (room₁ : Room u8 (length (s₁ .now))) (room₂ : Room u8 (length (s₂ .now))) (room : Room u8 n)
       (C : Calls 𝓤 H) (Λ : Loops 𝓤 H) (fm : FmC 𝓤 H (W .laws) C)
-      (known-put : Triple 𝓤 (C #search·put-task) PutTask) (known-none : Triple 𝓤 (C #walk·no-nodes) None) (known-explore : Triple 𝓤 (C #search·explore) Explore) (known-nodes-made : Triple 𝓤 (C #walk·nodes-made) NodesMade) (known-answered : Triple 𝓤 (C #search·answered) Answers) where
+      (known-put : Triple 𝓤 (C #task·put-task) PutTask) (known-none : Triple 𝓤 (C #walk·no-nodes) None) (known-explore : Triple 𝓤 (C #explore·explore) Explore) (known-nodes-made : Triple 𝓤 (C #walk·nodes-made) NodesMade) (known-answered : Triple 𝓤 (C #search·answered) Answers) where
     abbrev vl : Val
     vl = sliceVal (lb, lo) n
 
@@ -332,7 +334,7 @@ module _ {M : Type 1} (𝓤 : URA M) (H : Heap 𝓤) (A : Atoms 𝓤) (W : Given
           keep ! (0 ∷ []) $ by ! (exits r₃ is₃ ls₁ l₁′ (done-so bare wanted wk (s₀ .now) (s₁ .now) (s₂ .now) a ls (tallyIn ta) ls₁ (tallyIn ta₁) r₃ saidₚ (ran-so wk (s₀ .now) (s₁ .now) (s₂ .now) a ls (tallyIn ta) wk₁ ls₁ (tallyIn ta₁) r₁ said₁ r₂ said₂ r₃ said₃))))))))))))))))))))))))))))))))))))))))))))
 
 module _ {M : Type 1} (𝓤 : URA M) (H : Heap 𝓤) (A : Atoms 𝓤) (W : Given 𝓤 H A) (mem : Memory → SProp 𝓤) (run : Routine → Fun 𝓤) where
-  run-task-walks : (C : Calls 𝓤 H) (Λ : Loops 𝓤 H) → FmC 𝓤 H (W .laws) C → Triple 𝓤 (C #search·put-task) (PutTask 𝓤 H A W mem run) → Triple 𝓤 (C #walk·no-nodes) (None 𝓤 H A W mem run) → Triple 𝓤 (C #search·explore) (Explore 𝓤 H A W mem run) → Triple 𝓤 (C #walk·nodes-made) (NodesMade 𝓤 H A W mem run) → Triple 𝓤 (C #search·answered) (Answers 𝓤 H A W mem run) → Walks 𝓤 H A run-task.ended stayed (WpFn 𝓤 H C Λ code.function) (run-task.clauses 𝓤 H A mem run)
+  run-task-walks : (C : Calls 𝓤 H) (Λ : Loops 𝓤 H) → FmC 𝓤 H (W .laws) C → Triple 𝓤 (C #task·put-task) (PutTask 𝓤 H A W mem run) → Triple 𝓤 (C #walk·no-nodes) (None 𝓤 H A W mem run) → Triple 𝓤 (C #explore·explore) (Explore 𝓤 H A W mem run) → Triple 𝓤 (C #walk·nodes-made) (NodesMade 𝓤 H A W mem run) → Triple 𝓤 (C #search·answered) (Answers 𝓤 H A W mem run) → Walks 𝓤 H A run-task.ended stayed (WpFn 𝓤 H C Λ code.function) (run-task.clauses 𝓤 H A mem run)
   run-task-walks C Λ fm p z x t r =
       walked 𝓤 H A run-task.ended stayed (run-task.clauses 𝓤 H A mem run) (WpFn 𝓤 H C Λ code.function) (λ κs. (slice-vals, (slice-vals, (slice-vals, (uint-vals w32, (uint-vals w64, (uint-vals w64, (slice-vals, tt))))))))
       (λ κs. (shr-slice-tells (named 0) (κs .0) u8, (shr-slice-tells (named 1) (κs .1 .0) u8, (shr-slice-tells (named 2) (κs .1 .1 .0) u8, (uint-tells w32, (uint-tells w64, (uint-tells w64, (mut-slice-tells (named 3) (κs .1 .1 .1 .0) u8, tt))))))))
@@ -340,7 +342,7 @@ module _ {M : Type 1} (𝓤 : URA M) (H : Heap 𝓤) (A : Atoms 𝓤) (W : Given
       (walk 𝓤 H A W mem run (κs .0) (κs .1 .0) (κs .1 .1 .0) (κs .1 .1 .1 .0) (qs .0) (qs .1 .0) (qs .1 .1 .0) (qs .1 .1 .1 .0) (a .0) (a .1 .0) (a .1 .1 .0) (a .1 .1 .1 .1 .1 .1 .0 .ptr .0) (a .1 .1 .1 .1 .1 .1 .0 .ptr .1) (length (a .1 .1 .1 .1 .1 .1 .0 .now)) (a .1 .1 .1 .1 .1 .1 .0 .name) (are .0 .0 .1) (are .1 .0 .0 .1) (are .1 .1 .0 .0 .1) (are .1 .1 .1 .1 .1 .1 .0 .0 .1) C Λ fm p z x t r
       (a .1 .1 .1 .1 .1 .1 .0 .now) refl (a .1 .1 .1 .0) (are .1 .1 .1 .0 .1) (a .1 .1 .1 .1 .0) (are .1 .1 .1 .1 .0 .1) (a .1 .1 .1 .1 .1 .0) (are .1 .1 .1 .1 .1 .0 .1)))
 
-  run-task-meets : (𝓣 : Tables 𝓤 H) → Triple 𝓤 (𝓣 .C #search·put-task) (PutTask 𝓤 H A W mem run) → Triple 𝓤 (𝓣 .C #walk·no-nodes) (None 𝓤 H A W mem run) → Triple 𝓤 (𝓣 .C #search·explore) (Explore 𝓤 H A W mem run) → Triple 𝓤 (𝓣 .C #walk·nodes-made) (NodesMade 𝓤 H A W mem run) → Triple 𝓤 (𝓣 .C #search·answered) (Answers 𝓤 H A W mem run) → Meets 𝓤 H A run-task.signature (WpFn 𝓤 H (𝓣 .C) (𝓣 .Λ) code.function) (run-task.spec 𝓤 H A mem run)
+  run-task-meets : (𝓣 : Tables 𝓤 H) → Triple 𝓤 (𝓣 .C #task·put-task) (PutTask 𝓤 H A W mem run) → Triple 𝓤 (𝓣 .C #walk·no-nodes) (None 𝓤 H A W mem run) → Triple 𝓤 (𝓣 .C #explore·explore) (Explore 𝓤 H A W mem run) → Triple 𝓤 (𝓣 .C #walk·nodes-made) (NodesMade 𝓤 H A W mem run) → Triple 𝓤 (𝓣 .C #search·answered) (Answers 𝓤 H A W mem run) → Meets 𝓤 H A run-task.signature (WpFn 𝓤 H (𝓣 .C) (𝓣 .Λ) code.function) (run-task.spec 𝓤 H A mem run)
   run-task-meets 𝓣 p z x t r =
       walk-meets 𝓤 H A run-task.ended stayed W (goes-dropped 𝓤 H A W 4 (shrSliceOf (0 ∷ []) tt bytes) yes (λ κs x f. refl), (goes-dropped 𝓤 H A W 4 (shrSliceOf (1 ∷ []) tt bytes) yes (λ κs x f. refl), (goes-dropped 𝓤 H A W 4 (shrSliceOf (2 ∷ []) tt bytes) yes (λ κs x f. refl), (goes-dropped 𝓤 H A W 4 (plain (λ _. u32)) yes (λ κs x f. refl), (goes-dropped 𝓤 H A W 4 (plain (λ _. u64)) yes (λ κs x f. refl), (goes-dropped 𝓤 H A W 4 (plain (λ _. u64)) yes (λ κs x f. refl), (goes-slice 𝓤 H A W 4 3 tt bytes, tt))))))) (run-task.clauses 𝓤 H A mem run)
       (WpFn 𝓤 H (𝓣 .C) (𝓣 .Λ) code.function) (WpFn-mono 𝓤 H (W .laws) 𝓣 code.function) (run-task-walks (𝓣 .C) (𝓣 .Λ) (fmOf 𝓤 H (W .laws) 𝓣) p z x t r)
@@ -352,8 +354,8 @@ run-task-spec 𝓤 H 𝓜 𝓖 𝓡 =
     entered 𝓤 H (tripleOf 𝓤 H (𝓖 .A) run-task.signature (run-task.spec 𝓤 H (𝓖 .A) (𝓜 .mem) (𝓡 .run)))
     (tables 𝓤 H 𝓜 𝓡 code.env .C) (tables 𝓤 H 𝓜 𝓡 code.env .Λ) #search·run-task code.function (code.unfolded 𝓤 H 𝓜 𝓡)
     (run-task-meets 𝓤 H (𝓖 .A) W (𝓜 .mem) (𝓡 .run) (tablesOf 𝓤 H 𝓜 (tables 𝓤 H 𝓜 𝓡 code.env))
-    (cited 𝓤 H (PutTask 𝓤 H (𝓖 .A) W (𝓜 .mem) (𝓡 .run)) 𝓜 𝓡 code.env #search·put-task put-task-def.routine code.calls-search·put-task (put-task-thm.met 𝓤 H 𝓜 𝓖 𝓡))
+    (cited 𝓤 H (PutTask 𝓤 H (𝓖 .A) W (𝓜 .mem) (𝓡 .run)) 𝓜 𝓡 code.env #task·put-task put-task-def.routine code.calls-task·put-task (put-task-thm.met 𝓤 H 𝓜 𝓖 𝓡))
     (cited 𝓤 H (None 𝓤 H (𝓖 .A) W (𝓜 .mem) (𝓡 .run)) 𝓜 𝓡 code.env #walk·no-nodes no-nodes-def.routine code.calls-walk·no-nodes (no-nodes-thm.met 𝓤 H 𝓜 𝓖 𝓡))
-    (cited 𝓤 H (Explore 𝓤 H (𝓖 .A) W (𝓜 .mem) (𝓡 .run)) 𝓜 𝓡 code.env #search·explore explore-def.routine code.calls-search·explore (explore-thm.met 𝓤 H 𝓜 𝓖 𝓡))
+    (cited 𝓤 H (Explore 𝓤 H (𝓖 .A) W (𝓜 .mem) (𝓡 .run)) 𝓜 𝓡 code.env #explore·explore explore-def.routine code.calls-explore·explore (explore-thm.met 𝓤 H 𝓜 𝓖 𝓡))
     (cited 𝓤 H (NodesMade 𝓤 H (𝓖 .A) W (𝓜 .mem) (𝓡 .run)) 𝓜 𝓡 code.env #walk·nodes-made nodes-made-def.routine code.calls-walk·nodes-made (nodes-made-thm.met 𝓤 H 𝓜 𝓖 𝓡))
     (cited 𝓤 H (Answers 𝓤 H (𝓖 .A) W (𝓜 .mem) (𝓡 .run)) 𝓜 𝓡 code.env #search·answered answered-def.routine code.calls-search·answered (answered-thm.met 𝓤 H 𝓜 𝓖 𝓡)))

@@ -1,13 +1,13 @@
--- `prepare::by_position` meets its contract: after k turns the first k numbers are put. Assumes nothing.
+-- `task::by_position` meets its contract: after k turns the first k numbers are put. Assumes nothing.
 use mathlib.Core.Path.{_≡_, _∙_}
 use Prim.Native.Nat.{ℕ, _-_, _≤_, _<_}
 use native.Mathlib.Nat.{not-suc-le-zero}
 use native.Mathlib.Omega.{arith}
 use lib.ListN.{length, length-set}
 use Rattle.model.specs.Lists.{at}
-use Rattle.prepare.proofs.Prepared.{placed-next}
-use Rattle.prepare.proofs.by_position.Statement.{statement}
-use Rattle.prepare.proofs.by_position.Tie as tie
+use Rattle.task.proofs.Task.{placed-next}
+use Rattle.task.proofs.by_position.Statement.{statement}
+use Rattle.task.proofs.by_position.Tie as tie
 
 abbrev Inv-loop : tie.InvT-loop
 Inv-loop order₀ k₀ order k = (k ≤ 16) × (length order ≡ 16) × ((j : ℕ) → j < k → at order j ≡ j)

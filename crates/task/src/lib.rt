@@ -1,26 +1,29 @@
-// What is made of a sheet, pairs and a block before the search: the compiled problem with the limit, the room, the order and the block among its numbers.
-use layout::ALL;
+// The task of a run, and what is put among the numbers of the compiled problem before the search: limit, room, order, block.
 use layout::BLOCK;
-use layout::DEEPER;
-use layout::ITEM;
 use layout::LIMIT;
-use layout::NUMBER;
 use layout::ORDER;
-use layout::REFUSED;
 use layout::ROOM;
 use layout::SYMMETRIES;
-use layout::VARIABLES;
 ghost use mathlib.Core.Path.{_≡_};
 ghost use Prim.Native.Nat.{ℕ, _+_, _≤_, _<_};
 ghost use lib.ListN.{length, set};
 ghost use Rattle.model.specs.Lists.{at};
 ghost use Rattle.layout.specs.Places.{LIMIT, ROOM, ORDER, BLOCK};
-ghost use Rattle.prepare.specs.Prepared.{BARE, WANTED, roomFor, Arranged, ordered, Blank, Prepared};
+ghost use Rattle.task.specs.Task.{BARE, WANTED, roomFor, Arranged, ordered};
 
 // The task of a run, in `work` before it: whether the symmetries are left out, and how many plans are asked for, 0 where they are listed.
 pub const BARE: usize = 224;
 
 pub const WANTED: usize = 225;
+
+// Puts a run's task in `work`.
+pub fn put_task(work: &mut [u64; 256], bare: u64, wanted: u64)
+    requires { ⌜ length (now work) ≡ 256 ⌝ }
+    ensures { λ _. ⌜ now (work .exit) ≡ set (set (now (work .entry)) BARE bare) WANTED wanted ⌝ }
+{
+    work[BARE] = bare;
+    work[WANTED] = wanted;
+}
 
 // Puts the node limit and the number of plans that there is room for among the numbers, which are lent as a slice: that tells their length.
 pub fn put_bounds(numbers: &mut [u64], limit: u64, room: u64)
@@ -59,7 +62,7 @@ pub fn put_block(numbers: &mut [u64], positions: u64)
 }
 
 // The number of plans that there is room for, with n variables: the list's, else one less than are asked for.
-fn room_for(work: &[u64; 256], n: usize, size: usize) -> u64
+pub fn room_for(work: &[u64; 256], n: usize, size: usize) -> u64
     requires { ⌜ 0 < n ⌝ }
     ensures { λ r. ⌜ r ≡ roomFor (at (now (work .entry)) WANTED) n size ⌝ }
 {
@@ -83,7 +86,7 @@ pub fn by_position(order: &mut [u8; 16])
 }
 
 // The set of the positions of the block's variables. A bare run has none, no symmetries, and writes by position.
-fn arrange(
+pub fn arrange(
     work: &[u64; 256],
     numbers: &mut [u64; 384],
     order: &mut [u8; 16],
@@ -99,55 +102,4 @@ fn arrange(
     numbers[SYMMETRIES] = 0;
     by_position(order);
     0
-}
-
-// Puts the questions to what is lent, and makes of it all that the search reads: REFUSED where it is, and its number and item then stand in `work`;
-// ALL where the empty prefix is dead, else DEEPER.
-pub fn prepare(
-    stack: &mut [u16; 208],
-    work: &mut [u64; 256],
-    supports: &mut [u16; 8192],
-    tables: &mut [u16; 55296],
-    numbers: &mut [u64; 384],
-    sheet: &[u8],
-    pairs: &[u8],
-    block: &[u8],
-    limit: u32,
-    size: usize,
-) -> u8
-    requires { ⌜ Blank (now stack) (now work) (now supports) (now tables) (now numbers) size ⌝ }
-    ensures { λ r. ⌜ Prepared (now (work .entry)) (now (sheet .entry)) (now (pairs .entry)) (now (block .entry)) limit size (now (stack .exit)) (now (work .exit)) (now (supports .exit)) (now (tables .exit)) (now (numbers .exit)) r ⌝ }
-{
-    let mut images = [0u8; 26112];
-    let mut order = [0u8; 16];
-    let verdict = lent::compile(
-        sheet,
-        pairs,
-        block,
-        numbers,
-        supports,
-        &mut images,
-        &mut order,
-    );
-    match verdict {
-        sheet::Answer::Accepted => {
-            let n = numbers[VARIABLES] as usize;
-            let room = room_for(work, n, size);
-            put_bounds(numbers, limit as u64, room);
-            let positions = arrange(work, numbers, &mut order, block, n);
-            index::index(numbers, supports, &images, tables);
-            put_order(numbers, &order);
-            put_block(numbers, positions);
-            if prune::root(stack, work, supports, tables, numbers) {
-                ALL
-            } else {
-                DEEPER
-            }
-        }
-        sheet::Answer::Refused { number, item } => {
-            work[NUMBER] = number as u64;
-            work[ITEM] = item as u64;
-            REFUSED
-        }
-    }
 }

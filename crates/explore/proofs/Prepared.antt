@@ -2,12 +2,11 @@
 use mathlib.Core.Path.{_≡_, refl, sym, ap, ap₂, _∙_, subst, subst₂}
 use mathlib.Core.Bool.{Bool, true, false}
 use mathlib.Core.List.{List, [], List·Memᴰ·not-nil}
-use Prim.Native.Nat.{ℕ, zero, suc, _+_, _-_, _*_, _/_, _%_, _^_, _≤_, _<_}
-use native.Mathlib.Nat.{div-add-mod', mod-lt, not-suc-le-zero}
-use native.Mathlib.Decide.{decLt, ℕ-discrete}
+use Prim.Native.Nat.{ℕ, suc, _+_, _-_, _*_, _/_, _%_, _^_, _≤_, _<_}
+use native.Mathlib.Nat.{div-add-mod', mod-lt}
 use native.Mathlib.Omega.{arith}
 use lib.Dec.{T, eqb}
-use borrow.Author.Tests.{not-true, not-false, eqb-true, eqb-false, ne-eqb}
+use borrow.Author.Tests.{not-true, not-false, eqb-true, eqb-false}
 use lib.ListN.{length, set, take, length-set}
 use Rattle.model.specs.Lists.{any, at, choose, below}
 use lib.Seq.{length-take-le}
@@ -40,10 +39,12 @@ use Rattle.index.specs.Index.{Compact, Made}
 use Rattle.prune.specs.Node.{withOrderings, Ready, Holds, Marked, Reached}
 use Rattle.walk.specs.Walk.{noNodes}
 use Rattle.walk.specs.Pair.{prefixOf, orderIn, ownIn, ListRoom, AtPrefix}
-use Rattle.prepare.specs.Prepared.{BARE, WANTED, treeOf, orderOf, roomFor, bytesFor, Arranged, ordered, Prepared}
+use Rattle.task.specs.Task.{BARE, WANTED, roomFor, Arranged, ordered}
+use Rattle.explore.specs.Prepared.{treeOf, orderOf, bytesFor, Prepared}
 use Rattle.walk.proofs.Prefix.{prefix-zero}
 use Rattle.walk.proofs.Written.{order-taken}
 use Rattle.walk.proofs.Walk.{none-summed}
+use Rattle.task.proofs.Task.{ordered-other, length-ordered, ordered-at}
 
 -- ---- the numbers with the limit and the room among them
 pub numbers-kept : (p : Problem) (numbers numbers′ : List ℕ) → p .variables ≤ 12 → length (p .constraints) ≤ 32 → ((i : ℕ) → i < 68 → at numbers′ i ≡ at numbers i) → Numbers p numbers → Numbers p numbers′
@@ -83,28 +84,6 @@ indexed-kept p numbers numbers′ supports tables f c low high h = record {
   imageTables = h .imageTables;
 }
 
-module _ (order : List ℕ) where
-  ordered-other : (n i : ℕ) (l : List ℕ) → ((j : ℕ) → j < n → i ≡ ORDER + j → ⊥) → at (ordered order n l) i ≡ at l i
-  unfolding ordered
-  ordered-other zero i l h = refl
-  ordered-other (suc n) i l h = at-set-other (ordered order n l) (ORDER + n) (at order n) i (h n (omega arith)) ∙ ordered-other n i l (λ j m. h j (omega arith))
-
-  pub length-ordered : (n : ℕ) (l : List ℕ) → length (ordered order n l) ≡ length l
-  unfolding ordered
-  length-ordered zero l = refl
-  length-ordered (suc n) l = length-set (ordered order n l) (ORDER + n) (at order n) ∙ length-ordered n l
-
-  ordered-at : (n k : ℕ) (l : List ℕ) → ORDER + n ≤ length l → k < n → at (ordered order n l) (ORDER + k) ≡ at order k
-  unfolding ordered
-  ordered-at zero k l h m = absurd (not-suc-le-zero m)
-  ordered-at (suc n) k l h m = go (ordered-at n k l (omega arith)) (decLt k n)
-    where
-      go : (k < n → at (ordered order n l) (ORDER + k) ≡ at order k) → Dec (k < n) → at (set (ordered order n l) (ORDER + n) (at order n)) (ORDER + k) ≡ at order k
-      go ih (yes d) = at-set-other (ordered order n l) (ORDER + n) (at order n) (ORDER + k) (λ e. omega arith) ∙ ih d
-      go ih (no d) =
-          let e : n ≡ k = omega arith in
-          ap (λ (j : ℕ). at (set (ordered order n l) (ORDER + n) (at order n)) (ORDER + j)) (sym e) ∙ at-set (ordered order n l) (ORDER + n) (at order n) (let s = length-ordered n l in omega arith) ∙ ap (at order) e
-
 -- with the number of symmetries set to 0 the arrays hold the problem without symmetries
 compiled-bare : (p : Problem) (numbers numbers′ supports images : List ℕ) → p .variables ≤ 12 → Compiled p numbers supports images → length (p .constraints) ≤ 32 →
     ((i : ℕ) → (i ≡ SYMMETRIES → ⊥) → at numbers′ i ≡ at numbers i) → at numbers′ SYMMETRIES ≡ 0 → Compiled (withOrderings p []) numbers′ supports images
@@ -124,14 +103,6 @@ compiled-bare p numbers numbers′ supports images f c few same none = record {
   supported = c .supported;
   imaged = λ e x v l. absurd (omega arith);
 }
-
--- the first k numbers stand at their places, and the next is put
-pub placed-next : (k : ℕ) (list : List ℕ) → k < length list → ((j : ℕ) → j < k → at list j ≡ j) → (j : ℕ) → j < k + 1 → at (set list k k) j ≡ j
-placed-next k list l h j m = go (ℕ-discrete j k)
-  where
-    go : Dec (j ≡ k) → at (set list k k) j ≡ j
-    go (yes e) = subst (λ (i : ℕ). at (set list k k) i ≡ i) (sym e) (at-set list k k l)
-    go (no e) = at-set-other list k k j e ∙ h j (omega arith)
 
 pub below-taken : (n : ℕ) (bytes : List ℕ) → n ≤ length bytes → ((k : ℕ) → k < n → at bytes k ≡ k) → take n bytes ≡ below n
 below-taken n bytes l h =
@@ -344,12 +315,6 @@ room-most wanted n size s = go (eqb wanted 0)
     go : (c : Bool) → choose c size ((wanted - 1) * n) < suc (choose c (size / n) (wanted - 1)) * n
     go true = let d = div-add-mod' size n in let m : size % n < n = mod-lt size s in omega arith
     go false = omega arith
-
-pub room-listed : (wanted n size : ℕ) → wanted ≡ 0 → size / n ≡ roomFor wanted n size
-room-listed wanted n size e = ap (λ (w : ℕ). choose (eqb w 0) (size / n) (wanted - 1)) (sym e)
-
-pub room-wanted : (wanted n size : ℕ) → (wanted ≡ 0 → ⊥) → wanted - 1 ≡ roomFor wanted n size
-room-wanted wanted n size o = ap (λ (c : Bool). choose c (size / n) (wanted - 1)) (sym (ne-eqb wanted 0 o))
 
 pub room-lent : (wanted n size : ℕ) → ((wanted ≡ 0 → ⊥) → size ≡ 0) → (size ≡ 0 → ⊥) → bytesFor wanted n size ≡ size
 room-lent wanted n size u o = go (eqb wanted 0) refl

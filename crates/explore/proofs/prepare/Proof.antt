@@ -1,4 +1,4 @@
--- `prepare::prepare` meets its contract: proofs/Prepared. Assumes nothing.
+-- `explore::prepare` meets its contract: proofs/Prepared. Assumes nothing.
 use mathlib.Core.Path.{sym, ap, _∙_}
 use native.Mathlib.Omega.{arith}
 use lib.ListN.{set}
@@ -8,10 +8,10 @@ use Rattle.layout.specs.Places.{BLOCK}
 use denote.Ref.{now}
 use Rattle.model.specs.Lists.{at}
 use Rattle.sheet.specs.Meaning.{means}
-use Rattle.prepare.proofs.Prepared.{some-variables, few-variables, long-bounded, own, lies, compact, ready, prepared-dead, prepared-live, prepared-refused}
+use Rattle.explore.proofs.Prepared.{some-variables, few-variables, long-bounded, own, lies, compact, ready, prepared-dead, prepared-live, prepared-refused}
 use borrow.Author.Needs.{needs}
-use Rattle.prepare.proofs.prepare.Statement.{statement}
-use Rattle.prepare.proofs.prepare.Tie as tie
+use Rattle.explore.proofs.prepare.Statement.{statement}
+use Rattle.explore.proofs.prepare.Tie as tie
 
 compile-requires : tie.Need-compile-requires
 compile-requires c κs = search needs

@@ -1,4 +1,4 @@
--- `prepare::put_order` meets its contract: after k turns the first k numbers of the order are put. Assumes nothing.
+-- `task::put_order` meets its contract: after k turns the first k numbers of the order are put. Assumes nothing.
 use mathlib.Core.Path.{_≡_, refl, sym, ap, ap₂, _∙_}
 use mathlib.Core.List.{List}
 use Prim.Native.Nat.{ℕ, _+_, _-_, _≤_}
@@ -8,11 +8,11 @@ use lib.ListN.{length, set}
 use denote.Ref.{now}
 use Rattle.model.specs.Lists.{at}
 use Rattle.layout.specs.Places.{ORDER}
-use Rattle.prepare.specs.Prepared.{ordered}
-use Rattle.prepare.proofs.Prepared.{length-ordered}
-use Rattle.prepare.proofs.put_order.Statement.{statement}
+use Rattle.task.specs.Task.{ordered}
+use Rattle.task.proofs.Task.{length-ordered}
+use Rattle.task.proofs.put_order.Statement.{statement}
 use borrow.Author.Needs.{needs}
-use Rattle.prepare.proofs.put_order.Tie as tie
+use Rattle.task.proofs.put_order.Tie as tie
 
 abbrev Inv-loop : tie.InvT-loop
 Inv-loop numbers₀ order k₀ numbers k = (k ≤ 12) × (numbers ≡ ordered order k numbers₀)

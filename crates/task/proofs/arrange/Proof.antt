@@ -1,9 +1,9 @@
--- `prepare::arrange` meets its contract. Assumes nothing.
+-- `task::arrange` meets its contract. Assumes nothing.
 use mathlib.Core.Path.{refl}
 use Rattle.model.specs.Lists.{at}
 use borrow.Author.Needs.{needs}
-use Rattle.prepare.proofs.arrange.Statement.{statement}
-use Rattle.prepare.proofs.arrange.Tie as tie
+use Rattle.task.proofs.arrange.Statement.{statement}
+use Rattle.task.proofs.arrange.Tie as tie
 
 element-copy-out-if1 : tie.Need-element-copy-out-if1
 element-copy-out-if1 c = search needs

@@ -1,36 +1,22 @@
--- What the parts of a run ask and leave before the search. No reader has to believe this: it stands between proved functions.
+-- What is made of a lending before the search. No reader has to believe this: it stands between proved functions.
 use mathlib.Core.Path.{_≡_}
 use mathlib.Core.Bool.{false}
 use mathlib.Core.List.{List, []}
-use Prim.Native.Nat.{ℕ, zero, suc, _+_, _-_, _*_, _/_, _^_, _<_}
+use Prim.Native.Nat.{ℕ, _-_, _*_, _^_, _<_}
 use lib.Dec.{eqb}
-use lib.ListN.{length, set}
+use lib.ListN.{length}
 use Rattle.model.specs.Lists.{at, choose, below}
 use Rattle.model.specs.Problem.{Problem}
 use Rattle.model.specs.Search.{isLive}
 use Rattle.model.specs.Verdict.{accepted, refused}
 use Rattle.model.specs.Sheet.{problemOf}
-use Rattle.model.specs.Filling.{Gathered}
-use Rattle.block.specs.Block.{inLent}
 use Rattle.lent.specs.Lent.{verdictLent, orderLent, problemLent}
 use Rattle.prune.specs.Node.{withOrderings}
-use Rattle.layout.specs.Places.{SYMMETRIES, LIMIT, ROOM, ORDER, PLANS, NUMBER, ITEM, ALL, DEEPER, REFUSED}
+use Rattle.layout.specs.Places.{LIMIT, ROOM, PLANS, NUMBER, ITEM, ALL, DEEPER, REFUSED}
 use Rattle.sheet.specs.Form.{Zeros}
 use Rattle.walk.specs.Walk.{noNodes}
 use Rattle.walk.specs.Pair.{orderIn, AtPrefix}
-
--- the first k numbers of an order are put
-unfoldable pub ordered : List ℕ → ℕ → List ℕ → List ℕ
-ordered order zero numbers = numbers
-ordered order (suc k) numbers = set (ordered order k numbers) (ORDER + k) (at order k)
-
--- ---- the task of a run, which stands in `work` before it
--- at BARE whether the symmetries are left out; at WANTED how many plans are asked for, 0 where they are listed
-abbrev pub BARE : ℕ
-BARE = 224
-
-abbrev pub WANTED : ℕ
-WANTED = 225
+use Rattle.task.specs.Task.{BARE, WANTED, roomFor}
 
 -- the problem whose tree is walked, and the order by which it writes: a bare run writes by position
 abbrev pub treeOf : ℕ → List ℕ → List ℕ → List ℕ → Problem
@@ -38,10 +24,6 @@ treeOf bare b pairs block = withOrderings (problemLent b pairs block) (choose (e
 
 abbrev pub orderOf : ℕ → List ℕ → List ℕ → List ℕ
 orderOf bare b pairs = choose (eqb bare 0) (orderLent b pairs) (below (problemOf b .variables))
-
--- how many plans of n bytes there is room for, and that room in bytes: the list's, else one less than are asked for
-abbrev pub roomFor : ℕ → ℕ → ℕ → ℕ
-roomFor wanted n size = choose (eqb wanted 0) (size / n) (wanted - 1)
 
 abbrev pub bytesFor : ℕ → ℕ → ℕ → ℕ
 bytesFor wanted n size = choose (eqb wanted 0) size ((wanted - 1) * n)
@@ -55,11 +37,6 @@ pub record Blank (stack work supports tables numbers : List ℕ) (size : ℕ) : 
   pub tables-length : length tables ≡ 55296
   pub numbers-blank : Zeros 384 numbers
   pub unlisted : (at work WANTED ≡ 0 → ⊥) → size ≡ 0
-
--- the positions of the block's variables are known; of a bare run there are none, the symmetries are left out, and the order is 0, 1, ..
-pub record Arranged (bare : ℕ) (block : List ℕ) (n : ℕ) (numbers order numbers′ order′ : List ℕ) (positions : ℕ) : Type 0 where
-  pub whole : bare ≡ 0 → (numbers′ ≡ numbers) × (order′ ≡ order) × Gathered (λ i. inLent block (at order i)) n positions
-  pub bared : (bare ≡ 0 → ⊥) → (numbers′ ≡ set numbers SYMMETRIES 0) × (length order′ ≡ 16) × ((k : ℕ) → k < 16 → at order′ k ≡ k) × (positions ≡ 0)
 
 -- a refusal's number and item stand in `work`
 pub record Refusal (b pairs block work : List ℕ) : Type 0 where

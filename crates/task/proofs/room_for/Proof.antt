@@ -1,9 +1,9 @@
--- `prepare::room_for` meets its contract: proofs/Prepared. Assumes nothing.
+-- `task::room_for` meets its contract: proofs/Task. Assumes nothing.
 use Rattle.model.specs.Lists.{at}
-use Rattle.prepare.proofs.Prepared.{room-listed, room-wanted}
+use Rattle.task.proofs.Task.{room-listed, room-wanted}
 use borrow.Author.Needs.{needs}
-use Rattle.prepare.proofs.room_for.Statement.{statement}
-use Rattle.prepare.proofs.room_for.Tie as tie
+use Rattle.task.proofs.room_for.Statement.{statement}
+use Rattle.task.proofs.room_for.Tie as tie
 
 element-copy-out-wanted : tie.Need-element-copy-out-wanted
 element-copy-out-wanted c = search needs

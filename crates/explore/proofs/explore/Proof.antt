@@ -1,4 +1,4 @@
--- `search::explore` meets its contract: a walk of its MIR, by hand. Every call is lent what it takes (settle's `Loans`), and it comes back; proofs/Whole has
+-- `explore::explore` meets its contract: a walk of its MIR, by hand. Every call is lent what it takes (settle's `Loans`), and it comes back; proofs/Explored has
 -- what is known at each call. Assumes nothing.
 use mathlib.Core.Path.{_≡_, refl, sym, ap, subst}
 use Prim.Native.Nat.{ℕ, _*_, _<_, _^_}
@@ -42,18 +42,19 @@ use Rattle.model.specs.Lists.{at}
 use Rattle.model.specs.Problem.{Problem}
 use Rattle.walk.specs.Pair.{Cleared, AtValues, Walked, tried}
 use Rattle.walk.specs.Meaning.{tallyIn}
-use Rattle.prepare.specs.Prepared.{BARE, treeOf, Blank, Prepared}
-use Rattle.search.specs.Whole.{Explored}
+use Rattle.task.specs.Task.{BARE}
+use Rattle.explore.specs.Prepared.{treeOf, Blank, Prepared}
+use Rattle.explore.specs.Explored.{Explored}
 use Rattle.walk.specs.declared.Tally.{Tally}
 use Rattle.walk.proofs.Tally as T
-use Rattle.search.proofs.Whole.{explored-refused, explored-dead, start-asks, explored}
+use Rattle.explore.proofs.Explored.{explored-refused, explored-dead, start-asks, explored}
 use Rattle.settle.proofs.Facts.{ne-of}
 use Rattle.settle.proofs.Loans as loan
 use Rattle.settle.proofs.Loans.{One, Loans, at-ref, at-sl, calls-lent}
-use Rattle.prepare.proofs.prepare as prepare
-use Rattle.prepare.proofs.prepare.Symbol as prepare-def
-use Rattle.prepare.proofs.prepare.Symbol.{name as #prepare·prepare}
-use Rattle.prepare.proofs.prepare.Met as prepare-thm
+use Rattle.explore.proofs.prepare as prepare
+use Rattle.explore.proofs.prepare.Symbol as prepare-def
+use Rattle.explore.proofs.prepare.Symbol.{name as #explore·prepare}
+use Rattle.explore.proofs.prepare.Met as prepare-thm
 use Rattle.walk.proofs.reset as reset
 use Rattle.walk.proofs.reset.Symbol as reset-def
 use Rattle.walk.proofs.reset.Symbol.{name as #walk·reset}
@@ -66,11 +67,11 @@ use Rattle.settle.proofs.settle as settle
 use Rattle.settle.proofs.settle.Symbol as settle-def
 use Rattle.settle.proofs.settle.Symbol.{name as #settle·settle}
 use Rattle.settle.proofs.settle.Met as settle-thm
-use Rattle.search.proofs.explore as explore
-use Rattle.search.proofs.explore.Key.{name as #search·explore}
-use Rattle.search.proofs.explore.Statement as stated
-use Rattle.search.proofs.explore.Code as code
-use Rattle.search.proofs.explore.Code.Mir as mir′
+use Rattle.explore.proofs.explore as explore
+use Rattle.explore.proofs.explore.Key.{name as #explore·explore}
+use Rattle.explore.proofs.explore.Statement as stated
+use Rattle.explore.proofs.explore.Code as code
+use Rattle.explore.proofs.explore.Code.Mir as mir′
 
 abbrev shorts : ℕ → Slot 10
 shorts n = ArrayOf (plain (λ _. u16)) (λ _. tt) n
@@ -135,7 +136,7 @@ module _ {M : Type 1} (𝓤 : URA M) (H : Heap 𝓤) (A : Atoms 𝓤) (W : Given
 
   module _ (κ₀ κ₁ κ₂ κ₃ κ₄ κ₅ κ₆ κ₇ κ₈ κ₉ : Lft) (q₀ q₁ q₂ q₃ q₄ q₅ q₆ q₇ q₈ q₉ : Share) (s₅ s₆ s₇ : RefT (List ℕ)) (b₀ o₀ b₁ o₁ b₂ o₂ b₃ o₃ b₄ o₄ lb lo n b₉ o₉ : ℕ) (γ₀ γ₁ γ₂ γ₃ γ₄ γ₈ γ₉ : GName) (room₅ : Room u8 (length (s₅ .now))) (room₆ : Room u8 (length (s₆ .now))) (room₇ : Room u8 (length (s₇ .now))) (room : Room u8 n)
       (C : Calls 𝓤 H) (Λ : Loops 𝓤 H) (fm : FmC 𝓤 H (W .laws) C)
-      (known-prepare : Triple 𝓤 (C #prepare·prepare) Prepare) (known-reset : Triple 𝓤 (C #walk·reset) Reset) (known-candidates : Triple 𝓤 (C #walk·candidates) Candidates) (known-settle : Triple 𝓤 (C #settle·settle) Settle) where
+      (known-prepare : Triple 𝓤 (C #explore·prepare) Prepare) (known-reset : Triple 𝓤 (C #walk·reset) Reset) (known-candidates : Triple 𝓤 (C #walk·candidates) Candidates) (known-settle : Triple 𝓤 (C #settle·settle) Settle) where
     abbrev vl : Val
     vl = sliceVal (lb, lo) n
 
@@ -323,7 +324,7 @@ module _ {M : Type 1} (𝓤 : URA M) (H : Heap 𝓤) (A : Atoms 𝓤) (W : Given
           keep ! (0 ∷ []) $ by ! (exits r₄ _ _ _ _ _ _ (w₄ .1 .1 .1 .1 .1 .1 .0) (is₄ .1) (f₄ .1 .1 .1 .1 .1 .0) (explored wk (s₅ .now) (s₆ .now) (s₇ .now) a ls _ _ _ _ _ r₁ (ok .unlisted) h live (tallyIn ta₁) said₂ r₃ said₃ (tallyIn ta) _ _ _ _ r₄ (said₄ (treeOf (at wk BARE) (s₅ .now) (s₆ .now) (s₇ .now)) begin)))))))))))))))))))))))))))))))))))))))))
 
 module _ {M : Type 1} (𝓤 : URA M) (H : Heap 𝓤) (A : Atoms 𝓤) (W : Given 𝓤 H A) (mem : Memory → SProp 𝓤) (run : Routine → Fun 𝓤) where
-  explore-walks : (C : Calls 𝓤 H) (Λ : Loops 𝓤 H) → FmC 𝓤 H (W .laws) C → Triple 𝓤 (C #prepare·prepare) (Prepare 𝓤 H A W mem run) → Triple 𝓤 (C #walk·reset) (Reset 𝓤 H A W mem run) → Triple 𝓤 (C #walk·candidates) (Candidates 𝓤 H A W mem run) → Triple 𝓤 (C #settle·settle) (Settle 𝓤 H A W mem run) → Walks 𝓤 H A explore.ended stayed (WpFn 𝓤 H C Λ code.function) (explore.clauses 𝓤 H A mem run)
+  explore-walks : (C : Calls 𝓤 H) (Λ : Loops 𝓤 H) → FmC 𝓤 H (W .laws) C → Triple 𝓤 (C #explore·prepare) (Prepare 𝓤 H A W mem run) → Triple 𝓤 (C #walk·reset) (Reset 𝓤 H A W mem run) → Triple 𝓤 (C #walk·candidates) (Candidates 𝓤 H A W mem run) → Triple 𝓤 (C #settle·settle) (Settle 𝓤 H A W mem run) → Walks 𝓤 H A explore.ended stayed (WpFn 𝓤 H C Λ code.function) (explore.clauses 𝓤 H A mem run)
   explore-walks C Λ fm p r c s =
       walked 𝓤 H A explore.ended stayed (explore.clauses 𝓤 H A mem run) (WpFn 𝓤 H C Λ code.function) (λ κs. (ptr-vals, (ptr-vals, (ptr-vals, (ptr-vals, (ptr-vals, (slice-vals, (slice-vals, (slice-vals, (uint-vals w32, (slice-vals, (ptr-vals, tt))))))))))))
       (λ κs. (mut-tells (named 0) (κs .0) (Array u16 208), (mut-tells (named 1) (κs .1 .0) (Array u64 256), (mut-tells (named 2) (κs .1 .1 .0) (Array u16 8192), (mut-tells (named 3) (κs .1 .1 .1 .0) (Array u16 55296), (mut-tells (named 4) (κs .1 .1 .1 .1 .0) (Array u64 384), (shr-slice-tells (named 5) (κs .1 .1 .1 .1 .1 .0) u8, (shr-slice-tells (named 6) (κs .1 .1 .1 .1 .1 .1 .0) u8, (shr-slice-tells (named 7) (κs .1 .1 .1 .1 .1 .1 .1 .0) u8, (uint-tells w32, (mut-slice-tells (named 8) (κs .1 .1 .1 .1 .1 .1 .1 .1 .0) u8, (mut-tells (named 9) (κs .1 .1 .1 .1 .1 .1 .1 .1 .1 .0) T.the-row, tt))))))))))))
@@ -332,7 +333,7 @@ module _ {M : Type 1} (𝓤 : URA M) (H : Heap 𝓤) (A : Atoms 𝓤) (W : Given
       (a .0 .name) (a .1 .0 .name) (a .1 .1 .0 .name) (a .1 .1 .1 .0 .name) (a .1 .1 .1 .1 .0 .name) (a .1 .1 .1 .1 .1 .1 .1 .1 .1 .0 .name) (a .1 .1 .1 .1 .1 .1 .1 .1 .1 .1 .0 .name) (are .1 .1 .1 .1 .1 .0 .0 .1) (are .1 .1 .1 .1 .1 .1 .0 .0 .1) (are .1 .1 .1 .1 .1 .1 .1 .0 .0 .1) (are .1 .1 .1 .1 .1 .1 .1 .1 .1 .0 .0 .1) C Λ fm p r c s
       (a .0 .now) (a .1 .0 .now) (a .1 .1 .0 .now) (a .1 .1 .1 .0 .now) (a .1 .1 .1 .1 .0 .now) (a .1 .1 .1 .1 .1 .1 .1 .1 .1 .0 .now) refl (a .1 .1 .1 .1 .1 .1 .1 .1 .1 .1 .0 .now) (a .1 .1 .1 .1 .1 .1 .1 .1 .0) (are .1 .1 .1 .1 .1 .1 .1 .1 .0 .1) (are .1 .1 .1 .1 .1 .1 .1 .1 .1 .0 .0 .1 .0) (omega arith)))
 
-  explore-meets : (𝓣 : Tables 𝓤 H) → Triple 𝓤 (𝓣 .C #prepare·prepare) (Prepare 𝓤 H A W mem run) → Triple 𝓤 (𝓣 .C #walk·reset) (Reset 𝓤 H A W mem run) → Triple 𝓤 (𝓣 .C #walk·candidates) (Candidates 𝓤 H A W mem run) → Triple 𝓤 (𝓣 .C #settle·settle) (Settle 𝓤 H A W mem run) → Meets 𝓤 H A explore.signature (WpFn 𝓤 H (𝓣 .C) (𝓣 .Λ) code.function) (explore.spec 𝓤 H A mem run)
+  explore-meets : (𝓣 : Tables 𝓤 H) → Triple 𝓤 (𝓣 .C #explore·prepare) (Prepare 𝓤 H A W mem run) → Triple 𝓤 (𝓣 .C #walk·reset) (Reset 𝓤 H A W mem run) → Triple 𝓤 (𝓣 .C #walk·candidates) (Candidates 𝓤 H A W mem run) → Triple 𝓤 (𝓣 .C #settle·settle) (Settle 𝓤 H A W mem run) → Meets 𝓤 H A explore.signature (WpFn 𝓤 H (𝓣 .C) (𝓣 .Λ) code.function) (explore.spec 𝓤 H A mem run)
   explore-meets 𝓣 p r c s =
       walk-meets 𝓤 H A explore.ended stayed W (goes-ref 𝓤 H A W 10 0 tt (shorts 208), (goes-ref 𝓤 H A W 10 1 tt (longs 256), (goes-ref 𝓤 H A W 10 2 tt (shorts 8192), (goes-ref 𝓤 H A W 10 3 tt (shorts 55296), (goes-ref 𝓤 H A W 10 4 tt (longs 384), (goes-dropped 𝓤 H A W 10 (shrSliceOf (5 ∷ []) tt bytes) yes (λ κs x f. refl), (goes-dropped 𝓤 H A W 10 (shrSliceOf (6 ∷ []) tt bytes) yes (λ κs x f. refl), (goes-dropped 𝓤 H A W 10 (shrSliceOf (7 ∷ []) tt bytes) yes (λ κs x f. refl), (goes-dropped 𝓤 H A W 10 (plain (λ _. u32)) yes (λ κs x f. refl), (goes-slice 𝓤 H A W 10 8 tt bytes, (goes-ref 𝓤 H A W 10 9 tt counts, tt))))))))))) (explore.clauses 𝓤 H A mem run)
       (WpFn 𝓤 H (𝓣 .C) (𝓣 .Λ) code.function) (WpFn-mono 𝓤 H (W .laws) 𝓣 code.function) (explore-walks (𝓣 .C) (𝓣 .Λ) (fmOf 𝓤 H (W .laws) 𝓣) p r c s)
@@ -342,9 +343,9 @@ unfolding code.routine tablesOf
 explore-spec 𝓤 H 𝓜 𝓖 𝓡 =
     let W : Given 𝓤 H (𝓖 .A) = givenOf 𝓤 H 𝓜 𝓖 in
     entered 𝓤 H (tripleOf 𝓤 H (𝓖 .A) explore.signature (explore.spec 𝓤 H (𝓖 .A) (𝓜 .mem) (𝓡 .run)))
-    (tables 𝓤 H 𝓜 𝓡 code.env .C) (tables 𝓤 H 𝓜 𝓡 code.env .Λ) #search·explore code.function (code.unfolded 𝓤 H 𝓜 𝓡)
+    (tables 𝓤 H 𝓜 𝓡 code.env .C) (tables 𝓤 H 𝓜 𝓡 code.env .Λ) #explore·explore code.function (code.unfolded 𝓤 H 𝓜 𝓡)
     (explore-meets 𝓤 H (𝓖 .A) W (𝓜 .mem) (𝓡 .run) (tablesOf 𝓤 H 𝓜 (tables 𝓤 H 𝓜 𝓡 code.env))
-    (cited 𝓤 H (Prepare 𝓤 H (𝓖 .A) W (𝓜 .mem) (𝓡 .run)) 𝓜 𝓡 code.env #prepare·prepare prepare-def.routine code.calls-prepare·prepare (prepare-thm.met 𝓤 H 𝓜 𝓖 𝓡))
+    (cited 𝓤 H (Prepare 𝓤 H (𝓖 .A) W (𝓜 .mem) (𝓡 .run)) 𝓜 𝓡 code.env #explore·prepare prepare-def.routine code.calls-explore·prepare (prepare-thm.met 𝓤 H 𝓜 𝓖 𝓡))
     (cited 𝓤 H (Reset 𝓤 H (𝓖 .A) W (𝓜 .mem) (𝓡 .run)) 𝓜 𝓡 code.env #walk·reset reset-def.routine code.calls-walk·reset (reset-thm.met 𝓤 H 𝓜 𝓖 𝓡))
     (cited 𝓤 H (Candidates 𝓤 H (𝓖 .A) W (𝓜 .mem) (𝓡 .run)) 𝓜 𝓡 code.env #walk·candidates candidates-def.routine code.calls-walk·candidates (candidates-thm.met 𝓤 H 𝓜 𝓖 𝓡))
     (cited 𝓤 H (Settle 𝓤 H (𝓖 .A) W (𝓜 .mem) (𝓡 .run)) 𝓜 𝓡 code.env #settle·settle settle-def.routine code.calls-settle·settle (settle-thm.met 𝓤 H 𝓜 𝓖 𝓡)))

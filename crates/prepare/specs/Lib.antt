@@ -1,2 +1,0 @@
--- What is made of a lending before the search.
-pub mod Prepared
