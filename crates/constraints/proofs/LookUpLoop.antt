@@ -1,82 +1,46 @@
 -- Look-ups: one constraint whose first two sets have one value each, and the loop over some of them. Assumes nothing.
 use mathlib.Core.Path.{_≡_, refl, sym, ap, _∙_, subst}
-use mathlib.Core.Bool.{Bool, false, not}
+use mathlib.Core.Bool.{false, not}
 use mathlib.Core.Logic.{_⊎_, inl, inr, ⊎-elim}
-use mathlib.Core.List.{List, [], _∷_, List·Memᴰ·head, List·Memᴰ·tail}
-use Prim.Native.Nat.{ℕ, _+_, _-_, _*_, _/_, _%_, _^_, _≤_, _<_}
+use mathlib.Core.List.{List, []}
+use Prim.Native.Nat.{ℕ, _+_, _-_, _/_, _%_, _^_, _≤_, _<_}
 use native.Mathlib.Nat.{lt-of-le-of-lt}
 use native.Mathlib.Omega.{arith}
-use lib.Dec.{T, eqb, eqb-refl}
-use borrow.Author.Tests.{eq-eqb}
+use lib.Dec.{T, eqb-refl}
 use lib.ListN.{length}
 use lib.Bits.{bitAnd, bitOr, and-le-l}
 use lib.Count.{trailingZeros}
-use Rattle.model.specs.Lists.{at, both}
-use Rattle.model.specs.ValueSets.{has, withoutMask, lowestOf, anyEmpty}
+use Rattle.model.specs.Lists.{at}
+use Rattle.model.specs.ValueSets.{has, anyEmpty}
 use Rattle.model.specs.Problem.{Problem}
-use Rattle.model.specs.Pruning.{Sets}
-use Rattle.model.proofs.Lists.{not-of, of-not, T-of, both-i, both-l, both-r}
-use Rattle.model.proofs.Sets.{has-none, has-lt, mask-lt, mask-ext, mask-e}
+use Rattle.model.proofs.Lists.{not-of, of-not, T-of, both-i, mem-at}
+use Rattle.model.proofs.Sets.{has-none, has-lt}
 use Rattle.model.proofs.Masks.{has-one}
-use Rattle.model.proofs.Members.{rest-begin, lowest-left, low-has, or-i, or-e, and-e, rest-e}
+use Rattle.model.proofs.Members.{low-has, or-i, or-e, and-e, rest-e}
 use Rattle.model.proofs.Firsts.{take-full}
 use Rattle.layout.specs.Places.{SCOPES, OTHERS, DEAD}
 use Rattle.layout.specs.Layout.{constraintAt}
 use Rattle.layout.specs.Pruning.{setsOf}
 use Rattle.layout.proofs.Links.{good}
 use Rattle.constraints.specs.Revised.{Revision}
-use Rattle.constraints.specs.Steps.{Scoped, Nonempty, ConstraintsHeld, SetCut, Touched}
-use Rattle.constraints.specs.LookUps.{Single, LookUp, LookUpsPending, LookedUp}
+use Rattle.constraints.specs.Steps.{OneValue, Scoped, ConstraintsHeld, Touched}
+use Rattle.constraints.specs.LookUps.{LookUp, LookUpsPending, LookedUp}
 use Rattle.constraints.proofs.Bits.{without-has}
 use Rattle.constraints.proofs.Removal.{fixed-take}
-use Rattle.constraints.proofs.Scopes.{scoped-3}
-use Rattle.constraints.proofs.Stores.{three-last, u-has, v-has}
+use Rattle.constraints.proofs.Scopes.{scope3, scoped-3}
 use Rattle.constraints.proofs.Touching.{touchedOf, touched-lt, touched-of}
-use Rattle.constraints.proofs.ConstrainLoop.{without, ConstrainedSoFar, constrained-begin, changed-lt, constrained-dead, constrained-more}
+use Rattle.constraints.proofs.ConstrainLoop.{without, Chosen, ConstrainedSoFar, constrained-begin, k-few, k-full, changed-lt, constrained-dead, constrained-more}
 
 -- ---- one constraint
--- a set of one value has no other than its lowest
-no-more : (a : ℕ) → a < 2 ^ 16 → (a ≡ 0 → ⊥) → Single a → withoutMask a (lowestOf a) ≡ 0
-no-more a h n s = mask-ext 16 (withoutMask a (lowestOf a)) 0 (mask-lt 16 other) (omega arith) (λ v l. not-of (has (withoutMask a (lowestOf a)) v) (none v) ∙ sym (has-none v))
-  where
-    other : ℕ → Bool
-    other v = both (has a v) (not (eqb v (lowestOf a)))
-
-    none : (v : ℕ) → T (has (withoutMask a (lowestOf a)) v) → ⊥
-    none v t =
-        let q = mask-e other v t .1 in
-        let e = s v (lowestOf a) (both-l (has a v) (not (eqb v (lowestOf a))) q) (lowest-left a a _ (rest-begin 16 a h) n refl .0) in
-        subst T (ap not (eq-eqb v (lowestOf a) e)) (both-r (has a v) (not (eqb v (lowestOf a))) q)
-
-module _ {p : Problem} {numbers supports ds : List ℕ} {k : ℕ} (g : ConstraintsHeld p numbers supports) (s : Sets 16 ds) (l : LookUp p ds k) (n : Nonempty (constraintAt p k .scope) ds) where
-  -- the scope as the code reads it
-  abbrev x : ℕ
-  x = at numbers (SCOPES + k) / 256 % 256
-
-  abbrev y : ℕ
-  y = at numbers (SCOPES + k) / 65536 % 256
-
-  abbrev z : ℕ
-  z = at numbers (SCOPES + k) / 16777216 % 256
-
-  pub look-scoped : Scoped (constraintAt p k) supports k (at numbers (SCOPES + k) / 256 % 256 ∷ at numbers (SCOPES + k) / 65536 % 256 ∷ at numbers (SCOPES + k) / 16777216 % 256 ∷ [])
+module _ {p : Problem} {numbers supports ds : List ℕ} {k : ℕ} (g : ConstraintsHeld p numbers supports) (l : LookUp p ds k) where
+  pub look-scoped : Scoped (constraintAt p k) supports k (scope3 (at numbers (SCOPES + k)))
   look-scoped = scoped-3 g k (l .known) (g .numbered .arity k (l .known) ∙ l .three)
 
-  full : Nonempty (x ∷ y ∷ z ∷ []) ds
-  full = subst (λ (m : List ℕ). Nonempty m ds) (look-scoped .is) n
-
-  one-x : withoutMask (at ds x) (lowestOf (at ds x)) ≡ 0
-  one-x = no-more (at ds x) (s .1 x) (full x (List·Memᴰ·head refl)) (subst (λ (i : ℕ). Single (at ds i)) (sym (g .numbered .scope k 0 (l .known) (omega (arith, l .three)))) (l .first))
-
-  one-y : withoutMask (at ds y) (lowestOf (at ds y)) ≡ 0
-  one-y = no-more (at ds y) (s .1 y) (full y (List·Memᴰ·tail (List·Memᴰ·head refl))) (subst (λ (i : ℕ). Single (at ds i)) (sym (g .numbered .scope k 1 (l .known) (omega (arith, l .three)))) (l .second))
-
-  pub look-values : (lowestOf (at ds (at numbers (SCOPES + k) / 256 % 256)) < 16) × (lowestOf (at ds (at numbers (SCOPES + k) / 65536 % 256)) < 16)
-  look-values = (u-has look-scoped ds s full one-x one-y .1, v-has look-scoped ds s full one-x one-y .1)
-
-  pub look-revises : (i : ℕ) → i ≡ 256 * k + 16 * lowestOf (at ds (at numbers (SCOPES + k) / 256 % 256)) + lowestOf (at ds (at numbers (SCOPES + k) / 65536 % 256)) → (es : List ℕ) (r : ℕ) →
-      SetCut ds es (at numbers (SCOPES + k) / 16777216 % 256) (bitAnd (at ds (at numbers (SCOPES + k) / 16777216 % 256)) (at supports i)) r → Revision (constraintAt p k) ds es r
-  look-revises = three-last look-scoped ds s full one-x one-y
+  pub look-values : OneValue (at ds (at numbers (SCOPES + k) / 256 % 256)) × OneValue (at ds (at numbers (SCOPES + k) / 65536 % 256))
+  look-values = (subst one (sym (g .numbered .scope k 0 (l .known) (omega (arith, l .three)))) (l .first), subst one (sym (g .numbered .scope k 1 (l .known) (omega (arith, l .three)))) (l .second))
+    where
+      one : ℕ → Type 0
+      one x = OneValue (at ds x)
 
 -- ---- the loop
 -- only the constraints left, those of `todo` that are not looked up, and those of the changed variables may take something
@@ -153,27 +117,33 @@ module _ {p : Problem} {numbers supports ds : List ℕ} {todo some : ℕ} (w : L
       abbrev k : ℕ
       k = trailingZeros 64 left
 
+      -- the round goes on
+      on : Chosen left (t .next) left (t .next)
+      on = inr (n, refl, refl)
+
+      pub look-few : trailingZeros 64 left < 32
+      look-few = k-few (t .so-far) on
+
       pub look-next : LookUp p es (trailingZeros 64 left)
-      look-next =
-          let l = w .looks k (t .among k (low-has 64 left (omega arith) (t .so-far .wide) .0)) in
-          record {
-            known = l .known;
-            three = l .three;
-            first = λ a b q i. l .first a b (t .so-far .less _ a q) (t .so-far .less _ b i);
-            second = λ a b q i. l .second a b (t .so-far .less _ a q) (t .so-far .less _ b i);
-          }
+      look-next = record { known = l .known; three = l .three; first = one 0 (omega (arith, l .three)) (l .first); second = one 1 (omega (arith, l .three)) (l .second) }
+        where
+          l : LookUp p ds k
+          l = w .looks k (t .among k (low-has 64 left (omega arith) (t .so-far .wide) .0))
+
+          one : (i : ℕ) → i < length (constraintAt p k .scope) → OneValue (at ds (at (constraintAt p k .scope) i)) → OneValue (at es (at (constraintAt p k .scope) i))
+          one i h o = record { some = k-full (t .so-far) on _ (mem-at (constraintAt p k .scope) i h); only = λ a b q r. o .only a b (t .so-far .less _ a q) (t .so-far .less _ b r) }
 
       module _ {fs : List ℕ} {changed : ℕ} (r : Revision (constraintAt p (trailingZeros 64 left)) es fs changed) where
         pub looked-dead : changed ≡ DEAD → LookedUp p numbers supports ds fs todo some DEAD
-        looked-dead e = record { ended = λ q. constrained-dead (t .so-far) n r e .ended refl; lessened = λ m. absurd (m refl); pending = λ m. absurd (m refl) }
+        looked-dead e = record { ended = λ q. constrained-dead (t .so-far) on r e .ended refl; lessened = λ m. absurd (m refl); pending = λ m. absurd (m refl) }
 
         pub looked-turn : (changed ≡ DEAD → ⊥) → LookedSoFar p numbers supports ds fs todo some (bitAnd left (left - 1)) (bitOr all changed)
         looked-turn l = record {
-          next = _;
-          so-far = constrained-more (t .so-far) n r l (touchedOf numbers changed) (touched-lt numbers changed) touched;
-          due = λ j q. ⊎-elim (λ i. ⊎-elim inl (λ d. inr (d .0, or-i all changed (d .0) (inl (d .1)), d .2)) (t .due j i)) (λ i. let x = touched .touched-e j (and-e (touchedOf numbers changed) _ j i .0) in inr (x .0, or-i all changed (x .0) (inr (x .1)), x .2)) (or-e (t .next) _ j q);
+          next = bitOr (t .next) (touchedOf numbers changed);
+          so-far = constrained-more (t .so-far) on r l (touched-lt numbers changed) record { waiting-i = λ x j q i. inl (touched .touched-i x j q i); waiting-e = touched .touched-e };
+          due = λ j q. ⊎-elim (λ i. ⊎-elim inl (λ d. inr (d .0, or-i all changed (d .0) (inl (d .1)), d .2)) (t .due j i)) (λ i. let x = touched .touched-e j i in inr (x .0, or-i all changed (x .0) (inr (x .1)), x .2)) (or-e (t .next) (touchedOf numbers changed) j q);
           among = λ j q. t .among j (rest-e 64 left (omega arith) (t .so-far .wide) j q);
         }
           where
             touched : Touched numbers changed (touchedOf numbers changed)
-            touched = touched-of (t .so-far .linked) (t .so-far .held .constraints) changed (changed-lt (t .so-far) n r l)
+            touched = touched-of (t .so-far .linked) (t .so-far .held .constraints) changed (changed-lt (t .so-far) on r l)

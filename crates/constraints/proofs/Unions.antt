@@ -40,13 +40,15 @@ pub small : (f : ℕ → Bool) (r : ℕ) → r ≡ maskOf f → r < 2 ^ 16
 small f r e = subst (λ (z : ℕ). z < 2 ^ 16) (sym e) (mask-lt 16 f)
 
 -- a set that is empty without its lowest value
-pub one-value : (a r : ℕ) (b : Bool) → (a ≡ 0 → ⊥) → r ≡ withoutMask a (lowestOf a) → b ≡ eqb r 0 → b ≡ true → OneValue a
-one-value a r b n e q t = record { some = n; no-more = sym e ∙ eqb-true r 0 (sym q ∙ t) }
+pub one-value : (a r : ℕ) (b : Bool) → a < 2 ^ 16 → (a ≡ 0 → ⊥) → r ≡ withoutMask a (lowestOf a) → b ≡ eqb r 0 → b ≡ true → OneValue a
+one-value a r b h n e q t = record { some = n; only = λ u v i j. low u i ∙ sym (low v j) }
+  where
+    low : (v : ℕ) → T (has a v) → v ≡ trailingZeros 16 a
+    low v i = ⊎-elim (λ j. absurd (has-0 v (subst (λ (z : ℕ). T (has z v)) (without-lowest-op a h ∙ sym e ∙ eqb-true r 0 (sym q ∙ t)) j))) (λ j. j) (rest-i 16 a (omega arith) h v i)
 
 -- the one value of a set
 pub single : (a : ℕ) → a < 2 ^ 16 → OneValue a → (v : ℕ) → T (has a v) → v ≡ lowestOf a
-single a h o v t =
-    ⊎-elim (λ q. absurd (has-0 v (subst (λ (z : ℕ). T (has z v)) (without-lowest-op a h ∙ o .no-more) q))) (λ q. q ∙ lowest-op 16 a) (rest-i 16 a (omega arith) h v t)
+single a h o v t = o .only v (lowestOf a) t (lowest-left a a _ (rest-begin 16 a h) (o .some) refl .0)
 
 -- ---- two sets by sixteen sets of a table
 module _ (t : List ℕ) (base a b : ℕ) where
@@ -93,25 +95,24 @@ module _ (t : List ℕ) (base a b : ℕ) where
     last-e = λ w q. let r = j .lasts .got w q in (r .0, (r .1, r .2 .0, r .2 .1));
   }
 
-  -- where each value of a gives something, a stays whole
-  joined-whole : {first all : ℕ} → Joined t base a b first all → ((v : ℕ) → T (has a v) → T (has first v)) → Joined t base a b a all
-  joined-whole j f = record { first-i = λ v w q. q .0; first-e = λ v q. j .first-e v (f v q); last-i = j .last-i; last-e = j .last-e }
+  -- v gives something
+  some-given : (k v : ℕ) → b < 2 ^ k → (bitAnd (at t (base + v)) b ≡ 0 → ⊥) → (w : ℕ) × Gives v w
+  some-given k v h n =
+      let x = bitAnd (at t (base + v)) b in
+      let d = and-e (at t (base + v)) b (trailingZeros k x) (low-has k x (omega arith) (lt-of-le-of-lt (and-le-r (at t (base + v)) b) h) .0) in
+      (trailingZeros k x, (d .1, d .0))
 
   -- where a has one value, that is all
   pub joined-one : (k v : ℕ) → a < 2 ^ 16 → OneValue a → v ≡ lowestOf a → b < 2 ^ k → (bitAnd (at t (base + v)) b ≡ 0 → ⊥) → Joined t base a b a (bitAnd (at t (base + v)) b)
-  joined-one k v h o low w n =
-      joined-whole
-      (joining-end (withoutMask a (lowestOf a)) s x (o .no-more) (joining-turn k a v (withoutMask a (lowestOf a)) (joining-begin h) (o .some) low refl w refl (union-op 0 s (omega arith) (one-small (not (eqb x 0)) v lt)) refl))
-      (λ u t. subst (λ (z : ℕ). T (has s z)) (low ∙ sym (single a h o u t)) (subst T (sym (has-oneIf (not (eqb x 0)) v v)) (both-i (not (eqb x 0)) (eqb v v) (T-of (not (eqb x 0)) (ap not (ne-eqb x 0 n))) (lib.Dec.eqb-refl v))))
+  joined-one k v h o low l n = record {
+    first-i = λ u w q. q .0;
+    first-e = λ u q. let g = subst (λ (i : ℕ). (w : ℕ) × Gives i w) (sym (is-v u q)) (some-given k v l n) in (g .0, (q, g .1 .0, g .1 .1));
+    last-i = λ u w q. and-i (at t (base + v)) b w (subst (λ (i : ℕ). T (has (at t (base + i)) w)) (is-v u (q .0)) (q .2)) (q .1);
+    last-e = λ w q. let d = and-e (at t (base + v)) b w q in (v, (lowest-left a a v (rest-begin 16 a h) (o .some) low .0, d .1, d .0));
+  }
     where
-      x : ℕ
-      x = bitAnd (at t (base + v)) b
-
-      s : ℕ
-      s = oneIf (not (eqb (bitAnd (at t (base + v)) b) 0)) v
-
-      lt : v < 16
-      lt = lowest-left a a v (rest-begin 16 a h) (o .some) low .1
+      is-v : (u : ℕ) → T (has a u) → u ≡ v
+      is-v u q = single a h o u q ∙ sym low
 
   -- the values below u are passed
   pub record Passing (u first all : ℕ) : Type 0 where

@@ -13,17 +13,13 @@ use Rattle.layout.specs.Places.{DEAD}
 use Rattle.layout.specs.Layout.{constraintAt}
 use Rattle.layout.specs.Pruning.{Lessened, Ended}
 use Rattle.constraints.specs.Revised.{ConstraintsPending}
-use Rattle.constraints.specs.Steps.{Touched}
-
--- at most one value
-abbrev pub Single : ℕ → Type 0
-Single a = (u v : ℕ) → T (has a u) → T (has a v) → u ≡ v
+use Rattle.constraints.specs.Steps.{OneValue, Touched}
 
 pub record LookUp (p : Problem) (sets : List ℕ) (k : ℕ) : Type 0 where
   pub known : k < length (p .constraints)
   pub three : length (constraintAt p k .scope) ≡ 3
-  pub first : Single (at sets (at (constraintAt p k .scope) 0))
-  pub second : Single (at sets (at (constraintAt p k .scope) 1))
+  pub first : OneValue (at sets (at (constraintAt p k .scope) 0))
+  pub second : OneValue (at sets (at (constraintAt p k .scope) 1))
 
 -- ready to look up the constraints of `some`, where those of `todo` are due
 pub record LookUpsPending (p : Problem) (numbers supports sets : List ℕ) (todo some : ℕ) : Type 0 where

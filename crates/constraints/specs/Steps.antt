@@ -8,7 +8,7 @@ use Prim.Native.Nat.{ℕ, suc, _+_, _*_, _≤_, _<_}
 use lib.Dec.{T, eqb}
 use lib.ListN.{length, set}
 use Rattle.model.specs.Lists.{any, at, same, ascending}
-use Rattle.model.specs.ValueSets.{has, maskOf, oneIf, withoutMask, lowestOf}
+use Rattle.model.specs.ValueSets.{has, maskOf, oneIf}
 use Rattle.model.specs.Problem.{Problem, Constraint}
 use Rattle.model.specs.WellFormed.{WellFormed}
 use Rattle.layout.specs.Places.{OTHERS, DEAD}
@@ -18,7 +18,7 @@ use Rattle.layout.specs.Tables.{Words}
 -- a set of one value
 pub record OneValue (a : ℕ) : Type 0 where
   pub some : a ≡ 0 → ⊥
-  pub no-more : withoutMask a (lowestOf a) ≡ 0
+  pub only : (u v : ℕ) → T (has a u) → T (has a v) → u ≡ v
 
 -- v of a and w of b go together: w is in the set of the table that stands v after the base
 abbrev pub Together : List ℕ → ℕ → ℕ → ℕ → ℕ → ℕ → Type 0

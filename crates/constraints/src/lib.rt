@@ -525,19 +525,17 @@ pub fn constrain(
     constrain16(sets, numbers, supports, todo)
 }
 
-// Prunes by constraint number k on three variables, whose first two sets have one value each: one set of the table for the third.
+// Prunes by constraint number k on three variables, whose first two sets have one value each.
 fn look_up(sets: &mut [u16; 16], numbers: &[u64; 384], supports: &[u16; 8192], k: usize) -> u64
     requires { ⌜ Sets 16 (now sets) ⌝ }
-    requires { ⌜ ((p : Problem) × ConstraintsHeld p (now numbers) (now supports) × LookUp p (now sets) k × Nonempty (constraintAt p k .scope) (now sets)) ⌝ }
-    ensures { λ r. ⌜ ((p : Problem) → ConstraintsHeld p (now (numbers .entry)) (now (supports .entry)) → LookUp p (now (sets .entry)) k → Nonempty (constraintAt p k .scope) (now (sets .entry)) → Revision (constraintAt p k) (now (sets .entry)) (now (sets .exit)) r) ⌝ }
+    requires { ⌜ ((p : Problem) × ConstraintsHeld p (now numbers) (now supports) × LookUp p (now sets) k) ⌝ }
+    ensures { λ r. ⌜ ((p : Problem) → ConstraintsHeld p (now (numbers .entry)) (now (supports .entry)) → LookUp p (now (sets .entry)) k → Revision (constraintAt p k) (now (sets .entry)) (now (sets .exit)) r) ⌝ }
 {
     let w = numbers[SCOPES + k];
     let x = (w / 256 % 256) as usize;
     let y = (w / 65536 % 256) as usize;
     let z = (w / 16777216 % 256) as usize;
-    let u = ValueSet { bits: sets[x] }.lowest() as usize;
-    let v = ValueSet { bits: sets[y] }.lowest() as usize;
-    revise_one(sets, supports, 256 * k + 16 * u + v, z)
+    revise_last(sets, supports, k, x, y, z)
 }
 
 // The same for each constraint of `some`, once: DEAD where a set would be empty, else the set of the variables whose sets changed.

@@ -19,7 +19,7 @@ use Rattle.model.proofs.Sets.{has-none, mask-ext, empty-inside, inside-antisym,
 use Rattle.model.specs.Pruning.{Sets, Inside, closed, Way, Prunes}
 use Rattle.model.proofs.Masks.{has-and}
 use Rattle.model.proofs.Members.{has-0, and-e}
-use Rattle.model.proofs.Firsts.{take-sets, take-i}
+use Rattle.model.proofs.Firsts.{take-sets, take-i, full-take}
 use Rattle.model.proofs.Prune.{narrowed-e, Sized, Kept, fixed-i, largest, live-is, way-live, way-end}
 use Rattle.model.proofs.Tree.{well-sized}
 use Rattle.layout.specs.Places.{DEAD, LINKED, LOOKS, MARKS, SYMMETRIES}
@@ -28,8 +28,8 @@ use Rattle.layout.specs.Tables.{LooksUp}
 use Rattle.layout.proofs.Links.{good}
 use Rattle.layout.specs.Pruning.{Given, Ended, setsOf}
 use Rattle.links.specs.Links.{ArcsMade}
-use Rattle.constraints.specs.Steps.{Touched}
-use Rattle.constraints.specs.LookUps.{Single, LookUp, LookUpsPending, LookedUp}
+use Rattle.constraints.specs.Steps.{OneValue, Touched}
+use Rattle.constraints.specs.LookUps.{LookUp, LookUpsPending, LookedUp}
 use Rattle.constraints.proofs.Touching.{touchedOf, touched-of, touched-parts}
 use Rattle.levels.proofs.Marks.{mark-mono}
 use Rattle.block.specs.BlockSets.{Ascends}
@@ -243,9 +243,9 @@ module _ {p : Problem} {gs : List (List ℕ)} {supports tables numbers : List �
 
 -- ---- before the turns: the look-ups, and then the constraints by variable
 module _ {p : Problem} {gs : List (List ℕ)} {supports tables numbers : List ℕ} (st : ArraysHold p supports tables numbers) (bl : Blocked p gs numbers) {work ds : List ℕ} {k todo dirty : ℕ} (n : BeforeFixpoint p gs work numbers ds k todo dirty) (wide : todo < 2 ^ 64) where
-  -- a settled variable has one value at most
-  settled : (x : ℕ) → x < k → Single (at ds x)
-  settled x h u v s t = value u s ∙ sym (value v t)
+  -- a settled variable has one value
+  settled : (x : ℕ) → x < k → OneValue (at ds x)
+  settled x h = record { some = full-take (p .variables) ds (n .startable .live .sixteen) (omega (arith, st .wellFormed .few)) (n .startable .live .full) x (omega (arith, n .startable .prefix-held .depth)); only = λ u v s t. value u s ∙ sym (value v t) }
     where
       value : (w : ℕ) → T (has (at ds x) w) → w ≡ at (take k work) x
       value w q =

@@ -5,8 +5,7 @@ use borrow.Author.Needs.{needs}
 use Rattle.model.specs.Problem.{Problem}
 use Rattle.model.proofs.Members.{rest-less}
 use Rattle.constraints.specs.LookUps.{LookUpsPending}
-use Rattle.constraints.proofs.ConstrainLoop.{k-few, k-full}
-use Rattle.constraints.proofs.LookUpLoop.{LookedSoFar, looked-begin, looked-end, look-next, looked-dead, looked-turn}
+use Rattle.constraints.proofs.LookUpLoop.{LookedSoFar, looked-begin, looked-end, look-few, look-next, looked-dead, looked-turn}
 use Rattle.constraints.proofs.look_ups.Statement.{statement}
 use Rattle.constraints.proofs.look_ups.Tie as tie
 
@@ -24,19 +23,18 @@ loop-holds : tie.Need-loop-holds Inv-loop μ-loop
 loop-holds c = λ p todo w. looked-begin w (search needs)
 
 cast-look-up : tie.Need-cast-look-up Inv-loop μ-loop
-cast-look-up c = omega (arith, k-few (so-far (c .before) .so-far) (c .before .loop-test .taken))
+cast-look-up c = omega (arith, look-few (c .before .before .before .pre .2) (so-far (c .before)) (c .before .loop-test .taken))
 
 look-up-requires : tie.Need-look-up-requires Inv-loop μ-loop
 look-up-requires c κs =
     let t = so-far (c .before) in
-    let n = c .before .loop-test .taken in
-    (t .so-far .sixteen, (_, t .so-far .held, look-next (c .before .before .before .pre .2) t n, k-full (t .so-far) n))
+    (t .so-far .sixteen, (_, t .so-far .held, look-next (c .before .before .before .pre .2) t (c .before .loop-test .taken)))
 
 returns : tie.Need-returns Inv-loop μ-loop
 returns c = λ p todo w.
     let t = c .before .before .before .before .loop .inv p todo w in
     let n = c .before .before .before .loop-test .taken in
-    looked-dead w t n (c .before .look-up .ensures p (t .so-far .held) (look-next w t n) (k-full (t .so-far) n)) (c .if1 .taken)
+    looked-dead w t n (c .before .look-up .ensures p (t .so-far .held) (look-next w t n)) (c .if1 .taken)
 
 sub-left : tie.Need-sub-left Inv-loop μ-loop
 sub-left c = search needs
@@ -48,7 +46,7 @@ loop-again : tie.Need-loop-again Inv-loop μ-loop
 loop-again c = λ p todo w.
     let t = c .before .before .before .before .loop .inv p todo w in
     let n = c .before .before .before .loop-test .taken in
-    looked-turn w t n (c .before .look-up .ensures p (t .so-far .held) (look-next w t n) (k-full (t .so-far) n)) (c .if1 .left)
+    looked-turn w t n (c .before .look-up .ensures p (t .so-far .held) (look-next w t n)) (c .if1 .left)
 
 returns-2 : tie.Need-returns-2 Inv-loop μ-loop
 returns-2 c = λ p todo w. looked-end w (c .before .loop .inv p todo w) (c .loop-test .left)
