@@ -101,6 +101,8 @@ module _ {p : Problem} {numbers supports ds : List ℕ} {todo some : ℕ} (w : L
             (u .others k l (ap (λ (n : ℕ). has n k) e ∙ has-none k)
             (not-of (has (t .next) k) (λ q. of-not (has (bitOr (without todo some) g) k) f (or-i (without todo some) g k (⊎-elim inl (λ i. inr (v .touched-i (i .0) k (i .1) (i .2))) (t .due k q))))) b);
       };
+      sixteen = u .sixteen;
+      less = u .less;
     }
       where
         u : ConstrainedSoFar p numbers supports ds es left (t .next) all
@@ -135,7 +137,7 @@ module _ {p : Problem} {numbers supports ds : List ℕ} {todo some : ℕ} (w : L
 
       module _ {fs : List ℕ} {changed : ℕ} (r : Revision (constraintAt p (trailingZeros 64 left)) es fs changed) where
         pub looked-dead : changed ≡ DEAD → LookedUp p numbers supports ds fs todo some DEAD
-        looked-dead e = record { ended = λ q. constrained-dead (t .so-far) on r e .ended refl; lessened = λ m. absurd (m refl); pending = λ m. absurd (m refl) }
+        looked-dead e = let d = constrained-dead (t .so-far) on r e in record { ended = λ q. d .ended refl; lessened = λ m. absurd (m refl); pending = λ m. absurd (m refl); sixteen = d .sixteen; less = d .less }
 
         pub looked-turn : (changed ≡ DEAD → ⊥) → LookedSoFar p numbers supports ds fs todo some (bitAnd left (left - 1)) (bitOr all changed)
         looked-turn l = record {

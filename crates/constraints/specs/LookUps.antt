@@ -9,6 +9,7 @@ use lib.Bits.{bitAnd, bitOr}
 use Rattle.model.specs.Lists.{at}
 use Rattle.model.specs.ValueSets.{has}
 use Rattle.model.specs.Problem.{Problem}
+use Rattle.model.specs.Pruning.{Sets, Inside}
 use Rattle.layout.specs.Places.{DEAD}
 use Rattle.layout.specs.Layout.{constraintAt}
 use Rattle.layout.specs.Pruning.{Lessened, Ended}
@@ -27,8 +28,11 @@ pub record LookUpsPending (p : Problem) (numbers supports sets : List ℕ) (todo
   pub wide : todo < 2 ^ 64
   pub looks : (k : ℕ) → T (has some k) → LookUp p sets k
 
--- the answer is DEAD at a dead end, else the variables whose sets changed: their constraints are due, and of `todo` those that were not looked up
+-- the answer is DEAD at a dead end, else the variables whose sets changed: their constraints are due, and of `todo` those that were not looked up;
+-- which values are gone at a dead end is open, but no set has gained one
 pub record LookedUp (p : Problem) (numbers supports sets sets′ : List ℕ) (todo some r : ℕ) : Type 0 where
   pub ended : r ≡ DEAD → Ended p sets
   pub lessened : (r ≡ DEAD → ⊥) → Lessened p sets sets′ r
   pub pending : (r ≡ DEAD → ⊥) → (g : ℕ) → Touched numbers r g → ConstraintsPending p numbers supports sets′ (bitOr (bitAnd todo ((2 ^ 64 - 1) - some)) g)
+  pub sixteen : Sets 16 sets′
+  pub less : Inside sets′ sets
