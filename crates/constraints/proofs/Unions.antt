@@ -13,7 +13,7 @@ use borrow.Author.Tests.{eqb-true, ltb-true, ltb-false, eq-eqb, ne-eqb}
 use Rattle.model.specs.Lists.{at}
 use Rattle.model.specs.ValueSets.{has, maskOf, withoutMask, unionMask, lowestOf, oneIf}
 use Rattle.model.proofs.Lists.{T-of, of-not, both-i, both-l, both-r}
-use Rattle.model.proofs.Sets.{has-lt, mask-lt}
+use Rattle.model.proofs.Sets.{has-lt, mask-lt, member}
 use Rattle.model.proofs.Members.{low-has, rest-i, without-lowest-op, Rest, rest-begin, has-0, Union, union-begin, union-end, lowest-left, others-left, others-union, or-i, or-e, and-i, and-e}
 use Rattle.layout.specs.Places.{OTHERS, LANES}
 use Rattle.layout.specs.Tables.{Words}
@@ -114,16 +114,47 @@ module _ (t : List ℕ) (base a b : ℕ) where
       is-v : (u : ℕ) → T (has a u) → u ≡ v
       is-v u q = single a h o u q ∙ sym low
 
+  -- each value passed gives something
+  pub record Passing (m all : ℕ) : Type 0 where
+    pub rest : Rest 16 a m
+    pub firsts : (v : ℕ) → T (has a v) → ((w : ℕ) × Gives v w) ⊎ T (has m v)
+    pub lasts : Union Gives a m all
+
+  pub passing-begin : a < 2 ^ 16 → Passing a 0
+  passing-begin h = record { rest = rest-begin 16 a h; firsts = λ v q. inr q; lasts = union-begin Gives a }
+
+  pub passing-turn : (k m v m′ : ℕ) {all all′ : ℕ} → Passing m all → (m ≡ 0 → ⊥) → v ≡ lowestOf m → m′ ≡ withoutMask m (lowestOf m) → b < 2 ^ k →
+      (bitAnd (at t (base + v)) b ≡ 0 → ⊥) → all′ ≡ bitOr all (bitAnd (at t (base + v)) b) → Passing m′ all′
+  passing-turn k m v m′ {all} {all′} j n low less h z l = record {
+    rest = others-left a m v (j .rest) n low m′ less;
+    firsts = λ u q. ⊎-elim inl (λ r. ⊎-elim (λ o. inr o) (λ o. inl (subst (λ (i : ℕ). (w : ℕ) × Gives i w) (sym o) (some-given k v h z))) (passed-i u r)) (j .firsts u q);
+    lasts = others-union a m v (j .rest) n low m′ less Gives all x all′ (j .lasts) l (λ w q. and-i (at t (base + v)) b w (q .1) (q .0)) (λ w q. let d = and-e (at t (base + v)) b w q in (d .1, d .0));
+  }
+    where
+      x : ℕ
+      x = bitAnd (at t (base + v)) b
+
+      passed-i : (u : ℕ) → T (has m u) → T (has m′ u) ⊎ (u ≡ v)
+      passed-i u r = ⊎-elim (λ o. inl (subst (λ (i : ℕ). T (has i u)) (without-lowest-op m (j .rest .0) ∙ sym less) o)) (λ o. inr (o ∙ lowest-op 16 m ∙ sym low)) (rest-i 16 m (omega arith) (j .rest .0) u r)
+
+  pub passing-end : (m all : ℕ) → m ≡ 0 → Passing m all → Joined t base a b a all
+  passing-end m all e j = record {
+    first-i = λ v w q. q .0;
+    first-e = λ v q. ⊎-elim (λ r. (r .0, (q, r .1 .0, r .1 .1))) (λ r. absurd (has-0 v (subst (λ (n : ℕ). T (has n v)) e r))) (j .firsts v q);
+    last-i = λ v w q. union-end Gives a m all e (j .lasts) v w (q .0) (q .1, q .2);
+    last-e = λ w q. let r = j .lasts .got w q in (r .0, (r .1, r .2 .0, r .2 .1));
+  }
+
   -- the values below u are passed
-  pub record Passing (u first all : ℕ) : Type 0 where
+  pub record Below (u first all : ℕ) : Type 0 where
     pub narrow : first < 2 ^ 16
     pub first-i : (v w : ℕ) → v < u → Together t base a b v w → T (has first v)
     pub first-e : (v : ℕ) → T (has first v) → (w : ℕ) × Together t base a b v w
     pub last-i : (v w : ℕ) → v < u → Together t base a b v w → T (has all w)
     pub last-e : (w : ℕ) → T (has all w) → (v : ℕ) × Together t base a b v w
 
-  pub passing-begin : Passing 0 0 0
-  passing-begin = record {
+  pub below-begin : Below 0 0 0
+  below-begin = record {
     narrow = omega arith;
     first-i = λ v w h q. absurd (omega arith);
     first-e = λ v q. absurd (has-0 v q);
@@ -143,8 +174,8 @@ module _ (t : List ℕ) (base a b : ℕ) where
   given-e u x w (inl g) q = let d = and-e (at t (base + u)) b w (subst (λ (z : ℕ). T (has z w)) (g .1) q) in (T-of (has a u) (g .0), d .1, d .0)
   given-e u x w (inr g) q = absurd (has-0 w (subst (λ (z : ℕ). T (has z w)) (g .1) q))
 
-  pub passing-turn : (k u x : ℕ) {first s first′ all : ℕ} → Passing u first all → u < 16 → x < 2 ^ k → Given u x → s ≡ oneIf (not (eqb x 0)) u → first′ ≡ unionMask first s → Passing (u + 1) first′ (bitOr all x)
-  passing-turn k u x {first} {s} {first′} {all} j l h g e q = record {
+  pub below-turn : (k u x : ℕ) {first s first′ all : ℕ} → Below u first all → u < 16 → x < 2 ^ k → Given u x → s ≡ oneIf (not (eqb x 0)) u → first′ ≡ unionMask first s → Below (u + 1) first′ (bitOr all x)
+  below-turn k u x {first} {s} {first′} {all} j l h g e q = record {
     narrow = small _ first′ q;
     first-i = λ v w i o. subst (λ (z : ℕ). T (has z v)) (sym whole) (or-i first one v (now v i (λ c. inl (j .first-i v w c o)) (λ c. inr (subst (λ (z : ℕ). T (has one z)) (sym c) (one-i x u w (given-i u x w g (here w c o)))))));
     first-e = λ v o. ⊎-elim (j .first-e v) (λ c. let r = one-e k x u v h c in (r .1 .0, subst (λ (z : ℕ). Together t base a b z (r .1 .0)) (sym (r .0)) (given-e u x (r .1 .0) g (r .1 .1)))) (or-e first one v (subst (λ (z : ℕ). T (has z v)) whole o));
@@ -169,11 +200,11 @@ module _ (t : List ℕ) (base a b : ℕ) where
           go false c = n (omega (arith, ltb-false v u c))
 
   -- at the end, where a stays whole
-  pub passing-end : (k : ℕ) {u first all : ℕ} → a < 2 ^ k → k ≤ u → first ≡ a → Passing u first all → Joined t base a b a all
-  passing-end k {u} {all = all} h i e j = subst (λ (z : ℕ). Joined t base a b z all) e record { first-i = λ v w q. j .first-i v w (passed v (q .0)) q; first-e = j .first-e; last-i = λ v w q. j .last-i v w (passed v (q .0)) q; last-e = j .last-e }
+  pub below-end : (k : ℕ) {u first all : ℕ} → a < 2 ^ k → k ≤ u → first ≡ a → Below u first all → Joined t base a b a all
+  below-end k {u} {all = all} h i e j = subst (λ (z : ℕ). Joined t base a b z all) e record { first-i = λ v w q. j .first-i v w (under v (q .0)) q; first-e = j .first-e; last-i = λ v w q. j .last-i v w (under v (q .0)) q; last-e = j .last-e }
     where
-      passed : (v : ℕ) → T (has a v) → v < u
-      passed v q = let l = has-lt k a v h q in omega arith
+      under : (v : ℕ) → T (has a v) → v < u
+      under v q = let l = has-lt k a v h q in omega arith
 
 -- ---- three sets by 256 sets of a table
 module _ (t : List ℕ) (base a b e : ℕ) where
@@ -219,6 +250,26 @@ module _ (t : List ℕ) (base a b e : ℕ) where
     last-i = λ u v w q. union-end Lasts a m last z (j .lasts) u w (q .0) (v, q .1);
     last-e = λ w q. let r = j .lasts .got w q in (r .0, (r .2 .0, (r .1, r .2 .1)));
   }
+
+  -- where a has one value u, what goes together by the sixteen sets for u
+  pub joined3-one : (u : ℕ) {second last : ℕ} → a < 2 ^ 16 → OneValue a → u ≡ lowestOf a → second < 2 ^ 16 → (second ≡ 0 → ⊥) → Joined t (base + 16 * u) b e second last → Joined3 (Together3 t base a b e) a second last
+  joined3-one u {second} h o low l n j = record {
+    first-i = λ i v w q. q .0;
+    first-e = λ i q. let m = member second l n in let r = j .first-e (m .0) (m .2) in (m .0, (r .0, (q, subst (λ (c : ℕ). Together t (base + 16 * c) b e (m .0) (r .0)) (sym (is-u i q)) (r .1))));
+    second-i = λ i v w q. j .first-i v w (here i v w q);
+    second-e = λ v q. let r = j .first-e v q in (u, (r .0, (u-has, r .1)));
+    last-i = λ i v w q. j .last-i v w (here i v w q);
+    last-e = λ w q. let r = j .last-e w q in (u, (r .0, (u-has, r .1)));
+  }
+    where
+      u-has : T (has a u)
+      u-has = lowest-left a a u (rest-begin 16 a h) (o .some) low .0
+
+      is-u : (i : ℕ) → T (has a i) → i ≡ u
+      is-u i q = o .only i u q u-has
+
+      here : (i v w : ℕ) → Together3 t base a b e i v w → Together t (base + 16 * u) b e v w
+      here i v w q = subst (λ (c : ℕ). Together t (base + 16 * c) b e v w) (is-u i (q .0)) (q .1)
 
 -- nothing goes together
 pub joined3-none : {M : ℕ → ℕ → ℕ → Type 0} → ((u v w : ℕ) → M u v w → ⊥) → Joined3 M 0 0 0

@@ -222,6 +222,24 @@ fn quiet(numbers: &[u64; 384], base: usize, a: ValueSet, b: ValueSet, e: ValueSe
     false
 }
 
+// Whether every value of two sets goes together with some of the other, by the sixteen sets of the table from a base on.
+fn quiet16(supports: &[u16; 8192], base: usize, b: ValueSet, e: ValueSet) -> bool
+    requires { ⌜ base + 16 ≤ 8192 ⌝ }
+    ensures { λ r. ⌜ (r ≡ true → Joined (now (supports .entry)) base (b .bits) (e .bits) (b .bits) (e .bits)) ⌝ }
+{
+    let mut all = 0u16;
+    let mut left = b;
+    while !left.is_empty() {
+        let t = supports[base + (left.lowest() as usize)] & e.bits;
+        if t == 0 {
+            return false;
+        }
+        all = all | t;
+        left = left.without_lowest();
+    }
+    all == e.bits
+}
+
 // Prunes one set by a set of the table.
 fn revise_one(sets: &mut [u16; 16], supports: &[u16; 8192], offset: usize, x: usize) -> u64
     requires { ⌜ Sets 16 (now sets) ⌝ }
@@ -369,12 +387,15 @@ fn revise16(sets: &mut [u16; 16], numbers: &[u64; 384], supports: &[u16; 8192], 
     let z = (w / 16777216 % 256) as usize;
     let a = ValueSet { bits: sets[x] };
     let b = ValueSet { bits: sets[y] };
+    let e = ValueSet { bits: sets[z] };
     if a.without_lowest().is_empty() {
         if b.without_lowest().is_empty() {
             return revise_last(sets, supports, k, x, y, z);
         }
+        if quiet16(supports, 256 * k + 16 * (a.lowest() as usize), b, e) {
+            return 0;
+        }
     }
-    let e = ValueSet { bits: sets[z] };
     let t = joined3(supports, 256 * k, a, b, e);
     leave(sets, x, y, z, t)
 }

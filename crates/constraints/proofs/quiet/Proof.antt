@@ -8,12 +8,12 @@ use lib.Dec.{T}
 use Rattle.model.specs.Lists.{at}
 use Rattle.constraints.specs.Lanes.{LaneUnion}
 use Rattle.constraints.proofs.Lanes.{lanes-of}
-use Rattle.constraints.proofs.Unions.{Passing, passing-begin, Given, passing-turn, passing-end, joined-lanes}
+use Rattle.constraints.proofs.Unions.{Below, below-begin, Given, below-turn, below-end, joined-lanes}
 use Rattle.constraints.proofs.quiet.Statement.{statement}
 use Rattle.constraints.proofs.quiet.Tie as tie
 
 abbrev Inv-loop : tie.InvT-loop
-Inv-loop numbers base a b e inside first₀ all₀ u₀ first all u = Passing numbers base (a .bits) inside u (first .bits) all
+Inv-loop numbers base a b e inside first₀ all₀ u₀ first all u = Below numbers base (a .bits) inside u (first .bits) all
 
 abbrev μ-loop : tie.MeasureT-loop
 μ-loop numbers base a b e inside first₀ all₀ u₀ first all u = 8 - u
@@ -27,7 +27,7 @@ product-requires : tie.Need-product-requires Inv-loop μ-loop
 product-requires c κs = search needs
 
 loop-holds : tie.Need-loop-holds Inv-loop μ-loop
-loop-holds c = passing-begin _ _ _ _
+loop-holds c = below-begin _ _ _ _
 
 cast-contains : tie.Need-cast-contains Inv-loop μ-loop
 cast-contains c = search needs
@@ -61,7 +61,7 @@ loop-less c = search needs
 
 loop-again : tie.Need-loop-again Inv-loop μ-loop
 unfolding at
-loop-again c = passing-turn _ _ _ _ 64 _ _ (c .before .before .before .before .before .before .loop .inv) (search needs) (search needs) (given (c .before .before .before)) (c .before .before .one-if .ensures) (c .before .union .ensures)
+loop-again c = below-turn _ _ _ _ 64 _ _ (c .before .before .before .before .before .before .loop .inv) (search needs) (search needs) (given (c .before .before .before)) (c .before .before .one-if .ensures) (c .before .union .ensures)
 
 union-of-requires : tie.Need-union-of-requires Inv-loop μ-loop
 union-of-requires c κs = search needs
@@ -77,7 +77,7 @@ returns c = λ q.
     let i = c .before .before .before .before in
     let l = i .before .before .before .before in
     joined-lanes _ _ _ _ _ _ (search needs) (search needs) (search needs) (l .before .before .before .product .ensures) _ _ _ _
-    (passing-end _ _ _ _ 8 (search needs) (search needs) (i .before .before .if2 .taken) (l .before .before .loop .inv))
+    (below-end _ _ _ _ 8 (search needs) (search needs) (i .before .before .if2 .taken) (l .before .before .loop .inv))
     (lanes-of (search needs) (c .spread .ensures) (c .before .heads .ensures) (eqb-true _ _ q)) (subst (LaneUnion _) (c .before .before .if3 .taken) (i .before .union-of .ensures))
 
 returns-2 : tie.Need-returns-2 Inv-loop μ-loop

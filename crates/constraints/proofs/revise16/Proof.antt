@@ -1,13 +1,16 @@
--- One constraint, by its arity: two sets of one value leave a cut of the third, else all three are cut. Assumes nothing.
+-- One constraint, by its arity: two sets of one value leave a cut of the third, one may leave nothing lost, else all three are cut. Assumes nothing.
 use mathlib.Core.Path.{refl}
-use Prim.Native.Nat.{_+_, _/_, _%_}
+use Prim.Native.Nat.{_+_, _/_, _%_, _<_}
+use native.Mathlib.Omega.{arith}
 use borrow.Author.Needs.{needs}
 use Rattle.model.specs.Lists.{at}
+use Rattle.model.proofs.Members.{lowest-left, rest-begin}
 use Rattle.layout.specs.Places.{SCOPES}
 use Rattle.layout.specs.Layout.{constraintAt}
 use Rattle.constraints.specs.Steps.{OneValue, Scoped}
 use Rattle.constraints.proofs.Scopes.{scope3, of-three, scoped-3}
-use Rattle.constraints.proofs.Unions.{one-value}
+use Rattle.constraints.proofs.Unions.{one-value, joined3-one}
+use Rattle.constraints.proofs.Stores.{three-same}
 use Rattle.constraints.proofs.revise16.Statement.{statement}
 use Rattle.constraints.proofs.revise16.Tie as tie
 
@@ -17,14 +20,19 @@ unfolding at
 three c = let q = c .before .before .pre .1 in scoped-3 (q .1) _ (q .2) (c .if1 .left)
 
 -- the first set has one value
-one : (c : tie.Then2) → let d = c .before .before .before .before .before .before .before .args in OneValue (at (d .sets .now) (at (d .numbers .now) (SCOPES + d .k) / 256 % 256))
+one : (c : tie.Then2) → let d = c .before .before .before .before .before .before .before .before .args in OneValue (at (d .sets .now) (at (d .numbers .now) (SCOPES + d .k) / 256 % 256))
 unfolding at
-one c = one-value _ _ _ (c .before .before .before .before .before .before .before .pre .0 .1 _) (of-three (three (c .before .before .before .before .before) .is) (c .before .before .before .before .before .before .before .pre .1 .3) .0) (c .before .before .without-lowest .ensures) (c .before .is-empty .ensures) (c .if2 .taken)
+one c = let d = c .before .before .before .before .before .before .before .before in one-value _ _ _ (d .pre .0 .1 _) (of-three (three (c .before .before .before .before .before .before) .is) (d .pre .1 .3) .0) (c .before .before .without-lowest .ensures) (c .before .is-empty .ensures) (c .if2 .taken)
 
--- and the second
-one-y : (c : tie.Then3) → let d = c .before .before .before .before .before .before .before .before .before .before .args in OneValue (at (d .sets .now) (at (d .numbers .now) (SCOPES + d .k) / 65536 % 256))
+-- the value is below 16
+low : (c : tie.After-lowest) → c .lowest .result < 16
 unfolding at
-one-y c = one-value _ _ _ (c .before .before .before .before .before .before .before .before .before .before .pre .0 .1 _) (of-three (three (c .before .before .before .before .before .before .before .before) .is) (c .before .before .before .before .before .before .before .before .before .before .pre .1 .3) .1) (c .before .before .without-lowest2 .ensures) (c .before .is-empty2 .ensures) (c .if3 .taken)
+low c = lowest-left _ _ _ (rest-begin 16 _ (c .before .before .before .before .before .before .before .before .before .before .before .before .pre .0 .1 _)) (one (c .before .before .before .before) .some) (c .lowest .ensures) .1
+
+-- the second set has one value
+one-y : (c : tie.Then3) → let d = c .before .before .before .before .before .before .before .before .before .before .before .args in OneValue (at (d .sets .now) (at (d .numbers .now) (SCOPES + d .k) / 65536 % 256))
+unfolding at
+one-y c = let d = c .before .before .before .before .before .before .before .before .before .before .before in one-value _ _ _ (d .pre .0 .1 _) (of-three (three (c .before .before .before .before .before .before .before .before .before) .is) (d .pre .1 .3) .1) (c .before .before .without-lowest2 .ensures) (c .before .is-empty2 .ensures) (c .if3 .taken)
 
 add-w : tie.Need-add-w
 add-w c = search needs
@@ -56,6 +64,13 @@ element-copy-out-t23-2 : tie.Need-element-copy-out-t23-2
 unfolding at
 element-copy-out-t23-2 c = of-three refl (three (c .before) .inside) .1
 
+mul-t13-2 : tie.Need-mul-t13-2
+mul-t13-2 c = search needs
+
+element-copy-out-t23-3 : tie.Need-element-copy-out-t23-3
+unfolding at
+element-copy-out-t23-3 c = of-three refl (three (c .before .before) .inside) .2
+
 without-lowest-requires : tie.Need-without-lowest-requires
 without-lowest-requires c κs = search needs
 
@@ -70,18 +85,39 @@ is-empty-requires-2 c κs = search needs
 
 revise-last-requires : tie.Need-revise-last-requires
 unfolding at
-revise-last-requires c κs = (c .before .before .before .before .before .before .before .before .before .before .before .pre .0, ((one (c .before .before .before .before), one-y (c .before)), (_, three (c .before .before .before .before .before .before .before .before .before))))
+revise-last-requires c κs = (c .before .before .before .before .before .before .before .before .before .before .before .before .pre .0, ((one (c .before .before .before .before), one-y (c .before)), (_, three (c .before .before .before .before .before .before .before .before .before .before))))
 
 returns-2 : tie.Need-returns-2
 unfolding at
-returns-2 c = λ p g h. c .revise-last .ensures _ (scoped-3 g _ h (c .before .before .before .before .before .before .before .before .before .before .if1 .left))
+returns-2 c = λ p g h. c .revise-last .ensures _ (scoped-3 g _ h (c .before .before .before .before .before .before .before .before .before .before .before .if1 .left))
 
-mul-t13-2 : tie.Need-mul-t13-2
-mul-t13-2 c = search needs
+mul-quiet16 : tie.Need-mul-quiet16
+mul-quiet16 c = search needs
 
-element-copy-out-t23-3 : tie.Need-element-copy-out-t23-3
+lowest-requires : tie.Need-lowest-requires
+lowest-requires c κs = search needs
+
+cast-quiet16 : tie.Need-cast-quiet16
+cast-quiet16 c = search needs
+
+mul-quiet16-2 : tie.Need-mul-quiet16-2
+mul-quiet16-2 c = search needs
+
+add-quiet16 : tie.Need-add-quiet16
+add-quiet16 c = search needs
+
+quiet16-requires : tie.Need-quiet16-requires
 unfolding at
-element-copy-out-t23-3 c = of-three refl (three (c .before .before .before .before .before) .inside) .2
+quiet16-requires c κs = omega (arith, low c, three (c .before .before .before .before .before .before .before .before .before .before) .room)
+
+-- nothing is lost
+returns-3 : tie.Need-returns-3
+unfolding at
+returns-3 c =
+    let d = c .before .before .before .before .before .before .before .before .before .before .before .before .before .before in
+    let n = of-three (three (c .before .before .before .before .before .before .before .before .before .before .before .before) .is) (d .pre .1 .3) in λ p g h.
+    three-same (scoped-3 g _ h (c .before .before .before .before .before .before .before .before .before .before .before .before .if1 .left)) _ (d .pre .0) _ _ _ (d .pre .0 .1 _) (d .pre .0 .1 _) (d .pre .0 .1 _)
+    (joined3-one _ _ _ _ _ _ (d .pre .0 .1 _) (one (c .before .before .before .before .before .before)) (c .before .before .lowest .ensures) (d .pre .0 .1 _) (n .1) (c .before .quiet16 .ensures (c .if4 .taken))) refl refl refl (n .2)
 
 mul-joined3 : tie.Need-mul-joined3
 mul-joined3 c = search needs
@@ -93,9 +129,9 @@ leave-requires : tie.Need-leave-requires
 unfolding at
 leave-requires c κs = (c .before .before .before .before .before .before .before .before .before .before .pre .0, of-three refl (three (c .before .before .before .before .before .before .before .before) .inside))
 
-returns-3 : tie.Need-returns-3
+returns-4 : tie.Need-returns-4
 unfolding at
-returns-3 c = λ p g h. c .leave .ensures _ _ _ (scoped-3 g _ h (c .before .before .before .before .before .before .before .before .before .if1 .left)) (c .before .before .joined3 .ensures)
+returns-4 c = λ p g h. c .leave .ensures _ _ _ (scoped-3 g _ h (c .before .before .before .before .before .before .before .before .before .if1 .left)) (c .before .before .joined3 .ensures)
 
 pub revise16-spec : {M : Type 1} → statement M
 revise16-spec =
@@ -110,15 +146,22 @@ revise16-spec =
     element-copy-out-t23
     mul-t14
     element-copy-out-t23-2
+    mul-t13-2
+    element-copy-out-t23-3
     without-lowest-requires
     is-empty-requires
     without-lowest-requires-2
     is-empty-requires-2
     revise-last-requires
     returns-2
-    mul-t13-2
-    element-copy-out-t23-3
+    mul-quiet16
+    lowest-requires
+    cast-quiet16
+    mul-quiet16-2
+    add-quiet16
+    quiet16-requires
+    returns-3
     mul-joined3
     joined3-requires
     leave-requires
-    returns-3)
+    returns-4)

@@ -26,12 +26,12 @@ narrow c = of-three (three c .is) (c .before .before .pre .1 .4)
 -- the first set has one value
 one : (c : tie.Then2) → let d = c .before .before .before .before .before .before .before .args in OneValue (at (d .sets .now) (at (d .numbers .now) (SCOPES + d .k) / 256 % 256))
 unfolding at
-one c = one-value _ _ _ (c .before .before .before .before .before .before .before .pre .0 .1 _) (of-three (three (c .before .before .before .before .before) .is) (c .before .before .before .before .before .before .before .pre .1 .3) .0) (c .before .before .without-lowest .ensures) (c .before .is-empty .ensures) (c .if2 .taken)
+one c = let d = c .before .before .before .before .before .before .before in one-value _ _ _ (d .pre .0 .1 _) (of-three (three (c .before .before .before .before .before) .is) (d .pre .1 .3) .0) (c .before .before .without-lowest .ensures) (c .before .is-empty .ensures) (c .if2 .taken)
 
 -- and the second
 one-y : (c : tie.Then3) → let d = c .before .before .before .before .before .before .before .before .before .before .args in OneValue (at (d .sets .now) (at (d .numbers .now) (SCOPES + d .k) / 65536 % 256))
 unfolding at
-one-y c = one-value _ _ _ (c .before .before .before .before .before .before .before .before .before .before .pre .0 .1 _) (of-three (three (c .before .before .before .before .before .before .before .before) .is) (c .before .before .before .before .before .before .before .before .before .before .pre .1 .3) .1) (c .before .before .without-lowest2 .ensures) (c .before .is-empty2 .ensures) (c .if3 .taken)
+one-y c = let d = c .before .before .before .before .before .before .before .before .before .before in one-value _ _ _ (d .pre .0 .1 _) (of-three (three (c .before .before .before .before .before .before .before .before) .is) (d .pre .1 .3) .1) (c .before .before .without-lowest2 .ensures) (c .before .is-empty2 .ensures) (c .if3 .taken)
 
 add-w : tie.Need-add-w
 add-w c = search needs
