@@ -1,4 +1,4 @@
--- Constraints and filters by turns: the loop of `alternate` and its ends, and the look-ups and the cuts by variable in front of it. Assumes nothing.
+-- Filters and constraints by turns: the loop of `alternate` and its ends, and the look-ups, the cuts by variable and the constraints in front of it. Assumes nothing.
 use mathlib.Core.Path.{_≡_, refl, sym, ap, _∙_, subst}
 use mathlib.Core.Bool.{Bool, true, false, not}
 use mathlib.Core.List.{List, [], List·Memᴰ·head}
@@ -36,7 +36,7 @@ use Rattle.block.specs.BlockSets.{Ascends}
 use Rattle.block.proofs.BlockSets.{ascends-less, way-prunes-own, fixed-whole}
 use Rattle.prune.specs.Node.{MarksRight, blockOf, withOrderings}
 use Rattle.prune.specs.Steps.{ArraysHold, Blocked, Pending, PrunedSoFar, AllConstrained, LiveSets, AllFiltered, EndedAt, OnlyMarks, Startable, BeforeFixpoint, AfterFixpoint, Differ}
-use Rattle.prune.proofs.Pending.{pruned-none, pruned-more, take-less, still-fixed, touched-known, still-arc, constraints-pending, looked-few, looks-turn, arcs-pruned, arcs-turn}
+use Rattle.prune.proofs.Pending.{pruned-none, pruned-more, nothing-due, take-less, still-fixed, touched-known, still-arc, constraints-pending, looked-few, looks-turn, arcs-pruned, arcs-turn}
 use Rattle.prune.proofs.FilterLoop.{same-take, kept-none, kept-trans, filtered-begin, filtered-end}
 
 -- ---- a set is empty, so the prefix is dead
@@ -84,7 +84,7 @@ module _ {p : Problem} {supports tables numbers : List ℕ} (st : ArraysHold p s
     kept = kept-trans work₀ work work′ k r (a .kept);
   }
 
--- ---- one turn: the constraints leave es, the filters fs
+-- ---- the constraints prune
 module _ {p : Problem} {gs : List (List ℕ)} {supports tables numbers : List ℕ} (st : ArraysHold p supports tables numbers) (bl : Blocked p gs numbers) {work ds : List ℕ} {k todo dirty : ℕ} (n : BeforeFixpoint p gs work numbers ds k todo dirty) where
   n-few : p .variables ≤ 16
   n-few = omega (arith, st .wellFormed .few)
@@ -131,115 +131,128 @@ module _ {p : Problem} {gs : List (List ℕ)} {supports tables numbers : List �
   arcs-done : {es : List ℕ} {cut touched due : ℕ} → ArcsMade p ds es cut → (cut ≡ DEAD → ⊥) → Touched numbers cut touched → due ≡ bitOr todo touched → BeforeFixpoint p gs work numbers es k due 0
   arcs-done l live u d = let w = arcs-turn st (n .startable .pending) l live u d in pruned-start (arcs-pruned st (n .startable .pending) l live ds (pruned-none p ds)) (w .given) w
 
-  module _ {es : List ℕ} (c : AllConstrained p ds es) where
-    pub constrained-live : LiveSets p es
-    constrained-live = live-1 (c .so-far) (c .given)
+  -- no constraint takes anything more: nothing is due
+  pub constrained-done : {es : List ℕ} → AllConstrained p ds es → BeforeFixpoint p gs work numbers es k 0 0
+  constrained-done c =
+      pruned-start (c .so-far) (c .given)
+      (record {
+        given = c .given;
+        known = λ j t. absurd (has-0 j t);
+        others = λ j l e b. c .fixed j l;
+        inner = λ x t. absurd (has-0 x t);
+        arcs = λ x l e. c .arcs x l;
+      })
 
-    pub constrained-marking : MarksRight p (setsOf p es) (take k work) work k
-    constrained-marking = marking-1 (c .so-far) (c .given)
+  pub constrained-size : {es : List ℕ} → AllConstrained p ds es → size es ≤ size ds
+  constrained-size {es = es} c = size-inside es ds (c .given .sixteen .0 ∙ sym (n .startable .live .sixteen .0)) (c .so-far .less)
 
-    pub filters-dead : (work′ fs : List ℕ) → OnlyMarks work work′ k → EndedAt p (take k work) es → AfterFixpoint p gs k work work′ fs true
-    filters-dead work′ fs r e = dead p gs k work work′ fs r (ends (e .0) (stays (setsOf p es) (e .0) (e .1 .0) (way-1 (c .so-far) (c .given))) (e .1 .1))
+-- ---- one turn: no constraint takes anything from es, and the filters leave fs
+module _ {p : Problem} {gs : List (List ℕ)} {supports tables numbers : List ℕ} (st : ArraysHold p supports tables numbers) (bl : Blocked p gs numbers) {work es : List ℕ} {k : ℕ} (n : BeforeFixpoint p gs work numbers es k 0 0) where
+  at-rest : AllConstrained p es es
+  at-rest = nothing-due st (pruned-none p es) (n .startable .pending) refl refl
 
-    module _ {work′ fs : List ℕ} (s : AllFiltered p (take k work) es fs) (m : MarksRight p (setsOf p fs) (take k work) work′ k) (r : OnlyMarks work work′ k) {changed : ℕ} (d : Differ es fs changed) where
-      way-2 : Way (withOrderings p gs) (take k work) (setsOf p fs)
-      way-2 = stays (setsOf p es) (setsOf p fs) (s .way) (way-1 (c .so-far) (c .given))
+  pub filters-dead : (work′ fs : List ℕ) → OnlyMarks work work′ k → EndedAt p (take k work) es → AfterFixpoint p gs k work work′ fs true
+  filters-dead work′ fs r e = dead p gs k work work′ fs r (ends st bl n (e .0) (stays st bl n (setsOf p es) (e .0) (e .1 .0) (n .way)) (e .1 .1))
 
-      ascends-2 : Ascends (blockOf numbers) (take k work) (setsOf p fs)
-      ascends-2 = ascends-less (blockOf numbers) (take k work) (setsOf p es) (setsOf p fs) (take-less st es fs (c .given .sixteen) (s .live .sixteen) (s .less)) (ascends-1 (c .so-far) (c .given))
+  module _ {work′ fs : List ℕ} (s : AllFiltered p (take k work) es fs) (m : MarksRight p (setsOf p fs) (take k work) work′ k) (r : OnlyMarks work work′ k) {changed : ℕ} (d : Differ es fs changed) where
+    way-2 : Way (withOrderings p gs) (take k work) (setsOf p fs)
+    way-2 = stays st bl n (setsOf p es) (setsOf p fs) (s .way) (n .way)
 
-      -- nothing moved: no constraint and no filter takes anything
-      pub fixpoint-end : changed ≡ 0 → AfterFixpoint p gs k work work′ fs false
-      fixpoint-end e = record {
-        answers = sym (ap not (of-T (isLive (withOrderings p gs) (take k work)) live));
-        sets-are = λ q. sym sets;
-        live = λ q. s .live;
-        marking = λ q. m;
-        kept = r;
+    ascends-2 : Ascends (blockOf numbers) (take k work) (setsOf p fs)
+    ascends-2 = ascends-less (blockOf numbers) (take k work) (setsOf p es) (setsOf p fs) (take-less st es fs (at-rest .given .sixteen) (s .live .sixteen) (s .less)) (n .ascends)
+
+    -- nothing moved: no constraint and no filter takes anything
+    pub fixpoint-end : changed ≡ 0 → AfterFixpoint p gs k work work′ fs false
+    fixpoint-end e = record {
+      answers = sym (ap not (of-T (isLive (withOrderings p gs) (take k work)) live));
+      sets-are = λ q. sym sets;
+      live = λ q. s .live;
+      marking = λ q. m;
+      kept = r;
+    }
+      where
+        same : fs ≡ es
+        same = none-differs es fs (at-rest .given .sixteen) (s .live .sixteen) changed d e
+
+        kept : (x v : ℕ) → T (has (at (setsOf p es) x) v) → Kept p (take k work) (setsOf p es) x v
+        kept x v t = record {
+          member = t;
+          rows = λ a i. let q = place-of (p .constraints) a (record { scope = []; rows = [] }) i in subst (λ (z : Constraint). T (supported (setsOf p es) x v z)) (q .2) (at-rest .fixed (q .0) (q .1) x v t);
+          filters = λ g i. subst (λ (z : List ℕ). T (has (at z x) v)) (sym (s .fixed same g i)) t;
+        }
+
+        fixed-own : pruned p (take k work) (setsOf p fs) ≡ setsOf p fs
+        fixed-own = subst (λ (z : List ℕ). pruned p (take k work) (setsOf p z) ≡ setsOf p z) (sym same) (fixed-i p (take k work) (setsOf p es) (take-sets (p .variables) es (at-rest .given .sixteen) (n-few st bl n)) kept)
+
+        fixed : pruned (withOrderings p gs) (take k work) (setsOf p fs) ≡ setsOf p fs
+        fixed = fixed-whole p (st .wellFormed) (blockOf numbers) gs (bl .block) (take k work) (setsOf p fs) (way-2 .sets) (way-2 .inside) ascends-2 (s .live .full) fixed-own
+
+        sets : setsAt (withOrderings p gs) (take k work) ≡ setsOf p fs
+        sets = way-live (withOrderings p gs) (take k work) (well-sized p (st .wellFormed)) (setsOf p fs) way-2 fixed (s .live .full)
+
+        live : T (isLive (withOrderings p gs) (take k work))
+        live =
+            T-of (isLive (withOrderings p gs) (take k work))
+            (live-is (withOrderings p gs) (take k work) ∙ ap not (ap anyEmpty (sym (way-end (withOrderings p gs) (take k work) (well-sized p (st .wellFormed)) (setsOf p fs) way-2 fixed)) ∙ s .live .full))
+
+    -- something moved: the constraints of the changed variables are due
+    module _ {left moved : ℕ} (u : Touched numbers changed left) (q : moved ≡ bitAnd changed (at numbers LINKED)) where
+      same-at-x : (x : ℕ) → x < p .variables → has changed x ≡ false → at fs x ≡ at es x
+      same-at-x x l e = same-at es fs (at-rest .given .sixteen) (s .live .sixteen) changed d x (omega (arith, n-few st bl n)) e
+
+      given : Given p fs
+      given = record { sixteen = s .live .sixteen; full = s .live .full; inside = λ x v t. at-rest .given .inside x v (take-less st es fs (at-rest .given .sixteen) (s .live .sixteen) (s .less) x v t) }
+
+      prefix-is : take k work′ ≡ take k work
+      prefix-is = same-take work work′ k k (n .startable .prefix-held .work-length) r (omega (arith, n .startable .prefix-held .depth, n-few st bl n))
+
+      startable : Startable p work′ numbers fs k left moved
+      startable = record {
+        prefix-held = record {
+          depth = n .startable .prefix-held .depth;
+          values = λ j l. subst (λ (z : ℕ). T (has (at (p .initial) j) z)) (sym (r .before j (omega arith))) (n .startable .prefix-held .values j l);
+          work-length = r .size ∙ n .startable .prefix-held .work-length;
+        };
+        live = s .live;
+        pending = record {
+          given = given;
+          known = touched-known st changed left u (d .few);
+          others = λ j l e b. still-fixed st es fs changed left (at-rest .given .sixteen) (s .live .sixteen) same-at-x u j l e b (at-rest .fixed j l);
+          inner = λ x t. inner-x x (both-l (has changed x) (has (at numbers LINKED) x) (subst T (ap (λ (z : ℕ). has z x) q ∙ has-and changed (at numbers LINKED) x) t));
+          arcs = λ x l e. still-arc st es fs changed moved (at-rest .given) given (s .less) same-at-x q x l e (at-rest .arcs x l);
+        };
+        marking = subst (λ (z : List ℕ). MarksRight p (setsOf p fs) z work′ k) (sym prefix-is) m;
       }
         where
-          same : fs ≡ es
-          same = none-differs es fs (c .given .sixteen) (s .live .sixteen) changed d e
+          -- an unused set never changes
+          inner-x : (x : ℕ) → T (has changed x) → x < p .variables
+          inner-x x t = go (ltb x (p .variables)) refl
+            where
+              go : (b : Bool) → ltb x (p .variables) ≡ b → x < p .variables
+              go true e = ltb-true x (p .variables) e
+              go false e =
+                  let o = ltb-false x (p .variables) e in
+                  let i = d .few x t in
+                  absurd (of-not (has changed x) (d .differ x i ∙ ap not (eq-eqb (at fs x) (at es x) (s .live .unused x o i ∙ sym (n .startable .live .unused x o i)))) t)
 
-          kept : (x v : ℕ) → T (has (at (setsOf p es) x) v) → Kept p (take k work) (setsOf p es) x v
-          kept x v t = record {
-            member = t;
-            rows = λ a i. let q = place-of (p .constraints) a (record { scope = []; rows = [] }) i in subst (λ (z : Constraint). T (supported (setsOf p es) x v z)) (q .2) (c .fixed (q .0) (q .1) x v t);
-            filters = λ g i. subst (λ (z : List ℕ). T (has (at z x) v)) (sym (s .fixed same g i)) t;
-          }
+      pub fixpoint-turn : BeforeFixpoint p gs work′ numbers fs k left moved
+      fixpoint-turn = record {
+        startable = startable;
+        way = subst (λ (z : List ℕ). Way (withOrderings p gs) z (setsOf p fs)) (sym prefix-is) way-2;
+        ascends = subst (λ (z : List ℕ). Ascends (blockOf numbers) z (setsOf p fs)) (sym prefix-is) ascends-2;
+      }
 
-          fixed-own : pruned p (take k work) (setsOf p fs) ≡ setsOf p fs
-          fixed-own = subst (λ (z : List ℕ). pruned p (take k work) (setsOf p z) ≡ setsOf p z) (sym same) (fixed-i p (take k work) (setsOf p es) (take-sets (p .variables) es (c .given .sixteen) n-few) kept)
+    pub fixpoint-less : changed < 2 ^ 64 → (changed ≡ 0 → ⊥) → size fs < size es
+    fixpoint-less h z = fewer es fs (at-rest .given .sixteen) (s .live .sixteen) changed d h z (s .less)
 
-          fixed : pruned (withOrderings p gs) (take k work) (setsOf p fs) ≡ setsOf p fs
-          fixed = fixed-whole p (st .wellFormed) (blockOf numbers) gs (bl .block) (take k work) (setsOf p fs) (way-2 .sets) (way-2 .inside) ascends-2 (s .live .full) fixed-own
-
-          sets : setsAt (withOrderings p gs) (take k work) ≡ setsOf p fs
-          sets = way-live (withOrderings p gs) (take k work) (well-sized p (st .wellFormed)) (setsOf p fs) way-2 fixed (s .live .full)
-
-          live : T (isLive (withOrderings p gs) (take k work))
-          live =
-              T-of (isLive (withOrderings p gs) (take k work))
-              (live-is (withOrderings p gs) (take k work) ∙ ap not (ap anyEmpty (sym (way-end (withOrderings p gs) (take k work) (well-sized p (st .wellFormed)) (setsOf p fs) way-2 fixed)) ∙ s .live .full))
-
-      -- something moved: the constraints of the changed variables are due
-      module _ {left moved : ℕ} (u : Touched numbers changed left) (q : moved ≡ bitAnd changed (at numbers LINKED)) where
-        same-at-x : (x : ℕ) → x < p .variables → has changed x ≡ false → at fs x ≡ at es x
-        same-at-x x l e = same-at es fs (c .given .sixteen) (s .live .sixteen) changed d x (omega (arith, n-few)) e
-
-        given : Given p fs
-        given = record { sixteen = s .live .sixteen; full = s .live .full; inside = λ x v t. c .given .inside x v (take-less st es fs (c .given .sixteen) (s .live .sixteen) (s .less) x v t) }
-
-        prefix-is : take k work′ ≡ take k work
-        prefix-is = same-take work work′ k k (n .startable .prefix-held .work-length) r (omega (arith, n .startable .prefix-held .depth, n-few))
-
-        startable : Startable p work′ numbers fs k left moved
-        startable = record {
-          prefix-held = record {
-            depth = n .startable .prefix-held .depth;
-            values = λ j l. subst (λ (z : ℕ). T (has (at (p .initial) j) z)) (sym (r .before j (omega arith))) (n .startable .prefix-held .values j l);
-            work-length = r .size ∙ n .startable .prefix-held .work-length;
-          };
-          live = s .live;
-          pending = record {
-            given = given;
-            known = touched-known st changed left u (d .few);
-            others = λ j l e b. still-fixed st es fs changed left (c .given .sixteen) (s .live .sixteen) same-at-x u j l e b (c .fixed j l);
-            inner = λ x t. inner-x x (both-l (has changed x) (has (at numbers LINKED) x) (subst T (ap (λ (z : ℕ). has z x) q ∙ has-and changed (at numbers LINKED) x) t));
-            arcs = λ x l e. still-arc st es fs changed moved (c .given) given (s .less) same-at-x q x l e (c .arcs x l);
-          };
-          marking = subst (λ (z : List ℕ). MarksRight p (setsOf p fs) z work′ k) (sym prefix-is) m;
-        }
-          where
-            -- an unused set never changes
-            inner-x : (x : ℕ) → T (has changed x) → x < p .variables
-            inner-x x t = go (ltb x (p .variables)) refl
-              where
-                go : (b : Bool) → ltb x (p .variables) ≡ b → x < p .variables
-                go true e = ltb-true x (p .variables) e
-                go false e =
-                    let o = ltb-false x (p .variables) e in
-                    let i = d .few x t in
-                    absurd (of-not (has changed x) (d .differ x i ∙ ap not (eq-eqb (at fs x) (at es x) (s .live .unused x o i ∙ sym (constrained-live .unused x o i)))) t)
-
-        pub fixpoint-turn : BeforeFixpoint p gs work′ numbers fs k left moved
-        fixpoint-turn = record {
-          startable = startable;
-          way = subst (λ (z : List ℕ). Way (withOrderings p gs) z (setsOf p fs)) (sym prefix-is) way-2;
-          ascends = subst (λ (z : List ℕ). Ascends (blockOf numbers) z (setsOf p fs)) (sym prefix-is) ascends-2;
-        }
-
-      pub fixpoint-less : changed < 2 ^ 64 → (changed ≡ 0 → ⊥) → size fs < size ds
-      fixpoint-less h z = omega (arith, fewer es fs (c .given .sixteen) (s .live .sixteen) changed d h z (s .less), size-inside es ds (c .given .sixteen .0 ∙ sym (n .startable .live .sixteen .0)) (c .so-far .less))
-
-    -- no symmetries: there is no filter, and the marks stay as they are
-    pub bare-end : at numbers SYMMETRIES ≡ 0 → AfterFixpoint p gs k work work es false
-    bare-end z =
-        let f = filtered-end st (n .startable .prefix-held) es work es 0 (omega (arith, z)) (filtered-begin st (n .startable .prefix-held) es constrained-live constrained-marking) in
-        fixpoint-end (f .all-filtered refl) (f .marking refl) (f .kept) none refl
-      where
-        none : Differ es es 0
-        none = record { few = λ x t. absurd (has-0 x t); differ = λ x l. has-none x ∙ sym (ap not (eq-eqb (at es x) (at es x) refl)) }
+  -- no symmetries: there is no filter, and the marks stay as they are
+  pub bare-end : at numbers SYMMETRIES ≡ 0 → AfterFixpoint p gs k work work es false
+  bare-end z =
+      let f = filtered-end st (n .startable .prefix-held) es work es 0 (omega (arith, z)) (filtered-begin st (n .startable .prefix-held) es (n .startable .live) (n .startable .marking)) in
+      fixpoint-end (f .all-filtered refl) (f .marking refl) (f .kept) none refl
+    where
+      none : Differ es es 0
+      none = record { few = λ x t. absurd (has-0 x t); differ = λ x l. has-none x ∙ sym (ap not (eq-eqb (at es x) (at es x) refl)) }
 
 -- ---- before the turns: the look-ups, and then the constraints by variable
 module _ {p : Problem} {gs : List (List ℕ)} {supports tables numbers : List ℕ} (st : ArraysHold p supports tables numbers) (bl : Blocked p gs numbers) {work ds : List ℕ} {k todo dirty : ℕ} (n : BeforeFixpoint p gs work numbers ds k todo dirty) (wide : todo < 2 ^ 64) where

@@ -100,7 +100,7 @@ fn difference(old: &[u16; 16], new: &[u16; 16]) -> u64
     all
 }
 
-// The constraints that are due and the filters by turns until nothing moves. True where the prefix is dead.
+// The filters and the constraints by turns until nothing moves, from where no constraint takes anything. True where the prefix is dead.
 fn alternate(
     sets: &mut [u16; 16],
     work: &mut [u64; 256],
@@ -108,22 +108,12 @@ fn alternate(
     tables: &[u16; 55296],
     numbers: &[u64; 384],
     k: usize,
-    todo: u64,
-    dirty: u64,
 ) -> bool
-    requires { ⌜ ((p : Problem) × (gs : List (List ℕ)) × ArraysHold p (now supports) (now tables) (now numbers) × Blocked p gs (now numbers) × BeforeFixpoint p gs (now work) (now numbers) (now sets) k todo dirty) ⌝ }
-    ensures { λ r. ⌜ ((p : Problem) (gs : List (List ℕ)) → ArraysHold p (now (supports .entry)) (now (tables .entry)) (now (numbers .entry)) → Blocked p gs (now (numbers .entry)) → BeforeFixpoint p gs (now (work .entry)) (now (numbers .entry)) (now (sets .entry)) k todo dirty → AfterFixpoint p gs k (now (work .entry)) (now (work .exit)) (now (sets .exit)) r) ⌝ }
+    requires { ⌜ ((p : Problem) × (gs : List (List ℕ)) × ArraysHold p (now supports) (now tables) (now numbers) × Blocked p gs (now numbers) × BeforeFixpoint p gs (now work) (now numbers) (now sets) k 0 0) ⌝ }
+    ensures { λ r. ⌜ ((p : Problem) (gs : List (List ℕ)) → ArraysHold p (now (supports .entry)) (now (tables .entry)) (now (numbers .entry)) → Blocked p gs (now (numbers .entry)) → BeforeFixpoint p gs (now (work .entry)) (now (numbers .entry)) (now (sets .entry)) k 0 0 → AfterFixpoint p gs k (now (work .entry)) (now (work .exit)) (now (sets .exit)) r) ⌝ }
 {
     let settled = (1u64 << k) - 1;
-    let mut left = todo;
-    let mut moved = dirty;
     loop {
-        if constrain(sets, supports, tables, numbers, left, moved, settled) {
-            return true;
-        }
-        if numbers[SYMMETRIES] == 0 {
-            return false;
-        }
         let old = *sets;
         if filters(sets, work, supports, tables, numbers, k) {
             return true;
@@ -132,12 +122,22 @@ fn alternate(
         if changed == 0 {
             return false;
         }
-        moved = changed & numbers[LINKED];
-        left = constraints::touched(numbers, changed);
+        let left = constraints::touched(numbers, changed);
+        if constrain(
+            sets,
+            supports,
+            tables,
+            numbers,
+            left,
+            changed & numbers[LINKED],
+            settled,
+        ) {
+            return true;
+        }
     }
 }
 
-// First the look-ups that the last settled variable allows and the cuts by variable, where most dead prefixes end; then the rest that is due, if any is.
+// First the look-ups that the last settled variable allows and the cuts by variable, where most dead prefixes end; then the constraints that are due, if any are, and the filters.
 // True where the prefix is dead.
 fn fixpoint(
     sets: &mut [u16; 16],
@@ -162,10 +162,15 @@ fn fixpoint(
         return true;
     }
     let left = (todo & !looks) | constraints::touched(numbers, looked | cut);
-    if (left | numbers[SYMMETRIES]) == 0 {
+    if left != 0 {
+        if constrain(sets, supports, tables, numbers, left, 0, (1u64 << k) - 1) {
+            return true;
+        }
+    }
+    if numbers[SYMMETRIES] == 0 {
         return false;
     }
-    alternate(sets, work, supports, tables, numbers, k, left, 0)
+    alternate(sets, work, supports, tables, numbers, k)
 }
 
 fn load(stack: &[u16; 208], k: usize, sets: &mut [u16; 16])
@@ -295,17 +300,18 @@ pub fn root(
     initial(numbers, &mut sets);
     clear_marks(work);
     let todo = constraints::touched(numbers, (1u64 << numbers[VARIABLES]) - 1);
-    let dead = alternate(
+    if constrain(
         &mut sets,
-        work,
         supports,
         tables,
         numbers,
-        0,
         todo,
         numbers[LINKED],
-    );
-    if dead {
+        0,
+    ) {
+        return true;
+    }
+    if alternate(&mut sets, work, supports, tables, numbers, 0) {
         return true;
     }
     store(stack, 0, &sets);

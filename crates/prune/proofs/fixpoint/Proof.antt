@@ -1,19 +1,24 @@
--- The look-ups and the cuts by variable, and the rest from there. Assumes nothing.
-use mathlib.Core.Path.{refl}
+-- The look-ups and the cuts by variable, the constraints that are due then, and the rest from there. Assumes nothing.
+use mathlib.Core.Path.{refl, sym, subst}
+use mathlib.Core.Logic.{⊎-elim}
 use mathlib.Core.List.{List}
 use Prim.Native.Nat.{ℕ, _+_, _-_, _^_, _<_}
+use native.Mathlib.Omega.{arith}
 use lib.Bits.{bitAnd, bitOr}
 use borrow.Author.Needs.{needs}
 use Rattle.model.specs.Lists.{at}
 use Rattle.model.specs.Problem.{Problem}
-use Rattle.model.proofs.Members.{or-zero-e}
 use Rattle.layout.specs.Places.{LINKED, LOOKS}
 use Rattle.constraints.proofs.Touching.{touchedOf}
-use Rattle.prune.specs.Steps.{ArraysHold, Blocked, BeforeFixpoint}
+use Rattle.prune.specs.Steps.{ArraysHold, Blocked, AllConstrained, BeforeFixpoint}
 use Rattle.prune.proofs.Pending.{pruned-none, nothing-due, arcs-pending}
-use Rattle.prune.proofs.FixpointLoop.{constrained-dead, looks-pending, looks-done, cuts-done, bare-end}
+use Rattle.prune.proofs.Starts.{some-one}
+use Rattle.prune.proofs.FixpointLoop.{constrained-dead, constrained-done, looks-pending, looks-done, cuts-done, bare-end}
 use Rattle.prune.proofs.fixpoint.Statement.{statement}
 use Rattle.prune.proofs.fixpoint.Tie as tie
+
+few : (c : tie.Start) → c .args .k < 64
+few c = let q = c .pre in omega (arith, q .4 .startable .prefix-held .depth, q .2 .wellFormed .few)
 
 wide : (c : tie.Start) → c .args .todo < 2 ^ 64
 wide c = search needs
@@ -33,6 +38,16 @@ cuts-made c p gs s b n =
     let h = wide (c .before .before .before .before .before .before .before .before .before) in
     let m = looks-made (c .before .before .before .before .before) p gs s b n in
     cuts-done s b n h (c .before .before .before .before .before .before .look-ups .ensures p _ (looks-pending s b n h)) (c .before .before .before .before .before .if1 .left) (c .before .before .arcs .ensures p (arcs-pending s (m .startable .pending))) (c .before .if2 .left) (search needs) (c .touched .ensures)
+
+-- and where the sets rest
+rested : (c : tie.Joined3) → let d = c .before .before .before .before .before .before .before .before .before .before .args in (p : Problem) (gs : List (List ℕ)) → ArraysHold p (d .supports .now) (d .tables .now) (d .numbers .now) → Blocked p gs (d .numbers .now) → BeforeFixpoint p gs (d .work .now) (d .numbers .now) (d .sets .now) (d .k) (d .todo) (d .dirty) →
+    BeforeFixpoint p gs (d .work .now) (d .numbers .now) (c .if3 .sets) (d .k) 0 0
+unfolding at
+rested c p gs s b n =
+    let m = cuts-made (c .before) p gs s b n in
+    constrained-done s b m
+    (⊎-elim {C = AllConstrained p (c .before .before .before .arcs .last .0) (c .if3 .sets)} (λ w. subst (AllConstrained p _) (sym (w .4)) (w .2 .ensures p s (m .startable .pending) .all-constrained (w .3 .left)))
+    (λ w. subst (AllConstrained p _) (sym (w .1)) (nothing-due s (pruned-none p _) (m .startable .pending) (w .0 .left) refl)) (c .if3 .came))
 
 add-looks : tie.Need-add-looks
 add-looks c = search needs
@@ -65,23 +80,34 @@ returns-2 c = λ p gs s b n. let m = looks-made (c .before .before .before .befo
 touched-requires : tie.Need-touched-requires
 touched-requires c κs = search needs
 
-element-copy-out-if3 : tie.Need-element-copy-out-if3
-element-copy-out-if3 c = search needs
+shl-constrain : tie.Need-shl-constrain
+shl-constrain c = few (c .before .before .before .before .before .before .before .before .before .before .before)
+
+sub-constrain : tie.Need-sub-constrain
+sub-constrain c = some-one _ (few (c .before .before .before .before .before .before .before .before .before .before .before))
+
+constrain-requires : tie.Need-constrain-requires
+unfolding at
+constrain-requires c κs = let q = c .before .before .before .before .before .before .before .before .before .before .before .pre in (q .0, q .2, cuts-made (c .before .before) (q .0) (q .1) (q .2) (q .3) (q .4) .startable .pending)
 
 returns-3 : tie.Need-returns-3
 unfolding at
-returns-3 c = λ p gs s b n.
-    let m = cuts-made (c .before .before) p gs s b n in
-    let z = or-zero-e _ _ (c .if3 .taken) in
-    bare-end s b m (nothing-due s (pruned-none p _) (m .startable .pending) (z .0) refl) (z .1)
+returns-3 c = λ p gs s b n. let m = cuts-made (c .before .before .before .before) p gs s b n in constrained-dead s b m _ (c .before .constrain .ensures p s (m .startable .pending) .ended (c .if4 .taken))
 
-alternate-requires : tie.Need-alternate-requires
-unfolding at
-alternate-requires c κs = let q = c .before .before .before .before .before .before .before .before .before .before .before .before .before .pre in (q .0, q .1, q .2, q .3, cuts-made (c .before .before .before .before) (q .0) (q .1) (q .2) (q .3) (q .4))
+element-copy-out-if5 : tie.Need-element-copy-out-if5
+element-copy-out-if5 c = search needs
 
 returns-4 : tie.Need-returns-4
 unfolding at
-returns-4 c = λ p gs s b n. c .alternate .ensures p gs s b (cuts-made (c .before .before .before .before .before) p gs s b n)
+returns-4 c = λ p gs s b n. bare-end s b (rested (c .before .before) p gs s b n) (c .if5 .taken)
+
+alternate-requires : tie.Need-alternate-requires
+unfolding at
+alternate-requires c κs = let q = c .before .before .before .before .before .before .before .before .before .before .before .before .before .before .pre in (q .0, q .1, q .2, q .3, rested (c .before .before .before .before) (q .0) (q .1) (q .2) (q .3) (q .4))
+
+returns-5 : tie.Need-returns-5
+unfolding at
+returns-5 c = λ p gs s b n. c .alternate .ensures p gs s b (rested (c .before .before .before .before .before) p gs s b n)
 
 pub fixpoint-spec : {M : Type 1} → statement M
 fixpoint-spec =
@@ -96,7 +122,11 @@ fixpoint-spec =
     arcs-requires
     returns-2
     touched-requires
-    element-copy-out-if3
+    shl-constrain
+    sub-constrain
+    constrain-requires
     returns-3
+    element-copy-out-if5
+    returns-4
     alternate-requires
-    returns-4)
+    returns-5)
