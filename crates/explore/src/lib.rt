@@ -99,5 +99,16 @@ pub fn explore(
         return step;
     }
     let m = walk::candidates(stack, 0);
-    settle::settle(stack, work, supports, tables, numbers, list, tally, 0, m)
+    let mut sink = &mut *list;
+    settle::settle(
+        stack,
+        work,
+        supports,
+        tables,
+        numbers,
+        &mut sink,
+        tally,
+        0,
+        m,
+    )
 }

@@ -6,13 +6,14 @@ use Prim.Native.Nat.{ℕ, zero, suc, _+_, _*_, _^_, _<_}
 use native.Mathlib.Nat.{zero-lt-suc}
 use native.Mathlib.Omega.{arith}
 use lib.Dec.{T, T-not, eqb, eqb→eq, eqb-refl}
+use denote.Ref.{RefT, at-last}
 use Rattle.model.specs.Lists.{at}
 use Rattle.model.specs.ValueSets.{withoutMask, lowestOf}
 use Rattle.model.specs.Problem.{Problem}
 use Rattle.model.specs.Run.{Tally}
 use Rattle.layout.specs.Places.{ALL, DEEPER}
 use Rattle.walk.specs.Walk.{withNode}
-use Rattle.walk.specs.Pair.{settling, Countable, Counted, AtValues, AtValue, Walked, Entered, tried, lowestTried}
+use Rattle.walk.specs.Pair.{settling, Countable, Counted, AtValues, AtValue, Walked, Entered, tried, lowestTried, SameSlice}
 use Rattle.walk.proofs.Written.{settling-inside}
 use Rattle.settle.proofs.Turns.{turn-asks, turn-goes, values-ask, μ-settle, rest-falls}
 
@@ -85,3 +86,7 @@ module _ (p : Problem) (stack work supports tables numbers list : List ℕ) (tal
               w .then e stack″ work″ list″ tally″ stop
               (subst (λ (t : Tally). Walked p (tried p work′ (k + 1) (at stack′ (17 * (k + 1)))) stack′ work′ numbers list′ t (k + 1) stack″ work″ list″ tally″ stop) is-next
               (subst (λ (i : ℕ). Walked p (tried p work′ (k + 1) i) stack′ work′ numbers list′ tally′ (k + 1) stack″ work″ list″ tally″ stop) all v))
+
+-- a slice that stays the same slice twice
+pub same-on : (x y z : RefT (List ℕ)) → SameSlice x y → SameSlice y z → SameSlice x z
+same-on x y z e f = (f .0 ∙ ap (λ (u : RefT (List ℕ)). at-last u (z .now)) (e .0), f .1 ∙ e .1)

@@ -4,4 +4,5 @@ pub mod Turns
 pub mod Facts
 pub mod Reborrow
 pub mod Loans
+pub mod Thin
 pub mod Locals

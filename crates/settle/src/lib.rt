@@ -9,7 +9,7 @@ use walk::Tally;
 ghost use Rattle.model.specs.Problem.{Problem};
 ghost use Rattle.model.specs.Run as Run;
 ghost use Rattle.walk.specs.Walk.{begun};
-ghost use Rattle.walk.specs.Pair.{AtValues, AtValue, Walked, Entered, tried, lowestTried, WalkedOn};
+ghost use Rattle.walk.specs.Pair.{AtValues, AtValue, Walked, Entered, tried, lowestTried, WalkedOn, SameSlice};
 ghost use Rattle.walk.specs.Meaning.{tallyIn};
 
 // Makes the node of the lowest of the values m of variable k: ALL where it is dead or its plan was listed, FULL where a plan has no room,
@@ -20,12 +20,13 @@ fn enter(
     supports: &[u16; 8192],
     tables: &[u16; 55296],
     numbers: &[u64; 384],
-    list: &mut [u8],
+    list: &mut &mut [u8],
     k: usize,
     m: u16,
 ) -> u8
-    requires { ⌜ ((p : Problem) × ((tally : Run.Tally) × AtValue p (now stack) (now work) (now supports) (now tables) (now numbers) (now list) tally k m)) ⌝ }
-    ensures { λ r. ⌜ ((p : Problem) (tally : Run.Tally) → AtValue p (now (stack .entry)) (now (work .entry)) (now (supports .entry)) (now (tables .entry)) (now (numbers .entry)) (now (list .entry)) tally k m → Entered p (now (stack .entry)) (now (work .entry)) (now (supports .entry)) (now (tables .entry)) (now (numbers .entry)) (now (list .entry)) tally k m (now (stack .exit)) (now (work .exit)) (now (list .exit)) r) ⌝ }
+    requires { ⌜ ((p : Problem) × ((tally : Run.Tally) × AtValue p (now stack) (now work) (now supports) (now tables) (now numbers) (now (now list)) tally k m)) ⌝ }
+    ensures { λ r. ⌜ ((p : Problem) (tally : Run.Tally) → AtValue p (now (stack .entry)) (now (work .entry)) (now (supports .entry)) (now (tables .entry)) (now (numbers .entry)) (now (now (list .entry))) tally k m → Entered p (now (stack .entry)) (now (work .entry)) (now (supports .entry)) (now (tables .entry)) (now (numbers .entry)) (now (now (list .entry))) tally k m (now (stack .exit)) (now (work .exit)) (now (now (list .exit))) r) ⌝ }
+    ensures { λ _. ⌜ SameSlice (now (list .entry)) (now (list .exit)) ⌝ }
 {
     let values = ValueSet { bits: m };
     let lowest = values.lowest();
@@ -47,13 +48,14 @@ pub fn settle(
     supports: &[u16; 8192],
     tables: &[u16; 55296],
     numbers: &[u64; 384],
-    list: &mut [u8],
+    list: &mut &mut [u8],
     tally: &mut Tally,
     k: usize,
     m: u16,
 ) -> u8
-    requires { ⌜ ((p : Problem) × AtValues p (now stack) (now work) (now supports) (now tables) (now numbers) (now list) (tallyIn (now tally)) k m) ⌝ }
-    ensures { λ r. ⌜ ((p : Problem) → AtValues p (now (stack .entry)) (now (work .entry)) (now (supports .entry)) (now (tables .entry)) (now (numbers .entry)) (now (list .entry)) (tallyIn (now (tally .entry))) k m → Walked p (tried p (now (work .entry)) k m) (now (stack .entry)) (now (work .entry)) (now (numbers .entry)) (now (list .entry)) (tallyIn (now (tally .entry))) k (now (stack .exit)) (now (work .exit)) (now (list .exit)) (tallyIn (now (tally .exit))) r) ⌝ }
+    requires { ⌜ ((p : Problem) × AtValues p (now stack) (now work) (now supports) (now tables) (now numbers) (now (now list)) (tallyIn (now tally)) k m) ⌝ }
+    ensures { λ r. ⌜ ((p : Problem) → AtValues p (now (stack .entry)) (now (work .entry)) (now (supports .entry)) (now (tables .entry)) (now (numbers .entry)) (now (now (list .entry))) (tallyIn (now (tally .entry))) k m → Walked p (tried p (now (work .entry)) k m) (now (stack .entry)) (now (work .entry)) (now (numbers .entry)) (now (now (list .entry))) (tallyIn (now (tally .entry))) k (now (stack .exit)) (now (work .exit)) (now (now (list .exit))) (tallyIn (now (tally .exit))) r) ⌝ }
+    ensures { λ _. ⌜ SameSlice (now (list .entry)) (now (list .exit)) ⌝ }
 {
     if m == 0 {
         return ALL;
@@ -85,13 +87,14 @@ fn try_value(
     supports: &[u16; 8192],
     tables: &[u16; 55296],
     numbers: &[u64; 384],
-    list: &mut [u8],
+    list: &mut &mut [u8],
     tally: &mut Tally,
     k: usize,
     m: u16,
 ) -> u8
-    requires { ⌜ ((p : Problem) × AtValue p (now stack) (now work) (now supports) (now tables) (now numbers) (now list) (tallyIn (now tally)) k m) ⌝ }
-    ensures { λ r. ⌜ ((p : Problem) → AtValue p (now (stack .entry)) (now (work .entry)) (now (supports .entry)) (now (tables .entry)) (now (numbers .entry)) (now (list .entry)) (tallyIn (now (tally .entry))) k m → Walked p (lowestTried p (now (work .entry)) k m) (now (stack .entry)) (now (work .entry)) (now (numbers .entry)) (now (list .entry)) (tallyIn (now (tally .entry))) k (now (stack .exit)) (now (work .exit)) (now (list .exit)) (tallyIn (now (tally .exit))) r) ⌝ }
+    requires { ⌜ ((p : Problem) × AtValue p (now stack) (now work) (now supports) (now tables) (now numbers) (now (now list)) (tallyIn (now tally)) k m) ⌝ }
+    ensures { λ r. ⌜ ((p : Problem) → AtValue p (now (stack .entry)) (now (work .entry)) (now (supports .entry)) (now (tables .entry)) (now (numbers .entry)) (now (now (list .entry))) (tallyIn (now (tally .entry))) k m → Walked p (lowestTried p (now (work .entry)) k m) (now (stack .entry)) (now (work .entry)) (now (numbers .entry)) (now (now (list .entry))) (tallyIn (now (tally .entry))) k (now (stack .exit)) (now (work .exit)) (now (now (list .exit))) (tallyIn (now (tally .exit))) r) ⌝ }
+    ensures { λ _. ⌜ SameSlice (now (list .entry)) (now (list .exit)) ⌝ }
 {
     let x = walk::variable_at(numbers, k);
     walk::add_node(tally, x);
@@ -134,6 +137,7 @@ pub fn walk_values(
     requires { ⌜ ((p : Problem) × AtValues p (now stack) (now work) (now supports) (now tables) (now numbers) (now list) (begun made) k m) ⌝ }
     ensures { λ r. ⌜ ((p : Problem) → AtValues p (now (stack .entry)) (now (work .entry)) (now (supports .entry)) (now (tables .entry)) (now (numbers .entry)) (now (list .entry)) (begun made) k m → WalkedOn p (tried p (now (work .entry)) k m) (now (stack .entry)) (now (work .entry)) (now (numbers .entry)) (now (list .entry)) made k (now (stack .exit)) (now (work .exit)) (now (list .exit)) (r .nodes) (r .stop)) ⌝ }
 {
+    let mut sink = &mut *list;
     let mut tally = walk::nodes_before(made);
     let stop = settle(
         stack,
@@ -141,7 +145,7 @@ pub fn walk_values(
         supports,
         tables,
         numbers,
-        list,
+        &mut sink,
         &mut tally,
         k,
         m,

@@ -16,7 +16,7 @@ ghost use Rattle.order.specs.Order.{Ordering};
 ghost use Rattle.order.specs.Reordered.{write};
 ghost use Rattle.layout.specs.Places.{VARIABLES, LIMIT, ROOM, PLANS};
 ghost use Rattle.walk.specs.Walk.{begun, overwritten, noted};
-ghost use Rattle.walk.specs.Pair.{prefixOf, settling, orderIn, Countable, Counted, Cleared, ListRoom, Listed};
+ghost use Rattle.walk.specs.Pair.{prefixOf, settling, orderIn, Countable, Counted, Cleared, ListRoom, Listed, SameSlice};
 ghost use Rattle.walk.specs.Meaning.{tallyIn};
 
 // What a run counts (the paper's tally): the nodes made (its trials), and of these the nodes that settle each of twelve variables.
@@ -86,16 +86,17 @@ fn note(list: &mut [u8], work: &[u64], numbers: &[u64; 384], plans: usize)
 }
 
 // A plan was found: FULL where it has no room, else it is counted, and listed in a list that isn't empty.
-pub fn list_plan(work: &mut [u64; 256], numbers: &[u64; 384], list: &mut [u8]) -> u8
-    requires { ⌜ ListRoom (at (now numbers) VARIABLES) (at (now numbers) ROOM) (now list) (at (now work) PLANS) ⌝ }
+pub fn list_plan(work: &mut [u64; 256], numbers: &[u64; 384], list: &mut &mut [u8]) -> u8
+    requires { ⌜ ListRoom (at (now numbers) VARIABLES) (at (now numbers) ROOM) (now (now list)) (at (now work) PLANS) ⌝ }
     requires { ⌜ (at (now numbers) VARIABLES ≤ 12) × ((i : ℕ) → i < at (now numbers) VARIABLES → at (now work) i < 256) × (length (now work) ≡ 256) × Ordering (at (now numbers) VARIABLES) (orderIn (now numbers) (at (now numbers) VARIABLES)) ⌝ }
-    ensures { λ r. ⌜ Listed (at (now (numbers .entry)) VARIABLES) (at (now (numbers .entry)) ROOM) (orderIn (now (numbers .entry)) (at (now (numbers .entry)) VARIABLES)) (now (work .entry)) (now (list .entry)) (now (work .exit)) (now (list .exit)) r ⌝ }
+    ensures { λ r. ⌜ Listed (at (now (numbers .entry)) VARIABLES) (at (now (numbers .entry)) ROOM) (orderIn (now (numbers .entry)) (at (now (numbers .entry)) VARIABLES)) (now (work .entry)) (now (now (list .entry))) (now (work .exit)) (now (now (list .exit))) r ⌝ }
+    ensures { λ _. ⌜ SameSlice (now (list .entry)) (now (list .exit)) ⌝ }
 {
     let plans = work[PLANS] as usize;
     if plans == numbers[ROOM] as usize {
         return FULL;
     }
-    note(list, work, numbers, plans);
+    note(*list, work, numbers, plans);
     work[PLANS] = (plans + 1) as u64;
     ALL
 }

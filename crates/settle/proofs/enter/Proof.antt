@@ -1,5 +1,5 @@
 -- `settle::enter` meets its contract: proofs/Turns. Assumes nothing.
-use mathlib.Core.Path.{sym, _∙_, subst}
+use mathlib.Core.Path.{refl, sym, _∙_, subst}
 use Prim.Native.Nat.{ℕ, _<_}
 use native.Mathlib.Omega.{arith}
 use Rattle.model.specs.Lists.{at}
@@ -28,15 +28,18 @@ element-write-work-2 c = search needs
 
 child-requires : tie.Need-child-requires
 child-requires c κs =
-    let a = c .before .before .before .before in
+    let a = c .before .before .before in
     (_, _, child-asks (a .pre .0) _ _ _ _ _ _ (a .pre .1 .0) _ _ (a .pre .1 .1) (a .fits .m .fits) _ (c .before .before .lowest .ensures))
 
 returns : tie.Need-returns
 returns c =
-    let a = c .before .before .before .before .before .before in λ p made g.
-    let w = a .fits .m .fits in
-    let l = c .before .before .before .before .lowest .ensures in
-    entered-dead p _ _ _ _ _ _ made _ _ g w _ l _ _ _ (c .before .child .ensures _ _ (child-asks p _ _ _ _ _ _ made _ _ g w _ l)) (c .if1 .taken)
+    let a = c .before .before .before .before .before in (
+      (λ p made g.
+          let w = a .fits .m .fits in
+          let l = c .before .before .before .before .lowest .ensures in
+          entered-dead p _ _ _ _ _ _ made _ _ g w _ l _ _ _ (c .before .child .ensures _ _ (child-asks p _ _ _ _ _ _ made _ _ g w _ l)) (c .if1 .taken)),
+      (refl, refl),
+    )
 
 add-if2 : tie.Need-add-if2
 add-if2 c = search needs
@@ -47,7 +50,7 @@ element-copy-out-if2 c = search needs
 list-plan-requires : tie.Need-list-plan-requires
 unfolding at
 list-plan-requires c κs =
-    let a = c .before .before .before .before .before .before .before .before .before .before in
+    let a = c .before .before .before .before .before .before .before .before .before in
     let p = a .pre .0 in
     let g = a .pre .1 .1 in
     let w = a .fits .m .fits in
@@ -63,29 +66,32 @@ list-plan-requires c κs =
       ),
     )
 
-same-length : tie.Need-same-length
-same-length c = search needs
-
 returns-2 : tie.Need-returns-2
 unfolding at
 returns-2 c =
-    let a = c .before .before .before .before .before .before .before .before .before .before .before .before .before in λ p made g.
-    let w = a .fits .m .fits in
-    let l = c .before .before .before .before .before .before .before .before .before .before .before .lowest .ensures in
-    let q = c .before .before .before .before .before .before .before .before .child .ensures _ _ (child-asks p _ _ _ _ _ _ made _ _ g w _ l) in
-    let v = g .values .prefix .ready .indexed .numbered .variables in
-    entered-plan p _ _ _ _ _ _ made _ _ g w _ l _ _ _ q (c .before .before .before .before .before .before .before .if1 .left) (c .before .before .before .before .before .if2 .taken ∙ v) _ _ _
-    (c .before .before .list-plan .ensures)
+    let a = c .before .before .before .before .before .before .before .before .before .before in (
+      (λ p made g.
+          let w = a .fits .m .fits in
+          let l = c .before .before .before .before .before .before .before .before .before .lowest .ensures in
+          let q = c .before .before .before .before .before .before .child .ensures _ _ (child-asks p _ _ _ _ _ _ made _ _ g w _ l) in
+          let v = g .values .prefix .ready .indexed .numbered .variables in
+          entered-plan p _ _ _ _ _ _ made _ _ g w _ l _ _ _ q (c .before .before .before .before .before .if1 .left) (c .before .before .before .if2 .taken ∙ v) _ _ _
+          (c .list-plan .ensures .0)),
+      c .list-plan .ensures .1,
+    )
 
 returns-3 : tie.Need-returns-3
 unfolding at
 returns-3 c =
-    let a = c .before .before .before .before .before .before .before .before in λ p made g.
-    let w = a .fits .m .fits in
-    let l = c .before .before .before .before .before .before .lowest .ensures in
-    let q = c .before .before .before .child .ensures _ _ (child-asks p _ _ _ _ _ _ made _ _ g w _ l) in
-    let v = g .values .prefix .ready .indexed .numbered .variables in
-    entered-inner p _ _ _ _ _ _ made _ _ g w _ l _ _ _ q (c .before .before .if1 .left) (λ z. c .if2 .left (z ∙ sym v))
+    let a = c .before .before .before .before .before .before .before in (
+      (λ p made g.
+          let w = a .fits .m .fits in
+          let l = c .before .before .before .before .before .before .lowest .ensures in
+          let q = c .before .before .before .child .ensures _ _ (child-asks p _ _ _ _ _ _ made _ _ g w _ l) in
+          let v = g .values .prefix .ready .indexed .numbered .variables in
+          entered-inner p _ _ _ _ _ _ made _ _ g w _ l _ _ _ q (c .before .before .if1 .left) (λ z. c .if2 .left (z ∙ sym v))),
+      (refl, refl),
+    )
 
 pub enter-spec : {M : Type 1} → statement M
 enter-spec =
@@ -102,6 +108,5 @@ enter-spec =
     add-if2
     element-copy-out-if2
     list-plan-requires
-    same-length
     returns-2
     returns-3)

@@ -1,4 +1,5 @@
 -- `walk::list_plan` meets its contract: proofs/Listing. Assumes nothing.
+use mathlib.Core.Path.{refl}
 use native.Mathlib.Omega.{arith}
 use Rattle.model.specs.Lists.{at}
 use Rattle.walk.proofs.Listing.{one-more, full-now, kept-now}
@@ -14,32 +15,32 @@ element-copy-out-if1 c = search needs
 
 returns : tie.Need-returns
 unfolding at
-returns c = let a = c .before .before .before .before in full-now _ _ _ _ _ (a .pre .0) (c .if1 .taken)
+returns c = let a = c .before .before .before in (full-now _ _ _ _ _ (a .pre .0) (c .if1 .taken), (refl, refl))
+
+slice-aggregate-note : tie.Need-slice-aggregate-note
+slice-aggregate-note c = search needs
 
 note-requires : tie.Need-note-requires
 unfolding at
 note-requires c κs =
-    let a = c .before .before .before .before .before .before .before in (
+    let a = c .before .before .before .before .before .before in (
       (a .pre .0, c .before .before .before .if1 .left),
       (a .pre .1 .0, omega (arith, a .pre .1 .0, a .pre .1 .2), a .pre .1 .1, a .pre .1 .3),
     )
 
 add-work : tie.Need-add-work
 unfolding at
-add-work c = let a = c .before .before .before .before .before .before .before .before .before .before in omega (arith, one-more _ _ _ _ (a .pre .0) (c .before .before .before .before .before .before .if1 .left), a .pre .0 .small)
+add-work c = let a = c .before .before .before .before .before .before .before in omega (arith, one-more _ _ _ _ (a .pre .0) (c .before .before .before .before .if1 .left), a .pre .0 .small)
 
 element-write-work : tie.Need-element-write-work
 element-write-work c = search needs
 
-same-length : tie.Need-same-length
-same-length c = search needs
-
 returns-2 : tie.Need-returns-2
 unfolding at
 returns-2 c =
-    let a = c .before .before .before .before .before .before .before .before .before .before in
-    kept-now _ _ _ _ _ (a .pre .0) _ (a .pre .1 .2) (c .before .before .before .before .before .before .if1 .left) (c .before .before .note .ensures)
+    let a = c .before .before .before .before .before .before .before in
+    (kept-now _ _ _ _ _ (a .pre .0) _ (a .pre .1 .2) (c .before .before .before .before .if1 .left) (c .note .ensures), (refl, c .note .kept .0))
 
 pub list-plan-spec : {M : Type 1} → statement M
 list-plan-spec =
-    tie.close (tie.spec element-copy-out-plans element-copy-out-if1 returns note-requires add-work element-write-work same-length returns-2)
+    tie.close (tie.spec element-copy-out-plans element-copy-out-if1 returns slice-aggregate-note note-requires add-work element-write-work returns-2)
