@@ -6,3 +6,4 @@ pub mod Reborrow
 pub mod Loans
 pub mod Thin
 pub mod Locals
+pub mod Sink
