@@ -10,13 +10,14 @@ use lib.Dec.{T, eqb-refl}
 use lib.ListN.{length}
 use lib.Bits.{bitAnd, bitOr, and-le-l}
 use lib.Count.{trailingZeros}
+use borrow.Author.Tests.{eq-eqb}
 use Rattle.model.specs.Lists.{at}
 use Rattle.model.specs.ValueSets.{has, anyEmpty}
 use Rattle.model.specs.Problem.{Problem}
-use Rattle.model.proofs.Lists.{not-of, of-not, T-of, both-i, mem-at}
-use Rattle.model.proofs.Sets.{has-none, has-lt}
+use Rattle.model.proofs.Lists.{not-of, of-not, T-of, T-ext, both-i, mem-at}
+use Rattle.model.proofs.Sets.{has-none, has-lt, mask-ext}
 use Rattle.model.proofs.Masks.{has-one}
-use Rattle.model.proofs.Members.{low-has, or-i, or-e, and-e, rest-e}
+use Rattle.model.proofs.Members.{has-0, low-has, or-i, or-e, and-e, rest-e}
 use Rattle.model.proofs.Firsts.{take-full}
 use Rattle.layout.specs.Places.{SCOPES, OTHERS, DEAD}
 use Rattle.layout.specs.Layout.{constraintAt}
@@ -26,6 +27,7 @@ use Rattle.constraints.specs.Revised.{Revision}
 use Rattle.constraints.specs.Steps.{OneValue, Scoped, ConstraintsHeld, Touched}
 use Rattle.constraints.specs.LookUps.{LookUp, LookUpsPending, LookedUp}
 use Rattle.constraints.proofs.Bits.{without-has}
+use Rattle.constraints.proofs.Rows.{revised-inside}
 use Rattle.constraints.proofs.Removal.{fixed-take}
 use Rattle.constraints.proofs.Scopes.{scope3, scoped-3}
 use Rattle.constraints.proofs.Touching.{touchedOf, touched-lt, touched-of}
@@ -49,13 +51,14 @@ pub record LookedSoFar (p : Problem) (numbers supports ds es : List ℕ) (todo s
   pub so-far : ConstrainedSoFar p numbers supports ds es left next all
   pub due : (j : ℕ) → T (has next j) → T (has (without todo some) j) ⊎ ((x : ℕ) × T (has all x) × T (has (at numbers (OTHERS + x)) j))
   pub among : (j : ℕ) → T (has left j) → T (has some j)
+  pub changed : (x : ℕ) → T (has all x) → at es x ≡ at ds x → ⊥
 
 module _ {p : Problem} {numbers supports ds : List ℕ} {todo some : ℕ} (w : LookUpsPending p numbers supports ds todo some) where
   n-few : p .variables ≤ 16
   n-few = omega (arith, w .pending .wellFormed .few)
 
   pub looked-begin : some < 2 ^ 64 → LookedSoFar p numbers supports ds ds todo some some 0
-  looked-begin h = record { next = without todo some; so-far = begin; due = λ j q. inl q; among = λ j q. q }
+  looked-begin h = record { next = without todo some; so-far = begin; due = λ j q. inl q; among = λ j q. q; changed = λ x q. absurd (has-0 x q) }
     where
       t : ConstrainedSoFar p numbers supports ds ds todo 0 0
       t = constrained-begin p numbers supports ds todo (w .wide) (w .pending)
@@ -87,6 +90,7 @@ module _ {p : Problem} {numbers supports ds : List ℕ} {todo some : ℕ} (w : L
     looked-end e = record {
       ended = λ q. let i : 16 < p .variables = u .few 16 (subst (λ (n : ℕ). T (has n 16)) (sym q) (subst T (sym (has-one 16 16)) (eqb-refl 16))) in absurd (omega (arith, n-few));
       lessened = λ n. record { ways = u .ways; sixteen = u .sixteen; full = full; less = u .less; kept = u .kept; few = u .few };
+      changed = λ n. t .changed;
       pending = λ n g v. record {
         given = record { sixteen = u .sixteen; full = full; inside = λ x i q. w .pending .given .inside x i (u .ways [] .less x i q) };
         wellFormed = w .pending .wellFormed;
@@ -137,7 +141,7 @@ module _ {p : Problem} {numbers supports ds : List ℕ} {todo some : ℕ} (w : L
 
       module _ {fs : List ℕ} {changed : ℕ} (r : Revision (constraintAt p (trailingZeros 64 left)) es fs changed) where
         pub looked-dead : changed ≡ DEAD → LookedUp p numbers supports ds fs todo some DEAD
-        looked-dead e = let d = constrained-dead (t .so-far) on r e in record { ended = λ q. d .ended refl; lessened = λ m. absurd (m refl); pending = λ m. absurd (m refl); sixteen = d .sixteen; less = d .less }
+        looked-dead e = let d = constrained-dead (t .so-far) on r e in record { ended = λ q. d .ended refl; lessened = λ m. absurd (m refl); changed = λ m. absurd (m refl); pending = λ m. absurd (m refl); sixteen = d .sixteen; less = d .less }
 
         pub looked-turn : (changed ≡ DEAD → ⊥) → LookedSoFar p numbers supports ds fs todo some (bitAnd left (left - 1)) (bitOr all changed)
         looked-turn l = record {
@@ -145,7 +149,14 @@ module _ {p : Problem} {numbers supports ds : List ℕ} {todo some : ℕ} (w : L
           so-far = constrained-more (t .so-far) on r l (touched-lt numbers changed) record { waiting-i = λ x j q i. inl (touched .touched-i x j q i); waiting-e = touched .touched-e };
           due = λ j q. ⊎-elim (λ i. ⊎-elim inl (λ d. inr (d .0, or-i all changed (d .0) (inl (d .1)), d .2)) (t .due j i)) (λ i. let x = touched .touched-e j i in inr (x .0, or-i all changed (x .0) (inr (x .1)), x .2)) (or-e (t .next) (touchedOf numbers changed) j q);
           among = λ j q. t .among j (rest-e 64 left (omega arith) (t .so-far .wide) j q);
+          changed = λ x q e. ⊎-elim (λ i. t .changed x i (between x e)) (λ i. subst T (r .moved l x ∙ ap not (eq-eqb (at fs x) (at es x) (e ∙ sym (between x e)))) i) (or-e all changed x q);
         }
           where
+            -- a set that is as it was at first has been so on the way
+            between : (x : ℕ) → at fs x ≡ at ds x → at es x ≡ at ds x
+            between x e =
+                mask-ext 16 (at es x) (at ds x) (t .so-far .sixteen .1 x) (w .pending .given .sixteen .1 x)
+                (λ v b. T-ext (has (at es x) v) (has (at ds x) v) (t .so-far .less x v) (λ q. revised-inside es (constraintAt p k) x v (subst (λ (m : List ℕ). T (has (at m x) v)) (r .sets l) (subst (λ (s : ℕ). T (has s v)) (sym e) q))))
+
             touched : Touched numbers changed (touchedOf numbers changed)
             touched = touched-of (t .so-far .linked) (t .so-far .held .constraints) changed (changed-lt (t .so-far) on r l)

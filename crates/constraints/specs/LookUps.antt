@@ -33,6 +33,7 @@ pub record LookUpsPending (p : Problem) (numbers supports sets : List ℕ) (todo
 pub record LookedUp (p : Problem) (numbers supports sets sets′ : List ℕ) (todo some r : ℕ) : Type 0 where
   pub ended : r ≡ DEAD → Ended p sets
   pub lessened : (r ≡ DEAD → ⊥) → Lessened p sets sets′ r
+  pub changed : (r ≡ DEAD → ⊥) → (x : ℕ) → T (has r x) → at sets′ x ≡ at sets x → ⊥
   pub pending : (r ≡ DEAD → ⊥) → (g : ℕ) → Touched numbers r g → ConstraintsPending p numbers supports sets′ (bitOr (bitAnd todo ((2 ^ 64 - 1) - some)) g)
   pub sixteen : Sets 16 sets′
   pub less : Inside sets′ sets

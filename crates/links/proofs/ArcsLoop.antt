@@ -21,16 +21,18 @@ use Rattle.model.proofs.Firsts.{take-e, take-i}
 use Rattle.model.proofs.Prunes.{prunes-none, prunes-then}
 use Rattle.layout.specs.Places.{DEAD, LOOSE}
 use Rattle.layout.specs.Pruning.{Given, Lessened, Arc, setsOf}
-use Rattle.links.specs.Links.{ArcsPending, ArcsMade}
+use Rattle.links.specs.Links.{ArcsPending, Settled, ArcsMade}
 use Rattle.links.specs.Steps.{CanCut, CutBy}
 use Rattle.links.proofs.Cuts.{is-dead}
+use Rattle.links.proofs.Settled.{settled-goes, settled-stays}
 
-pub record ArcsSoFar (p : Problem) (ds es : List ℕ) (left all : ℕ) : Type 0 where
+pub record ArcsSoFar (p : Problem) (ds es : List ℕ) (left all low : ℕ) : Type 0 where
   pub wide : left < 2 ^ 64
   pub given : Given p es
   pub lessened : Lessened p ds es all
   pub known : (x : ℕ) → T (has left x) → x < p .variables
   pub arcs : (x : ℕ) → x < p .variables → has left x ≡ false → Arc p (setsOf p es) x
+  pub settled : Settled es left low
 
 module _ {p : Problem} {numbers tables ds : List ℕ} {dirty : ℕ} (w : ArcsPending p numbers tables ds dirty) where
   few : p .variables ≤ 12
@@ -39,8 +41,8 @@ module _ {p : Problem} {numbers tables ds : List ℕ} {dirty : ℕ} (w : ArcsPen
   sixteen : p .variables ≤ 16
   sixteen = omega (arith, few)
 
-  pub arcs-begin : dirty < 2 ^ 64 → ArcsSoFar p ds ds dirty 0
-  arcs-begin h = record {
+  pub arcs-begin : {low : ℕ} → dirty < 2 ^ 64 → Settled ds dirty low → ArcsSoFar p ds ds dirty 0 low
+  arcs-begin h s = record {
     wide = h;
     given = w .given;
     lessened = record {
@@ -53,9 +55,10 @@ module _ {p : Problem} {numbers tables ds : List ℕ} {dirty : ℕ} (w : ArcsPen
     };
     known = w .known;
     arcs = w .arcs;
+    settled = s;
   }
 
-  pub arcs-end : {es : List ℕ} {left all : ℕ} → ArcsSoFar p ds es left all → left ≡ 0 → ArcsMade p ds es all
+  pub arcs-end : {es : List ℕ} {left all low : ℕ} → ArcsSoFar p ds es left all low → left ≡ 0 → ArcsMade p ds es all
   arcs-end t e = record {
     ended = λ q. absurd (let l = t .lessened .few 16 (subst (λ (n : ℕ). T (has n 16)) (sym q) is-dead) in omega (arith, few));
     lessened = λ n. t .lessened;
@@ -65,7 +68,7 @@ module _ {p : Problem} {numbers tables ds : List ℕ} {dirty : ℕ} (w : ArcsPen
   }
 
   -- ---- one turn, by the first variable that is left
-  module _ {es : List ℕ} {left all : ℕ} (t : ArcsSoFar p ds es left all) (n : left ≡ 0 → ⊥) where
+  module _ {es : List ℕ} {left all low : ℕ} (t : ArcsSoFar p ds es left all low) (n : left ≡ 0 → ⊥) where
     some : 0 < left
     some = omega arith
 
@@ -75,13 +78,15 @@ module _ {p : Problem} {numbers tables ds : List ℕ} {dirty : ℕ} (w : ArcsPen
     pub arcs-lt : trailingZeros 64 left < 12
     arcs-lt = let l = t .known (trailingZeros 64 left) x-in in omega (arith, few)
 
-    pub arcs-ready : CanCut p tables es (at numbers LOOSE) (trailingZeros 64 left)
+    pub arcs-ready : CanCut p tables es (at numbers LOOSE) (trailingZeros 64 left) low
     arcs-ready = record {
       given = t .given;
       wellFormed = w .wellFormed;
       rowed = w .rowed;
       loosely = λ u v y z. w .linked .loose (trailingZeros 64 left) u v y z;
       known = t .known (trailingZeros 64 left) x-in;
+      settled = λ v y z h i q. settled-goes p es sixteen (t .given .sixteen) y (t .settled .single y h) i (t .arcs y i (t .settled .clean y h)) (trailingZeros 64 left) v z
+          (λ e. of-not (has left y) (t .settled .clean y h) (subst (λ (j : ℕ). T (has left j)) e x-in)) (t .known (trailingZeros 64 left) x-in) q;
     }
 
     pub arcs-dead : {fs : List ℕ} {r : ℕ} → CutBy p es fs (trailingZeros 64 left) r → r ≡ DEAD → ArcsMade p ds fs DEAD
@@ -145,16 +150,25 @@ module _ {p : Problem} {numbers tables ds : List ℕ} {dirty : ℕ} (w : ArcsPen
           go (inl q) = first (rest-i 64 left some (t .wide) y q)
           go (inr q) = arc-stays y h still (t .arcs y h (not-of (has left y) q))
 
+      turn-settled : Settled fs next low
+      turn-settled = record {
+        clean = λ y h. not-of (has next y)
+            (λ q. ⊎-elim (λ z. of-not (has left y) (t .settled .clean y h) (rest-e 64 left some (t .wide) y z))
+            (of-not (has changed y) (settled-stays p es sixteen (t .given .sixteen) y (t .settled .single y h) l (k .changed m))) (or-e (bitAnd left (left - 1)) changed y q));
+        single = λ y h u v a b. t .settled .single y h u v (l .less y u a) (l .less y v b);
+      }
+
       next-wide : changed < 2 ^ 64 → next < 2 ^ 64
       next-wide h = or-lt 64 (bitAnd left (left - 1)) changed (lt-of-le-of-lt (and-le-l left (left - 1)) (t .wide)) h
 
-      pub arcs-turn : changed < 2 ^ 64 → ArcsSoFar p ds fs (bitOr (bitAnd left (left - 1)) changed) (bitOr all changed)
+      pub arcs-turn : changed < 2 ^ 64 → ArcsSoFar p ds fs (bitOr (bitAnd left (left - 1)) changed) (bitOr all changed) low
       arcs-turn h = record {
         wide = next-wide h;
         given = turn-given;
         lessened = turn-lessened;
         known = turn-known;
         arcs = turn-arcs;
+        settled = turn-settled;
       }
 
       -- the measure falls: a set loses a value, or a variable less is left

@@ -5,7 +5,7 @@ use mathlib.Core.Logic.{_⊎_, inl, inr}
 use mathlib.Core.List.{List}
 use Prim.Native.Nat.{ℕ, _-_, _*_, _%_, _^_, _≤_, _<_}
 use native.Mathlib.Omega.{arith}
-use native.Mathlib.Decide.{ℕ-discrete}
+use native.Mathlib.Decide.{ℕ-discrete, decLt}
 use lib.Dec.{T, eqb, eqb→eq, eqb-refl}
 use lib.ListN.{length, set, length-set}
 use lib.Bits.{bitAnd, bitOr}
@@ -14,7 +14,7 @@ use Rattle.model.specs.ValueSets.{has}
 use Rattle.model.proofs.Lists.{T-dec, not-of, of-not, at-set, at-set-other}
 use Rattle.model.proofs.Members.{has-0, or-i, or-e, one-has}
 use Rattle.layout.specs.Places.{DEAD}
-use Rattle.links.specs.Steps.{CutToCover}
+use Rattle.links.specs.Steps.{Spared, CutToCover}
 
 -- of the first twelve sets those from y on are cut so far
 pub record Cutting (ds cover es : List ℕ) (changed y : ℕ) : Type 0 where
@@ -45,15 +45,20 @@ pub is-dead : T (has DEAD 16)
 unfolding has
 is-dead = tt
 
-pub cutting-end : {ds cover es : List ℕ} {changed y : ℕ} → Cutting ds cover es changed y → y ≡ 0 → CutToCover ds cover es changed
+-- where the cut would take nothing from the sets before
+pub cutting-end : {ds cover es : List ℕ} {changed y : ℕ} → Cutting ds cover es changed y → Spared ds cover y → CutToCover ds cover es changed
 cutting-end {ds} {cover} {es} {changed} {y} c h = record {
   dead = λ e. absurd (let q = c .moved 16 (subst (λ (n : ℕ). T (has n 16)) (sym e) is-dead) in omega (arith, q .1));
   sized = c .sized;
   cut-or-kept = cutting-each c;
-  cut = λ n i l. c .cut i (omega arith) l;
+  cut = λ n i l. cut i l (decLt i y);
   kept = λ n i e. c .kept i e;
   changed = λ n i t. let q = c .moved i t in (q .1, q .2, q .3);
 }
+  where
+    cut : (i : ℕ) → i < 12 → Dec (i < y) → at es i ≡ bitAnd (at ds i) (at cover i)
+    cut i l (yes b) = c .kept i (not-of (has changed i) (λ t. omega (arith, c .moved i t .0))) ∙ sym (h i b l)
+    cut i l (no b) = c .cut i (omega arith) l
 
 -- one turn, whose set has the same values in the cover, fewer, or none
 module _ {ds cover es : List ℕ} {changed k : ℕ} (c : Cutting ds cover es changed k) (h : 0 < k) where

@@ -2,5 +2,6 @@
 pub mod Covers
 pub mod Cuts
 pub mod Partners
+pub mod Settled
 pub mod OneCut
 pub mod ArcsLoop

@@ -26,14 +26,14 @@ use Rattle.model.proofs.Prunes.{prunes-none, removal-prunes}
 use Rattle.layout.specs.Places.{DEAD}
 use Rattle.layout.specs.Tables.{goes}
 use Rattle.layout.specs.Pruning.{Lessened, Ended, Arc, setsOf}
-use Rattle.links.specs.Steps.{Narrow, Cover, Covered, CutToCover, CanCut, CutBy}
+use Rattle.links.specs.Steps.{Narrow, Cover, Covered, Spared, CutToCover, CanCut, CutBy}
 use Rattle.links.proofs.Covers.{narrow-at, row, row-cover}
 use Rattle.links.proofs.Partners.{goes-free, goes-kept, row-goes-e, row-goes-i, narrow}
 
 pub bit-in : (s v : ℕ) → bitAnd (s / 2 ^ v) 1 ≡ 1 → T (has s v)
 bit-in s v e = T-of (has s v) (sym (contains-op s v) ∙ eq-eqb (bitAnd (s / 2 ^ v) 1) 1 e)
 
-module _ {p : Problem} {tables ds : List ℕ} {loose x : ℕ} (r : CanCut p tables ds loose x) where
+module _ {p : Problem} {tables ds : List ℕ} {loose x first : ℕ} (r : CanCut p tables ds loose x first) where
   abbrev n : ℕ
   n = p .variables
 
@@ -142,10 +142,22 @@ module _ {p : Problem} {tables ds : List ℕ} {loose x : ℕ} (r : CanCut p tabl
     abbrev cut-at : ℕ → ℕ
     cut-at y = bitAnd (at ds y) (at cover y)
 
-    own-same : (y : ℕ) → y < 16 → (y ≡ x) ⊎ (p .variables ≤ y) → cut-at y ≡ at ds y
-    own-same y l o =
+    -- a set inside the cover is not cut
+    covered-same : (y : ℕ) → ((w : ℕ) → T (has (at ds y) w) → T (has (at cover y) w)) → cut-at y ≡ at ds y
+    covered-same y f =
         mask-ext 16 (cut-at y) (at ds y) (lt-of-le-of-lt (and-le-l (at ds y) (at cover y)) (s .1 y)) (s .1 y)
-        (λ w b. T-ext (has (cut-at y) w) (has (at ds y) w) (λ t. and-e (at ds y) (at cover y) w t .0) (λ t. and-i (at ds y) (at cover y) w t (own y w l o t)))
+        (λ w b. T-ext (has (cut-at y) w) (has (at ds y) w) (λ t. and-e (at ds y) (at cover y) w t .0) (λ t. and-i (at ds y) (at cover y) w t (f w t)))
+
+    own-same : (y : ℕ) → y < 16 → (y ≡ x) ⊎ (p .variables ≤ y) → cut-at y ≡ at ds y
+    own-same y l o = covered-same y (λ w. own y w l o)
+
+    -- nor is one of the first variables, whose values go together with those of x
+    settled-same : Spared ds cover first
+    settled-same y h l = go (decLt y n)
+      where
+        go : Dec (y < n) → cut-at y ≡ at ds y
+        go (yes i) = covered-same y (λ w t. covers (some-value .0) y w (omega arith) (some-value .2) t (r .settled (some-value .0) y w h i (some-value .2) t))
+        go (no o) = own-same y (omega arith) (inr (omega arith))
 
     -- p's sets, cut down to the cover: only values go that a round takes too
     abbrev fs : List ℕ
@@ -258,10 +270,16 @@ module _ {p : Problem} {tables ds : List ℕ} {loose x : ℕ} (r : CanCut p tabl
       }
 
   -- ---- x has one value v: the cover is its row
-  pub by-row : {es : List ℕ} {v a : ℕ} → v ≡ low → withoutMask (at ds x) low ≡ 0 → CutToCover ds (row tables (256 * x + 16 * v)) es a → 256 * x + 16 * v + 16 ≤ length tables → CutBy p ds es x a
-  by-row {es} {v} {a} e z k fits =
-      by-cut (row-cover tables x (at ds x) v fits (narrow-at tables x v (low-lt v e) ready-narrow) (subst (λ (u : ℕ). T (has (at ds x) u)) (sym e) (low-in .0)) (λ u t. one u t (ℕ-discrete u low))) k
-    where
-      one : (u : ℕ) → T (has (at ds x) u) → Dec (u ≡ low) → u ≡ v
-      one u t (yes q) = q ∙ sym e
-      one u t (no n) = absurd (has-0 u (subst (λ (m : ℕ). T (has m u)) z (without-i (at ds x) low u set-small t n)))
+  module _ {v : ℕ} (e : v ≡ low) (z : withoutMask (at ds x) low ≡ 0) (fits : 256 * x + 16 * v + 16 ≤ length tables) where
+    one : (u : ℕ) → T (has (at ds x) u) → Dec (u ≡ low) → u ≡ v
+    one u t (yes q) = q ∙ sym e
+    one u t (no n) = absurd (has-0 u (subst (λ (m : ℕ). T (has m u)) z (without-i (at ds x) low u set-small t n)))
+
+    row-covers : Cover tables x (at ds x) (row tables (256 * x + 16 * v))
+    row-covers = row-cover tables x (at ds x) v fits (narrow-at tables x v (low-lt v e) ready-narrow) (subst (λ (u : ℕ). T (has (at ds x) u)) (sym e) (low-in .0)) (λ u t. one u t (ℕ-discrete u low))
+
+    pub row-spared : Spared ds (row tables (256 * x + 16 * v)) first
+    row-spared = settled-same row-covers
+
+    pub by-row : {es : List ℕ} {a : ℕ} → CutToCover ds (row tables (256 * x + 16 * v)) es a → CutBy p ds es x a
+    by-row k = by-cut row-covers k

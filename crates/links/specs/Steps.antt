@@ -40,6 +40,10 @@ pub record Cover (tables : List ℕ) (x set : ℕ) (cover : List ℕ) : Type 0 w
 abbrev pub Covered : List ℕ → List ℕ → Type 0
 Covered sets cover = (y w : ℕ) → T (has (at sets y) w) → T (has (at cover y) w)
 
+-- the cut down to the cover takes nothing from the sets below `low`
+abbrev pub Spared : List ℕ → List ℕ → ℕ → Type 0
+Spared sets cover low = (y : ℕ) → y < low → y < 12 → bitAnd (at sets y) (at cover y) ≡ at sets y
+
 -- the first twelve sets were cut down to the cover: the answer is DEAD where nothing is left of one, and then some are cut; else the sets that changed
 pub record CutToCover (sets cover sets′ : List ℕ) (r : ℕ) : Type 0 where
   pub dead : r ≡ DEAD → (y : ℕ) × (y < 12) × (bitAnd (at sets y) (at cover y) ≡ 0) × (at sets y ≡ 0 → ⊥)
@@ -55,13 +59,14 @@ Loose p loose x =
     (u v y w : ℕ) → T (has loose x) → T (has (at (p .initial) x) u) → T (has (at (p .initial) x) v) → (u ≡ v → ⊥) →
     T (has (at (p .initial) y) w) → T (either (goes p x u y w) (goes p x v y w))
 
--- ready to cut by the set of x
-pub record CanCut (p : Problem) (tables sets : List ℕ) (loose x : ℕ) : Type 0 where
+-- ready to cut by the set of x, whose values go together with those of the variables below `low`
+pub record CanCut (p : Problem) (tables sets : List ℕ) (loose x low : ℕ) : Type 0 where
   pub given : Given p sets
   pub wellFormed : WellFormed p
   pub rowed : Rows p tables
   pub loosely : Loose p loose x
   pub known : x < p .variables
+  pub settled : (v y w : ℕ) → y < low → y < p .variables → T (has (at sets x) v) → T (has (at sets y) w) → T (goes p x v y w)
 
 -- cut by the set of x: the answer is DEAD at a dead end, else the variables whose sets changed; no set has gained a value
 pub record CutBy (p : Problem) (sets sets′ : List ℕ) (x r : ℕ) : Type 0 where

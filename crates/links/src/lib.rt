@@ -8,8 +8,8 @@ ghost use Prim.Native.Nat.{_+_, _*_, _≤_, _<_};
 ghost use lib.ListN.{length};
 ghost use Rattle.model.specs.Problem.{Problem};
 ghost use Rattle.model.specs.Pruning.{Sets};
-ghost use Rattle.links.specs.Links.{ArcsPending, ArcsMade};
-ghost use Rattle.links.specs.Steps.{Narrow, Added, Cover, Covered, CutToCover, CanCut, CutBy};
+ghost use Rattle.links.specs.Links.{ArcsPending, Settled, ArcsMade};
+ghost use Rattle.links.specs.Steps.{Narrow, Added, Cover, Covered, Spared, CutToCover, CanCut, CutBy};
 
 // Adds sixteen sets of the tables, from a base on, to the cover.
 fn add(cover: &mut [u16; 16], tables: &[u16; 55296], base: usize)
@@ -75,14 +75,15 @@ fn cut(sets: &mut [u16; 16], cover: &[u16; 16]) -> u64
     changed
 }
 
-// Cuts the sets down to a row of the tables, as `cut` does to a cover. They are two functions, since a function with one caller is compiled into it.
-fn cut_row(sets: &mut [u16; 16], row: &[u16]) -> u64
-    requires { ⌜ (length (now sets) ≡ 16) × (length (now row) ≡ 16) ⌝ }
+// Cuts the sets down to a row of the tables, as `cut` does to a cover, but for those below `low`, which lose nothing. They are two functions, since a
+// function with one caller is compiled into it.
+fn cut_row(sets: &mut [u16; 16], row: &[u16], low: usize) -> u64
+    requires { ⌜ (length (now sets) ≡ 16) × (length (now row) ≡ 16) × Spared (now sets) (now row) low ⌝ }
     ensures { λ r. ⌜ CutToCover (now (sets .entry)) (now (row .entry)) (now (sets .exit)) r ⌝ }
 {
     let mut changed = 0u64;
     let mut y = 12;
-    while 0 < y {
+    while low < y {
         y -= 1;
         let old = sets[y];
         let new = old & row[y];
@@ -98,15 +99,15 @@ fn cut_row(sets: &mut [u16; 16], row: &[u16]) -> u64
 }
 
 // Cuts by the set of x: the cover of one value is its row of the tables, and two values leave nothing to do where x is loose.
-fn cut_by(sets: &mut [u16; 16], tables: &[u16; 55296], loose: u64, x: usize) -> u64
-    requires { ⌜ ((p : Problem) × CanCut p (now tables) (now sets) loose x) ⌝ }
-    ensures { λ r. ⌜ ((p : Problem) → CanCut p (now (tables .entry)) (now (sets .entry)) loose x → CutBy p (now (sets .entry)) (now (sets .exit)) x r) ⌝ }
+fn cut_by(sets: &mut [u16; 16], tables: &[u16; 55296], loose: u64, x: usize, low: usize) -> u64
+    requires { ⌜ ((p : Problem) × CanCut p (now tables) (now sets) loose x low) ⌝ }
+    ensures { λ r. ⌜ ((p : Problem) → CanCut p (now (tables .entry)) (now (sets .entry)) loose x low → CutBy p (now (sets .entry)) (now (sets .exit)) x r) ⌝ }
 {
     let set = ValueSet { bits: sets[x] };
     if set.without_lowest().is_empty() {
         let base = 256 * x + 16 * (set.lowest() as usize);
         let rows = &tables[..];
-        return cut_row(sets, &rows[base..base + 16]);
+        return cut_row(sets, &rows[base..base + 16], low);
     }
     if (loose >> x) & 1 == 1 {
         return 0;
@@ -118,8 +119,15 @@ fn cut_by(sets: &mut [u16; 16], tables: &[u16; 55296], loose: u64, x: usize) -> 
     0
 }
 
-// Cuts by the sets of the dirty variables, and again by those that changed, until nothing moves.
-pub fn arcs(sets: &mut [u16; 16], tables: &[u16; 55296], numbers: &[u64; 384], dirty: u64) -> u64
+// Cuts by the sets of the dirty variables, and again by those that changed, until nothing moves. The variables below `low` are settled.
+pub fn arcs(
+    sets: &mut [u16; 16],
+    tables: &[u16; 55296],
+    numbers: &[u64; 384],
+    dirty: u64,
+    low: usize,
+) -> u64
+    requires { ⌜ Settled (now sets) dirty low ⌝ }
     requires { ⌜ ((p : Problem) × ArcsPending p (now numbers) (now tables) (now sets) dirty) ⌝ }
     ensures { λ r. ⌜ ((p : Problem) → ArcsPending p (now (numbers .entry)) (now (tables .entry)) (now (sets .entry)) dirty → ArcsMade p (now (sets .entry)) (now (sets .exit)) r) ⌝ }
 {
@@ -127,7 +135,7 @@ pub fn arcs(sets: &mut [u16; 16], tables: &[u16; 55296], numbers: &[u64; 384], d
     let mut all = 0u64;
     while left != 0 {
         let x = u64::trailing_zeros(left) as usize;
-        let changed = cut_by(sets, tables, numbers[LOOSE], x);
+        let changed = cut_by(sets, tables, numbers[LOOSE], x, low);
         if changed == DEAD {
             return DEAD;
         }

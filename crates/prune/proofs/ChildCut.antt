@@ -1,6 +1,6 @@
 -- The sets of a child once the block's later variables are cut: what may be pruned from there, and a set that is empty. Assumes nothing.
 use mathlib.Core.Path.{_≡_, refl, sym, ap, _∙_, subst}
-use mathlib.Core.Bool.{Bool, true, false}
+use mathlib.Core.Bool.{Bool, true, false, not}
 use mathlib.Core.List.{List}
 use mathlib.Core.Logic.{⊎-elim}
 use Prim.Native.Nat.{ℕ, _+_, _*_, _≤_, _<_}
@@ -8,12 +8,13 @@ use native.Mathlib.Omega.{arith}
 use lib.Dec.{T}
 use lib.Bits.{bitAnd, bitOr}
 use lib.ListN.{length, take}
+use borrow.Author.Tests.{eq-eqb}
 use Rattle.model.specs.Lists.{either, at}
 use Rattle.model.specs.ValueSets.{has}
 use Rattle.model.specs.Problem.{Problem}
 use Rattle.model.specs.Pruning.{Sets, Inside, Way}
-use Rattle.model.proofs.Lists.{T-of, of-not, not-of, both-l, either-l, either-r, either-e}
-use Rattle.model.proofs.Sets.{empty-i}
+use Rattle.model.proofs.Lists.{T-of, T-ext, of-not, not-of, both-l, either-l, either-r, either-e}
+use Rattle.model.proofs.Sets.{empty-i, mask-ext}
 use Rattle.model.proofs.Masks.{has-and, has-or}
 use Rattle.model.proofs.Firsts.{take-at, take-sets, take-length, take-full, full-take}
 use Rattle.model.proofs.Tree.{well-sized}
@@ -22,9 +23,9 @@ use Rattle.layout.specs.Pruning.{Given, setsOf}
 use Rattle.constraints.specs.Steps.{Touched}
 use Rattle.levels.proofs.Marks.{mark-mono}
 use Rattle.block.specs.BlockSets.{Ascends, cutAfter}
-use Rattle.block.proofs.BlockSets.{cut-sets, cut-e}
+use Rattle.block.proofs.BlockSets.{cut-sets, cut-e, cut-i}
 use Rattle.prune.specs.Node.{blockOf, withOrderings}
-use Rattle.prune.specs.Steps.{ArraysHold, Blocked, LiveSets, Startable, BeforeFixpoint, AfterFixpoint, CutOr}
+use Rattle.prune.specs.Steps.{ArraysHold, Blocked, LiveSets, Startable, BeforeFixpoint, LastSettled, AfterFixpoint, CutOr}
 use Rattle.prune.proofs.Pending.{take-less, still-fixed, touched-known, still-arc}
 use Rattle.prune.proofs.FilterLoop.{kept-none}
 use Rattle.prune.proofs.FixpointLoop.{not-live, dead, same-at}
@@ -72,6 +73,15 @@ module _ {p : Problem} {gs : List (List ℕ)} {supports tables numbers : List �
     -- outside of the block nothing changes
     outside : (x : ℕ) → has (at numbers BLOCK) x ≡ false → has changed x ≡ false
     outside x e = not-of (has changed x) (λ t. of-not (has (at numbers BLOCK) x) e (c .few alive x t))
+
+    -- nor up to k
+    early : (x : ℕ) → x ≤ k → has changed x ≡ false
+    early x h = not-of (has changed x) (λ t. of-not (has changed x) (c .differ alive .differ x (c .differ alive .few x t) ∙ ap not (eq-eqb (at cut x) (at ds x) kept)) t)
+      where
+        kept : at cut x ≡ at ds x
+        kept =
+            mask-ext 16 (at cut x) (at ds x) (cut-16 .1 x) (b .live .sixteen .1 x)
+            (λ u l. T-ext (has (at cut x) u) (has (at ds x) u) (less x u) (λ t. subst (λ (l : List ℕ). T (has (at l x) u)) (sym cut-is) (cut-i (blockOf numbers) k v ds x u l t (λ f g i. absurd (omega arith)))))
 
     some : (x : ℕ) → x < p .variables → at cut x ≡ 0 → ⊥
     some x h e = full-take (p .variables) ds (b .live .sixteen) n-16 (b .live .full) x h (go (has (at numbers BLOCK) x) refl)
@@ -124,6 +134,15 @@ module _ {p : Problem} {gs : List (List ℕ)} {supports tables numbers : List �
         marking = λ e h.
             mark-mono p (setsOf p ds) (setsOf p cut) (take j work) e (at work (16 * j + MARKS + e))
             (take-sets (p .variables) cut cut-16 n-16 .0 ∙ sym (take-sets (p .variables) ds (b .live .sixteen) n-16 .0)) inside (b .marking e h);
+      }
+
+      -- variable k is settled last, and no earlier one is dirty
+      pub cut-last : ((x : ℕ) → T (has dirty x) → k ≤ x) → LastSettled (k + 1) dirty′
+      cut-last f = record {
+        some = omega arith;
+        clean = λ y h. not-of (has dirty′ y)
+            (λ q. ⊎-elim (λ i. let g = f y i in omega arith) (λ i. of-not (has changed y) (early y (omega arith)) (both-l (has changed y) (has (at numbers LINKED) y) (subst T (has-and changed (at numbers LINKED) y) i)))
+            (either-e (has dirty y) (has (bitAnd changed (at numbers LINKED)) y) (subst T (has-dirty y) q)));
       }
 
       pub cut-before : Way (withOrderings p gs) (take j work) (setsOf p cut) × Ascends (blockOf numbers) (take j work) (setsOf p cut) → BeforeFixpoint p gs work numbers cut j todo′ dirty′

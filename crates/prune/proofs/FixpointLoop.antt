@@ -1,6 +1,7 @@
 -- Filters and constraints by turns: the loop of `alternate` and its ends, and the look-ups, the cuts by variable and the constraints in front of it. Assumes nothing.
 use mathlib.Core.Path.{_≡_, refl, sym, ap, _∙_, subst}
 use mathlib.Core.Bool.{Bool, true, false, not}
+use mathlib.Core.Logic.{⊎-elim}
 use mathlib.Core.List.{List, [], List·Memᴰ·head}
 use Prim.Native.Nat.{ℕ, _+_, _-_, _*_, _^_, _≤_, _<_}
 use native.Mathlib.Nat.{lt-of-le-of-lt}
@@ -18,7 +19,7 @@ use Rattle.model.proofs.Lists.{T-of, of-T, not-of, of-not, at-ext, both-l, plac
 use Rattle.model.proofs.Sets.{has-none, mask-ext, empty-inside, inside-antisym, size, size-inside, size-strict}
 use Rattle.model.specs.Pruning.{Sets, Inside, closed, Way, Prunes}
 use Rattle.model.proofs.Masks.{has-and}
-use Rattle.model.proofs.Members.{has-0, and-e}
+use Rattle.model.proofs.Members.{has-0, or-e, and-e}
 use Rattle.model.proofs.Firsts.{take-sets, take-i, full-take}
 use Rattle.model.proofs.Prune.{narrowed-e, Sized, Kept, fixed-i, largest, live-is, way-live, way-end}
 use Rattle.model.proofs.Tree.{well-sized}
@@ -27,7 +28,8 @@ use Rattle.layout.specs.Layout.{constraintAt}
 use Rattle.layout.specs.Tables.{LooksUp}
 use Rattle.layout.proofs.Links.{good}
 use Rattle.layout.specs.Pruning.{Given, Ended, setsOf}
-use Rattle.links.specs.Links.{ArcsMade}
+use Rattle.links.specs.Links.{Settled, ArcsMade}
+use Rattle.links.proofs.Settled.{settled-stays}
 use Rattle.constraints.specs.Steps.{OneValue, Touched}
 use Rattle.constraints.specs.LookUps.{LookUp, LookUpsPending, LookedUp}
 use Rattle.constraints.proofs.Touching.{touchedOf, touched-of, touched-parts}
@@ -35,7 +37,7 @@ use Rattle.levels.proofs.Marks.{mark-mono}
 use Rattle.block.specs.BlockSets.{Ascends}
 use Rattle.block.proofs.BlockSets.{ascends-less, way-prunes-own, fixed-whole}
 use Rattle.prune.specs.Node.{MarksRight, blockOf, withOrderings}
-use Rattle.prune.specs.Steps.{ArraysHold, Blocked, Pending, PrunedSoFar, AllConstrained, LiveSets, AllFiltered, EndedAt, OnlyMarks, Startable, BeforeFixpoint, AfterFixpoint, Differ}
+use Rattle.prune.specs.Steps.{ArraysHold, Blocked, Pending, PrunedSoFar, AllConstrained, LiveSets, AllFiltered, EndedAt, OnlyMarks, Startable, BeforeFixpoint, LastSettled, AfterFixpoint, Differ}
 use Rattle.prune.proofs.Pending.{pruned-none, pruned-more, nothing-due, take-less, still-fixed, touched-known, still-arc, constraints-pending, looked-few, looks-turn, arcs-pruned, arcs-turn}
 use Rattle.prune.proofs.FilterLoop.{same-take, kept-none, kept-trans, filtered-begin, filtered-end}
 
@@ -126,6 +128,25 @@ module _ {p : Problem} {gs : List (List ℕ)} {supports tables numbers : List �
   pub looks-done : {fs : List ℕ} {looks looked : ℕ} → LookedUp p numbers supports ds fs todo looks looked → (looked ≡ DEAD → ⊥) →
       BeforeFixpoint p gs work numbers fs k (bitOr (bitAnd todo ((2 ^ 64 - 1) - looks)) (touchedOf numbers looked)) (bitOr dirty (bitAnd looked (at numbers LINKED)))
   looks-done {fs = fs} {looked = looked} l live = let w = looks-turn st (n .startable .pending) l live in pruned-start (pruned-more p ds ds fs looked (pruned-none p ds) (l .lessened live)) (w .given) w
+
+  -- a settled variable has one value
+  settled : (x : ℕ) → x < k → OneValue (at ds x)
+  settled x h = record { some = full-take (p .variables) ds (n .startable .live .sixteen) n-few (n .startable .live .full) x (omega (arith, n .startable .prefix-held .depth)); only = λ u v s t. value u s ∙ sym (value v t) }
+    where
+      value : (w : ℕ) → T (has (at ds x) w) → w ≡ at (take k work) x
+      value w q =
+          narrowed-e (take k work) (p .initial) x w (n .way .inside x w (take-i (p .variables) ds (n .startable .live .sixteen) n-few x w (omega (arith, n .startable .prefix-held .depth)) q)) .1
+          (subst (λ (m : ℕ). x < m) (sym (length-take-le k work (omega (arith, n .startable .prefix-held .depth, n-few, n .startable .prefix-held .work-length)))) h)
+
+  -- the look-ups leave the variables that were settled before as they are
+  pub looks-settled : {fs : List ℕ} {looks looked : ℕ} → LastSettled k dirty → LookedUp p numbers supports ds fs todo looks looked → (looked ≡ DEAD → ⊥) → Settled fs (bitOr dirty (bitAnd looked (at numbers LINKED))) (k - 1)
+  looks-settled {fs = fs} {looked = looked} a l live = record {
+    clean = λ y h. not-of (has (bitOr dirty (bitAnd looked (at numbers LINKED))) y)
+        (λ q. ⊎-elim (of-not (has dirty y) (a .clean y h))
+        (λ i. of-not (has looked y) (settled-stays p ds n-few (n .startable .live .sixteen) y (settled y (omega arith) .only) (l .lessened live) (l .changed live)) (and-e looked (at numbers LINKED) y i .0))
+        (or-e dirty (bitAnd looked (at numbers LINKED)) y q));
+    single = λ y h u v s t. settled y (omega arith) .only u v (l .less y u s) (l .less y v t);
+  }
 
   -- the constraints by variable are done
   arcs-done : {es : List ℕ} {cut touched due : ℕ} → ArcsMade p ds es cut → (cut ≡ DEAD → ⊥) → Touched numbers cut touched → due ≡ bitOr todo touched → BeforeFixpoint p gs work numbers es k due 0
@@ -256,20 +277,11 @@ module _ {p : Problem} {gs : List (List ℕ)} {supports tables numbers : List �
 
 -- ---- before the turns: the look-ups, and then the constraints by variable
 module _ {p : Problem} {gs : List (List ℕ)} {supports tables numbers : List ℕ} (st : ArraysHold p supports tables numbers) (bl : Blocked p gs numbers) {work ds : List ℕ} {k todo dirty : ℕ} (n : BeforeFixpoint p gs work numbers ds k todo dirty) (wide : todo < 2 ^ 64) where
-  -- a settled variable has one value
-  settled : (x : ℕ) → x < k → OneValue (at ds x)
-  settled x h = record { some = full-take (p .variables) ds (n .startable .live .sixteen) (omega (arith, st .wellFormed .few)) (n .startable .live .full) x (omega (arith, n .startable .prefix-held .depth)); only = λ u v s t. value u s ∙ sym (value v t) }
-    where
-      value : (w : ℕ) → T (has (at ds x) w) → w ≡ at (take k work) x
-      value w q =
-          narrowed-e (take k work) (p .initial) x w (n .way .inside x w (take-i (p .variables) ds (n .startable .live .sixteen) (omega (arith, st .wellFormed .few)) x w (omega (arith, n .startable .prefix-held .depth)) q)) .1
-          (subst (λ (m : ℕ). x < m) (sym (length-take-le k work (omega (arith, n .startable .prefix-held .depth, st .wellFormed .few, n .startable .prefix-held .work-length)))) h)
-
   pub looks-pending : LookUpsPending p numbers supports ds todo (bitAnd todo (at numbers (LOOKS + k)))
   looks-pending = record { pending = constraints-pending st (n .startable .pending); wide = wide; looks = look }
     where
       look : (c : ℕ) → T (has (bitAnd todo (at numbers (LOOKS + k))) c) → LookUp p ds c
-      look c t = record { known = l .known; three = l .three; first = settled _ (omega (arith, l .second, order)); second = settled _ (omega (arith, l .second)) }
+      look c t = record { known = l .known; three = l .three; first = settled st bl n _ (omega (arith, l .second, order)); second = settled st bl n _ (omega (arith, l .second)) }
         where
           l : LooksUp p k c
           l = st .indexed .looks k c (omega (arith, n .startable .prefix-held .depth, st .wellFormed .few)) (and-e todo (at numbers (LOOKS + k)) c t .1)

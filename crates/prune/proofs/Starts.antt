@@ -7,7 +7,7 @@ use native.Mathlib.Nat.{mod-eq-of-lt}
 use native.Mathlib.Numerals.{add-one}
 use native.Mathlib.Omega.{arith}
 use native.Mathlib.Decide.{ℕ-discrete}
-use lib.Dec.{T, eqb, ltb, eqb-refl}
+use lib.Dec.{T, eqb, ltb, eqb→eq, eqb-refl}
 use lib.Bits.{bitAnd}
 use lib.ListN.{length, set, take}
 use lib.Pow.{pow-pos, pow-lt}
@@ -17,7 +17,7 @@ use Rattle.model.specs.Lists.{both, any, at}
 use Rattle.model.specs.ValueSets.{has, onlyMask, anyEmpty}
 use Rattle.model.specs.Problem.{Problem}
 use Rattle.model.specs.Search.{narrowed, setsAt, isLive}
-use Rattle.model.proofs.Lists.{T-of, of-T, not-of, of-not, at-ext, at-out, both-i, both-l, among-i, mem-at, at-set, at-set-other, at-take}
+use Rattle.model.proofs.Lists.{T-of, of-T, not-of, of-not, at-ext, at-out, both-i, both-l, both-r, among-i, mem-at, at-set, at-set-other, at-take}
 use Rattle.model.proofs.Sets.{has-none, has-lt, member, empty-i, inside-refl, set-sets}
 use Rattle.model.specs.Pruning.{Sets, Inside, closed, Way}
 use Rattle.model.proofs.Masks.{has-and, has-not, has-one}
@@ -381,12 +381,18 @@ module _ {p : Problem} {gs : List (List ℕ)} {stack work supports tables number
           ap (λ (z : ℕ). has z x) (f .1 n) ∙ has-and (at numbers LINKED) (1 * 2 ^ k % 2 ^ 64) x
           ∙ ap (both (has (at numbers LINKED) x)) (ap (λ (z : ℕ). has z x) (one-bit 64 k (omega (arith, k-12))) ∙ has-one k x)
 
-      inner : (x : ℕ) → T (has dirty x) → x < p .variables
-      inner x t = go (ℕ-discrete (at sets k) one)
+      dirty-e : (x : ℕ) → T (has dirty x) → T (both (has (at numbers LINKED) x) (eqb x k))
+      dirty-e x t = go (ℕ-discrete (at sets k) one)
         where
-          go : Dec (at sets k ≡ one) → x < p .variables
+          go : Dec (at sets k ≡ one) → T (both (has (at numbers LINKED) x) (eqb x k))
           go (yes e) = absurd (of-not (has 0 x) (has-none x) (subst (λ (z : ℕ). T (has z x)) (f .0 e) t))
-          go (no n) = a .ready .indexed .linked .linked-few x (both-l (has (at numbers LINKED) x) (eqb x k) (subst T (has-dirty n x) t))
+          go (no n) = subst T (has-dirty n x) t
+
+      inner : (x : ℕ) → T (has dirty x) → x < p .variables
+      inner x t = a .ready .indexed .linked .linked-few x (both-l (has (at numbers LINKED) x) (eqb x k) (dirty-e x t))
+
+      pub child-later : (x : ℕ) → T (has dirty x) → k ≤ x
+      child-later x t = let e = eqb→eq x k (both-r (has (at numbers LINKED) x) (eqb x k) (dirty-e x t)) in omega arith
 
       arcs : (x : ℕ) → x < p .variables → has dirty x ≡ false → Arc p (setsOf p (set sets k one)) x
       arcs x h n = go (ℕ-discrete (at sets k) one) (ℕ-discrete x k)

@@ -3,7 +3,7 @@
 use mathlib.Core.Path.{_≡_}
 use mathlib.Core.Bool.{Bool, true, false, not}
 use mathlib.Core.List.{List, List·Memᴰ}
-use Prim.Native.Nat.{ℕ, _+_, _*_, _≤_, _<_}
+use Prim.Native.Nat.{ℕ, _+_, _-_, _*_, _≤_, _<_}
 use lib.Dec.{T, eqb, ltb}
 use lib.ListN.{length, take}
 use Rattle.model.specs.Lists.{both, at, tabulate}
@@ -107,6 +107,11 @@ pub record BeforeFixpoint (p : Problem) (gs : List (List ℕ)) (work numbers set
   pub startable : Startable p work numbers sets k todo dirty
   pub way : Way (withOrderings p gs) (take k work) (setsOf p sets)
   pub ascends : Ascends (blockOf numbers) (take k work) (setsOf p sets)
+
+-- of the first k variables the last is settled now: those before it were settled at earlier depths, and none of them is dirty
+pub record LastSettled (k dirty : ℕ) : Type 0 where
+  pub some : 1 ≤ k
+  pub clean : (y : ℕ) → y < k - 1 → has dirty y ≡ false
 
 -- there: the answer is whether the prefix is dead, and where it is live, the sets are those at the prefix, and the marks are right for them
 pub record AfterFixpoint (p : Problem) (gs : List (List ℕ)) (k : ℕ) (work work′ sets : List ℕ) (dead : Bool) : Type 0 where

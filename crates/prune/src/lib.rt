@@ -24,7 +24,7 @@ ghost use Rattle.block.specs.BlockSets.{cutAfter};
 ghost use Rattle.layout.specs.Places.{INITIAL, SYMMETRIES};
 ghost use Rattle.layout.specs.Pruning.{setsOf};
 ghost use Rattle.prune.specs.Node.{Ready, MarksRight, AtNode, Reached, longer};
-ghost use Rattle.prune.specs.Steps.{ArraysHold, Blocked, Pending, AllConstrainedOr, PrefixHeld, LiveSets, AllFilteredOr, BeforeFixpoint, AfterFixpoint, Differ, cutBelow, CutOr, Loaded, Stored, MarksCopied};
+ghost use Rattle.prune.specs.Steps.{ArraysHold, Blocked, Pending, AllConstrainedOr, PrefixHeld, LiveSets, AllFilteredOr, BeforeFixpoint, LastSettled, AfterFixpoint, Differ, cutBelow, CutOr, Loaded, Stored, MarksCopied};
 
 // Prunes by the constraints until nothing moves, those by variable and the others by turns; true where a set is empty.
 fn constrain(
@@ -42,7 +42,7 @@ fn constrain(
     let mut left = todo;
     let mut moved = dirty;
     loop {
-        let cut = links::arcs(sets, tables, numbers, moved);
+        let cut = links::arcs(sets, tables, numbers, moved, 0);
         if cut == DEAD {
             return true;
         }
@@ -149,7 +149,7 @@ fn fixpoint(
     todo: u64,
     dirty: u64,
 ) -> bool
-    requires { ⌜ ((p : Problem) × (gs : List (List ℕ)) × ArraysHold p (now supports) (now tables) (now numbers) × Blocked p gs (now numbers) × BeforeFixpoint p gs (now work) (now numbers) (now sets) k todo dirty) ⌝ }
+    requires { ⌜ ((p : Problem) × (gs : List (List ℕ)) × ArraysHold p (now supports) (now tables) (now numbers) × Blocked p gs (now numbers) × BeforeFixpoint p gs (now work) (now numbers) (now sets) k todo dirty × LastSettled k dirty) ⌝ }
     ensures { λ r. ⌜ ((p : Problem) (gs : List (List ℕ)) → ArraysHold p (now (supports .entry)) (now (tables .entry)) (now (numbers .entry)) → Blocked p gs (now (numbers .entry)) → BeforeFixpoint p gs (now (work .entry)) (now (numbers .entry)) (now (sets .entry)) k todo dirty → AfterFixpoint p gs k (now (work .entry)) (now (work .exit)) (now (sets .exit)) r) ⌝ }
 {
     let looks = todo & numbers[LOOKS + k];
@@ -157,7 +157,8 @@ fn fixpoint(
     if looked == DEAD {
         return true;
     }
-    let cut = links::arcs(sets, tables, numbers, dirty | (looked & numbers[LINKED]));
+    let moved = dirty | (looked & numbers[LINKED]);
+    let cut = links::arcs(sets, tables, numbers, moved, k - 1);
     if cut == DEAD {
         return true;
     }

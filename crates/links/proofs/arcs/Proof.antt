@@ -11,27 +11,27 @@ use Rattle.links.proofs.arcs.Statement.{statement}
 use Rattle.links.proofs.arcs.Tie as tie
 
 abbrev Inv-loop : tie.InvT-loop
-Inv-loop sets₀ tables numbers dirty left₀ all₀ sets left all = (p : Problem) → ArcsPending p numbers tables sets₀ dirty → ArcsSoFar p sets₀ sets left all
+Inv-loop sets₀ tables numbers dirty low left₀ all₀ sets left all = (p : Problem) → ArcsPending p numbers tables sets₀ dirty → ArcsSoFar p sets₀ sets left all low
 
 abbrev μ-loop : tie.MeasureT-loop
-μ-loop sets₀ tables numbers dirty left₀ all₀ sets left all = size sets * 2 ^ 64 + left
+μ-loop sets₀ tables numbers dirty low left₀ all₀ sets left all = size sets * 2 ^ 64 + left
 
 -- the invariant in a turn, for the problem of the `requires`
-so-far : (c : tie.In-loop Inv-loop μ-loop) → ArcsSoFar (c .before .before .pre .0) (c .before .before .args .sets .now) (c .before .loop .sets) (c .before .loop .left) (c .before .loop .all)
-so-far c = c .before .loop .inv (c .before .before .pre .0) (c .before .before .pre .1)
+so-far : (c : tie.In-loop Inv-loop μ-loop) → let d = c .before .before in ArcsSoFar (d .pre .1 .0) (d .args .sets .now) (c .before .loop .sets) (c .before .loop .left) (c .before .loop .all) (d .args .low)
+so-far c = let q = c .before .before .pre .1 in c .before .loop .inv (q .0) (q .1)
 
 loop-holds : tie.Need-loop-holds Inv-loop μ-loop
-loop-holds c = λ p w. arcs-begin w (search needs)
+loop-holds c = λ p w. arcs-begin w (search needs) (c .pre .0)
 
 cast-x : tie.Need-cast-x Inv-loop μ-loop
-cast-x c = omega (arith, arcs-lt (c .before .before .pre .1) (so-far c) (c .loop-test .taken))
+cast-x c = omega (arith, arcs-lt (c .before .before .pre .1 .1) (so-far c) (c .loop-test .taken))
 
 element-copy-out-cut-by : tie.Need-element-copy-out-cut-by Inv-loop μ-loop
 element-copy-out-cut-by c = search needs
 
 cut-by-requires : tie.Need-cut-by-requires Inv-loop μ-loop
 unfolding at
-cut-by-requires c κs = let i = c .before .before in (_, arcs-ready (i .before .before .pre .1) (so-far i) (i .loop-test .taken))
+cut-by-requires c κs = let i = c .before .before in (_, arcs-ready (i .before .before .pre .1 .1) (so-far i) (i .loop-test .taken))
 
 returns : tie.Need-returns Inv-loop μ-loop
 unfolding at
@@ -47,7 +47,7 @@ loop-less : tie.Need-loop-less Inv-loop μ-loop
 unfolding at
 loop-less c =
     let i = c .before .before .before .before in
-    let w = i .before .before .pre .1 in
+    let w = i .before .before .pre .1 .1 in
     let t = so-far i in
     arcs-less w t (i .loop-test .taken) (c .before .cut-by .ensures _ (arcs-ready w t (i .loop-test .taken))) (c .if1 .left) (search needs)
 

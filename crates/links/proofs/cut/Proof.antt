@@ -57,7 +57,7 @@ unfolding at
 loop-again-2 c = let i = c .before .before .before in cutting-same (i .before .loop .inv) (i .loop-test .taken) (c .if1 .left)
 
 returns-2 : tie.Need-returns-2 Inv-loop μ-loop
-returns-2 c = cutting-end (c .before .loop .inv) (omega arith)
+returns-2 c = cutting-end (c .before .loop .inv) (λ i h l. absurd (omega arith))
 
 pub cut-spec : {M : Type 1} → statement M
 cut-spec =

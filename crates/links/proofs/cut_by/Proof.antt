@@ -4,15 +4,15 @@ use native.Mathlib.Omega.{arith}
 use borrow.Author.Needs.{needs}
 use borrow.Author.Tests.{eqb-true, eqb-false}
 use Rattle.model.specs.Lists.{at}
-use Rattle.links.proofs.OneCut.{x-lt, low-lt, ready-narrow, bit-in, by-loose, by-covered, by-cut, by-row}
+use Rattle.links.proofs.OneCut.{x-lt, low-lt, ready-narrow, bit-in, by-loose, by-covered, by-cut, row-spared, by-row}
 use Rattle.links.proofs.cut_by.Statement.{statement}
 use Rattle.links.proofs.cut_by.Tie as tie
 
-mul-t9 : tie.Need-mul-t9
-mul-t9 c = search needs
+mul-t10 : tie.Need-mul-t10
+mul-t10 c = search needs
 
-element-copy-out-t12 : tie.Need-element-copy-out-t12
-element-copy-out-t12 c = search needs
+element-copy-out-t13 : tie.Need-element-copy-out-t13
+element-copy-out-t13 c = search needs
 
 without-lowest-requires : tie.Need-without-lowest-requires
 without-lowest-requires c κs = search needs
@@ -55,14 +55,18 @@ part-cut-row-end c =
     omega (arith, x-lt w, low-lt w _ (i .lowest .ensures))
 
 cut-row-requires : tie.Need-cut-row-requires
-cut-row-requires c κs = search needs
+unfolding at
+cut-row-requires c κs =
+    let i = c .before .before .before in
+    let w = i .before .before .before .before .before .pre .1 in
+    (search needs, search needs, row-spared w (i .lowest .ensures) (sym (i .before .before .before .without-lowest .ensures) ∙ eqb-true _ 0 (sym (i .before .before .is-empty .ensures) ∙ i .before .if1 .taken)) (part-cut-row-end (c .before)))
 
 returns : tie.Need-returns
 unfolding at
 returns c =
     let i = c .before .before .before .before in
     let e = eqb-true _ 0 (sym (i .before .before .is-empty .ensures) ∙ i .before .if1 .taken) in
-    λ p w. by-row w (i .lowest .ensures) (sym (i .before .before .before .without-lowest .ensures) ∙ e) (c .cut-row .ensures) (part-cut-row-end (c .before .before))
+    λ p w. by-row w (i .lowest .ensures) (sym (i .before .before .before .without-lowest .ensures) ∙ e) (part-cut-row-end (c .before .before)) (c .cut-row .ensures)
 
 shr-if2 : tie.Need-shr-if2
 shr-if2 c = search needs
@@ -94,8 +98,8 @@ pub cut-by-spec : {M : Type 1} → statement M
 cut-by-spec =
     tie.close
     (tie.spec
-    mul-t9
-    element-copy-out-t12
+    mul-t10
+    element-copy-out-t13
     without-lowest-requires
     is-empty-requires
     mul-base

@@ -1,4 +1,4 @@
--- The loop, as in `cut`, over a row: the sets from y on are cut, those before are as they came, and `changed` has those that are smaller. Assumes nothing.
+-- The loop, as in `cut`, over a row: the sets from y on are cut, those before are as they came (of those below `low` nothing would go), and `changed` has those that are smaller. Assumes nothing.
 use native.Mathlib.Omega.{arith}
 use Rattle.model.specs.Lists.{at}
 use Rattle.links.proofs.Cuts.{Cutting, cutting-begin, cutting-end, cutting-dead, cutting-less, cutting-same}
@@ -6,10 +6,10 @@ use Rattle.links.proofs.cut_row.Statement.{statement}
 use Rattle.links.proofs.cut_row.Tie as tie
 
 abbrev Inv-loop : tie.InvT-loop
-Inv-loop sets₀ row changed₀ y₀ sets changed y = Cutting sets₀ row sets changed y
+Inv-loop sets₀ row low changed₀ y₀ sets changed y = Cutting sets₀ row sets changed y
 
 abbrev μ-loop : tie.MeasureT-loop
-μ-loop sets₀ row changed₀ y₀ sets changed y = y
+μ-loop sets₀ row low changed₀ y₀ sets changed y = y
 
 loop-holds : tie.Need-loop-holds Inv-loop μ-loop
 loop-holds c = cutting-begin _ _ (c .pre .0)
@@ -31,7 +31,7 @@ shared-slice-read-new c = omega arith
 
 returns : tie.Need-returns Inv-loop μ-loop
 unfolding at
-returns c = let i = c .before .before .before .before in cutting-dead (i .before .loop .inv) (i .loop-test .taken) (c .before .if1 .taken) (c .if2 .taken)
+returns c = let i = c .before .before .before .before in cutting-dead (i .before .loop .inv) (omega arith) (c .before .if1 .taken) (c .if2 .taken)
 
 mul-sets : tie.Need-mul-sets Inv-loop μ-loop
 mul-sets c = omega arith
@@ -47,17 +47,17 @@ loop-less c = omega arith
 
 loop-again : tie.Need-loop-again Inv-loop μ-loop
 unfolding at
-loop-again c = let i = c .before .before .before .before in cutting-less (i .before .loop .inv) (i .loop-test .taken) (c .before .if1 .taken) (c .if2 .left)
+loop-again c = let i = c .before .before .before .before in cutting-less (i .before .loop .inv) (omega arith) (c .before .if1 .taken) (c .if2 .left)
 
 loop-less-2 : tie.Need-loop-less-2 Inv-loop μ-loop
 loop-less-2 c = omega arith
 
 loop-again-2 : tie.Need-loop-again-2 Inv-loop μ-loop
 unfolding at
-loop-again-2 c = let i = c .before .before .before in cutting-same (i .before .loop .inv) (i .loop-test .taken) (c .if1 .left)
+loop-again-2 c = let i = c .before .before .before in cutting-same (i .before .loop .inv) (omega arith) (c .if1 .left)
 
 returns-2 : tie.Need-returns-2 Inv-loop μ-loop
-returns-2 c = cutting-end (c .before .loop .inv) (omega arith)
+returns-2 c = cutting-end (c .before .loop .inv) (λ i h l. c .before .before .pre .2 i (omega arith) l)
 
 pub cut-row-spec : {M : Type 1} → statement M
 cut-row-spec =

@@ -4,6 +4,7 @@ use native.Mathlib.Nat.{lt-of-lt-of-le}
 use borrow.Author.Needs.{needs}
 use Rattle.model.specs.Problem.{Problem}
 use Rattle.model.proofs.Sets.{size}
+use Rattle.links.proofs.Settled.{none-settled}
 use Rattle.prune.specs.Steps.{ArraysHold, Pending, PrunedSoFar}
 use Rattle.prune.proofs.Pending.{pruned-none, ended-more, all-constrained-dead, all-constrained-live, nothing-due, arcs-pending, arcs-pruned, arcs-size, arcs-turn, constraints-pending, pending-turn, pruned-turn, pending-less}
 use Rattle.prune.proofs.constrain.Statement.{statement}
@@ -20,7 +21,7 @@ loop-holds : tie.Need-loop-holds Inv-loop μ-loop
 loop-holds c = λ p s w. (pruned-none p _, w)
 
 arcs-requires : tie.Need-arcs-requires Inv-loop μ-loop
-arcs-requires c κs = let q = c .before .before .pre in (q .0, arcs-pending (q .1) (c .before .loop .inv (q .0) (q .1) (q .2) .1))
+arcs-requires c κs = let q = c .before .before .pre in (none-settled _ _, (q .0, arcs-pending (q .1) (c .before .loop .inv (q .0) (q .1) (q .2) .1)))
 
 returns : tie.Need-returns Inv-loop μ-loop
 returns c = λ p s w.

@@ -13,7 +13,7 @@ use Rattle.constraints.proofs.Touching.{touchedOf}
 use Rattle.prune.specs.Steps.{ArraysHold, Blocked, AllConstrained, BeforeFixpoint}
 use Rattle.prune.proofs.Pending.{pruned-none, nothing-due, arcs-pending}
 use Rattle.prune.proofs.Starts.{some-one}
-use Rattle.prune.proofs.FixpointLoop.{constrained-dead, constrained-done, looks-pending, looks-done, cuts-done, bare-end}
+use Rattle.prune.proofs.FixpointLoop.{constrained-dead, constrained-done, looks-pending, looks-settled, looks-done, cuts-done, bare-end}
 use Rattle.prune.proofs.fixpoint.Statement.{statement}
 use Rattle.prune.proofs.fixpoint.Tie as tie
 
@@ -66,12 +66,18 @@ returns : tie.Need-returns
 unfolding at
 returns c = λ p gs s b n. constrained-dead s b n _ (c .before .look-ups .ensures p _ (looks-pending s b n (wide (c .before .before .before .before))) .ended (c .if1 .taken))
 
-element-copy-out-arcs : tie.Need-element-copy-out-arcs
-element-copy-out-arcs c = search needs
+element-copy-out-moved : tie.Need-element-copy-out-moved
+element-copy-out-moved c = search needs
+
+sub-arcs : tie.Need-sub-arcs
+sub-arcs c = c .before .before .before .before .before .before .pre .5 .some
 
 arcs-requires : tie.Need-arcs-requires
 unfolding at
-arcs-requires c κs = let q = c .before .before .before .before .before .before .pre in (q .0, arcs-pending (q .2) (looks-made (c .before .before) (q .0) (q .1) (q .2) (q .3) (q .4) .startable .pending))
+arcs-requires c κs = let q = c .before .before .before .before .before .before .pre in (
+  looks-settled (q .2) (q .3) (q .4) (q .5) (c .before .before .before .look-ups .ensures (q .0) _ (looks-pending (q .2) (q .3) (q .4) (wide (c .before .before .before .before .before .before)))) (c .before .before .if1 .left),
+  (q .0, arcs-pending (q .2) (looks-made (c .before .before) (q .0) (q .1) (q .2) (q .3) (q .4) .startable .pending)),
+)
 
 returns-2 : tie.Need-returns-2
 unfolding at
@@ -118,7 +124,8 @@ fixpoint-spec =
     element-copy-out-looks
     look-ups-requires
     returns
-    element-copy-out-arcs
+    element-copy-out-moved
+    sub-arcs
     arcs-requires
     returns-2
     touched-requires
