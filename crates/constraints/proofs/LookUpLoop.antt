@@ -1,9 +1,9 @@
 -- Look-ups: one constraint whose first two sets have one value each, and the loop over some of them. Assumes nothing.
-use mathlib.Core.Path.{_≡_, refl, sym, ap, _∙_, subst}
+use mathlib.Core.Path.{_≡_, refl, sym, ap, ap₂, _∙_, subst}
 use mathlib.Core.Bool.{false, not}
 use mathlib.Core.Logic.{_⊎_, inl, inr, ⊎-elim}
-use mathlib.Core.List.{List, []}
-use Prim.Native.Nat.{ℕ, _+_, _-_, _/_, _%_, _^_, _≤_, _<_}
+use mathlib.Core.List.{List, [], List·Memᴰ·head, List·Memᴰ·tail}
+use Prim.Native.Nat.{ℕ, _+_, _-_, _*_, _/_, _%_, _^_, _≤_, _<_}
 use native.Mathlib.Nat.{lt-of-le-of-lt}
 use native.Mathlib.Omega.{arith}
 use lib.Dec.{T, eqb-refl}
@@ -12,10 +12,11 @@ use lib.Bits.{bitAnd, bitOr, and-le-l}
 use lib.Count.{trailingZeros}
 use borrow.Author.Tests.{eq-eqb}
 use Rattle.model.specs.Lists.{at}
-use Rattle.model.specs.ValueSets.{has, anyEmpty}
+use Rattle.model.specs.ValueSets.{has, anyEmpty, lowestOf}
 use Rattle.model.specs.Problem.{Problem}
 use Rattle.model.proofs.Lists.{not-of, of-not, T-of, T-ext, both-i, mem-at}
-use Rattle.model.proofs.Sets.{has-none, has-lt, mask-ext}
+use Rattle.model.proofs.Sets.{has-none, has-lt, mask-ext, member}
+use Rattle.model.specs.Pruning.{Sets}
 use Rattle.model.proofs.Masks.{has-one}
 use Rattle.model.proofs.Members.{has-0, low-has, or-i, or-e, and-e, rest-e}
 use Rattle.model.proofs.Firsts.{take-full}
@@ -24,25 +25,46 @@ use Rattle.layout.specs.Layout.{constraintAt}
 use Rattle.layout.specs.Pruning.{setsOf}
 use Rattle.layout.proofs.Links.{good}
 use Rattle.constraints.specs.Revised.{Revision}
-use Rattle.constraints.specs.Steps.{OneValue, Scoped, ConstraintsHeld, Touched}
-use Rattle.constraints.specs.LookUps.{LookUp, LookUpsPending, LookedUp}
+use Rattle.constraints.specs.Steps.{OneValue, Scoped, ConstraintsHeld, SetCut, Touched}
+use Rattle.constraints.specs.LookUps.{Alone, LookUp, LookUpsPending, LookedUp}
 use Rattle.constraints.proofs.Bits.{without-has}
+use Rattle.constraints.proofs.Unions.{single}
 use Rattle.constraints.proofs.Rows.{revised-inside}
 use Rattle.constraints.proofs.Removal.{fixed-take}
+use Rattle.constraints.proofs.Stores.{three-last, u-has}
 use Rattle.constraints.proofs.Scopes.{scope3, scoped-3}
 use Rattle.constraints.proofs.Touching.{touchedOf, touched-lt, touched-of}
 use Rattle.constraints.proofs.ConstrainLoop.{without, Chosen, ConstrainedSoFar, constrained-begin, k-few, k-full, changed-lt, constrained-dead, constrained-more}
 
 -- ---- one constraint
-module _ {p : Problem} {numbers supports ds : List ℕ} {k : ℕ} (g : ConstraintsHeld p numbers supports) (l : LookUp p ds k) where
-  pub look-scoped : Scoped (constraintAt p k) supports k (scope3 (at numbers (SCOPES + k)))
+module _ {p : Problem} {numbers supports ds : List ℕ} {k v : ℕ} (g : ConstraintsHeld p numbers supports) (l : LookUp p ds k v) (s : Sets 16 ds) where
+  abbrev x : ℕ
+  x = at numbers (SCOPES + k) / 256 % 256
+
+  abbrev y : ℕ
+  y = at numbers (SCOPES + k) / 65536 % 256
+
+  look-scoped : Scoped (constraintAt p k) supports k (scope3 (at numbers (SCOPES + k)))
   look-scoped = scoped-3 g k (l .known) (g .numbered .arity k (l .known) ∙ l .three)
 
-  pub look-values : OneValue (at ds (at numbers (SCOPES + k) / 256 % 256)) × OneValue (at ds (at numbers (SCOPES + k) / 65536 % 256))
-  look-values = (subst one (sym (g .numbered .scope k 0 (l .known) (omega (arith, l .three)))) (l .first), subst one (sym (g .numbered .scope k 1 (l .known) (omega (arith, l .three)))) (l .second))
-    where
-      one : ℕ → Type 0
-      one x = OneValue (at ds x)
+  first : OneValue (at ds x)
+  first = subst (λ (i : ℕ). OneValue (at ds i)) (sym (g .numbered .scope k 0 (l .known) (omega (arith, l .three)))) (l .first)
+
+  second : Alone (at ds y) v
+  second = subst (λ (i : ℕ). Alone (at ds i) v) (sym (g .numbered .scope k 1 (l .known) (omega (arith, l .three)))) (l .second)
+
+  pub look-first : at numbers (SCOPES + k) / 256 % 256 < 16
+  look-first = look-scoped .inside _ (List·Memᴰ·head refl)
+
+  -- the third variable, and the place of its values in the table
+  pub look-place : (u : ℕ) → u ≡ lowestOf (at ds (at numbers (SCOPES + k) / 256 % 256)) → (at numbers (SCOPES + k) / 16777216 % 256 < 16) × (256 * k + 16 * u + v < 8192)
+  look-place u e = (
+    look-scoped .inside _ (List·Memᴰ·tail (List·Memᴰ·tail (List·Memᴰ·head refl))),
+    omega (arith, e, u-has look-scoped ds s first (second .0) .1, has-lt 16 (at ds y) v (s .1 y) (second .1), look-scoped .room),
+  )
+
+  pub look-made : {es : List ℕ} {r : ℕ} (u : ℕ) → u ≡ lowestOf (at ds (at numbers (SCOPES + k) / 256 % 256)) → SetCut ds es (at numbers (SCOPES + k) / 16777216 % 256) (bitAnd (at ds (at numbers (SCOPES + k) / 16777216 % 256)) (at supports (256 * k + 16 * u + v))) r → Revision (constraintAt p k) ds es r
+  look-made {es} {r} u e a = three-last look-scoped ds s first (second .0) _ (ap₂ (λ (i j : ℕ). 256 * k + 16 * i + j) e (single (at ds y) (s .1 y) (second .0) v (second .1))) es r a
 
 -- ---- the loop
 -- only the constraints left, those of `todo` that are not looked up, and those of the changed variables may take something
@@ -53,7 +75,7 @@ pub record LookedSoFar (p : Problem) (numbers supports ds es : List ℕ) (todo s
   pub among : (j : ℕ) → T (has left j) → T (has some j)
   pub changed : (x : ℕ) → T (has all x) → at es x ≡ at ds x → ⊥
 
-module _ {p : Problem} {numbers supports ds : List ℕ} {todo some : ℕ} (w : LookUpsPending p numbers supports ds todo some) where
+module _ {p : Problem} {numbers supports ds : List ℕ} {todo some v : ℕ} (w : LookUpsPending p numbers supports ds todo some v) where
   n-few : p .variables ≤ 16
   n-few = omega (arith, w .pending .wellFormed .few)
 
@@ -130,14 +152,20 @@ module _ {p : Problem} {numbers supports ds : List ℕ} {todo some : ℕ} (w : L
       pub look-few : trailingZeros 64 left < 32
       look-few = k-few (t .so-far) on
 
-      pub look-next : LookUp p es (trailingZeros 64 left)
-      look-next = record { known = l .known; three = l .three; first = one 0 (omega (arith, l .three)) (l .first); second = one 1 (omega (arith, l .three)) (l .second) }
+      pub look-next : LookUp p es (trailingZeros 64 left) v
+      look-next = record { known = l .known; three = l .three; first = one 0 (omega (arith, l .three)) (l .first); second = alone 1 (omega (arith, l .three)) (l .second) }
         where
-          l : LookUp p ds k
+          l : LookUp p ds k v
           l = w .looks k (t .among k (low-has 64 left (omega arith) (t .so-far .wide) .0))
 
           one : (i : ℕ) → i < length (constraintAt p k .scope) → OneValue (at ds (at (constraintAt p k .scope) i)) → OneValue (at es (at (constraintAt p k .scope) i))
           one i h o = record { some = k-full (t .so-far) on _ (mem-at (constraintAt p k .scope) i h); only = λ a b q r. o .only a b (t .so-far .less _ a q) (t .so-far .less _ b r) }
+
+          alone : (i : ℕ) → i < length (constraintAt p k .scope) → Alone (at ds (at (constraintAt p k .scope) i)) v → Alone (at es (at (constraintAt p k .scope) i)) v
+          alone i h o =
+              let q = one i h (o .0) in
+              let m = member (at es (at (constraintAt p k .scope) i)) (t .so-far .sixteen .1 _) (q .some) in
+              (q, subst (λ (u : ℕ). T (has (at es (at (constraintAt p k .scope) i)) u)) (o .0 .only (m .0) v (t .so-far .less _ (m .0) (m .2)) (o .1)) (m .2))
 
       module _ {fs : List ℕ} {changed : ℕ} (r : Revision (constraintAt p (trailingZeros 64 left)) es fs changed) where
         pub looked-dead : changed ≡ DEAD → LookedUp p numbers supports ds fs todo some DEAD

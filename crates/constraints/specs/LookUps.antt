@@ -1,4 +1,5 @@
--- Constraints on three variables whose first two sets have one value each: what the functions that look the third up ask and leave.
+-- Constraints on three variables whose first two sets have one value each, the second the same for all: what the functions that look the third up ask and
+-- leave.
 -- No reader has to believe this: it stands between proved functions.
 use mathlib.Core.Path.{_≡_}
 use mathlib.Core.List.{List}
@@ -16,17 +17,21 @@ use Rattle.layout.specs.Pruning.{Lessened, Ended}
 use Rattle.constraints.specs.Revised.{ConstraintsPending}
 use Rattle.constraints.specs.Steps.{OneValue, Touched}
 
-pub record LookUp (p : Problem) (sets : List ℕ) (k : ℕ) : Type 0 where
+-- the set of v alone
+abbrev pub Alone : ℕ → ℕ → Type 0
+Alone a v = OneValue a × T (has a v)
+
+pub record LookUp (p : Problem) (sets : List ℕ) (k v : ℕ) : Type 0 where
   pub known : k < length (p .constraints)
   pub three : length (constraintAt p k .scope) ≡ 3
   pub first : OneValue (at sets (at (constraintAt p k .scope) 0))
-  pub second : OneValue (at sets (at (constraintAt p k .scope) 1))
+  pub second : Alone (at sets (at (constraintAt p k .scope) 1)) v
 
 -- ready to look up the constraints of `some`, where those of `todo` are due
-pub record LookUpsPending (p : Problem) (numbers supports sets : List ℕ) (todo some : ℕ) : Type 0 where
+pub record LookUpsPending (p : Problem) (numbers supports sets : List ℕ) (todo some v : ℕ) : Type 0 where
   pub pending : ConstraintsPending p numbers supports sets todo
   pub wide : todo < 2 ^ 64
-  pub looks : (k : ℕ) → T (has some k) → LookUp p sets k
+  pub looks : (k : ℕ) → T (has some k) → LookUp p sets k v
 
 -- the answer is DEAD at a dead end, else the variables whose sets changed: their constraints are due, and of `todo` those that were not looked up;
 -- which values are gone at a dead end is open, but no set has gained one

@@ -546,17 +546,23 @@ pub fn constrain(
     constrain16(sets, numbers, supports, todo)
 }
 
-// Prunes by constraint number k on three variables, whose first two sets have one value each.
-fn look_up(sets: &mut [u16; 16], numbers: &[u64; 384], supports: &[u16; 8192], k: usize) -> u64
+// Prunes by constraint number k on three variables, whose first two sets have one value each, the second the value v.
+fn look_up(
+    sets: &mut [u16; 16],
+    numbers: &[u64; 384],
+    supports: &[u16; 8192],
+    k: usize,
+    v: usize,
+) -> u64
     requires { ⌜ Sets 16 (now sets) ⌝ }
-    requires { ⌜ ((p : Problem) × ConstraintsHeld p (now numbers) (now supports) × LookUp p (now sets) k) ⌝ }
-    ensures { λ r. ⌜ ((p : Problem) → ConstraintsHeld p (now (numbers .entry)) (now (supports .entry)) → LookUp p (now (sets .entry)) k → Revision (constraintAt p k) (now (sets .entry)) (now (sets .exit)) r) ⌝ }
+    requires { ⌜ ((p : Problem) × ConstraintsHeld p (now numbers) (now supports) × LookUp p (now sets) k v) ⌝ }
+    ensures { λ r. ⌜ ((p : Problem) → ConstraintsHeld p (now (numbers .entry)) (now (supports .entry)) → LookUp p (now (sets .entry)) k v → Revision (constraintAt p k) (now (sets .entry)) (now (sets .exit)) r) ⌝ }
 {
     let w = numbers[SCOPES + k];
     let x = (w / 256 % 256) as usize;
-    let y = (w / 65536 % 256) as usize;
     let z = (w / 16777216 % 256) as usize;
-    revise_last(sets, supports, k, x, y, z)
+    let first = ValueSet { bits: sets[x] }.lowest() as usize;
+    revise_one(sets, supports, 256 * k + 16 * first + v, z)
 }
 
 // The same for each constraint of `some`, once: DEAD where a set would be empty, else the set of the variables whose sets changed.
@@ -565,14 +571,21 @@ pub fn look_ups(
     numbers: &[u64; 384],
     supports: &[u16; 8192],
     some: u64,
+    v: usize,
 ) -> u64
-    requires { ⌜ ((p : Problem) × (todo : ℕ) × LookUpsPending p (now numbers) (now supports) (now sets) todo some) ⌝ }
-    ensures { λ r. ⌜ ((p : Problem) (todo : ℕ) → LookUpsPending p (now (numbers .entry)) (now (supports .entry)) (now (sets .entry)) todo some → LookedUp p (now (numbers .entry)) (now (supports .entry)) (now (sets .entry)) (now (sets .exit)) todo some r) ⌝ }
+    requires { ⌜ ((p : Problem) × (todo : ℕ) × LookUpsPending p (now numbers) (now supports) (now sets) todo some v) ⌝ }
+    ensures { λ r. ⌜ ((p : Problem) (todo : ℕ) → LookUpsPending p (now (numbers .entry)) (now (supports .entry)) (now (sets .entry)) todo some v → LookedUp p (now (numbers .entry)) (now (supports .entry)) (now (sets .entry)) (now (sets .exit)) todo some r) ⌝ }
 {
     let mut all = 0u64;
     let mut left = some;
     while left != 0 {
-        let changed = look_up(sets, numbers, supports, u64::trailing_zeros(left) as usize);
+        let changed = look_up(
+            sets,
+            numbers,
+            supports,
+            u64::trailing_zeros(left) as usize,
+            v,
+        );
         if changed == DEAD {
             return DEAD;
         }

@@ -3,7 +3,7 @@ use mathlib.Core.Path.{_≡_, refl, sym, ap, _∙_, subst}
 use mathlib.Core.Bool.{Bool, true, false, not}
 use mathlib.Core.List.{List}
 use mathlib.Core.Logic.{⊎-elim}
-use Prim.Native.Nat.{ℕ, _+_, _*_, _≤_, _<_}
+use Prim.Native.Nat.{ℕ, _+_, _-_, _*_, _≤_, _<_}
 use native.Mathlib.Omega.{arith}
 use lib.Dec.{T}
 use lib.Bits.{bitAnd, bitOr}
@@ -136,10 +136,11 @@ module _ {p : Problem} {gs : List (List ℕ)} {supports tables numbers : List �
             (take-sets (p .variables) cut cut-16 n-16 .0 ∙ sym (take-sets (p .variables) ds (b .live .sixteen) n-16 .0)) inside (b .marking e h);
       }
 
-      -- variable k is settled last, and no earlier one is dirty
-      pub cut-last : ((x : ℕ) → T (has dirty x) → k ≤ x) → LastSettled (k + 1) dirty′
-      cut-last f = record {
+      -- variable k is settled last, to its value in the prefix, and no earlier one is dirty
+      pub cut-last : v ≡ at work k → ((x : ℕ) → T (has dirty x) → k ≤ x) → LastSettled work (k + 1) v dirty′
+      cut-last e f = record {
         some = omega arith;
+        value = let q : k ≡ k + 1 - 1 = omega arith in e ∙ ap (at work) q;
         clean = λ y h. not-of (has dirty′ y)
             (λ q. ⊎-elim (λ i. let g = f y i in omega arith) (λ i. of-not (has changed y) (early y (omega arith)) (both-l (has changed y) (has (at numbers LINKED) y) (subst T (has-and changed (at numbers LINKED) y) i)))
             (either-e (has dirty y) (has (bitAnd changed (at numbers LINKED)) y) (subst T (has-dirty y) q)));

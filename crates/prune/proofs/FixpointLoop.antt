@@ -15,8 +15,8 @@ use Rattle.model.specs.Lists.{at, ascending}
 use Rattle.model.specs.ValueSets.{has, anyEmpty}
 use Rattle.model.specs.Problem.{Problem, Constraint}
 use Rattle.model.specs.Search.{pruned, setsAt, isLive, supported}
-use Rattle.model.proofs.Lists.{T-of, of-T, not-of, of-not, at-ext, both-l, place-of, list-3, ascending-sorted}
-use Rattle.model.proofs.Sets.{has-none, mask-ext, empty-inside, inside-antisym, size, size-inside, size-strict}
+use Rattle.model.proofs.Lists.{T-of, of-T, not-of, of-not, at-ext, at-take, both-l, place-of, list-3, ascending-sorted}
+use Rattle.model.proofs.Sets.{has-none, mask-ext, member, empty-inside, inside-antisym, size, size-inside, size-strict}
 use Rattle.model.specs.Pruning.{Sets, Inside, closed, Way, Prunes}
 use Rattle.model.proofs.Masks.{has-and}
 use Rattle.model.proofs.Members.{has-0, or-e, and-e}
@@ -30,8 +30,8 @@ use Rattle.layout.proofs.Links.{good}
 use Rattle.layout.specs.Pruning.{Given, Ended, setsOf}
 use Rattle.links.specs.Links.{Settled, ArcsMade}
 use Rattle.links.proofs.Settled.{settled-stays}
-use Rattle.constraints.specs.Steps.{OneValue, Touched}
-use Rattle.constraints.specs.LookUps.{LookUp, LookUpsPending, LookedUp}
+use Rattle.constraints.specs.Steps.{Touched}
+use Rattle.constraints.specs.LookUps.{Alone, LookUp, LookUpsPending, LookedUp}
 use Rattle.constraints.proofs.Touching.{touchedOf, touched-of, touched-parts}
 use Rattle.levels.proofs.Marks.{mark-mono}
 use Rattle.block.specs.BlockSets.{Ascends}
@@ -129,23 +129,27 @@ module _ {p : Problem} {gs : List (List ℕ)} {supports tables numbers : List �
       BeforeFixpoint p gs work numbers fs k (bitOr (bitAnd todo ((2 ^ 64 - 1) - looks)) (touchedOf numbers looked)) (bitOr dirty (bitAnd looked (at numbers LINKED)))
   looks-done {fs = fs} {looked = looked} l live = let w = looks-turn st (n .startable .pending) l live in pruned-start (pruned-more p ds ds fs looked (pruned-none p ds) (l .lessened live)) (w .given) w
 
-  -- a settled variable has one value
-  settled : (x : ℕ) → x < k → OneValue (at ds x)
-  settled x h = record { some = full-take (p .variables) ds (n .startable .live .sixteen) n-few (n .startable .live .full) x (omega (arith, n .startable .prefix-held .depth)); only = λ u v s t. value u s ∙ sym (value v t) }
+  -- a settled variable has one value, that of the prefix
+  settled : (x : ℕ) → x < k → Alone (at ds x) (at work x)
+  settled x h = (record { some = some; only = λ u v s t. value u s ∙ sym (value v t) }, let m = member (at ds x) (n .startable .live .sixteen .1 x) some in subst (λ (u : ℕ). T (has (at ds x) u)) (value (m .0) (m .2)) (m .2))
     where
-      value : (w : ℕ) → T (has (at ds x) w) → w ≡ at (take k work) x
+      some : at ds x ≡ 0 → ⊥
+      some = full-take (p .variables) ds (n .startable .live .sixteen) n-few (n .startable .live .full) x (omega (arith, n .startable .prefix-held .depth))
+
+      value : (w : ℕ) → T (has (at ds x) w) → w ≡ at work x
       value w q =
           narrowed-e (take k work) (p .initial) x w (n .way .inside x w (take-i (p .variables) ds (n .startable .live .sixteen) n-few x w (omega (arith, n .startable .prefix-held .depth)) q)) .1
           (subst (λ (m : ℕ). x < m) (sym (length-take-le k work (omega (arith, n .startable .prefix-held .depth, n-few, n .startable .prefix-held .work-length)))) h)
+          ∙ at-take k work x h
 
   -- the look-ups leave the variables that were settled before as they are
-  pub looks-settled : {fs : List ℕ} {looks looked : ℕ} → LastSettled k dirty → LookedUp p numbers supports ds fs todo looks looked → (looked ≡ DEAD → ⊥) → Settled fs (bitOr dirty (bitAnd looked (at numbers LINKED))) (k - 1)
+  pub looks-settled : {fs : List ℕ} {v looks looked : ℕ} → LastSettled work k v dirty → LookedUp p numbers supports ds fs todo looks looked → (looked ≡ DEAD → ⊥) → Settled fs (bitOr dirty (bitAnd looked (at numbers LINKED))) (k - 1)
   looks-settled {fs = fs} {looked = looked} a l live = record {
     clean = λ y h. not-of (has (bitOr dirty (bitAnd looked (at numbers LINKED))) y)
         (λ q. ⊎-elim (of-not (has dirty y) (a .clean y h))
-        (λ i. of-not (has looked y) (settled-stays p ds n-few (n .startable .live .sixteen) y (settled y (omega arith) .only) (l .lessened live) (l .changed live)) (and-e looked (at numbers LINKED) y i .0))
+        (λ i. of-not (has looked y) (settled-stays p ds n-few (n .startable .live .sixteen) y (settled y (omega arith) .0 .only) (l .lessened live) (l .changed live)) (and-e looked (at numbers LINKED) y i .0))
         (or-e dirty (bitAnd looked (at numbers LINKED)) y q));
-    single = λ y h u v s t. settled y (omega arith) .only u v (l .less y u s) (l .less y v t);
+    single = λ y h u v s t. settled y (omega arith) .0 .only u v (l .less y u s) (l .less y v t);
   }
 
   -- the constraints by variable are done
@@ -277,14 +281,20 @@ module _ {p : Problem} {gs : List (List ℕ)} {supports tables numbers : List �
 
 -- ---- before the turns: the look-ups, and then the constraints by variable
 module _ {p : Problem} {gs : List (List ℕ)} {supports tables numbers : List ℕ} (st : ArraysHold p supports tables numbers) (bl : Blocked p gs numbers) {work ds : List ℕ} {k todo dirty : ℕ} (n : BeforeFixpoint p gs work numbers ds k todo dirty) (wide : todo < 2 ^ 64) where
-  pub looks-pending : LookUpsPending p numbers supports ds todo (bitAnd todo (at numbers (LOOKS + k)))
-  looks-pending = record { pending = constraints-pending st (n .startable .pending); wide = wide; looks = look }
+  pub looks-pending : {v : ℕ} → LastSettled work k v dirty → LookUpsPending p numbers supports ds todo (bitAnd todo (at numbers (LOOKS + k))) v
+  looks-pending {v} a = record { pending = constraints-pending st (n .startable .pending); wide = wide; looks = look }
     where
-      look : (c : ℕ) → T (has (bitAnd todo (at numbers (LOOKS + k))) c) → LookUp p ds c
-      look c t = record { known = l .known; three = l .three; first = settled st bl n _ (omega (arith, l .second, order)); second = settled st bl n _ (omega (arith, l .second)) }
+      look : (c : ℕ) → T (has (bitAnd todo (at numbers (LOOKS + k))) c) → LookUp p ds c v
+      look c t = record { known = l .known; three = l .three; first = settled st bl n (at (constraintAt p c .scope) 0) (omega (arith, l .second, order)) .0; second = subst (Alone (at ds second)) told (settled st bl n second (omega (arith, l .second))) }
         where
           l : LooksUp p k c
           l = st .indexed .looks k c (omega (arith, n .startable .prefix-held .depth, st .wellFormed .few)) (and-e todo (at numbers (LOOKS + k)) c t .1)
+
+          second : ℕ
+          second = at (constraintAt p c .scope) 1
+
+          told : at work second ≡ v
+          told = let e : second ≡ k - 1 = omega (arith, l .second) in ap (at work) e ∙ sym (a .value)
 
           order : at (constraintAt p c .scope) 0 < at (constraintAt p c .scope) 1
           order = ascending-sorted _ (subst (λ (z : List ℕ). T (ascending z)) (list-3 (constraintAt p c .scope) _ _ _ (l .three) refl refl refl) (good (st .wellFormed) c (l .known) .ordered)) .0 _ (List·Memᴰ·head refl)

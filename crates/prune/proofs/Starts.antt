@@ -270,8 +270,11 @@ module _ {p : Problem} {gs : List (List ℕ)} {stack work supports tables number
     child-late : (j : ℕ) → 16 * (k + 1) + MARKS + 16 ≤ j → at middle j ≡ at work j
     child-late = c .kept .after
 
-    pub value-is : at middle k ≡ at work k
+    value-is : at middle k ≡ at work k
     value-is = child-early k (omega arith)
+
+    pub value-small : at middle k % 16 ≡ at middle k
+    value-small = omega (arith, value-is, v-lt)
 
     middle-length : length middle ≡ 256
     middle-length = c .kept .size ∙ a .ready .work-length
@@ -298,7 +301,7 @@ module _ {p : Problem} {gs : List (List ℕ)} {stack work supports tables number
       are-parent = padded-take (p .variables) (setsAt tree (take k work)) sets (l .0) parent-sets n-16′ at-parent unused
 
       value-16 : at middle k % 16 ≡ at work k
-      value-16 = omega (arith, value-is, v-lt)
+      value-16 = value-small ∙ value-is
 
       one-is : one ≡ 2 ^ at work k
       one-is = o ∙ ap (onlyMask (at sets k)) value-16 ∙ only-member (at sets k) (at work k) v-lt (subst (λ (z : ℕ). T (has z (at work k))) (sym (at-parent k (a .room))) (a .member))

@@ -108,9 +108,10 @@ pub record BeforeFixpoint (p : Problem) (gs : List (List ℕ)) (work numbers set
   pub way : Way (withOrderings p gs) (take k work) (setsOf p sets)
   pub ascends : Ascends (blockOf numbers) (take k work) (setsOf p sets)
 
--- of the first k variables the last is settled now: those before it were settled at earlier depths, and none of them is dirty
-pub record LastSettled (k dirty : ℕ) : Type 0 where
+-- of the first k variables the last is settled now, to v: those before it were settled at earlier depths, and none of them is dirty
+pub record LastSettled (work : List ℕ) (k v dirty : ℕ) : Type 0 where
   pub some : 1 ≤ k
+  pub value : v ≡ at work (k - 1)
   pub clean : (y : ℕ) → y < k - 1 → has dirty y ≡ false
 
 -- there: the answer is whether the prefix is dead, and where it is live, the sets are those at the prefix, and the marks are right for them

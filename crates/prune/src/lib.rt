@@ -137,8 +137,8 @@ fn alternate(
     }
 }
 
-// First the look-ups that the last settled variable allows and the cuts by variable, where most dead prefixes end; then the constraints that are due, if any are, and the filters.
-// True where the prefix is dead.
+// First the look-ups that the last settled variable, with the value v, allows and the cuts by variable, where most dead prefixes end; then the
+// constraints that are due, if any are, and the filters. True where the prefix is dead.
 fn fixpoint(
     sets: &mut [u16; 16],
     work: &mut [u64; 256],
@@ -148,12 +148,13 @@ fn fixpoint(
     k: usize,
     todo: u64,
     dirty: u64,
+    v: usize,
 ) -> bool
-    requires { ⌜ ((p : Problem) × (gs : List (List ℕ)) × ArraysHold p (now supports) (now tables) (now numbers) × Blocked p gs (now numbers) × BeforeFixpoint p gs (now work) (now numbers) (now sets) k todo dirty × LastSettled k dirty) ⌝ }
+    requires { ⌜ ((p : Problem) × (gs : List (List ℕ)) × ArraysHold p (now supports) (now tables) (now numbers) × Blocked p gs (now numbers) × BeforeFixpoint p gs (now work) (now numbers) (now sets) k todo dirty × LastSettled (now work) k v dirty) ⌝ }
     ensures { λ r. ⌜ ((p : Problem) (gs : List (List ℕ)) → ArraysHold p (now (supports .entry)) (now (tables .entry)) (now (numbers .entry)) → Blocked p gs (now (numbers .entry)) → BeforeFixpoint p gs (now (work .entry)) (now (numbers .entry)) (now (sets .entry)) k todo dirty → AfterFixpoint p gs k (now (work .entry)) (now (work .exit)) (now (sets .exit)) r) ⌝ }
 {
     let looks = todo & numbers[LOOKS + k];
-    let looked = constraints::look_ups(sets, numbers, supports, looks);
+    let looked = constraints::look_ups(sets, numbers, supports, looks, v);
     if looked == DEAD {
         return true;
     }
@@ -353,6 +354,7 @@ pub fn child(
         k + 1,
         todo | constraints::touched(numbers, changed),
         dirty | (changed & numbers[LINKED]),
+        v as usize,
     );
     if dead {
         return true;

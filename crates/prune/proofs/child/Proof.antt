@@ -5,7 +5,7 @@ use mathlib.Core.List.{[]}
 use native.Mathlib.Omega.{arith}
 use borrow.Author.Needs.{needs}
 use Rattle.model.specs.Lists.{at}
-use Rattle.prune.proofs.Starts.{arrays-hold, blocked, child-startable, child-later, child-on-way, child-dead, child-live}
+use Rattle.prune.proofs.Starts.{arrays-hold, blocked, value-small, child-startable, child-later, child-on-way, child-dead, child-live}
 use Rattle.prune.proofs.ChildCut.{whole-is, cut-dead, cut-sets-are, cut-before, cut-last}
 use Rattle.prune.proofs.child.Statement.{statement}
 use Rattle.prune.proofs.child.Tie as tie
@@ -87,6 +87,9 @@ touched-requires c κs = search needs
 element-copy-out-fixpoint : tie.Need-element-copy-out-fixpoint
 element-copy-out-fixpoint c = search needs
 
+cast-fixpoint : tie.Need-cast-fixpoint
+cast-fixpoint c = search needs
+
 fixpoint-requires : tie.Need-fixpoint-requires
 unfolding at
 fixpoint-requires c κs =
@@ -95,7 +98,7 @@ fixpoint-requires c κs =
     let s = (child-startable a _ (f .before .before .before .before .before .before .before .before .copy-marks .ensures) (f .before .before .before .before .before .before .before .before .before .before .load .last .1 .1 .0) (f .before .before .before .before .before .before .before .before .before .before .load .ensures) _ _ _ (f .before .before .before .before .before .before .only .ensures) (f .before .before .before .before .due .ensures) (f .before .before .due2 .ensures)) in
     let w = (child-on-way a _ (f .before .before .before .before .before .before .before .before .copy-marks .ensures) (f .before .before .before .before .before .before .before .before .before .before .load .last .1 .1 .0) (f .before .before .before .before .before .before .before .before .before .before .load .ensures) _ _ _ (f .before .before .before .before .before .before .only .ensures) (f .before .before .before .before .due .ensures) (f .before .before .due2 .ensures) _ _ refl (cut-sets-are (arrays-hold (a .ready)) (blocked (a .ready)) s _ _ (c .before .before .before .before .before .cut-later .ensures) (c .before .before .before .before .if1 .left))) in
     let n = cut-before (arrays-hold (a .ready)) (blocked (a .ready)) s _ _ (c .before .before .before .before .before .cut-later .ensures) (c .before .before .before .before .if1 .left) (c .before .touched .ensures) refl refl w in
-    let l = cut-last (arrays-hold (a .ready)) (blocked (a .ready)) s _ _ (c .before .before .before .before .before .cut-later .ensures) (c .before .before .before .before .if1 .left) (c .before .touched .ensures) refl refl
+    let l = cut-last (arrays-hold (a .ready)) (blocked (a .ready)) s _ _ (c .before .before .before .before .before .cut-later .ensures) (c .before .before .before .before .if1 .left) (c .before .touched .ensures) refl refl (value-small a _ (f .before .before .before .before .before .before .before .before .copy-marks .ensures))
     (child-later a _ (f .before .before .before .before .before .before .before .before .copy-marks .ensures) (f .before .before .before .before .before .before .before .before .before .before .load .last .1 .1 .0) (f .before .before .before .before .before .before .before .before .before .before .load .ensures) _ _ _ (f .before .before .before .before .before .before .only .ensures) (f .before .before .before .before .due .ensures) (f .before .before .due2 .ensures)) in
     (_, _, arrays-hold (a .ready), blocked (a .ready), n, l)
 
@@ -152,6 +155,7 @@ child-spec =
     add-fixpoint
     touched-requires
     element-copy-out-fixpoint
+    cast-fixpoint
     fixpoint-requires
     returns-2
     add-store

@@ -9,6 +9,7 @@ use borrow.Author.Needs.{needs}
 use Rattle.model.specs.Lists.{at}
 use Rattle.model.specs.Problem.{Problem}
 use Rattle.layout.specs.Places.{LINKED, LOOKS}
+use Rattle.constraints.specs.LookUps.{LookUpsPending}
 use Rattle.constraints.proofs.Touching.{touchedOf}
 use Rattle.prune.specs.Steps.{ArraysHold, Blocked, AllConstrained, BeforeFixpoint}
 use Rattle.prune.proofs.Pending.{pruned-none, nothing-due, arcs-pending}
@@ -23,21 +24,26 @@ few c = let q = c .pre in omega (arith, q .4 .startable .prefix-held .depth, q .
 wide : (c : tie.Start) → c .args .todo < 2 ^ 64
 wide c = search needs
 
+-- ready for the look-ups
+looks : (c : tie.Start) → let d = c .args in (p : Problem) (gs : List (List ℕ)) → ArraysHold p (d .supports .now) (d .tables .now) (d .numbers .now) → Blocked p gs (d .numbers .now) → BeforeFixpoint p gs (d .work .now) (d .numbers .now) (d .sets .now) (d .k) (d .todo) (d .dirty) →
+    LookUpsPending p (d .numbers .now) (d .supports .now) (d .sets .now) (d .todo) (bitAnd (d .todo) (at (d .numbers .now) (LOOKS + d .k))) (d .v)
+looks c p gs s b n = looks-pending s b n (wide c) (c .pre .5)
+
 -- what is due after the look-ups
 looks-made : (c : tie.Else1) → let d = c .before .before .before .before .args in (p : Problem) (gs : List (List ℕ)) → ArraysHold p (d .supports .now) (d .tables .now) (d .numbers .now) → Blocked p gs (d .numbers .now) → BeforeFixpoint p gs (d .work .now) (d .numbers .now) (d .sets .now) (d .k) (d .todo) (d .dirty) →
     BeforeFixpoint p gs (d .work .now) (d .numbers .now) (c .before .look-ups .last .0) (d .k) (bitOr (bitAnd (d .todo) ((2 ^ 64 - 1) - bitAnd (d .todo) (at (d .numbers .now) (LOOKS + d .k)))) (touchedOf (d .numbers .now) (c .before .look-ups .result)))
     (bitOr (d .dirty) (bitAnd (c .before .look-ups .result) (at (d .numbers .now) LINKED)))
 unfolding at
-looks-made c p gs s b n = looks-done s b n (c .before .look-ups .ensures p _ (looks-pending s b n (wide (c .before .before .before .before)))) (c .if1 .left)
+looks-made c p gs s b n = looks-done s b n (c .before .look-ups .ensures p _ (looks (c .before .before .before .before) p gs s b n)) (c .if1 .left)
 
 -- and after the cuts
 cuts-made : (c : tie.After-touched) → let d = c .before .before .before .before .before .before .before .before .before .args in (p : Problem) (gs : List (List ℕ)) → ArraysHold p (d .supports .now) (d .tables .now) (d .numbers .now) → Blocked p gs (d .numbers .now) → BeforeFixpoint p gs (d .work .now) (d .numbers .now) (d .sets .now) (d .k) (d .todo) (d .dirty) →
     BeforeFixpoint p gs (d .work .now) (d .numbers .now) (c .before .before .arcs .last .0) (d .k) (bitOr (bitAnd (d .todo) ((2 ^ 64 - 1) - bitAnd (d .todo) (at (d .numbers .now) (LOOKS + d .k)))) (c .touched .result)) 0
 unfolding at
 cuts-made c p gs s b n =
-    let h = wide (c .before .before .before .before .before .before .before .before .before) in
+    let d = c .before .before .before .before .before .before .before .before .before in
     let m = looks-made (c .before .before .before .before .before) p gs s b n in
-    cuts-done s b n h (c .before .before .before .before .before .before .look-ups .ensures p _ (looks-pending s b n h)) (c .before .before .before .before .before .if1 .left) (c .before .before .arcs .ensures p (arcs-pending s (m .startable .pending))) (c .before .if2 .left) (search needs) (c .touched .ensures)
+    cuts-done s b n (wide d) (c .before .before .before .before .before .before .look-ups .ensures p _ (looks d p gs s b n)) (c .before .before .before .before .before .if1 .left) (c .before .before .arcs .ensures p (arcs-pending s (m .startable .pending))) (c .before .if2 .left) (search needs) (c .touched .ensures)
 
 -- and where the sets rest
 rested : (c : tie.Joined3) → let d = c .before .before .before .before .before .before .before .before .before .before .args in (p : Problem) (gs : List (List ℕ)) → ArraysHold p (d .supports .now) (d .tables .now) (d .numbers .now) → Blocked p gs (d .numbers .now) → BeforeFixpoint p gs (d .work .now) (d .numbers .now) (d .sets .now) (d .k) (d .todo) (d .dirty) →
@@ -60,11 +66,11 @@ element-copy-out-looks c = search needs
 
 look-ups-requires : tie.Need-look-ups-requires
 unfolding at
-look-ups-requires c κs = let q = c .before .before .pre in (q .0, _, looks-pending (q .2) (q .3) (q .4) (wide (c .before .before)))
+look-ups-requires c κs = let q = c .before .before .pre in (q .0, _, looks (c .before .before) (q .0) (q .1) (q .2) (q .3) (q .4))
 
 returns : tie.Need-returns
 unfolding at
-returns c = λ p gs s b n. constrained-dead s b n _ (c .before .look-ups .ensures p _ (looks-pending s b n (wide (c .before .before .before .before))) .ended (c .if1 .taken))
+returns c = λ p gs s b n. constrained-dead s b n _ (c .before .look-ups .ensures p _ (looks (c .before .before .before .before) p gs s b n) .ended (c .if1 .taken))
 
 element-copy-out-moved : tie.Need-element-copy-out-moved
 element-copy-out-moved c = search needs
@@ -75,7 +81,7 @@ sub-arcs c = c .before .before .before .before .before .before .pre .5 .some
 arcs-requires : tie.Need-arcs-requires
 unfolding at
 arcs-requires c κs = let q = c .before .before .before .before .before .before .pre in (
-  looks-settled (q .2) (q .3) (q .4) (q .5) (c .before .before .before .look-ups .ensures (q .0) _ (looks-pending (q .2) (q .3) (q .4) (wide (c .before .before .before .before .before .before)))) (c .before .before .if1 .left),
+  looks-settled (q .2) (q .3) (q .4) (q .5) (c .before .before .before .look-ups .ensures (q .0) _ (looks (c .before .before .before .before .before .before) (q .0) (q .1) (q .2) (q .3) (q .4))) (c .before .before .if1 .left),
   (q .0, arcs-pending (q .2) (looks-made (c .before .before) (q .0) (q .1) (q .2) (q .3) (q .4) .startable .pending)),
 )
 
