@@ -146,7 +146,7 @@ fn two_of(symmetries: usize, k: usize) -> Answer
 }
 
 // The test of a run whose questions are passed.
-fn test(block: &[u8], numbers: &[u64; 384], images: &mut [u8; 26112]) -> Answer
+fn test(block: &[u8], numbers: &[u64; 2432], images: &mut [u8; 26112]) -> Answer
     requires { ⌜ ((b : List ℕ) × (pairs : List ℕ) × Passed b pairs (now block) (now numbers) (now images)) ⌝ }
     ensures { λ r. ⌜ ((b pairs : List ℕ) → Passed b pairs (now (block .entry)) (now (numbers .entry)) (now (images .entry)) → means r ≡ told (firstOpen (problemWith b (now (block .entry))))) ⌝ }
 {
@@ -161,7 +161,7 @@ fn test(block: &[u8], numbers: &[u64; 384], images: &mut [u8; 26112]) -> Answer
 pub fn closed(sheet: &[u8], pairs: &[u8], block: &[u8]) -> Answer
     ensures { λ r. ⌜ means r ≡ closedLent (now (sheet .entry)) (now (pairs .entry)) (now (block .entry)) ⌝ }
 {
-    let mut numbers = [0u64; 384];
+    let mut numbers = [0u64; 2432];
     let mut supports = [0u16; 8192];
     let mut images = [0u8; 26112];
     let mut order = [0u8; 16];

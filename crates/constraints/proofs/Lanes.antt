@@ -1,21 +1,22 @@
--- Numbers of eight lanes of eight bits: shifts, and the three functions over them. Assumes nothing.
-use mathlib.Core.Path.{_≡_, refl, sym, ap, ap₂, _∙_, subst}
+-- Numbers of eight lanes of eight bits, and the functions over them. Assumes nothing.
+use mathlib.Core.Path.{_≡_, refl, sym, ap, _∙_, subst}
 use mathlib.Core.Bool.{Bool, true, false}
 use mathlib.Core.Logic.{_⊎_, inl, inr, ⊎-elim}
-use Prim.Native.Nat.{ℕ, zero, suc, _+_, _*_, _/_, _%_, _^_, _≤_, _<_}
+use mathlib.Core.List.{List}
+use Prim.Native.Nat.{ℕ, zero, suc, _+_, _-_, _*_, _/_, _%_, _^_, _<_}
 use native.Mathlib.Nat.{lt-of-le-of-lt}
 use native.Mathlib.Omega.{arith}
-use lib.Dec.{T, eqb, ltb, lit<, lit≤}
-use lib.Bits.{bitAnd, bitOr, and-le-r, and-mask, shifted-half, shifted-even}
-use lib.Pow.{shl-shr, shl-exact}
+use lib.Dec.{T, ltb, lit<}
+use lib.Bits.{bitAnd, bitOr, and-le-r, and-mask}
 use borrow.Author.Tests.{ltb-true, ltb-false, lt-ltb}
-use Rattle.model.specs.Lists.{both, either}
+use Rattle.model.specs.Lists.{both, either, at}
 use Rattle.model.specs.ValueSets.{has}
 use Rattle.model.proofs.Lists.{either-l, either-r, either-e}
-use Rattle.model.proofs.Sets.{has-zero, has-suc, has-none, has-out, has-lt, mask-ext}
+use Rattle.model.proofs.Sets.{has-lt}
 use Rattle.model.proofs.Masks.{has-and, has-or, has-ones, has-shr, byte-has, byte-lt}
-use Rattle.model.proofs.Members.{both-no, both-yes, either-no}
-use Rattle.constraints.specs.Lanes.{FullLanes, LaneUnion, Product, Heads, FullHeads}
+use Rattle.model.proofs.Members.{both-no, both-yes, either-no, or-i, or-e, and-i, and-e}
+use Rattle.layout.specs.Tables.{UnionOf}
+use Rattle.constraints.specs.Lanes.{FullLanes, LaneUnion, FullHeads, Halves, InLanes}
 
 cases8 : (P : ℕ → Type 0) → P 0 → P 1 → P 2 → P 3 → P 4 → P 5 → P 6 → P 7 → (j : ℕ) → j < 8 → P j
 cases8 P a b c d e f g h zero l = a
@@ -27,15 +28,6 @@ cases8 P a b c d e f g h (suc (suc (suc (suc (suc zero))))) l = f
 cases8 P a b c d e f g h (suc (suc (suc (suc (suc (suc zero)))))) l = g
 cases8 P a b c d e f g h (suc (suc (suc (suc (suc (suc (suc zero))))))) l = h
 cases8 P a b c d e f g h (suc (suc (suc (suc (suc (suc (suc (suc j)))))))) l = absurd (omega arith)
-
--- ---- shifts
-has-shl : (x s i : ℕ) → has (x * 2 ^ s) (s + i) ≡ has x i
-has-shl x s i = sym (has-shr (x * 2 ^ s) s i) ∙ ap (λ (n : ℕ). has n i) (shl-shr x s)
-
-shl-none : (x s i : ℕ) → i < s → has (x * 2 ^ s) i ≡ false
-shl-none x zero i h = absurd (omega arith)
-shl-none x (suc s) zero h = has-zero (x * 2 ^ suc s) ∙ ap (λ (n : ℕ). eqb n 1) (shifted-even x s)
-shl-none x (suc s) (suc i) h = has-suc (x * 2 ^ suc s) i ∙ ap (λ (n : ℕ). has n i) (shifted-half x s) ∙ shl-none x s i (omega arith)
 
 -- ---- the bits of a mask
 masked : (x k i : ℕ) → has k i ≡ true → has (bitAnd x k) i ≡ has x i
@@ -157,10 +149,6 @@ ones-at : (j : ℕ) → j < 8 → has ones (8 * j) ≡ true
 unfolding has
 ones-at = cases8 (λ j. has ones (8 * j) ≡ true) refl refl refl refl refl refl refl refl
 
-byte : (w : ℕ) → w < 8 → has 255 w ≡ true
-unfolding has
-byte = cases8 (λ w. has 255 w ≡ true) refl refl refl refl refl refl refl refl
-
 pub byte-fits : (x : ℕ) → bitAnd x 255 < 2 ^ 16
 byte-fits x = lt-of-le-of-lt (and-le-r x 255) (lit< tt)
 
@@ -180,12 +168,15 @@ full-lanes x = record {
       (h, full-heads x .heads-e j h (subst T (touched-all (eight 1 x) j h) t));
 }
 
--- where the first bits are those of b, the lanes that are not empty are those of b
-pub lanes-of : {b s c x : ℕ} → b < 2 ^ 8 → Heads b s → FullHeads x c → c ≡ s → FullLanes x b
-lanes-of {b = b} {x = x} h p f e = record {
-  full-i = λ j w k l t. subst T (p .head j k) (subst (λ (n : ℕ). T (has n (8 * j))) e (f .heads-i j w k l t));
-  full-e = λ j t. let k = has-lt 8 b j h t in (k, f .heads-e j k (subst (λ (n : ℕ). T (has n (8 * j))) (sym e) (subst T (sym (p .head j k)) t)));
+-- where the first bits are those of all lanes of b, the lanes that are not empty are those of b
+pub lanes-of : {b c x : ℕ} (s : ℕ) → b < 2 ^ 8 → ((j w : ℕ) → j < 8 → w < 8 → has s (8 * j + w) ≡ has b j) → FullHeads x c → c ≡ bitAnd s ones → FullLanes x b
+lanes-of {b} {c} s h p f e = record {
+  full-i = λ j w k l t. subst T (head j k) (f .heads-i j w k l t);
+  full-e = λ j t. let k = has-lt 8 b j h t in (k, f .heads-e j k (subst T (sym (head j k)) t));
 }
+  where
+    head : (j : ℕ) → j < 8 → has c (8 * j) ≡ has b j
+    head j k = let z : 8 * j ≡ 8 * j + 0 = omega arith in ap (λ (n : ℕ). has n (8 * j)) e ∙ masked s ones (8 * j) (ones-at j k) ∙ ap (has s) z ∙ p j 0 k (lit< tt)
 
 -- ---- the union of the lanes
 pub lane-union : (x : ℕ) → LaneUnion x (bitAnd (eight 8 x) 255)
@@ -220,100 +211,48 @@ copied e j w h l k =
     (let a : e * ones / 2 ^ 56 ≡ e * 1 = omega arith in let b : e * 1 % 256 ≡ e = omega arith in ap (λ (n : ℕ). n % 256) a ∙ b)
     j l)
 
--- a number with bits at the start of lanes alone, with all bits of those lanes
-abbrev Firsts : ℕ → Type 0
-Firsts s = (i w : ℕ) → w < 8 → 0 < w → has s (8 * i + w) ≡ false
+-- ---- the lanes of the members of a set together, by its halves
+lower-has : (a i : ℕ) → i < 4 → has (bitAnd a 15) i ≡ has a (0 + i)
+lower-has a i h = let e : i ≡ 0 + i = omega arith in masked a 15 i (has-ones 4 i ∙ lt-ltb i 4 h) ∙ ap (has a) e
 
-small : (s : ℕ) → Firsts s → s % 256 < 2
-small s f = let e : s % 256 ≡ s % 2 = mask-ext 8 (s % 256) (s % 2) (omega arith) (omega arith) (λ v h. sym (lane-0 s v h) ∙ go v h) in omega arith
-  where
-    go : (v : ℕ) → v < 8 → has s v ≡ has (s % 2) v
-    go zero h = let e : s % 2 ≡ s % 2 % 2 = omega arith in has-zero s ∙ ap (λ (n : ℕ). eqb n 1) e ∙ sym (has-zero (s % 2))
-    go (suc v) h = let e : suc v ≡ 8 * 0 + suc v = omega arith in ap (has s) e ∙ f 0 (suc v) h (omega arith) ∙ sym (has-out 1 (s % 2) (suc v) (omega arith) (omega arith))
-
-after : (s : ℕ) → Firsts s → Firsts (s / 256)
-after s f i w h l = let e : 8 + (8 * i + w) ≡ 8 * suc i + w = omega arith in has-shr s 8 (8 * i + w) ∙ ap (has s) e ∙ f (suc i) w h l
-
-filled : (j s w : ℕ) → Firsts s → w < 8 → has (s * 255) (8 * j + w) ≡ has s (8 * j)
-filled zero s w f h = lane (s * 255) 0 w h ∙ go (ltb (s % 256) 1) refl
-  where
-    go : (b : Bool) → ltb (s % 256) 1 ≡ b → has (s * 255 / 2 ^ 0 % 256) w ≡ has s 0
-    go true q =
-        let z : s % 256 ≡ 0 = omega (arith, ltb-true (s % 256) 1 q) in
-        let t : s * 255 / 2 ^ 0 / 256 ≡ s / 256 * 255 = omega arith in
-        let a : s * 255 / 2 ^ 0 % 256 ≡ 0 = omega arith in
-        let u : s / 2 ≡ s / 256 * 128 = omega arith in
-        let b : s % 2 ≡ 0 = omega arith in
-        ap (λ (n : ℕ). has n w) a ∙ has-none w ∙ sym (has-zero s ∙ ap (λ (n : ℕ). eqb n 1) b)
-    go false q =
-        let z : s % 256 ≡ 1 = omega (arith, ltb-false (s % 256) 1 q, small s f) in
-        let t : s * 255 / 2 ^ 0 / 256 ≡ s / 256 * 255 = omega arith in
-        let a : s * 255 / 2 ^ 0 % 256 ≡ 255 = omega arith in
-        let u : s / 2 ≡ s / 256 * 128 = omega arith in
-        let b : s % 2 ≡ 1 = omega arith in
-        ap (λ (n : ℕ). has n w) a ∙ byte w h ∙ sym (has-zero s ∙ ap (λ (n : ℕ). eqb n 1) b)
-filled (suc j) s w f h =
-    let a : 8 * suc j + w ≡ 8 + (8 * j + w) = omega arith in
-    let b : s * 255 / 2 ^ 8 ≡ s / 256 * 255 = omega (arith, small s f) in
-    let c : 8 + 8 * j ≡ 8 * suc j = omega arith in
-    ap (has (s * 255)) a ∙ sym (has-shr (s * 255) 8 (8 * j + w)) ∙ ap (λ (n : ℕ). has n (8 * j + w)) b ∙ filled j (s / 256) w (after s f) h ∙ has-shr s 8 (8 * j) ∙ ap (has s) c
-
--- ---- the first bit of every lane of b: seven of its bits copied every seven places, and the eighth
-abbrev sevens : ℕ
-sevens = 567382630219905
-
-low7 : (y j : ℕ) → j < 7 → has (bitAnd y 127) j ≡ has y j
-low7 y j h = masked y 127 j (has-ones 7 j ∙ lt-ltb j 7 h)
-
-seventh : (x j : ℕ) → x < 128 → j < 7 → has (x * sevens) (8 * j) ≡ has x j
-seventh x j h l =
-    let f : 8 * j ≡ 7 * j + j = omega arith in
-    ap (has (x * sevens)) f ∙ sym (has-shr (x * sevens) (7 * j) j) ∙ sym (low7 (x * sevens / 2 ^ (7 * j)) j l) ∙ ap (λ (n : ℕ). has n j) (and-mask (x * sevens / 2 ^ (7 * j)) 7) ∙ ap (λ (n : ℕ). has n j) (cases8 (λ j. x * sevens / 2 ^ (7 * j) % 128 ≡ x)
-    (let a : x * sevens / 2 ^ 0 ≡ x * 567382630219905 = omega arith in let b : x * 567382630219905 % 128 ≡ x = omega arith in ap (λ (n : ℕ). n % 128) a ∙ b)
-    (let a : x * sevens / 2 ^ 7 ≡ x * 4432676798593 = omega arith in let b : x * 4432676798593 % 128 ≡ x = omega arith in ap (λ (n : ℕ). n % 128) a ∙ b)
-    (let a : x * sevens / 2 ^ 14 ≡ x * 34630287489 = omega arith in let b : x * 34630287489 % 128 ≡ x = omega arith in ap (λ (n : ℕ). n % 128) a ∙ b)
-    (let a : x * sevens / 2 ^ 21 ≡ x * 270549121 = omega arith in let b : x * 270549121 % 128 ≡ x = omega arith in ap (λ (n : ℕ). n % 128) a ∙ b)
-    (let a : x * sevens / 2 ^ 28 ≡ x * 2113665 = omega arith in let b : x * 2113665 % 128 ≡ x = omega arith in ap (λ (n : ℕ). n % 128) a ∙ b)
-    (let a : x * sevens / 2 ^ 35 ≡ x * 16513 = omega arith in let b : x * 16513 % 128 ≡ x = omega arith in ap (λ (n : ℕ). n % 128) a ∙ b)
-    (let a : x * sevens / 2 ^ 42 ≡ x * 129 = omega arith in let b : x * 129 % 128 ≡ x = omega arith in ap (λ (n : ℕ). n % 128) a ∙ b)
-    (let a : x * sevens / 2 ^ 49 ≡ x * 1 = omega arith in let b : x * 1 % 128 ≡ x = omega arith in ap (λ (n : ℕ). n % 128) a ∙ b)
-    j (omega arith))
-
-ones-out : (i w : ℕ) → i < 8 → w < 8 → 0 < w → has ones (8 * i + w) ≡ false
-ones-out i w h k n = lane ones i w k ∙ ap (λ (n : ℕ). has n w) (cases8 (λ i. ones / 2 ^ (8 * i) % 256 ≡ 1) refl refl refl refl refl refl refl refl i h) ∙ has-out 1 1 w (lit< tt) n
-
-module _ (b : ℕ) (l : b < 2 ^ 8) where
-  abbrev low : ℕ
-  low = bitAnd b 127 * sevens
-
-  abbrev high : ℕ
-  high = b / 2 ^ 7 * 2 ^ 56 % 2 ^ 64
-
-  low-few : bitAnd b 127 < 128
-  low-few = lt-of-le-of-lt (and-le-r b 127) (lit< tt)
-
-  high-is : high ≡ b / 2 ^ 7 * 2 ^ 56
-  high-is = shl-exact 1 56 64 (omega arith) (lit≤ tt)
-
-  spread-at : (j : ℕ) → j < 8 → has (bitAnd (bitOr (bitAnd b 127 * sevens) (b / 2 ^ 7 * 2 ^ 56 % 2 ^ 64)) ones) (8 * j) ≡ has b j
-  spread-at j h = masked (bitOr low high) ones (8 * j) (ones-at j h) ∙ has-or low high (8 * j) ∙ ap (λ (n : ℕ). either (has low (8 * j)) (has n (8 * j))) high-is ∙ go (ltb j 7) refl
+module _ (lane : ℕ → ℕ → ℕ) {a x y : ℕ} (k : a < 2 ^ 8) (lower : UnionOf (bitAnd a 15) (λ i j. lane (0 + i) j) x) (upper : UnionOf (a / 2 ^ 4) (λ i j. lane (4 + i) j) y) where
+  united-i : (i j w : ℕ) → j < 8 → w < 8 → T (has a i) → T (has (lane i j) w) → T (has (bitOr x y) (8 * j + w))
+  united-i i j w g h t q = or-i x y (8 * j + w) (go (ltb i 4) refl)
     where
-      go : (t : Bool) → ltb j 7 ≡ t → either (has low (8 * j)) (has (b / 2 ^ 7 * 2 ^ 56) (8 * j)) ≡ has b j
-      go true e = let k = ltb-true j 7 e in ap₂ either (seventh (bitAnd b 127) j low-few k ∙ low7 b j k) (shl-none (b / 2 ^ 7) 56 (8 * j) (omega arith)) ∙ either-no (has b j)
-      go false e =
-          let k : 8 * j ≡ 56 + 0 = omega (arith, ltb-false j 7 e) in
-          let i : 7 + 0 ≡ j = omega (arith, ltb-false j 7 e) in
-          ap₂ either (has-out 56 low (8 * j) (omega (arith, low-few)) (omega (arith, ltb-false j 7 e))) (ap (has (b / 2 ^ 7 * 2 ^ 56)) k ∙ has-shl (b / 2 ^ 7) 56 0 ∙ has-shr b 7 0 ∙ ap (has b) i)
+      go : (d : Bool) → ltb i 4 ≡ d → T (has x (8 * j + w)) ⊎ T (has y (8 * j + w))
+      go true c = let l = ltb-true i 4 c in let m : i ≡ 0 + i = omega arith in inl (lower .union-i i j w l g h (subst T (sym (lower-has a i l)) (at-spot a i (0 + i) m t)) (subst (λ (z : ℕ). T (has (lane z j) w)) m q))
+      go false c =
+          let l : i ≡ 4 + (i - 4) = omega (arith, ltb-false i 4 c) in
+          let m : i - 4 < 4 = omega (arith, has-lt 8 a i k t) in
+          inr (upper .union-i (i - 4) j w m g h (subst T (sym (has-shr a 4 (i - 4))) (at-spot a i (4 + (i - 4)) l t)) (subst (λ (z : ℕ). T (has (lane z j) w)) l q))
 
-  starts : Firsts (bitAnd (bitOr (bitAnd b 127 * sevens) (b / 2 ^ 7 * 2 ^ 56 % 2 ^ 64)) ones)
-  starts i w h n = go (ltb i 8) refl
-    where
-      go : (t : Bool) → ltb i 8 ≡ t → has (bitAnd (bitOr low high) ones) (8 * i + w) ≡ false
-      go true e = out (bitOr low high) ones (8 * i + w) (ones-out i w (ltb-true i 8 e) h n)
-      go false e = has-out 64 (bitAnd (bitOr low high) ones) (8 * i + w) (lt-of-le-of-lt (and-le-r (bitOr low high) ones) (lit< tt)) (omega (arith, ltb-false i 8 e))
+  united-e : (j w : ℕ) → j < 8 → w < 8 → T (has (bitOr x y) (8 * j + w)) → (i : ℕ) × T (has a i) × T (has (lane i j) w)
+  united-e j w g h t =
+      ⊎-elim
+      (λ q. let r = lower .union-e j w g h q in (0 + r .0, subst T (lower-has a (r .0) (r .1)) (r .2), r .3))
+      (λ q. let r = upper .union-e j w g h q in (4 + r .0, subst T (has-shr a 4 (r .0)) (r .2), r .3))
+      (or-e x y (8 * j + w) t)
 
-  pub spread-is : Heads b (bitAnd (bitOr (bitAnd b 127 * sevens) (b / 2 ^ 7 * 2 ^ 56 % 2 ^ 64)) ones)
-  spread-is = record { head = spread-at; only = starts; narrow = and-le-r (bitOr low high) ones }
+-- under all lanes of b and e in each
+module _ (numbers : List ℕ) (base a b e s : ℕ) (k : a < 2 ^ 8) (l : b < 2 ^ 8) (n : e < 256) (p : (j w : ℕ) → j < 8 → w < 8 → has s (8 * j + w) ≡ has b j) (lane : ℕ → ℕ → ℕ) (f : Halves numbers base lane) where
+  abbrev united : ℕ
+  united = bitOr (at numbers (base + bitAnd a 15)) (at numbers (base + 16 + a / 2 ^ 4))
 
-pub product-is : {b s : ℕ} → Heads b s → (e : ℕ) → e < 256 → Product b e (bitAnd (s * 255) (e * ones))
-product-is {s = s} p e h j w i k = has-and (s * 255) (e * ones) (8 * j + w) ∙ ap₂ both (filled j s w (p .only) k ∙ p .head j i) (copied e j w h i k)
+  lower-is : UnionOf (bitAnd a 15) (λ i j. lane (0 + i) j) (at numbers (base + bitAnd a 15))
+  lower-is = let z : base + 16 * 0 + bitAnd a 15 ≡ base + bitAnd a 15 = omega arith in subst (λ (i : ℕ). UnionOf (bitAnd a 15) (λ i j. lane (0 + i) j) (at numbers i)) z (f 0 (bitAnd a 15) (lit< tt) (lt-of-le-of-lt (and-le-r a 15) (lit< tt)))
+
+  upper-is : UnionOf (a / 2 ^ 4) (λ i j. lane (4 + i) j) (at numbers (base + 16 + a / 2 ^ 4))
+  upper-is = f 1 (a / 2 ^ 4) (lit< tt) (omega arith)
+
+  pub lanes-in : InLanes a b e lane (bitAnd (bitAnd (bitOr (at numbers (base + bitAnd a 15)) (at numbers (base + 16 + a / 2 ^ 4))) s) (e * ones))
+  lanes-in = record {
+    lanes-i = λ i j w t u v q.
+        let g = has-lt 8 b j l u in
+        let h = has-lt 8 e w n v in
+        and-i (bitAnd united s) (e * ones) (8 * j + w) (and-i united s (8 * j + w) (united-i lane k lower-is upper-is i j w g h t q) (subst T (sym (p j w g h)) u)) (subst T (sym (copied e j w n g h)) v);
+    lanes-e = λ j w g h t.
+        let q = and-e (bitAnd united s) (e * ones) (8 * j + w) t in
+        let r = and-e united s (8 * j + w) (q .0) in
+        let o = united-e lane k lower-is upper-is j w g h (r .0) in
+        (o .0, o .1, subst T (p j w g h) (r .1), subst T (copied e j w n g h) (q .1), o .2);
+  }

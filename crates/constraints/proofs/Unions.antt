@@ -1,24 +1,23 @@
 -- The loops that run through the members of a set and unite what each of them gives. Assumes nothing.
 use mathlib.Core.Path.{_≡_, refl, sym, ap, _∙_, subst}
-use mathlib.Core.Bool.{Bool, true, false, not}
+use mathlib.Core.Bool.{Bool, true, not}
 use mathlib.Core.Logic.{_⊎_, inl, inr, ⊎-elim}
 use mathlib.Core.List.{List}
-use Prim.Native.Nat.{ℕ, _+_, _*_, _/_, _%_, _^_, _≤_, _<_}
+use Prim.Native.Nat.{ℕ, _+_, _*_, _/_, _%_, _^_, _<_}
 use native.Mathlib.Nat.{lt-of-le-of-lt}
 use native.Mathlib.Omega.{arith}
-use lib.Dec.{T, eqb, ltb}
+use lib.Dec.{T, eqb}
 use lib.Bits.{bitAnd, bitOr, and-le-r}
 use lib.Count.{trailingZeros}
-use borrow.Author.Tests.{eqb-true, ltb-true, ltb-false, eq-eqb, ne-eqb}
+use borrow.Author.Tests.{eqb-true, eq-eqb, ne-eqb}
 use Rattle.model.specs.Lists.{at}
 use Rattle.model.specs.ValueSets.{has, maskOf, withoutMask, unionMask, lowestOf, oneIf}
-use Rattle.model.proofs.Lists.{T-of, of-not, both-i, both-l, both-r}
+use Rattle.model.proofs.Lists.{T-of, both-i, both-l, both-r}
 use Rattle.model.proofs.Sets.{has-lt, mask-lt, member}
-use Rattle.model.proofs.Members.{low-has, rest-i, without-lowest-op, Rest, rest-begin, has-0, Union, union-begin, union-end, lowest-left, others-left, others-union, or-i, or-e, and-i, and-e}
-use Rattle.layout.specs.Places.{OTHERS, LANES}
-use Rattle.layout.specs.Tables.{Words}
-use Rattle.constraints.specs.Steps.{OneValue, Together, Joined, Together3, Together8, Joined3, Touched}
-use Rattle.constraints.specs.Lanes.{FullLanes, LaneUnion, Product}
+use Rattle.model.proofs.Members.{low-has, rest-i, without-lowest-op, Rest, rest-begin, has-0, Union, union-begin, union-end, lowest-left, others-left, others-union, and-i, and-e}
+use Rattle.layout.specs.Places.{OTHERS}
+use Rattle.constraints.specs.Steps.{OneValue, Together, Joined, Together3, Joined3, Touched}
+use Rattle.constraints.specs.Lanes.{FullLanes, LaneUnion, InLanes}
 use Rattle.constraints.proofs.Bits.{one-small}
 use Rattle.model.proofs.Masks.{has-oneIf, lowest-op, union-op}
 
@@ -102,18 +101,6 @@ module _ (t : List ℕ) (base a b : ℕ) where
       let d = and-e (at t (base + v)) b (trailingZeros k x) (low-has k x (omega arith) (lt-of-le-of-lt (and-le-r (at t (base + v)) b) h) .0) in
       (trailingZeros k x, (d .1, d .0))
 
-  -- where a has one value, that is all
-  pub joined-one : (k v : ℕ) → a < 2 ^ 16 → OneValue a → v ≡ lowestOf a → b < 2 ^ k → (bitAnd (at t (base + v)) b ≡ 0 → ⊥) → Joined t base a b a (bitAnd (at t (base + v)) b)
-  joined-one k v h o low l n = record {
-    first-i = λ u w q. q .0;
-    first-e = λ u q. let g = subst (λ (i : ℕ). (w : ℕ) × Gives i w) (sym (is-v u q)) (some-given k v l n) in (g .0, (q, g .1 .0, g .1 .1));
-    last-i = λ u w q. and-i (at t (base + v)) b w (subst (λ (i : ℕ). T (has (at t (base + i)) w)) (is-v u (q .0)) (q .2)) (q .1);
-    last-e = λ w q. let d = and-e (at t (base + v)) b w q in (v, (lowest-left a a v (rest-begin 16 a h) (o .some) low .0, d .1, d .0));
-  }
-    where
-      is-v : (u : ℕ) → T (has a u) → u ≡ v
-      is-v u q = single a h o u q ∙ sym low
-
   -- each value passed gives something
   pub record Passing (m all : ℕ) : Type 0 where
     pub rest : Rest 16 a m
@@ -144,67 +131,6 @@ module _ (t : List ℕ) (base a b : ℕ) where
     last-i = λ v w q. union-end Gives a m all e (j .lasts) v w (q .0) (q .1, q .2);
     last-e = λ w q. let r = j .lasts .got w q in (r .0, (r .1, r .2 .0, r .2 .1));
   }
-
-  -- the values below u are passed
-  pub record Below (u first all : ℕ) : Type 0 where
-    pub narrow : first < 2 ^ 16
-    pub first-i : (v w : ℕ) → v < u → Together t base a b v w → T (has first v)
-    pub first-e : (v : ℕ) → T (has first v) → (w : ℕ) × Together t base a b v w
-    pub last-i : (v w : ℕ) → v < u → Together t base a b v w → T (has all w)
-    pub last-e : (w : ℕ) → T (has all w) → (v : ℕ) × Together t base a b v w
-
-  pub below-begin : Below 0 0 0
-  below-begin = record {
-    narrow = omega arith;
-    first-i = λ v w h q. absurd (omega arith);
-    first-e = λ v q. absurd (has-0 v q);
-    last-i = λ v w h q. absurd (omega arith);
-    last-e = λ w q. absurd (has-0 w q);
-  }
-
-  -- x has what goes together with u
-  abbrev pub Given : ℕ → ℕ → Type 0
-  Given u x = ((has a u ≡ true) × (x ≡ bitAnd (at t (base + u)) b)) ⊎ ((has a u ≡ false) × (x ≡ 0))
-
-  given-i : (u x w : ℕ) → Given u x → Together t base a b u w → T (has x w)
-  given-i u x w (inl g) q = subst (λ (z : ℕ). T (has z w)) (sym (g .1)) (and-i (at t (base + u)) b w (q .2) (q .1))
-  given-i u x w (inr g) q = absurd (of-not (has a u) (g .0) (q .0))
-
-  given-e : (u x w : ℕ) → Given u x → T (has x w) → Together t base a b u w
-  given-e u x w (inl g) q = let d = and-e (at t (base + u)) b w (subst (λ (z : ℕ). T (has z w)) (g .1) q) in (T-of (has a u) (g .0), d .1, d .0)
-  given-e u x w (inr g) q = absurd (has-0 w (subst (λ (z : ℕ). T (has z w)) (g .1) q))
-
-  pub below-turn : (k u x : ℕ) {first s first′ all : ℕ} → Below u first all → u < 16 → x < 2 ^ k → Given u x → s ≡ oneIf (not (eqb x 0)) u → first′ ≡ unionMask first s → Below (u + 1) first′ (bitOr all x)
-  below-turn k u x {first} {s} {first′} {all} j l h g e q = record {
-    narrow = small _ first′ q;
-    first-i = λ v w i o. subst (λ (z : ℕ). T (has z v)) (sym whole) (or-i first one v (now v i (λ c. inl (j .first-i v w c o)) (λ c. inr (subst (λ (z : ℕ). T (has one z)) (sym c) (one-i x u w (given-i u x w g (here w c o)))))));
-    first-e = λ v o. ⊎-elim (j .first-e v) (λ c. let r = one-e k x u v h c in (r .1 .0, subst (λ (z : ℕ). Together t base a b z (r .1 .0)) (sym (r .0)) (given-e u x (r .1 .0) g (r .1 .1)))) (or-e first one v (subst (λ (z : ℕ). T (has z v)) whole o));
-    last-i = λ v w i o. or-i all x w (now v i (λ c. inl (j .last-i v w c o)) (λ c. inr (given-i u x w g (here w c o))));
-    last-e = λ w o. ⊎-elim (j .last-e w) (λ c. (u, given-e u x w g c)) (or-e all x w o);
-  }
-    where
-      one : ℕ
-      one = oneIf (not (eqb x 0)) u
-
-      whole : first′ ≡ bitOr first one
-      whole = q ∙ ap (unionMask first) e ∙ sym (union-op first one (j .narrow) (one-small (not (eqb x 0)) u l))
-
-      here : {v : ℕ} (w : ℕ) → v ≡ u → Together t base a b v w → Together t base a b u w
-      here w c o = subst (λ (z : ℕ). Together t base a b z w) c o
-
-      now : {A : Type 0} (v : ℕ) → v < u + 1 → (v < u → A) → (v ≡ u → A) → A
-      now {A} v i y n = go (ltb v u) refl
-        where
-          go : (d : Bool) → ltb v u ≡ d → A
-          go true c = y (ltb-true v u c)
-          go false c = n (omega (arith, ltb-false v u c))
-
-  -- at the end, where a stays whole
-  pub below-end : (k : ℕ) {u first all : ℕ} → a < 2 ^ k → k ≤ u → first ≡ a → Below u first all → Joined t base a b a all
-  below-end k {u} {all = all} h i e j = subst (λ (z : ℕ). Joined t base a b z all) e record { first-i = λ v w q. j .first-i v w (under v (q .0)) q; first-e = j .first-e; last-i = λ v w q. j .last-i v w (under v (q .0)) q; last-e = j .last-e }
-    where
-      under : (v : ℕ) → T (has a v) → v < u
-      under v q = let l = has-lt k a v h q in omega arith
 
 -- ---- three sets by 256 sets of a table
 module _ (t : List ℕ) (base a b e : ℕ) where
@@ -282,61 +208,66 @@ joined3-none never = record {
   last-e = λ w q. absurd (has-0 w q);
 }
 
-pub joined3-map : {M N : ℕ → ℕ → ℕ → Type 0} {first second last : ℕ} → ((u v w : ℕ) → M u v w → N u v w) → ((u v w : ℕ) → N u v w → M u v w) → Joined3 M first second last → Joined3 N first second last
-joined3-map f g j = record {
-  first-i = λ u v w q. j .first-i u v w (g u v w q);
-  first-e = λ u q. let r = j .first-e u q in (r .0, (r .1 .0, f u (r .0) (r .1 .0) (r .1 .1)));
-  second-i = λ u v w q. j .second-i u v w (g u v w q);
-  second-e = λ v q. let r = j .second-e v q in (r .0, (r .1 .0, f (r .0) v (r .1 .0) (r .1 .1)));
-  last-i = λ u v w q. j .last-i u v w (g u v w q);
-  last-e = λ w q. let r = j .last-e w q in (r .0, (r .1 .0, f (r .0) (r .1 .0) w (r .1 .1)));
-}
-
 -- ---- three sets of values below 8 by numbers of eight lanes
-module _ (t : List ℕ) (base a b e inside : ℕ) (k : b < 2 ^ 8) (l : e < 2 ^ 8) (small : inside < 2 ^ 64) (p : Product b e inside) where
-  to : (u v w : ℕ) → Together8 t base a b e u v w → Together t base a inside u (8 * v + w)
-  to u v w q = (q .0, subst T (sym (p v w (has-lt 8 b v k (q .1)) (has-lt 8 e w l (q .2)))) (both-i (has b v) (has e w) (q .1) (q .2)), q .3)
-
-  from : (u v w : ℕ) → v < 8 → w < 8 → Together t base a inside u (8 * v + w) → Together8 t base a b e u v w
-  from u v w h i q = let r = subst T (p v w h i) (q .1) in (q .0, both-l (has b v) (has e w) r, both-r (has b v) (has e w) r, q .2)
-
-  split : (u i : ℕ) → Together t base a inside u i → Together8 t base a b e u (i / 8) (i % 8)
-  split u i q =
-      let h : i < 64 = has-lt 64 inside i small (q .1) in
-      let f : i ≡ 8 * (i / 8) + i % 8 = omega arith in
-      from u (i / 8) (i % 8) (omega arith) (omega arith) (subst (λ (z : ℕ). Together t base a inside u z) f q)
-
-  pub joined-lanes : (first all second last : ℕ) → Joined t base a inside first all → FullLanes all second → LaneUnion all last → Joined3 (Together8 t base a b e) first second last
-  joined-lanes first all second last j f g = record {
-    first-i = λ u v w q. j .first-i u (8 * v + w) (to u v w q);
-    first-e = λ u q. let r = j .first-e u q in (r .0 / 8, (r .0 % 8, split u (r .0) (r .1)));
-    second-i = λ u v w q. f .full-i v w (has-lt 8 b v k (q .1)) (has-lt 8 e w l (q .2)) (j .last-i u (8 * v + w) (to u v w q));
-    second-e = λ v q. let r = f .full-e v q in let s = j .last-e (8 * v + r .1 .0) (r .1 .2) in (s .0, (r .1 .0, from (s .0) v (r .1 .0) (r .0) (r .1 .1) (s .1)));
-    last-i = λ u v w q. g .union-i v w (has-lt 8 b v k (q .1)) (has-lt 8 e w l (q .2)) (j .last-i u (8 * v + w) (to u v w q));
-    last-e = λ w q. let r = g .union-e w q in let s = j .last-e (8 * r .1 .0 + w) (r .1 .2) in (s .0, (r .1 .0, from (s .0) (r .1 .0) w (r .1 .1) (r .0) (s .1)));
-  }
-
-  -- the one value of a gives nothing
-  pub joined-none : (u₀ : ℕ) → a < 2 ^ 16 → OneValue a → u₀ ≡ lowestOf a → bitAnd (at t (base + u₀)) inside ≡ 0 → Joined3 (Together8 t base a b e) 0 0 0
-  joined-none u₀ h o low z =
-      joined3-none
-      (λ u v w q. let r = to u v w q in has-0 (8 * v + w) (subst (λ (n : ℕ). T (has n (8 * v + w))) z (and-i (at t (base + u₀)) inside (8 * v + w) (subst (λ (i : ℕ). T (has (at t (base + i)) (8 * v + w))) (single a h o u (r .0) ∙ sym low) (r .2)) (r .1))))
-
 -- a number that is not empty has a lane with a value
-pub lane-some : {x r : ℕ} → x < 2 ^ 64 → (x ≡ 0 → ⊥) → LaneUnion x r → r ≡ 0 → ⊥
-lane-some {x} {r} h n l e =
+some-lane : (x : ℕ) → x < 2 ^ 64 → (x ≡ 0 → ⊥) → (j : ℕ) × (w : ℕ) × (j < 8) × (w < 8) × T (has x (8 * j + w))
+some-lane x h n =
     let q = low-has 64 x (omega arith) h in
     let i = trailingZeros 64 x in
     let f : i ≡ 8 * (i / 8) + i % 8 = omega arith in
-    has-0 (i % 8) (subst (λ (z : ℕ). T (has z (i % 8))) e (l .union-i (i / 8) (i % 8) (omega arith) (omega arith) (subst (λ (z : ℕ). T (has x z)) f (q .0))))
+    (i / 8, i % 8, omega arith, omega arith, subst (λ (z : ℕ). T (has x z)) f (q .0))
 
--- the same as by the sets of the table
-module _ (numbers supports : List ℕ) (g : Words numbers supports) (k a b e : ℕ) (h : k < 32) (x : a < 2 ^ 8) (y : b < 2 ^ 8) (z : e < 2 ^ 8) where
-  pub worded : (first second last : ℕ) → Joined3 (Together8 numbers (LANES + 8 * k) a b e) first second last → Joined3 (Together3 supports (256 * k) a b e) first second last
-  worded first second last =
-      joined3-map
-      (λ u v w q. (q .0, (q .1, q .2, subst T (g k u v w h (has-lt 8 a u x (q .0)) (has-lt 8 b v y (q .1)) (has-lt 8 e w z (q .2))) (q .3))))
-      (λ u v w q. (q .0, q .1 .0, q .1 .1, subst T (sym (g k u v w h (has-lt 8 a u x (q .0)) (has-lt 8 b v y (q .1 .0)) (has-lt 8 e w z (q .1 .1)))) (q .1 .2)))
+pub lane-some : {x r : ℕ} → x < 2 ^ 64 → (x ≡ 0 → ⊥) → LaneUnion x r → r ≡ 0 → ⊥
+lane-some {x} {r} h n l e = let q = some-lane x h n in has-0 (q .1) (subst (λ (z : ℕ). T (has z (q .1))) e (l .union-i (q .0) (q .1) (q .2) (q .3) (q .4)))
+
+-- the support sets of constraint k: those of a value u of the first variable in lanes by the second, and those of a value v of the second in lanes by
+-- the first
+abbrev pub of-first : List ℕ → ℕ → ℕ → ℕ → ℕ
+of-first supports k u v = at supports (256 * k + 16 * u + v)
+
+abbrev pub of-second : List ℕ → ℕ → ℕ → ℕ → ℕ
+of-second supports k v u = at supports (256 * k + 16 * u + v)
+
+-- x has what goes together in lanes by the second variable
+module _ (supports : List ℕ) (k a b e : ℕ) {x : ℕ} (m : b < 2 ^ 8) (l : e < 2 ^ 8) (s : InLanes a b e (of-first supports k) x) where
+  abbrev M : ℕ → ℕ → ℕ → Type 0
+  M = Together3 supports (256 * k) a b e
+
+  to : (u v w : ℕ) → M u v w → (v < 8) × (w < 8) × T (has x (8 * v + w))
+  to u v w q = (has-lt 8 b v m (q .1 .0), has-lt 8 e w l (q .1 .1), s .lanes-i u v w (q .0) (q .1 .0) (q .1 .1) (q .1 .2))
+
+  from : (v w : ℕ) → v < 8 → w < 8 → T (has x (8 * v + w)) → (u : ℕ) × M u v w
+  from v w g h q = let r = s .lanes-e v w g h q in (r .0, (r .1, (r .2, r .3, r .4)))
+
+  -- nothing goes together
+  pub union-none : x ≡ 0 → Joined3 (Together3 supports (256 * k) a b e) 0 0 0
+  union-none z = joined3-none (λ u v w q. let r = to u v w q in has-0 (8 * v + w) (subst (λ (n : ℕ). T (has n (8 * v + w))) z (r .2)))
+
+  module _ {second last : ℕ} (f : FullLanes x second) (g : LaneUnion x last) where
+    -- the second and the third set, where the first is known
+    union-second : (first : ℕ) → ((u v w : ℕ) → M u v w → T (has first u)) → ((u : ℕ) → T (has first u) → (v : ℕ) × ((w : ℕ) × M u v w)) → Joined3 M first second last
+    union-second first i j = record {
+      first-i = i;
+      first-e = j;
+      second-i = λ u v w q. let r = to u v w q in f .full-i v w (r .0) (r .1) (r .2);
+      second-e = λ v q. let r = f .full-e v q in let o = from v (r .1 .0) (r .0) (r .1 .1) (r .1 .2) in (o .0, (r .1 .0, o .1));
+      last-i = λ u v w q. let r = to u v w q in g .union-i v w (r .0) (r .1) (r .2);
+      last-e = λ w q. let r = g .union-e w q in let o = from (r .1 .0) w (r .1 .1) (r .0) (r .1 .2) in (o .0, (r .1 .0, o .1));
+    }
+
+    -- the first set has one value
+    pub union-one : x < 2 ^ 64 → (x ≡ 0 → ⊥) → OneValue a → Joined3 (Together3 supports (256 * k) a b e) a second last
+    union-one h n o =
+        let q = some-lane x h n in
+        let r = from (q .0) (q .1) (q .2) (q .3) (q .4) in
+        union-second a (λ u v w i. i .0) (λ u i. (q .0, (q .1, subst (λ (z : ℕ). M z (q .0) (q .1)) (o .only (r .0) u (r .1 .0) i) (r .1))))
+
+    -- y has it in lanes by the first variable
+    pub union-both : {y first : ℕ} → a < 2 ^ 8 → InLanes b a e (of-second supports k) y → FullLanes y first → Joined3 (Together3 supports (256 * k) a b e) first second last
+    union-both {first = first} h c d =
+        union-second first
+        (λ u v w q. d .full-i u w (has-lt 8 a u h (q .0)) (has-lt 8 e w l (q .1 .1)) (c .lanes-i v u w (q .1 .0) (q .0) (q .1 .1) (q .1 .2)))
+        (λ u q. let r = d .full-e u q in let o = c .lanes-e u (r .1 .0) (r .0) (r .1 .1) (r .1 .2) in (o .0, (r .1 .0, (o .2, (o .1, o .3, o .4)))))
 
 -- ---- the numbers at the members of a set
 abbrev pub Touches : List ℕ → ℕ → ℕ → Type 0

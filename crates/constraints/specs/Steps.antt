@@ -35,10 +35,6 @@ pub record Joined (t : List ℕ) (base a b first last : ℕ) : Type 0 where
 abbrev pub Together3 : List ℕ → ℕ → ℕ → ℕ → ℕ → ℕ → ℕ → ℕ → Type 0
 Together3 t base a b e u v w = T (has a u) × Together t (base + 16 * u) b e v w
 
--- the same by a number of eight lanes for each value of the first
-abbrev pub Together8 : List ℕ → ℕ → ℕ → ℕ → ℕ → ℕ → ℕ → ℕ → Type 0
-Together8 t base a b e u v w = T (has a u) × T (has b v) × T (has e w) × T (has (at t (base + u)) (8 * v + w))
-
 -- the values that go together with some values of the other two sets
 pub record Joined3 (M : ℕ → ℕ → ℕ → Type 0) (first second last : ℕ) : Type 0 where
   pub first-i : (u v w : ℕ) → M u v w → T (has first u)

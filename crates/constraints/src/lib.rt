@@ -1,8 +1,9 @@
 // Pruning by single constraints (paper 01, "The search"), over the arrays of the compiled problem.
 use layout::DEAD;
-use layout::LANES;
 use layout::OTHERS;
 use layout::SCOPES;
+use layout::SPREAD;
+use layout::UNIONS;
 use layout::VALUES;
 use model::ValueSet;
 ghost use mathlib.Core.Path.{_≡_};
@@ -20,9 +21,9 @@ ghost use Rattle.layout.specs.Places.{SCOPES, VALUES};
 ghost use Rattle.layout.specs.Layout.{constraintAt};
 ghost use Rattle.layout.specs.Tables.{Words};
 ghost use Rattle.constraints.specs.Revised.{Revision, ConstraintsPending, Constrained};
-ghost use Rattle.constraints.specs.Steps.{OneValue, Joined, Together3, Together8, Joined3, Scoped, Nonempty, Narrow, ConstraintsHeld, SetCut, Touched, Waiting, Round};
+ghost use Rattle.constraints.specs.Steps.{OneValue, Joined, Together3, Joined3, Scoped, Nonempty, Narrow, ConstraintsHeld, SetCut, Touched, Waiting, Round};
 ghost use Rattle.constraints.specs.LookUps.{LookUp, LookUpsPending, LookedUp};
-ghost use Rattle.constraints.specs.Lanes.{FullLanes, LaneUnion, Product, Heads, FullHeads};
+ghost use Rattle.constraints.specs.Lanes.{FullLanes, LaneUnion, FullHeads, Halves, InLanes};
 
 // Bits of a number of eight lanes: the first of each lane, the first two of each second, the first four of each fourth.
 const ONES: u64 = 72340172838076673;
@@ -30,9 +31,6 @@ const ONES: u64 = 72340172838076673;
 const PAIRS: u64 = 844437815230467;
 
 const FOURS: u64 = 64424509455;
-
-// Each seventh bit of eight times seven.
-const SEVENS: u64 = 567382630219905;
 
 struct Two {
     first: ValueSet,
@@ -137,15 +135,6 @@ fn union_of(w: u64) -> ValueSet
     }
 }
 
-// The first bit of every lane of b.
-fn spread(b: ValueSet) -> u64
-    requires { ⌜ b .bits < 256 ⌝ }
-    ensures { λ r. ⌜ Heads (b .bits) r ⌝ }
-{
-    let p = b.bits as u64;
-    (((p & 127) * SEVENS) | ((p >> 7) << 56)) & ONES
-}
-
 // The first bit of every lane that is not empty.
 fn heads(w: u64) -> u64
     ensures { λ r. ⌜ FullHeads w r ⌝ }
@@ -155,71 +144,26 @@ fn heads(w: u64) -> u64
     (b | (b >> 1)) & ONES
 }
 
-// The set e in every lane of b.
-fn product(b: ValueSet, e: ValueSet) -> u64
-    requires { ⌜ b .bits < 256 ⌝ }
-    requires { ⌜ e .bits < 256 ⌝ }
-    ensures { λ r. ⌜ Product (b .bits) (e .bits) r ⌝ }
+// In each lane of b the values of e that go together with that lane's value and some value of a, by the unions from a base on: those of the lower four
+// values and those of the upper four.
+fn in_lanes(numbers: &[u64; 2432], base: usize, a: ValueSet, b: ValueSet, e: ValueSet) -> u64
+    requires { ⌜ base + 32 ≤ 2432 ⌝ }
+    requires { ⌜ (a .bits < 256) × (b .bits < 256) × (e .bits < 256) ⌝ }
+    requires { ⌜ ((supports : List ℕ) × Words (now numbers) supports) ⌝ }
+    ensures { λ r. ⌜ ((lane : ℕ → ℕ → ℕ) → Halves (now (numbers .entry)) base lane → InLanes (a .bits) (b .bits) (e .bits) lane r) ⌝ }
 {
-    (spread(b) * 255) & ((e.bits as u64) * ONES)
+    let lower = numbers[base + ((a.bits & 15) as usize)];
+    let upper = numbers[base + 16 + ((a.bits >> 4) as usize)];
+    (lower | upper) & numbers[SPREAD + (b.bits as usize)] & ((e.bits as u64) * ONES)
 }
 
-// The same as `joined3` for sets of values below 8: a number of eight lanes for each value of the first.
-fn joined8(numbers: &[u64; 384], base: usize, a: ValueSet, b: ValueSet, e: ValueSet) -> Three
-    requires { ⌜ base + 8 ≤ 384 ⌝ }
-    requires { ⌜ a .bits < 256 ⌝ }
+// Whether the lanes that are not empty are those of b.
+fn fills(numbers: &[u64; 2432], w: u64, b: ValueSet) -> bool
     requires { ⌜ b .bits < 256 ⌝ }
-    requires { ⌜ e .bits < 256 ⌝ }
-    ensures { λ r. ⌜ Joined3 (Together8 (now (numbers .entry)) base (a .bits) (b .bits) (e .bits)) (r .first .bits) (r .second .bits) (r .last .bits) ⌝ }
+    requires { ⌜ ((supports : List ℕ) × Words (now numbers) supports) ⌝ }
+    ensures { λ r. ⌜ (r ≡ true → FullLanes w (b .bits)) ⌝ }
 {
-    let inside = product(b, e);
-    let mut first = ValueSet::EMPTY;
-    let mut all = 0u64;
-    let mut left = a;
-    while !left.is_empty() {
-        let u = left.lowest();
-        let w = numbers[base + (u as usize)] & inside;
-        first = first.union(one_if(w != 0, u));
-        all = all | w;
-        left = left.without_lowest();
-    }
-    let second = full_lanes(all);
-    let last = union_of(all);
-    Three {
-        first,
-        second,
-        last,
-    }
-}
-
-// Whether every value of three sets of values below 8 goes together with some of the other two.
-fn quiet(numbers: &[u64; 384], base: usize, a: ValueSet, b: ValueSet, e: ValueSet) -> bool
-    requires { ⌜ base + 8 ≤ 384 ⌝ }
-    requires { ⌜ a .bits < 256 ⌝ }
-    requires { ⌜ b .bits < 256 ⌝ }
-    requires { ⌜ e .bits < 256 ⌝ }
-    ensures { λ r. ⌜ (r ≡ true → Joined3 (Together8 (now (numbers .entry)) base (a .bits) (b .bits) (e .bits)) (a .bits) (b .bits) (e .bits)) ⌝ }
-{
-    let inside = product(b, e);
-    let mut first = ValueSet::EMPTY;
-    let mut all = 0u64;
-    let mut u = 0u32;
-    while u < 8 {
-        let w = if a.contains(u as u16) {
-            numbers[base + (u as usize)] & inside
-        } else {
-            0
-        };
-        first = first.union(one_if(w != 0, u));
-        all = all | w;
-        u = u + 1;
-    }
-    if first.bits == a.bits {
-        if union_of(all).bits == e.bits {
-            return heads(all) == spread(b);
-        }
-    }
-    false
+    heads(w) == (numbers[SPREAD + (b.bits as usize)] & ONES)
 }
 
 // Whether every value of two sets goes together with some of the other, by the sixteen sets of the table from a base on.
@@ -277,10 +221,10 @@ fn revise_two(sets: &mut [u16; 16], supports: &[u16; 8192], k: usize, x: usize, 
     moved(a, first, x) | moved(b, last, y)
 }
 
-// Prunes by constraint number k, whose first set has one value: both ways along that value's number of lanes.
+// Prunes by constraint number k, whose first set has one value: both ways along the lanes by the second variable.
 fn along(
     sets: &mut [u16; 16],
-    numbers: &[u64; 384],
+    numbers: &[u64; 2432],
     supports: &[u16; 8192],
     k: usize,
     x: usize,
@@ -288,22 +232,22 @@ fn along(
     z: usize,
 ) -> u64
     requires { ⌜ Sets 16 (now sets) ⌝ }
-    requires { ⌜ Words (now numbers) (now supports) ⌝ }
+    requires { ⌜ Words (now numbers) (now supports) × (at (now numbers) (SCOPES + k) % 256 ≡ 3) ⌝ }
     requires { ⌜ OneValue (at (now sets) x) ⌝ }
     requires { ⌜ (at (now sets) x < 256) × (at (now sets) y < 256) × (at (now sets) z < 256) ⌝ }
     requires { ⌜ ((c : Constraint) × Scoped c (now supports) k (x ∷ y ∷ z ∷ [])) ⌝ }
     ensures { λ r. ⌜ ((c : Constraint) → Scoped c (now (supports .entry)) k (x ∷ y ∷ z ∷ []) → Revision c (now (sets .entry)) (now (sets .exit)) r) ⌝ }
 {
-    let u = ValueSet { bits: sets[x] }.lowest() as usize;
+    let a = ValueSet { bits: sets[x] };
     let b = ValueSet { bits: sets[y] };
     let e = ValueSet { bits: sets[z] };
-    let w = numbers[LANES + 8 * k + u] & product(b, e);
+    let w = in_lanes(numbers, UNIONS + 64 * k, a, b, e);
     if w == 0 {
         return DEAD;
     }
     let last = union_of(w);
     if last.bits == e.bits {
-        if heads(w) == spread(b) {
+        if fills(numbers, w, b) {
             return 0;
         }
     }
@@ -356,8 +300,46 @@ fn leave(sets: &mut [u16; 16], x: usize, y: usize, z: usize, t: Three) -> u64
     moved(a, first, x) | moved(b, second, y) | moved(e, last, z)
 }
 
+// Prunes by constraint number k: the first set along the lanes by its variable, the others along those by the second.
+fn across(
+    sets: &mut [u16; 16],
+    numbers: &[u64; 2432],
+    supports: &[u16; 8192],
+    k: usize,
+    x: usize,
+    y: usize,
+    z: usize,
+) -> u64
+    requires { ⌜ Sets 16 (now sets) ⌝ }
+    requires { ⌜ Words (now numbers) (now supports) × (at (now numbers) (SCOPES + k) % 256 ≡ 3) ⌝ }
+    requires { ⌜ (at (now sets) z ≡ 0 → ⊥) ⌝ }
+    requires { ⌜ (at (now sets) x < 256) × (at (now sets) y < 256) × (at (now sets) z < 256) ⌝ }
+    requires { ⌜ ((c : Constraint) × Scoped c (now supports) k (x ∷ y ∷ z ∷ [])) ⌝ }
+    ensures { λ r. ⌜ ((c : Constraint) → Scoped c (now (supports .entry)) k (x ∷ y ∷ z ∷ []) → Revision c (now (sets .entry)) (now (sets .exit)) r) ⌝ }
+{
+    let a = ValueSet { bits: sets[x] };
+    let b = ValueSet { bits: sets[y] };
+    let e = ValueSet { bits: sets[z] };
+    let first_lanes = in_lanes(numbers, UNIONS + 64 * k + 32, b, a, e);
+    let second_lanes = in_lanes(numbers, UNIONS + 64 * k, a, b, e);
+    let last = union_of(second_lanes);
+    if fills(numbers, first_lanes, a) {
+        if fills(numbers, second_lanes, b) {
+            if last.bits == e.bits {
+                return 0;
+            }
+        }
+    }
+    let t = Three {
+        first: full_lanes(first_lanes),
+        second: full_lanes(second_lanes),
+        last,
+    };
+    leave(sets, x, y, z, t)
+}
+
 // Prunes by constraint number k, on one or two variables.
-fn revise_few(sets: &mut [u16; 16], numbers: &[u64; 384], supports: &[u16; 8192], k: usize) -> u64
+fn revise_few(sets: &mut [u16; 16], numbers: &[u64; 2432], supports: &[u16; 8192], k: usize) -> u64
     requires { ⌜ Sets 16 (now sets) ⌝ }
     requires { ⌜ (at (now numbers) (SCOPES + k) % 256 ≡ 3 → ⊥) ⌝ }
     requires { ⌜ ((p : Problem) × ConstraintsHeld p (now numbers) (now supports) × (k < length (p .constraints))) ⌝ }
@@ -373,7 +355,7 @@ fn revise_few(sets: &mut [u16; 16], numbers: &[u64; 384], supports: &[u16; 8192]
 }
 
 // Prunes by constraint number k: DEAD where a set would be empty, else the set of the variables whose sets changed.
-fn revise16(sets: &mut [u16; 16], numbers: &[u64; 384], supports: &[u16; 8192], k: usize) -> u64
+fn revise16(sets: &mut [u16; 16], numbers: &[u64; 2432], supports: &[u16; 8192], k: usize) -> u64
     requires { ⌜ Sets 16 (now sets) ⌝ }
     requires { ⌜ ((p : Problem) × ConstraintsHeld p (now numbers) (now supports) × (k < length (p .constraints)) × Nonempty (constraintAt p k .scope) (now sets)) ⌝ }
     ensures { λ r. ⌜ ((p : Problem) → ConstraintsHeld p (now (numbers .entry)) (now (supports .entry)) → k < length (p .constraints) → Revision (constraintAt p k) (now (sets .entry)) (now (sets .exit)) r) ⌝ }
@@ -400,8 +382,8 @@ fn revise16(sets: &mut [u16; 16], numbers: &[u64; 384], supports: &[u16; 8192], 
     leave(sets, x, y, z, t)
 }
 
-// The same for sets of values below 8, by numbers of lanes: one number where the first set has one value, and no store where nothing is lost.
-fn revise8(sets: &mut [u16; 16], numbers: &[u64; 384], supports: &[u16; 8192], k: usize) -> u64
+// The same for sets of values below 8, by numbers of lanes: one where the first set has one value, else two; and no store where nothing is lost.
+fn revise8(sets: &mut [u16; 16], numbers: &[u64; 2432], supports: &[u16; 8192], k: usize) -> u64
     requires { ⌜ Sets 16 (now sets) ⌝ }
     requires { ⌜ ((p : Problem) × ConstraintsHeld p (now numbers) (now supports) × (k < length (p .constraints)) × Nonempty (constraintAt p k .scope) (now sets) × Narrow (constraintAt p k .scope) (now sets)) ⌝ }
     ensures { λ r. ⌜ ((p : Problem) → ConstraintsHeld p (now (numbers .entry)) (now (supports .entry)) → k < length (p .constraints) → Revision (constraintAt p k) (now (sets .entry)) (now (sets .exit)) r) ⌝ }
@@ -421,16 +403,11 @@ fn revise8(sets: &mut [u16; 16], numbers: &[u64; 384], supports: &[u16; 8192], k
         }
         return along(sets, numbers, supports, k, x, y, z);
     }
-    let e = ValueSet { bits: sets[z] };
-    if quiet(numbers, LANES + 8 * k, a, b, e) {
-        return 0;
-    }
-    let t = joined8(numbers, LANES + 8 * k, a, b, e);
-    leave(sets, x, y, z, t)
+    across(sets, numbers, supports, k, x, y, z)
 }
 
 // The constraints, but those pruned by variable, that have one of the changed variables in their scope.
-pub fn touched(numbers: &[u64; 384], changed: u64) -> u64
+pub fn touched(numbers: &[u64; 2432], changed: u64) -> u64
     ensures { λ r. ⌜ Touched (now (numbers .entry)) changed r ⌝ }
 {
     let mut all = 0u64;
@@ -443,7 +420,7 @@ pub fn touched(numbers: &[u64; 384], changed: u64) -> u64
 }
 
 // The constraints that have one of the changed variables in their scope and wait for the next round: not number k, nor those left of this one.
-fn waiting(numbers: &[u64; 384], changed: u64, k: u32, left: u64) -> u64
+fn waiting(numbers: &[u64; 2432], changed: u64, k: u32, left: u64) -> u64
     requires { ⌜ k < 64 ⌝ }
     ensures { λ r. ⌜ Waiting (now (numbers .entry)) changed k left r ⌝ }
 {
@@ -461,7 +438,12 @@ fn round(due: u64, soon: u64) -> u64
 
 // Prunes by the constraints of todo, and again by those that have a changed variable in their scope, until nothing moves.
 // One that must be pruned by again waits for the next round.
-fn constrain16(sets: &mut [u16; 16], numbers: &[u64; 384], supports: &[u16; 8192], todo: u64) -> u64
+fn constrain16(
+    sets: &mut [u16; 16],
+    numbers: &[u64; 2432],
+    supports: &[u16; 8192],
+    todo: u64,
+) -> u64
     requires { ⌜ ((p : Problem) × ConstraintsPending p (now numbers) (now supports) (now sets) todo) ⌝ }
     ensures { λ r. ⌜ ((p : Problem) → ConstraintsPending p (now (numbers .entry)) (now (supports .entry)) (now (sets .entry)) todo → Constrained p (now (sets .entry)) (now (sets .exit)) r) ⌝ }
 {
@@ -492,7 +474,7 @@ fn constrain16(sets: &mut [u16; 16], numbers: &[u64; 384], supports: &[u16; 8192
 // The same for values below 8. A constraint that has none of the settled variables waits for those that have one: scopes ascend, so their first is settled.
 fn constrain8(
     sets: &mut [u16; 16],
-    numbers: &[u64; 384],
+    numbers: &[u64; 2432],
     supports: &[u16; 8192],
     todo: u64,
     settled: u64,
@@ -532,7 +514,7 @@ fn constrain8(
 // Prunes by the constraints of todo until nothing moves. The settled variables say which come first, where the values are below 8.
 pub fn constrain(
     sets: &mut [u16; 16],
-    numbers: &[u64; 384],
+    numbers: &[u64; 2432],
     supports: &[u16; 8192],
     todo: u64,
     settled: u64,
@@ -549,7 +531,7 @@ pub fn constrain(
 // Prunes by constraint number k on three variables, whose first two sets have one value each, the second the value v.
 fn look_up(
     sets: &mut [u16; 16],
-    numbers: &[u64; 384],
+    numbers: &[u64; 2432],
     supports: &[u16; 8192],
     k: usize,
     v: usize,
@@ -568,7 +550,7 @@ fn look_up(
 // The same for each constraint of `some`, once: DEAD where a set would be empty, else the set of the variables whose sets changed.
 pub fn look_ups(
     sets: &mut [u16; 16],
-    numbers: &[u64; 384],
+    numbers: &[u64; 2432],
     supports: &[u16; 8192],
     some: u64,
     v: usize,

@@ -31,7 +31,7 @@ use Rattle.lent.proofs.Lent.{passed-all, lent-passed, well-lent, ordering-lent}
 use Rattle.closed.proofs.Testing.{imaged-of, block-passed, passed-of}
 
 -- with the number of symmetries put they hold the problem with other symmetries
-numbers-with : (p : Problem) (gs : List (List ℕ)) (numbers : List ℕ) (n : ℕ) → p .variables ≤ 12 → length (p .constraints) ≤ 32 → length numbers ≡ 384 → n ≡ length gs → Numbers p numbers → Numbers (withSymmetries p gs) (set numbers SYMMETRIES n)
+numbers-with : (p : Problem) (gs : List (List ℕ)) (numbers : List ℕ) (n : ℕ) → p .variables ≤ 12 → length (p .constraints) ≤ 32 → length numbers ≡ 2432 → n ≡ length gs → Numbers p numbers → Numbers (withSymmetries p gs) (set numbers SYMMETRIES n)
 numbers-with p gs numbers n f few long e c = record {
   touching = λ x k l h. subst (λ (s : ℕ). has s k ≡ any (eqb x) (constraintAt p k .scope)) (sym (same x (λ e. omega arith))) (c .touching x k l h);
   touching-few = λ x l. subst (λ (s : ℕ). s < 2 ^ length (p .constraints)) (sym (same x (λ e. omega arith))) (c .touching-few x l);

@@ -46,7 +46,7 @@ fn put_images(sheet: &[u8], pairs: &[u8], block: &[u8], images: &mut [u8; 26112]
     requires { ⌜ (verdictLent (now sheet) (now pairs) (now block) ≡ accepted) × (length (now images) ≡ 26112) ⌝ }
     ensures { λ r. ⌜ Put (problemLent (now (sheet .entry)) (now (pairs .entry)) (now (block .entry))) (now (images .exit)) r ⌝ }
 {
-    let mut numbers = [0u64; 384];
+    let mut numbers = [0u64; 2432];
     let mut supports = [0u16; 8192];
     let mut order = [0u8; 16];
     lent::ask(

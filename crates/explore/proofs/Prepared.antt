@@ -29,9 +29,9 @@ use Rattle.lent.specs.Compile.{WithinLimits, CompiledLent}
 use Rattle.lent.proofs.Lent.{passed-all}
 use Rattle.block.proofs.Tables.{well-formed-with}
 use Rattle.lent.proofs.Blocked.{own-first, block-walked, block-inside}
-use Rattle.layout.specs.Places.{INITIAL, SCOPES, VARIABLES, VALUES, CONSTRAINTS, SYMMETRIES, LIMIT, ROOM, LINKED, BY-ROWS, OTHERS, LOOSE, ORDER, BLOCK, LOOKS, LANES, PLANS, NUMBER, ITEM, ALL, DEEPER, REFUSED}
+use Rattle.layout.specs.Places.{INITIAL, SCOPES, VARIABLES, VALUES, CONSTRAINTS, SYMMETRIES, LIMIT, ROOM, LINKED, BY-ROWS, OTHERS, LOOSE, ORDER, BLOCK, LOOKS, SPREAD, UNIONS, PLANS, NUMBER, ITEM, ALL, DEEPER, REFUSED}
 use Rattle.layout.specs.Layout.{constraintAt, Numbers, Compiled}
-use Rattle.layout.specs.Tables.{Linked, Indexed}
+use Rattle.layout.specs.Tables.{Linked, UnionOf, Words, Indexed}
 use Rattle.sheet.specs.Meaning as S
 use Rattle.sheet.specs.declared.Answer.{Answer as Verdicts}
 use Rattle.sheet.specs.declared.Answer.the-variants.{Accepted}
@@ -72,6 +72,17 @@ linked-kept p numbers numbers′ e h = record {
   loose = λ x u v y w t. h .loose x u v y w (subst (λ (s : ℕ). T (has s x)) (e LOOSE (omega arith)) t);
 }
 
+words-kept : (numbers numbers′ supports : List ℕ) → ((i : ℕ) → i < ORDER → at numbers′ i ≡ at numbers i) → ((i : ℕ) → LOOKS ≤ i → at numbers′ i ≡ at numbers i) →
+    Words numbers supports → Words numbers′ supports
+words-kept numbers numbers′ supports low high h = record {
+  spread = λ b j w l m n. ap (λ (s : ℕ). has s (8 * j + w)) (high (SPREAD + b) (omega arith)) ∙ h .spread b j w l m n;
+  by-first = λ k a m l t d n. subst (UnionOf m _) (sym (high (UNIONS + 64 * k + 16 * a + m) (omega arith))) (h .by-first k a m l (three k l t) d n);
+  by-second = λ k a m l t d n. subst (UnionOf m _) (sym (high (UNIONS + 64 * k + 32 + 16 * a + m) (omega arith))) (h .by-second k a m l (three k l t) d n);
+}
+  where
+    three : (k : ℕ) → k < 32 → at numbers′ (SCOPES + k) % 256 ≡ 3 → at numbers (SCOPES + k) % 256 ≡ 3
+    three k l t = ap (λ (s : ℕ). s % 256) (sym (low (SCOPES + k) (omega arith))) ∙ t
+
 indexed-kept : (p : Problem) (numbers numbers′ supports tables : List ℕ) → p .variables ≤ 12 → length (p .constraints) ≤ 32 → ((i : ℕ) → i < ORDER → at numbers′ i ≡ at numbers i) → ((i : ℕ) → LOOKS ≤ i → at numbers′ i ≡ at numbers i) →
     Indexed p numbers supports tables → Indexed p numbers′ supports tables
 indexed-kept p numbers numbers′ supports tables f c low high h = record {
@@ -79,7 +90,7 @@ indexed-kept p numbers numbers′ supports tables f c low high h = record {
   supported = h .supported;
   linked = linked-kept p numbers numbers′ low (h .linked);
   rowed = h .rowed;
-  worded = λ k u v w a b d e. ap (λ (s : ℕ). has s (8 * v + w)) (high (LANES + 8 * k + u) (omega arith)) ∙ h .worded k u v w a b d e;
+  worded = words-kept numbers numbers′ supports low high (h .worded);
   looks = λ k j l t. h .looks k j l (subst (λ (s : ℕ). T (has s j)) (high (LOOKS + k) (omega arith)) t);
   imageTables = h .imageTables;
 }
@@ -113,7 +124,7 @@ below-taken n bytes l h =
 pub record Laid (p own : Problem) (order numbers supports images bytes : List ℕ) (positions : ℕ) : Type 0 where
   pub compiled : Compiled own numbers supports images
   pub limits : WithinLimits own
-  pub long : length numbers ≡ 384
+  pub long : length numbers ≡ 2432
   pub bytes-length : length bytes ≡ 16
   pub order-is : take (p .variables) bytes ≡ order
   pub ordering : Ordering (p .variables) order
@@ -148,7 +159,7 @@ module _ (b pairs block : List ℕ) (numbers supports images bytes : List ℕ) (
     kept₀ : (i : ℕ) → i < 68 → at bounded i ≡ at numbers i
     kept₀ i l = ap (λ (l : List ℕ). at l i) put ∙ at-set-other (set numbers LIMIT limit) ROOM room i (λ e. omega arith) ∙ at-set-other numbers LIMIT limit i (λ e. omega arith)
 
-    pub long-bounded : length bounded ≡ 384
+    pub long-bounded : length bounded ≡ 2432
     long-bounded = ap length put ∙ length-set (set numbers LIMIT limit) ROOM room ∙ length-set numbers LIMIT limit ∙ left .sizes is .numbers-length
 
     at-limit : at bounded LIMIT ≡ limit
@@ -257,7 +268,7 @@ module _ (p own : Problem) (order numbers supports images bytes : List ℕ) (pos
     pub first : (i : ℕ) → i < LINKED → at numbers′ i ≡ at numbers i
     first i l = low i (omega arith) ∙ made .kept i l
 
-    indexed-length : length indexed ≡ 384
+    indexed-length : length indexed ≡ 2432
     indexed-length = made .numbers-length ∙ h .long
 
     few : p .variables ≤ 12

@@ -35,7 +35,7 @@ pub record Blank (stack work supports tables numbers : List ℕ) (size : ℕ) : 
   pub none-listed : at work PLANS ≡ 0
   pub supports-blank : Zeros 8192 supports
   pub tables-length : length tables ≡ 55296
-  pub numbers-blank : Zeros 384 numbers
+  pub numbers-blank : Zeros 2432 numbers
   pub unlisted : (at work WANTED ≡ 0 → ⊥) → size ≡ 0
 
 -- a refusal's number and item stand in `work`

@@ -16,13 +16,13 @@ use Rattle.model.specs.WellFormed.{WellFormed}
 use Rattle.model.specs.Filling.{Filled}
 use Rattle.model.proofs.Lists.{at-set, at-set-other}
 use Rattle.model.proofs.Sets.{has-lt, has-mask, has-at-lt}
-use Rattle.layout.specs.Places.{INITIAL, SCOPES, VARIABLES, VALUES, CONSTRAINTS, SYMMETRIES, LINKED, BY-ROWS, OTHERS, LOOSE, LOOKS, LANES}
+use Rattle.layout.specs.Places.{INITIAL, SCOPES, VARIABLES, VALUES, CONSTRAINTS, SYMMETRIES, LINKED, BY-ROWS, OTHERS, LOOSE, LOOKS, SPREAD}
 use Rattle.layout.specs.Layout.{Numbers}
 use Rattle.layout.specs.Tables.{goes, Rows, Linked}
 use Rattle.index.specs.Index.{Compact, Made}
-use Rattle.index.specs.Steps.{Lanes, SymmetriesStored, LinkedFirst, LinkNumbers, RowsSource, LooseTo, LooseSet, LookScopes}
+use Rattle.index.specs.Steps.{Spread, Unions, SymmetriesStored, LinkedFirst, LinkNumbers, RowsSource, LooseTo, LooseSet, LookScopes}
 use Rattle.index.proofs.Initial.{initial-is}
-use Rattle.index.proofs.Lanes.{worded}
+use Rattle.index.proofs.UnionTables.{worded}
 use Rattle.index.proofs.LookScopes.{look-scopes-from, looks-up}
 use Rattle.index.proofs.ImageTables.{imageTables}
 
@@ -85,23 +85,26 @@ module _ (p : Problem) (n0 supports images t0 : List ℕ) (c : Compact p n0 supp
 
   module _ (t1 : List ℕ) (rows : (length t1 ≡ length t0) × ((q : Problem) → RowsSource q n1 supports → Rows q t1)) (r : ℕ) (loose : LooseSet n1 t1 (at n1 VARIABLES) r)
       (n2 : List ℕ) (looks : Filled (λ k. LOOKS + k) (LookScopes (set n1 LOOSE r)) 13 (set n1 LOOSE r) n2)
-      (n3 : List ℕ) (words : Filled (λ i. LANES + i) (λ i w. Lanes supports (256 * (i / 8) + 16 * (i % 8)) w) 256 n2 n3) (t2 : List ℕ) (stored : SymmetriesStored n3 images (at n3 VARIABLES) (at n3 SYMMETRIES) t1 t2) where
-    low : (j : ℕ) → j < LOOSE → at n3 j ≡ at n1 j
-    low j h = words .other j (λ v k e. omega arith) ∙ looks .other j (λ v k e. omega arith) ∙ at-set-other n1 LOOSE r j (λ e. omega arith)
+      (n3 : List ℕ) (spreads : Filled (λ b. SPREAD + b) Spread 256 n2 n3) (n4 : List ℕ) (unions : Unions supports 32 n3 n4) (t2 : List ℕ) (stored : SymmetriesStored n4 images (at n4 VARIABLES) (at n4 SYMMETRIES) t1 t2) where
+    before-spread : (j : ℕ) → j < SPREAD → at n4 j ≡ at n2 j
+    before-spread j h = unions .kept j (omega arith) ∙ spreads .other j (λ v k e. omega arith)
 
-    kept : (j : ℕ) → j < LINKED → at n3 j ≡ at n0 j
+    low : (j : ℕ) → j < LOOSE → at n4 j ≡ at n1 j
+    low j h = before-spread j (omega arith) ∙ looks .other j (λ v k e. omega arith) ∙ at-set-other n1 LOOSE r j (λ e. omega arith)
+
+    kept : (j : ℕ) → j < LINKED → at n4 j ≡ at n0 j
     kept j h = low j (omega arith) ∙ l .kept j h
 
-    at-loose : at n3 LOOSE ≡ r
-    at-loose = words .other LOOSE (λ v k e. omega arith) ∙ looks .other LOOSE (λ v k e. omega arith) ∙ at-set n1 LOOSE r (omega (arith, l .size, c .numbers-length))
+    at-loose : at n4 LOOSE ≡ r
+    at-loose = before-spread LOOSE (omega arith) ∙ looks .other LOOSE (λ v k e. omega arith) ∙ at-set n1 LOOSE r (omega (arith, l .size, c .numbers-length))
 
-    numbered : Numbers p n3
-    numbered = numbers-kept p n0 n3 (c .wellFormed) (c .constraints) kept (c .compiled .numbered)
+    numbered : Numbers p n4
+    numbered = numbers-kept p n0 n4 (c .wellFormed) (c .constraints) kept (c .compiled .numbered)
 
-    first-at : (j : ℕ) → j < LOOSE → at n3 j ≡ at (set n1 LOOSE 0) j
+    first-at : (j : ℕ) → j < LOOSE → at n4 j ≡ at (set n1 LOOSE 0) j
     first-at j h = low j h ∙ sym (at-set-other n1 LOOSE 0 j (λ e. omega arith))
 
-    linked : Linked p n3
+    linked : Linked p n4
     linked = record {
       by-rows = λ k h. ap (λ (n : ℕ). has n k) (first-at BY-ROWS (omega arith)) ∙ g .by-rows k h;
       linked = λ x k h b t. subst (λ (n : ℕ). T (has n x)) (sym (first-at LINKED (omega arith))) (g .linked x k h b t);
@@ -114,20 +117,20 @@ module _ (p : Problem) (n0 supports images t0 : List ℕ) (c : Compact p n0 supp
         g : LinkedFirst p n1
         g = l .linked p (c .compiled .numbered) (c .wellFormed)
 
-    pub made : Made p n0 supports t0 n3 t2
+    pub made : Made p n0 supports t0 n4 t2
     made = record {
       indexed = record {
         numbered = numbered;
         supported = c .compiled .supported;
         linked = linked;
         rowed = λ x v y hx hv hy. stored .kept .low (256 * x + 16 * v + y) (omega arith) ∙ rows .1 p rows-source x v y hx hv hy;
-        worded = worded n2 n3 supports words;
+        worded = worded supports n2 n3 n4 spreads unions;
         looks = λ k j h t. looks-up p n1 k (at n2 (LOOKS + k)) numbered-1 (look-scopes-from n1 (set n1 LOOSE r) k (at n2 (LOOKS + k)) (λ i l. at-set-other n1 LOOSE r i (λ e. omega arith)) (omega (arith, numbered-1 .constraints, c .constraints)) (looks .here k h)) j
-            (subst (λ (z : ℕ). T (has z j)) (words .other (LOOKS + k) (λ v l e. omega arith)) t);
-        imageTables = imageTables p n3 images t1 t2 (c .wellFormed) numbered (c .compiled .imaged) stored;
+            (subst (λ (z : ℕ). T (has z j)) (before-spread (LOOKS + k) (omega arith)) t);
+        imageTables = imageTables p n4 images t1 t2 (c .wellFormed) numbered (c .compiled .imaged) stored;
       };
       kept = kept;
-      numbers-length = words .size ∙ looks .size ∙ length-set n1 LOOSE r ∙ l .size;
+      numbers-length = unions .size ∙ spreads .size ∙ looks .size ∙ length-set n1 LOOSE r ∙ l .size;
       tables-length = stored .kept .size ∙ rows .0;
     }
 
@@ -141,15 +144,19 @@ module _ (p : Problem) (n0 supports images t0 : List ℕ) (c : Compact p n0 supp
     link-bounds = (omega (arith, bounds .0, l .kept VARIABLES (omega arith)), omega (arith, bounds .1, l .kept CONSTRAINTS (omega arith)), omega (arith, bounds .2, l .kept SYMMETRIES (omega arith)))
 
     module _ (r : ℕ) where
-      pub looks-bounds : (at (set n1 LOOSE r) CONSTRAINTS ≤ 32) × (length (set n1 LOOSE r) ≡ 384)
+      pub looks-bounds : (at (set n1 LOOSE r) CONSTRAINTS ≤ 32) × (length (set n1 LOOSE r) ≡ 2432)
       looks-bounds = (omega (arith, link-bounds .1, at-set-other n1 LOOSE r CONSTRAINTS (λ e. omega arith)), length-set n1 LOOSE r ∙ l .size ∙ c .numbers-length)
 
       module _ {P : ℕ → ℕ → Type 0} {n2 : List ℕ} (k : Filled (λ i. LOOKS + i) P 13 (set n1 LOOSE r) n2) where
-        pub words-long : length n2 ≡ 384
-        words-long = k .size ∙ looks-bounds .1
+        pub spreads-long : length n2 ≡ 2432
+        spreads-long = k .size ∙ looks-bounds .1
 
-        pub words-bounds : {Q : ℕ → ℕ → Type 0} {n3 : List ℕ} → Filled (λ i. LANES + i) Q 256 n2 n3 → (at n3 VARIABLES ≤ 12) × (at n3 SYMMETRIES ≤ 16)
-        words-bounds {n3 = n3} w = (omega (arith, link-bounds .0, same VARIABLES (omega arith)), omega (arith, link-bounds .2, same SYMMETRIES (omega arith)))
-          where
-            same : (j : ℕ) → j < LOOSE → at n3 j ≡ at n1 j
-            same j h = w .other j (λ v i e. omega arith) ∙ k .other j (λ v i e. omega arith) ∙ at-set-other n1 LOOSE r j (λ e. omega arith)
+        module _ {Q : ℕ → ℕ → Type 0} {n3 : List ℕ} (s : Filled (λ b. SPREAD + b) Q 256 n2 n3) where
+          pub unions-long : length n3 ≡ 2432
+          unions-long = s .size ∙ spreads-long
+
+          pub unions-bounds : {supports n4 : List ℕ} → Unions supports 32 n3 n4 → (at n4 VARIABLES ≤ 12) × (at n4 SYMMETRIES ≤ 16)
+          unions-bounds {n4 = n4} u = (omega (arith, link-bounds .0, same VARIABLES (omega arith)), omega (arith, link-bounds .2, same SYMMETRIES (omega arith)))
+            where
+              same : (j : ℕ) → j < LOOSE → at n4 j ≡ at n1 j
+              same j h = u .kept j (omega arith) ∙ s .other j (λ v i e. omega arith) ∙ k .other j (λ v i e. omega arith) ∙ at-set-other n1 LOOSE r j (λ e. omega arith)

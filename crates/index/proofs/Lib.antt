@@ -1,6 +1,7 @@
 pub mod Initial
 pub mod Bits
 pub mod Lanes
+pub mod UnionTables
 pub mod Images
 pub mod ImageTables
 pub mod Scopes

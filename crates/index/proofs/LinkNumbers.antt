@@ -32,7 +32,7 @@ meet a b k s t = ap not (ne-eqb (bitAnd a b) 0 (λ e. has-0 k (subst (λ (n : �
 pub scope-below : (p : Problem) → WellFormed p → (k x : ℕ) → k < length (p .constraints) → T (any (eqb x) (constraintAt p k .scope)) → x < p .variables
 scope-below p wf k x h t = good wf k h .inside x (among-e x (constraintAt p k .scope) t)
 
-module _ (old : List ℕ) (m vars : ℕ) (long : length old ≡ 384) (small : m < 2 ^ 64)
+module _ (old : List ℕ) (m vars : ℕ) (long : length old ≡ 2432) (small : m < 2 ^ 64)
     (gm : (p : Problem) → Numbers p old → Gathered (byRows p) (length (p .constraints)) m)
     (gv : Gathered (λ x. not (eqb (bitAnd (at old x) m) 0)) (at old VARIABLES) vars)
     (new : List ℕ) (r : Filled (λ x. OTHERS + x) (λ x w. w ≡ bitAnd (at (set (set old LINKED vars) BY-ROWS m) x) ((2 ^ 64 - 1) - m)) 16 (set (set old LINKED vars) BY-ROWS m) new) where
@@ -57,7 +57,7 @@ module _ (old : List ℕ) (m vars : ℕ) (long : length old ≡ 384) (small : m 
   first-at : (j : ℕ) → (j ≡ LOOSE → ⊥) → at first j ≡ at new j
   first-at j n = at-set-other new LOOSE 0 j n
 
-  new-long : length new ≡ 384
+  new-long : length new ≡ 2432
   new-long = r .size ∙ length-set (set old LINKED vars) BY-ROWS m ∙ length-set old LINKED vars ∙ long
 
   none-loose : (x : ℕ) → T (has (at first LOOSE) x) → ⊥

@@ -17,7 +17,7 @@ pub record Compact (p : Problem) (numbers supports images tables : List ℕ) : T
   pub wellFormed : WellFormed p
   pub constraints : length (p .constraints) ≤ 32
   pub symmetries : length (p .symmetries) ≤ 16
-  pub numbers-length : length numbers ≡ 384
+  pub numbers-length : length numbers ≡ 2432
   pub tables-length : length tables ≡ 55296
 
 -- the tables are made, and the numbers before LINKED are as they were

@@ -3,14 +3,14 @@
 use mathlib.Core.Path.{_≡_}
 use mathlib.Core.Bool.{Bool, true, false}
 use mathlib.Core.List.{List, [], _∷_}
-use Prim.Native.Nat.{ℕ, _+_, _*_, _/_, _%_, _≤_, _<_}
+use Prim.Native.Nat.{ℕ, _+_, _*_, _/_, _%_, _^_, _≤_, _<_}
 use lib.Dec.{T, eqb, ltb, leb}
 use lib.ListN.{length, set}
 use Rattle.model.specs.Lists.{any, at, keep, same, either}
 use Rattle.model.specs.ValueSets.{has, maskOf, members}
 use Rattle.model.specs.Problem.{Problem}
 use Rattle.model.specs.WellFormed.{WellFormed}
-use Rattle.layout.specs.Places.{INITIAL, SCOPES, VARIABLES, CONSTRAINTS, LINKED, LOOSE, SMALLER, OWN}
+use Rattle.layout.specs.Places.{INITIAL, SCOPES, VARIABLES, CONSTRAINTS, LINKED, LOOSE, UNIONS, SMALLER, OWN}
 use Rattle.layout.specs.Layout.{constraintAt, Numbers, Supports}
 use Rattle.layout.specs.Tables.{linkOf, Linked}
 
@@ -18,10 +18,37 @@ use Rattle.layout.specs.Tables.{linkOf, Linked}
 abbrev pub initialOf : List ℕ → ℕ → ℕ
 initialOf numbers x = at numbers (INITIAL + x) % 65536
 
--- ---- words
--- eight support sets from a base on, eight values of each
-abbrev pub Lanes : List ℕ → ℕ → ℕ → Type 0
-Lanes supports base r = (v w : ℕ) → v < 8 → w < 8 → has r (8 * v + w) ≡ has (at supports (base + v)) w
+-- ---- numbers of eight lanes of eight bits, bit 8 v + w being value w of lane v
+-- lane v has the values below 8 of a set
+abbrev pub Lanes : (ℕ → ℕ) → ℕ → Type 0
+Lanes sets r = (v w : ℕ) → v < 8 → w < 8 → has r (8 * v + w) ≡ has (sets v) w
+
+-- number n of constraint k's sixteen: eight of the first variable's values in lanes by the second's, eight of the second's in lanes by the first's
+pub record Word (supports : List ℕ) (k n r : ℕ) : Type 0 where
+  pub first : n / 8 ≡ 0 → Lanes (λ v. at supports (256 * k + 16 * (n % 8) + 1 * v)) r
+  pub second : n / 8 ≡ 1 → Lanes (λ v. at supports (256 * k + n % 8 + 16 * v)) r
+
+-- the union of those of four numbers that are in m
+pub record United (m : ℕ) (words : ℕ → ℕ) (r : ℕ) : Type 0 where
+  pub union-i : (i b : ℕ) → i < 4 → T (has m i) → T (has (words i) b) → T (has r b)
+  pub union-e : (b : ℕ) → T (has r b) → (i : ℕ) × (i < 4) × T (has m i) × T (has (words i) b)
+
+-- the union of those in m of four numbers of constraint k, the first of which is 4 h
+pub record Unioned (supports : List ℕ) (k h m r : ℕ) : Type 0 where
+  pub words : List ℕ
+  pub made : (n : ℕ) → n < 16 → Word supports k n (at words n)
+  pub union : United m (λ i. at words (4 * h + i)) r
+
+-- the unions are stored of the first i constraints, where they are on three variables, and the numbers before UNIONS are as they were
+pub record Unions (supports : List ℕ) (i : ℕ) (old new : List ℕ) : Type 0 where
+  pub size : length new ≡ length old
+  pub here : (k : ℕ) → k < i → at old (SCOPES + k) % 256 ≡ 3 → (c : ℕ) → c < 64 → Unioned supports k (c / 16) (c % 16) (at new (UNIONS + 64 * k + c))
+  pub kept : (j : ℕ) → j < UNIONS → at new j ≡ at old j
+
+-- all of the lanes of b, in no more bits than it needs
+pub record Spread (b r : ℕ) : Type 0 where
+  pub lanes : (j w : ℕ) → w < 8 → has r (8 * j + w) ≡ has b j
+  pub few : (k : ℕ) → b < 2 ^ k → r < 2 ^ (8 * k)
 
 -- ---- image tables
 -- the values w of y such that 16 y + w is the image of a smaller value of m

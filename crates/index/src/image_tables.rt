@@ -73,7 +73,7 @@ fn variable(images: &[u8; 26112], m: ValueSet, from: usize, tables: &mut [u16; 5
 }
 
 // The pairs of the symmetry whose images start there.
-fn symmetry(numbers: &[u64; 384], images: &[u8; 26112], from: usize, tables: &mut [u16; 55296])
+fn symmetry(numbers: &[u64; 2432], images: &[u8; 26112], from: usize, tables: &mut [u16; 55296])
     requires { ⌜ (from + 192 ≤ 3072) × (at (now numbers) VARIABLES ≤ 12) × (length (now tables) ≡ 55296) ⌝ }
     ensures { λ _. ⌜ SymmetryStored (now (numbers .entry)) (now (images .entry)) from (at (now (numbers .entry)) VARIABLES) (now (tables .entry)) (now (tables .exit)) ⌝ }
 {
@@ -86,7 +86,7 @@ fn symmetry(numbers: &[u64; 384], images: &[u8; 26112], from: usize, tables: &mu
 }
 
 // The pairs of every symmetry.
-pub fn image_tables(numbers: &[u64; 384], images: &[u8; 26112], tables: &mut [u16; 55296])
+pub fn image_tables(numbers: &[u64; 2432], images: &[u8; 26112], tables: &mut [u16; 55296])
     requires { ⌜ (at (now numbers) VARIABLES ≤ 12) × (at (now numbers) SYMMETRIES ≤ 16) × (length (now tables) ≡ 55296) ⌝ }
     ensures { λ _. ⌜ SymmetriesStored (now (numbers .entry)) (now (images .entry)) (at (now (numbers .entry)) VARIABLES) (at (now (numbers .entry)) SYMMETRIES) (now (tables .entry)) (now (tables .exit)) ⌝ }
 {

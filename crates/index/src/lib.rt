@@ -1,5 +1,5 @@
-// The search's tables, made once from the compiled problem: constraints on two variables by variable, constraints on three in numbers of eight lanes
-// and by the depth of their look-ups, and for each symmetry and pair the images of the smaller values.
+// The search's tables, made once from the compiled problem: constraints on two variables by variable, constraints on three by unions in numbers of
+// eight lanes and by the depth of their look-ups, and for each symmetry and pair the images of the smaller values.
 use layout::LOOSE;
 ghost use Rattle.model.specs.Problem.{Problem};
 ghost use Rattle.index.specs.Index.{Compact, Made};
@@ -10,10 +10,12 @@ mod looks;
 mod loose;
 mod rows;
 mod sets;
+mod spreads;
+mod unions;
 mod words;
 
 pub fn index(
-    numbers: &mut [u64; 384],
+    numbers: &mut [u64; 2432],
     supports: &[u16; 8192],
     images: &[u8; 26112],
     tables: &mut [u16; 55296],
@@ -26,6 +28,7 @@ pub fn index(
     let set = loose::loose(numbers, tables);
     numbers[LOOSE] = set;
     looks::looks(numbers);
-    words::words(numbers, supports);
+    spreads::spreads(numbers);
+    unions::unions(supports, numbers);
     image_tables::image_tables(numbers, images, tables);
 }

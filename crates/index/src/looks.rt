@@ -14,7 +14,7 @@ ghost use Rattle.index.specs.Steps.{LookScopes};
 
 // Those whose second variable is the last of the first k: an arity of 3 and that variable in one number.
 // None where there are fewer than nine values: there the numbers of lanes are faster.
-fn at_depth(numbers: &[u64; 384], k: usize) -> u64
+fn at_depth(numbers: &[u64; 2432], k: usize) -> u64
     requires { ⌜ (at (now numbers) CONSTRAINTS ≤ 32) × (k ≤ 12) ⌝ }
     ensures { λ r. ⌜ LookScopes (now (numbers .entry)) k r ⌝ }
 {
@@ -34,8 +34,8 @@ fn at_depth(numbers: &[u64; 384], k: usize) -> u64
 }
 
 // A set for each of thirteen depths.
-pub fn looks(numbers: &mut [u64; 384])
-    requires { ⌜ (at (now numbers) CONSTRAINTS ≤ 32) × (length (now numbers) ≡ 384) ⌝ }
+pub fn looks(numbers: &mut [u64; 2432])
+    requires { ⌜ (at (now numbers) CONSTRAINTS ≤ 32) × (length (now numbers) ≡ 2432) ⌝ }
     ensures { λ _. ⌜ Filled (λ k. LOOKS + k) (LookScopes (now (numbers .entry))) 13 (now (numbers .entry)) (now (numbers .exit)) ⌝ }
 {
     let mut k = 0;

@@ -42,7 +42,7 @@ fn twice(tables: &[u16; 55296], m: ValueSet, from: usize) -> ValueSet
 }
 
 // No value of a variable's initial set is refused by two values of x.
-fn is_loose(numbers: &[u64; 384], tables: &[u16; 55296], x: usize) -> bool
+fn is_loose(numbers: &[u64; 2432], tables: &[u16; 55296], x: usize) -> bool
     requires { ⌜ (x < 12) × (at (now numbers) VARIABLES ≤ 12) ⌝ }
     ensures { λ r. ⌜ (r ≡ true → LooseTo (now (numbers .entry)) (now (tables .entry)) x (at (now (numbers .entry)) VARIABLES)) ⌝ }
 {
@@ -60,7 +60,7 @@ fn is_loose(numbers: &[u64; 384], tables: &[u16; 55296], x: usize) -> bool
 }
 
 // The set of the loose variables.
-pub fn loose(numbers: &[u64; 384], tables: &[u16; 55296]) -> u64
+pub fn loose(numbers: &[u64; 2432], tables: &[u16; 55296]) -> u64
     requires { ⌜ at (now numbers) VARIABLES ≤ 12 ⌝ }
     ensures { λ r. ⌜ LooseSet (now (numbers .entry)) (now (tables .entry)) (at (now (numbers .entry)) VARIABLES) r ⌝ }
 {

@@ -75,7 +75,7 @@ fn back(supports: &[u16; 8192], base: usize, from: usize, tables: &mut [u16; 552
 }
 
 // The rows of constraint k, if it is pruned by variable.
-fn link(numbers: &[u64; 384], supports: &[u16; 8192], k: usize, tables: &mut [u16; 55296])
+fn link(numbers: &[u64; 2432], supports: &[u16; 8192], k: usize, tables: &mut [u16; 55296])
     requires { ⌜ (k < 32) × (length (now tables) ≡ 55296) ⌝ }
     ensures { λ _. ⌜ (length (now (tables .exit)) ≡ length (now (tables .entry))) × ((p : Problem) → RowsSource p (now (numbers .entry)) (now (supports .entry)) → k < length (p .constraints) → RowsTo p k (now (tables .entry)) → RowsTo p (k + 1) (now (tables .exit))) ⌝ }
 {
@@ -90,7 +90,7 @@ fn link(numbers: &[u64; 384], supports: &[u16; 8192], k: usize, tables: &mut [u1
 }
 
 // The rows of every variable, value and other variable.
-pub fn rows(numbers: &[u64; 384], supports: &[u16; 8192], tables: &mut [u16; 55296])
+pub fn rows(numbers: &[u64; 2432], supports: &[u16; 8192], tables: &mut [u16; 55296])
     requires { ⌜ (at (now numbers) CONSTRAINTS ≤ 32) × (length (now tables) ≡ 55296) ⌝ }
     ensures { λ _. ⌜ (length (now (tables .exit)) ≡ length (now (tables .entry))) × ((p : Problem) → RowsSource p (now (numbers .entry)) (now (supports .entry)) → Rows p (now (tables .exit))) ⌝ }
 {

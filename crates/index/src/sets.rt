@@ -24,7 +24,7 @@ pub fn one_if(b: bool, v: usize) -> u64
 }
 
 // The initial set of variable x.
-pub fn initial(numbers: &[u64; 384], x: usize) -> ValueSet
+pub fn initial(numbers: &[u64; 2432], x: usize) -> ValueSet
     requires { ⌜ x < 16 ⌝ }
     ensures { λ r. ⌜ r .bits ≡ initialOf (now (numbers .entry)) x ⌝ }
 {

@@ -1,34 +1,46 @@
 // Support sets of constraints on three variables, eight values of eight sets in one number.
-use layout::LANES;
 ghost use mathlib.Core.Path.{_≡_};
-ghost use Prim.Native.Nat.{_+_, _*_, _/_, _%_, _≤_};
+ghost use Prim.Native.Nat.{_+_, _*_, _≤_, _<_};
 ghost use lib.ListN.{length};
+ghost use Rattle.model.specs.Lists.{at};
 ghost use Rattle.model.specs.Filling.{Filled};
-ghost use Rattle.layout.specs.Places.{LANES};
-ghost use Rattle.index.specs.Steps.{Lanes};
+ghost use Rattle.index.specs.Steps.{Lanes, Word};
 
-// Eight values of each of the eight sets from a base on: the first set's in the lowest byte.
-fn word(supports: &[u16; 8192], base: usize) -> u64
-    requires { ⌜ base + 8 ≤ 8192 ⌝ }
-    ensures { λ r. ⌜ Lanes (now (supports .entry)) base r ⌝ }
+// Eight values of each of eight sets, a step apart from a base on: the first set's in the lowest byte.
+fn lanes(supports: &[u16; 8192], base: usize, step: usize) -> u64
+    requires { ⌜ (base + 112 < 8192) × (step ≤ 16) ⌝ }
+    ensures { λ r. ⌜ Lanes (λ v. at (now (supports .entry)) (base + step * v)) r ⌝ }
 {
     let mut all = 0u64;
     let mut t = 0;
     while t < 8 {
-        all = 256 * all + ((supports[base + 7 - t] & 255) as u64);
+        all = 256 * all + ((supports[base + step * (7 - t)] & 255) as u64);
         t += 1;
     }
     all
 }
 
-// A number for each of 32 constraints and eight first values.
-pub fn words(numbers: &mut [u64; 384], supports: &[u16; 8192])
-    requires { ⌜ length (now numbers) ≡ 384 ⌝ }
-    ensures { λ _. ⌜ Filled (λ c. LANES + c) (λ c r. Lanes (now (supports .entry)) (256 * (c / 8) + 16 * (c % 8)) r) 256 (now (numbers .entry)) (now (numbers .exit)) ⌝ }
+// Number n of constraint k's sixteen: eight of the first variable's values in lanes by the second's, then eight of the second's in lanes by the first's.
+fn word(supports: &[u16; 8192], k: usize, n: usize) -> u64
+    requires { ⌜ (k < 32) × (n < 16) ⌝ }
+    ensures { λ r. ⌜ Word (now (supports .entry)) k n r ⌝ }
 {
-    let mut c = 0;
-    while c < 256 {
-        numbers[LANES + c] = word(supports, 256 * (c / 8) + 16 * (c % 8));
-        c += 1;
+    let i = n % 8;
+    if n / 8 == 0 {
+        lanes(supports, 256 * k + 16 * i, 1)
+    } else {
+        lanes(supports, 256 * k + i, 16)
+    }
+}
+
+// The sixteen numbers of constraint k.
+pub fn words(supports: &[u16; 8192], k: usize, made: &mut [u64; 16])
+    requires { ⌜ (k < 32) × (length (now made) ≡ 16) ⌝ }
+    ensures { λ _. ⌜ Filled (λ n. n) (Word (now (supports .entry)) k) 16 (now (made .entry)) (now (made .exit)) ⌝ }
+{
+    let mut n = 0;
+    while n < 16 {
+        made[n] = word(supports, k, n);
+        n += 1;
     }
 }

@@ -50,8 +50,11 @@ BLOCK = 108
 abbrev pub LOOKS : ℕ
 LOOKS = 112
 
-abbrev pub LANES : ℕ
-LANES = 128
+abbrev pub SPREAD : ℕ
+SPREAD = 128
+
+abbrev pub UNIONS : ℕ
+UNIONS = 384
 
 -- ---- `tables`
 abbrev pub SMALLER : ℕ

@@ -9,7 +9,7 @@ use lib.Dec.{T, eqb, ltb, leb}
 use Rattle.model.specs.Lists.{any, at, keep, same, both, either}
 use Rattle.model.specs.ValueSets.{has, maskOf, members, least}
 use Rattle.model.specs.Problem.{Problem}
-use Rattle.layout.specs.Places.{LINKED, BY-ROWS, OTHERS, LOOSE, LOOKS, LANES, SMALLER, OWN}
+use Rattle.layout.specs.Places.{SCOPES, LINKED, BY-ROWS, OTHERS, LOOSE, LOOKS, SPREAD, UNIONS, SMALLER, OWN}
 use Rattle.layout.specs.Layout.{constraintAt, symmetryAt, imageCode, Numbers, Supports}
 
 -- ---- constraints on two variables, by variable
@@ -47,10 +47,20 @@ pub record Linked (p : Problem) (numbers : List ℕ) : Type 0 where
       T (has (at (p .initial) y) w) → T (either (goes p x u y w) (goes p x v y w))
 
 -- ---- constraints on three variables, for sets of values below 8
--- `numbers`: eight for each constraint and each of eight first values: bit 8 v + w says that w is in the support set of v
-abbrev pub Words : List ℕ → List ℕ → Type 0
-Words numbers supports =
-    (k u v w : ℕ) → k < 32 → u < 8 → v < 8 → w < 8 → has (at numbers (LANES + 8 * k + u)) (8 * v + w) ≡ has (at supports (256 * k + 16 * u + v)) w
+-- a number of eight lanes of eight bits, bit 8 j + w being value w of lane j: its lanes are the unions of those of the members of m
+pub record UnionOf (m : ℕ) (lane : ℕ → ℕ → ℕ) (r : ℕ) : Type 0 where
+  pub union-i : (i j w : ℕ) → i < 4 → j < 8 → w < 8 → T (has m i) → T (has (lane i j) w) → T (has r (8 * j + w))
+  pub union-e : (j w : ℕ) → j < 8 → w < 8 → T (has r (8 * j + w)) → (i : ℕ) × (i < 4) × T (has m i) × T (has (lane i j) w)
+
+-- `numbers`: for each set of values below 8 all of its lanes; and for each constraint on three variables (the first byte of its packed scope), each
+-- half of eight values and each set of four the unions of support sets, of the first variable's values in lanes by the second's, and of the second
+-- variable's values in lanes by the first's
+pub record Words (numbers supports : List ℕ) : Type 0 where
+  pub spread : (b j w : ℕ) → b < 256 → j < 8 → w < 8 → has (at numbers (SPREAD + b)) (8 * j + w) ≡ has b j
+  pub by-first : (k h m : ℕ) → k < 32 → at numbers (SCOPES + k) % 256 ≡ 3 → h < 2 → m < 16 →
+      UnionOf m (λ i j. at supports (256 * k + 16 * (4 * h + i) + j)) (at numbers (UNIONS + 64 * k + 16 * h + m))
+  pub by-second : (k h m : ℕ) → k < 32 → at numbers (SCOPES + k) % 256 ≡ 3 → h < 2 → m < 16 →
+      UnionOf m (λ i j. at supports (256 * k + 16 * j + (4 * h + i))) (at numbers (UNIONS + 64 * k + 32 + 16 * h + m))
 
 -- ---- constraints on three variables, by look-ups
 -- constraint c is on three variables, and the second is the last of the first k

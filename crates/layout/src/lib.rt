@@ -42,8 +42,11 @@ pub const BLOCK: usize = 108;
 // Empty where there are fewer than nine values.
 pub const LOOKS: usize = 112;
 
-// From here on the constraints on three variables in lanes.
-pub const LANES: usize = 128;
+// For sets of values below 8, numbers of eight lanes: from here on all of the lanes of each set; for each constraint on three variables the unions of its
+// support sets.
+pub const SPREAD: usize = 128;
+
+pub const UNIONS: usize = 384;
 
 // ---- `tables`
 // From here on the images of the smaller values of each pair, and the image of each pair; at the front the values that go with each pair.

@@ -14,7 +14,7 @@ use sheet::Answer;
 fn lendings(
     pairs: &[u8],
     block: &[u8],
-    numbers: &[u64; 384],
+    numbers: &[u64; 2432],
     supports: &[u16; 8192],
     order: &mut [u8; 16],
 ) -> Answer
@@ -33,12 +33,12 @@ pub fn ask(
     sheet: &[u8],
     pairs: &[u8],
     block: &[u8],
-    numbers: &mut [u64; 384],
+    numbers: &mut [u64; 2432],
     supports: &mut [u16; 8192],
     images: &mut [u8; 26112],
     order: &mut [u8; 16],
 ) -> Answer
-    requires { ⌜ Zeros 384 (now numbers) × Zeros 8192 (now supports) × (length (now images) ≡ 26112) × (length (now order) ≡ 16) ⌝ }
+    requires { ⌜ Zeros 2432 (now numbers) × Zeros 8192 (now supports) × (length (now images) ≡ 26112) × (length (now order) ≡ 16) ⌝ }
     ensures { λ r. ⌜ AskedLent (now (sheet .entry)) (now (pairs .entry)) (now (block .entry)) (now (numbers .exit)) (now (supports .exit)) (now (images .exit)) (now (order .exit)) r ⌝ }
 {
     let first = sheet::compile(sheet, numbers, supports, images);
@@ -52,7 +52,7 @@ pub fn ask(
 pub fn question(sheet: &[u8], pairs: &[u8], block: &[u8]) -> Answer
     ensures { λ r. ⌜ means r ≡ verdictLent (now (sheet .entry)) (now (pairs .entry)) (now (block .entry)) ⌝ }
 {
-    let mut numbers = [0u64; 384];
+    let mut numbers = [0u64; 2432];
     let mut supports = [0u16; 8192];
     let mut images = [0u8; 26112];
     let mut order = [0u8; 16];
@@ -74,12 +74,12 @@ pub fn compile(
     sheet: &[u8],
     pairs: &[u8],
     block: &[u8],
-    numbers: &mut [u64; 384],
+    numbers: &mut [u64; 2432],
     supports: &mut [u16; 8192],
     images: &mut [u8; 26112],
     order: &mut [u8; 16],
 ) -> Answer
-    requires { ⌜ Zeros 384 (now numbers) × Zeros 8192 (now supports) × (length (now images) ≡ 26112) × (length (now order) ≡ 16) ⌝ }
+    requires { ⌜ Zeros 2432 (now numbers) × Zeros 8192 (now supports) × (length (now images) ≡ 26112) × (length (now order) ≡ 16) ⌝ }
     ensures { λ r. ⌜ CompiledLent (now (sheet .entry)) (now (pairs .entry)) (now (block .entry)) (now (numbers .exit)) (now (supports .exit)) (now (images .exit)) (now (order .exit)) r ⌝ }
 {
     let answer = ask(sheet, pairs, block, numbers, supports, images, order);

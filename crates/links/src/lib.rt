@@ -123,7 +123,7 @@ fn cut_by(sets: &mut [u16; 16], tables: &[u16; 55296], loose: u64, x: usize, low
 pub fn arcs(
     sets: &mut [u16; 16],
     tables: &[u16; 55296],
-    numbers: &[u64; 384],
+    numbers: &[u64; 2432],
     dirty: u64,
     low: usize,
 ) -> u64

@@ -31,7 +31,7 @@ fn constrain(
     sets: &mut [u16; 16],
     supports: &[u16; 8192],
     tables: &[u16; 55296],
-    numbers: &[u64; 384],
+    numbers: &[u64; 2432],
     todo: u64,
     dirty: u64,
     settled: u64,
@@ -65,7 +65,7 @@ fn filters(
     work: &mut [u64; 256],
     supports: &[u16; 8192],
     tables: &[u16; 55296],
-    numbers: &[u64; 384],
+    numbers: &[u64; 2432],
     k: usize,
 ) -> bool
     requires { ⌜ ((p : Problem) × ArraysHold p (now supports) (now tables) (now numbers) × PrefixHeld p (now work) k × LiveSets p (now sets) × MarksRight p (setsOf p (now sets)) (take k (now work)) (now work) k) ⌝ }
@@ -106,7 +106,7 @@ fn alternate(
     work: &mut [u64; 256],
     supports: &[u16; 8192],
     tables: &[u16; 55296],
-    numbers: &[u64; 384],
+    numbers: &[u64; 2432],
     k: usize,
 ) -> bool
     requires { ⌜ ((p : Problem) × (gs : List (List ℕ)) × ArraysHold p (now supports) (now tables) (now numbers) × Blocked p gs (now numbers) × BeforeFixpoint p gs (now work) (now numbers) (now sets) k 0 0) ⌝ }
@@ -144,7 +144,7 @@ fn fixpoint(
     work: &mut [u64; 256],
     supports: &[u16; 8192],
     tables: &[u16; 55296],
-    numbers: &[u64; 384],
+    numbers: &[u64; 2432],
     k: usize,
     todo: u64,
     dirty: u64,
@@ -198,7 +198,7 @@ fn store(stack: &mut [u16; 208], k: usize, sets: &[u16; 16])
 }
 
 // The initial sets.
-fn initial(numbers: &[u64; 384], sets: &mut [u16; 16])
+fn initial(numbers: &[u64; 2432], sets: &mut [u16; 16])
     requires { ⌜ length (now sets) ≡ 16 ⌝ }
     ensures { λ _. ⌜ (length (now (sets .exit)) ≡ 16) × ((x : ℕ) → x < 16 → at (now (sets .exit)) x ≡ at (now (numbers .entry)) (INITIAL + x) % 65536) ⌝ }
 {
@@ -271,7 +271,7 @@ fn clear_marks(work: &mut [u64; 256])
 }
 
 // What is known of the symmetries at depth k, where there are any, is known at depth k + 1.
-fn copy_marks(work: &mut [u64; 256], numbers: &[u64; 384], k: usize)
+fn copy_marks(work: &mut [u64; 256], numbers: &[u64; 2432], k: usize)
     requires { ⌜ (k < 12) × (length (now work) ≡ 256) ⌝ }
     ensures { λ _. ⌜ MarksCopied (now (work .entry)) (at (now (numbers .entry)) SYMMETRIES) k (now (work .exit)) ⌝ }
 {
@@ -293,7 +293,7 @@ pub fn root(
     work: &mut [u64; 256],
     supports: &[u16; 8192],
     tables: &[u16; 55296],
-    numbers: &[u64; 384],
+    numbers: &[u64; 2432],
 ) -> bool
     requires { ⌜ ((p : Problem) × (gs : List (List ℕ)) × Ready p gs (now stack) (now work) (now supports) (now tables) (now numbers)) ⌝ }
     ensures { λ r. ⌜ ((p : Problem) (gs : List (List ℕ)) → Ready p gs (now (stack .entry)) (now (work .entry)) (now (supports .entry)) (now (tables .entry)) (now (numbers .entry)) → Reached p gs [] 0 (now (stack .entry)) (now (work .entry)) (now (stack .exit)) (now (work .exit)) r) ⌝ }
@@ -326,7 +326,7 @@ pub fn child(
     work: &mut [u64; 256],
     supports: &[u16; 8192],
     tables: &[u16; 55296],
-    numbers: &[u64; 384],
+    numbers: &[u64; 2432],
     k: usize,
 ) -> bool
     requires { ⌜ ((p : Problem) × (gs : List (List ℕ)) × AtNode p gs (now stack) (now work) (now supports) (now tables) (now numbers) k) ⌝ }

@@ -22,7 +22,7 @@ pub record Movable (p : Problem) (order numbers supports images : List ℕ) : Ty
   pub ordering : Ordering (p .variables) (orderOf p order)
   pub constraints : length (p .constraints) ≤ 32
   pub symmetries : length (p .symmetries) ≤ 136
-  pub numbers-length : length numbers ≡ 384
+  pub numbers-length : length numbers ≡ 2432
   pub supports-length : length supports ≡ 8192
   pub images-length : length images ≡ 26112
 

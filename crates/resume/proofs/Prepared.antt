@@ -81,7 +81,7 @@ module _ (b numbers supports images : List ℕ) (r : Bool) (left : Recompilation
     abbrev room : ℕ
     room = size / at numbers VARIABLES
 
-    long : length numbers ≡ 384
+    long : length numbers ≡ 2432
     long = left .sizes is .numbers-length
 
     at-limit : at bounded LIMIT ≡ more
@@ -90,7 +90,7 @@ module _ (b numbers supports images : List ℕ) (r : Bool) (left : Recompilation
     at-room : at bounded ROOM ≡ room
     at-room = ap (λ (l : List ℕ). at l ROOM) put ∙ at-set (set numbers LIMIT more) ROOM room (let l = length-set numbers LIMIT more in let e = long in omega arith)
 
-    bounded-length : length bounded ≡ 384
+    bounded-length : length bounded ≡ 2432
     bounded-length = ap length put ∙ length-set (set numbers LIMIT more) ROOM room ∙ length-set numbers LIMIT more ∙ long
 
     compiled : Compiled p bounded supports images

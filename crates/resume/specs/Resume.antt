@@ -34,7 +34,7 @@ pub record Fresh (stack work supports tables numbers : List ℕ) : Type 0 where
   pub work-length : length work ≡ 256
   pub supports-blank : Zeros 8192 supports
   pub tables-length : length tables ≡ 55296
-  pub numbers-blank : Zeros 384 numbers
+  pub numbers-blank : Zeros 2432 numbers
 
 -- a run that stands so: its plans are counted in `work` and stand at the front of the list, its last node stands in `work`
 pub record Stands (s : Progress) (work list : List ℕ) : Type 0 where

@@ -92,7 +92,7 @@ fn step(
     work: &mut [u64; 256],
     supports: &[u16; 8192],
     tables: &[u16; 55296],
-    numbers: &[u64; 384],
+    numbers: &[u64; 2432],
     k: usize,
 ) -> bool
     requires { ⌜ ((p : Problem) × (path : List ℕ) × (list : List ℕ) × AtStep p path (now stack) (now work) (now supports) (now tables) (now numbers) list k) ⌝ }
@@ -120,7 +120,7 @@ fn descend(
     work: &mut [u64; 256],
     supports: &[u16; 8192],
     tables: &[u16; 55296],
-    numbers: &[u64; 384],
+    numbers: &[u64; 2432],
 ) -> usize
     requires { ⌜ ((p : Problem) × (path : List ℕ) × (list : List ℕ) × AtStart p path (now stack) (now work) (now supports) (now tables) (now numbers) list) ⌝ }
     ensures { λ r. ⌜ ((p : Problem) (path list : List ℕ) → AtStart p path (now (stack .entry)) (now (work .entry)) (now (supports .entry)) (now (tables .entry)) (now (numbers .entry)) list → Descended p path (now (work .entry)) (now (supports .entry)) (now (tables .entry)) (now (numbers .entry)) list (now (stack .exit)) (now (work .exit)) r) ⌝ }
@@ -144,7 +144,7 @@ fn climb(
     work: &mut [u64; 256],
     supports: &[u16; 8192],
     tables: &[u16; 55296],
-    numbers: &[u64; 384],
+    numbers: &[u64; 2432],
     list: &mut [u8],
     depth: usize,
     part: Part,
@@ -175,7 +175,7 @@ pub fn go_on(
     work: &mut [u64; 256],
     supports: &[u16; 8192],
     tables: &[u16; 55296],
-    numbers: &[u64; 384],
+    numbers: &[u64; 2432],
     list: &mut [u8],
     step: u8,
 ) -> Part
@@ -201,7 +201,7 @@ pub fn prepare_again(
     work: &mut [u64; 256],
     supports: &mut [u16; 8192],
     tables: &mut [u16; 55296],
-    numbers: &mut [u64; 384],
+    numbers: &mut [u64; 2432],
     sheet: &[u8],
     more: u32,
     size: usize,
@@ -312,7 +312,7 @@ pub fn resume(sheet: &[u8], cut: Cut, limit: u32, list: &mut [u8]) -> Resumed
     let mut work = [0u64; 256];
     let mut supports = [0u16; 8192];
     let mut tables = [0u16; 55296];
-    let mut numbers = [0u64; 384];
+    let mut numbers = [0u64; 2432];
     let size = list.len();
     let made = fewer(cut.nodes, limit);
     let plans = plans_held(sheet, cut.plans, size);

@@ -164,14 +164,14 @@ module _ (bare wanted : ℕ) (task : List ℕ) (put : task ≡ set (set (replica
   pub at-wanted : at task WANTED ≡ wanted
   at-wanted = ap (λ (l : List ℕ). at l WANTED) put ∙ at-set (set (replicate 256 0) BARE bare) WANTED wanted (let l = zeros 256 .sized in let k = length-set (replicate 256 0) BARE bare in omega arith)
 
-pub tasked : (bare wanted : ℕ) (task : List ℕ) (size : ℕ) → task ≡ set (set (replicate 256 0) BARE bare) WANTED wanted → ((wanted ≡ 0 → ⊥) → size ≡ 0) → Blank (replicate 208 0) task (replicate 8192 0) (replicate 55296 0) (replicate 384 0) size
+pub tasked : (bare wanted : ℕ) (task : List ℕ) (size : ℕ) → task ≡ set (set (replicate 256 0) BARE bare) WANTED wanted → ((wanted ≡ 0 → ⊥) → size ≡ 0) → Blank (replicate 208 0) task (replicate 8192 0) (replicate 55296 0) (replicate 2432 0) size
 tasked bare wanted task size put h = record {
   stack-length = zeros 208 .sized;
   work-length = ap length put ∙ length-set (set (replicate 256 0) BARE bare) WANTED wanted ∙ length-set (replicate 256 0) BARE bare ∙ zeros 256 .sized;
   none-listed = ap (λ (l : List ℕ). at l PLANS) put ∙ at-set-other (set (replicate 256 0) BARE bare) WANTED wanted PLANS (λ e. omega arith) ∙ at-set-other (replicate 256 0) BARE bare PLANS (λ e. omega arith) ∙ zeros 256 .blank PLANS;
   supports-blank = zeros 8192;
   tables-length = zeros 55296 .sized;
-  numbers-blank = zeros 384;
+  numbers-blank = zeros 2432;
   unlisted = λ n. h (λ z. n (at-wanted bare wanted task put ∙ z));
 }
 

@@ -82,7 +82,7 @@ pub fn run_lent(
     let mut work = [0u64; 256];
     let mut supports = [0u16; 8192];
     let mut tables = [0u16; 55296];
-    let mut numbers = [0u64; 384];
+    let mut numbers = [0u64; 2432];
     let stop = explore::explore(
         &mut stack,
         &mut work,
@@ -116,7 +116,7 @@ fn run_task(
     let mut work = [0u64; 256];
     let mut supports = [0u16; 8192];
     let mut tables = [0u16; 55296];
-    let mut numbers = [0u64; 384];
+    let mut numbers = [0u64; 2432];
     task::put_task(&mut work, bare, wanted);
     let mut tally = walk::no_nodes();
     let stop = explore::explore(

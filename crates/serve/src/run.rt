@@ -113,7 +113,7 @@ fn go_on(desk: &mut [u8], p: usize, more: u32, work: &mut [u64; 256]) -> Part
     let mut stack = [0u16; 208];
     let mut supports = [0u16; 8192];
     let mut tables = [0u16; 55296];
-    let mut numbers = [0u64; 384];
+    let mut numbers = [0u64; 2432];
     let plans = bounded(desk, p + 12, 4096);
     let last = p + 15;
     let after = last + byte(desk, p + 14, 12) as usize;

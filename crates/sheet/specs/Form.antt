@@ -27,7 +27,7 @@ pub record Formed (b : List ℕ) (numbers supports : List ℕ) : Type 0 where
   pub passed : formVerdict b accepted ≡ accepted
   pub numbered : Numbers (problemOf b) numbers
   pub supported : Supports (problemOf b) supports
-  pub numbers-length : length numbers ≡ 384
+  pub numbers-length : length numbers ≡ 2432
   pub supports-length : length supports ≡ 8192
 
 pub record FormAsked (b : List ℕ) (numbers supports : List ℕ) (r : Answer) : Type 0 where
@@ -36,7 +36,7 @@ pub record FormAsked (b : List ℕ) (numbers supports : List ℕ) (r : Answer) :
 
 -- the arrays have their lengths
 pub record Sized (numbers supports images : List ℕ) : Type 0 where
-  pub numbers-length : length numbers ≡ 384
+  pub numbers-length : length numbers ≡ 2432
   pub supports-length : length supports ≡ 8192
   pub images-length : length images ≡ 26112
 

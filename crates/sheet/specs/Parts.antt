@@ -31,7 +31,7 @@ pub record Fit (b : List ℕ) : Type 0 where
 
 -- how many numbers a compiled problem has
 abbrev pub entries : ℕ
-entries = 384
+entries = 2432
 
 -- ---- question 8
 abbrev pub setsAsked : List ℕ → Verdict → Verdict

@@ -24,7 +24,7 @@ pub enum Answer {
 pub fn question(sheet: &[u8]) -> Answer
     ensures { λ r. ⌜ means r ≡ verdictOf (now (sheet .entry)) ⌝ }
 {
-    let mut numbers = [0u64; 384];
+    let mut numbers = [0u64; 2432];
     let mut supports = [0u16; 8192];
     let first = form::ask(sheet, &mut numbers, &mut supports);
     let Answer::Accepted = first else {
@@ -38,11 +38,11 @@ pub fn question(sheet: &[u8]) -> Answer
 // `numbers` and `supports` are lent full of zeros; after a refusal the arrays hold nothing that is meant.
 pub fn compile(
     sheet: &[u8],
-    numbers: &mut [u64; 384],
+    numbers: &mut [u64; 2432],
     supports: &mut [u16; 8192],
     images: &mut [u8; 26112],
 ) -> Answer
-    requires { ⌜ Zeros 384 (now numbers) × Zeros 8192 (now supports) × (length (now images) ≡ 26112) ⌝ }
+    requires { ⌜ Zeros 2432 (now numbers) × Zeros 8192 (now supports) × (length (now images) ≡ 26112) ⌝ }
     ensures { λ r. ⌜ Compilation (now (sheet .entry)) (now (numbers .exit)) (now (supports .exit)) (now (images .exit)) r ⌝ }
 {
     let first = form::ask(sheet, numbers, supports);
@@ -61,11 +61,11 @@ pub fn compile(
 // The same without question 16: the arrays of the compiled problem of bytes that pass questions 1 to 15, and whether they do.
 pub fn recompile(
     sheet: &[u8],
-    numbers: &mut [u64; 384],
+    numbers: &mut [u64; 2432],
     supports: &mut [u16; 8192],
     images: &mut [u8; 26112],
 ) -> bool
-    requires { ⌜ Zeros 384 (now numbers) × Zeros 8192 (now supports) × (length (now images) ≡ 26112) ⌝ }
+    requires { ⌜ Zeros 2432 (now numbers) × Zeros 8192 (now supports) × (length (now images) ≡ 26112) ⌝ }
     ensures { λ r. ⌜ Recompilation (now (sheet .entry)) (now (numbers .exit)) (now (supports .exit)) (now (images .exit)) r ⌝ }
 {
     let first = form::ask(sheet, numbers, supports);

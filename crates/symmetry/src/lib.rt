@@ -12,7 +12,7 @@ ghost use Rattle.layout.specs.Layout.{pairCode};
 ghost use Rattle.symmetry.specs.Table.{Framed, TableAt, Asked, tableOf, tableAnswer};
 
 // The numbers of a compiled problem (crate layout).
-pub type Numbers = [u64; 384];
+pub type Numbers = [u64; 2432];
 
 // The code of a pair number among d values: 16 times its variable plus its value.
 pub fn pair_code(q: usize, d: usize) -> usize

@@ -24,7 +24,7 @@ pub fn wide(x: u8) -> usize
 }
 
 pub fn number(numbers: &Numbers, i: usize) -> usize
-    requires { ⌜ i < 384 ⌝ }
+    requires { ⌜ i < 2432 ⌝ }
     ensures { λ r. ⌜ r ≡ at (now (numbers .entry)) i ⌝ }
 {
     numbers[i] as usize

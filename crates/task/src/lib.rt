@@ -88,12 +88,12 @@ pub fn by_position(order: &mut [u8; 16])
 // The set of the positions of the block's variables. A bare run has none, no symmetries, and writes by position.
 pub fn arrange(
     work: &[u64; 256],
-    numbers: &mut [u64; 384],
+    numbers: &mut [u64; 2432],
     order: &mut [u8; 16],
     block: &[u8],
     n: usize,
 ) -> u64
-    requires { ⌜ (n ≤ 16) × (length (now numbers) ≡ 384) × (length (now order) ≡ 16) ⌝ }
+    requires { ⌜ (n ≤ 16) × (length (now numbers) ≡ 2432) × (length (now order) ≡ 16) ⌝ }
     ensures { λ r. ⌜ Arranged (at (now (work .entry)) BARE) (now (block .entry)) n (now (numbers .entry)) (now (order .entry)) (now (numbers .exit)) (now (order .exit)) r ⌝ }
 {
     if work[BARE] == 0 {

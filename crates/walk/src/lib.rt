@@ -59,7 +59,7 @@ pub fn nodes_made(t: &Tally) -> u32
 }
 
 // Writes the first n numbers of `work`, each a byte, over the list from `start` on: a variable's value at the variable's number.
-fn keep(list: &mut [u8], work: &[u64], numbers: &[u64; 384], n: usize, start: usize)
+fn keep(list: &mut [u8], work: &[u64], numbers: &[u64; 2432], n: usize, start: usize)
     requires { ⌜ (n ≤ 12) × (n ≤ length (now work)) × (start + n ≤ length (now list)) ⌝ }
     requires { ⌜ ((i : ℕ) → i < n → at (now work) i < 256) × Ordering n (orderIn (now numbers) n) ⌝ }
     ensures { λ _. ⌜ now (list .exit) ≡ overwritten start (write (orderIn (now (numbers .entry)) n) (prefixOf (now (work .entry)) n)) (now (list .entry)) ⌝ }
@@ -73,7 +73,7 @@ fn keep(list: &mut [u8], work: &[u64], numbers: &[u64; 384], n: usize, start: us
 }
 
 // Lists the plan after so many others; a list of no byte stays as it is.
-fn note(list: &mut [u8], work: &[u64], numbers: &[u64; 384], plans: usize)
+fn note(list: &mut [u8], work: &[u64], numbers: &[u64; 2432], plans: usize)
     requires { ⌜ ListRoom (at (now numbers) VARIABLES) (at (now numbers) ROOM) (now list) plans × (plans ≡ at (now numbers) ROOM → ⊥) ⌝ }
     requires { ⌜ (at (now numbers) VARIABLES ≤ 12) × (at (now numbers) VARIABLES ≤ length (now work)) × ((i : ℕ) → i < at (now numbers) VARIABLES → at (now work) i < 256) × Ordering (at (now numbers) VARIABLES) (orderIn (now numbers) (at (now numbers) VARIABLES)) ⌝ }
     ensures { λ _. ⌜ now (list .exit) ≡ noted (plans * at (now (numbers .entry)) VARIABLES) (write (orderIn (now (numbers .entry)) (at (now (numbers .entry)) VARIABLES)) (prefixOf (now (work .entry)) (at (now (numbers .entry)) VARIABLES))) (now (list .entry)) ⌝ }
@@ -86,7 +86,7 @@ fn note(list: &mut [u8], work: &[u64], numbers: &[u64; 384], plans: usize)
 }
 
 // A plan was found: FULL where it has no room, else it is counted, and listed in a list that isn't empty.
-pub fn list_plan(work: &mut [u64; 256], numbers: &[u64; 384], list: &mut &mut [u8]) -> u8
+pub fn list_plan(work: &mut [u64; 256], numbers: &[u64; 2432], list: &mut &mut [u8]) -> u8
     requires { ⌜ ListRoom (at (now numbers) VARIABLES) (at (now numbers) ROOM) (now (now list)) (at (now work) PLANS) ⌝ }
     requires { ⌜ (at (now numbers) VARIABLES ≤ 12) × ((i : ℕ) → i < at (now numbers) VARIABLES → at (now work) i < 256) × (length (now work) ≡ 256) × Ordering (at (now numbers) VARIABLES) (orderIn (now numbers) (at (now numbers) VARIABLES)) ⌝ }
     ensures { λ r. ⌜ Listed (at (now (numbers .entry)) VARIABLES) (at (now (numbers .entry)) ROOM) (orderIn (now (numbers .entry)) (at (now (numbers .entry)) VARIABLES)) (now (work .entry)) (now (now (list .entry))) (now (work .exit)) (now (now (list .exit))) r ⌝ }
@@ -119,7 +119,7 @@ pub fn rest(m: u16) -> u16
 }
 
 // The number of nodes that a run may make.
-pub fn limit(numbers: &[u64; 384]) -> u32
+pub fn limit(numbers: &[u64; 2432]) -> u32
     requires { ⌜ at (now numbers) LIMIT < 2 ^ 32 ⌝ }
     ensures { λ r. ⌜ r ≡ at (now (numbers .entry)) LIMIT ⌝ }
 {
@@ -127,7 +127,7 @@ pub fn limit(numbers: &[u64; 384]) -> u32
 }
 
 // The variable that is settled at depth k.
-pub fn variable_at(numbers: &[u64; 384], k: usize) -> usize
+pub fn variable_at(numbers: &[u64; 2432], k: usize) -> usize
     requires { ⌜ k < 12 ⌝ }
     ensures { λ r. ⌜ r ≡ settling (now (numbers .entry)) k ⌝ }
 {

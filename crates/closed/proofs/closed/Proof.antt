@@ -9,7 +9,7 @@ use Rattle.closed.proofs.closed.Statement.{statement}
 use Rattle.closed.proofs.closed.Tie as tie
 
 ask-requires : tie.Need-ask-requires
-ask-requires c κs = (zeros 384, zeros 8192, refl, refl)
+ask-requires c κs = (zeros 2432, zeros 8192, refl, refl)
 
 enum-known-asked : tie.Need-enum-known-asked
 enum-known-asked c = search needs

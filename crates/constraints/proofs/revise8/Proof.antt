@@ -1,15 +1,13 @@
--- One constraint on sets of values below 8, by its arity: a cut of the third set, along one number of lanes, nothing lost, or all three cut. Assumes nothing.
+-- One constraint on sets of values below 8, by its arity: a cut of the third set, along one number of lanes, or along two. Assumes nothing.
 use mathlib.Core.Path.{refl}
-use Prim.Native.Nat.{_+_, _/_, _%_, _<_}
-use native.Mathlib.Omega.{arith}
+use Prim.Native.Nat.{_+_, _/_, _%_}
 use borrow.Author.Needs.{needs}
 use Rattle.model.specs.Lists.{at}
 use Rattle.layout.specs.Places.{SCOPES}
 use Rattle.layout.specs.Layout.{constraintAt}
 use Rattle.constraints.specs.Steps.{OneValue, Scoped}
 use Rattle.constraints.proofs.Scopes.{scope3, of-three, scoped-3}
-use Rattle.constraints.proofs.Unions.{one-value, worded}
-use Rattle.constraints.proofs.Stores.{three-same}
+use Rattle.constraints.proofs.Unions.{one-value}
 use Rattle.constraints.proofs.revise8.Statement.{statement}
 use Rattle.constraints.proofs.revise8.Tie as tie
 
@@ -17,11 +15,6 @@ use Rattle.constraints.proofs.revise8.Tie as tie
 three : (c : tie.Else1) → let d = c .before .before in Scoped (constraintAt (d .pre .1 .0) (d .args .k)) (d .args .supports .now) (d .args .k) (scope3 (at (d .args .numbers .now) (SCOPES + d .args .k)))
 unfolding at
 three c = let q = c .before .before .pre .1 in scoped-3 (q .1) _ (q .2) (c .if1 .left)
-
--- its sets have values below 8
-narrow : (c : tie.Else1) → let d = c .before .before .args in let w = at (d .numbers .now) (SCOPES + d .k) in (at (d .sets .now) (w / 256 % 256) < 256) × (at (d .sets .now) (w / 65536 % 256) < 256) × (at (d .sets .now) (w / 16777216 % 256) < 256)
-unfolding at
-narrow c = of-three (three c .is) (c .before .before .pre .1 .4)
 
 -- the first set has one value
 one : (c : tie.Then2) → let d = c .before .before .before .before .before .before .before .args in OneValue (at (d .sets .now) (at (d .numbers .now) (SCOPES + d .k) / 256 % 256))
@@ -49,19 +42,19 @@ revise-few-requires c κs = let q = c .before .before .before .pre in (q .0, (c 
 returns : tie.Need-returns
 returns c = search needs
 
-mul-t13 : tie.Need-mul-t13
-mul-t13 c = search needs
+mul-t11 : tie.Need-mul-t11
+mul-t11 c = search needs
 
-element-copy-out-t23 : tie.Need-element-copy-out-t23
+element-copy-out-t21 : tie.Need-element-copy-out-t21
 unfolding at
-element-copy-out-t23 c = of-three refl (three c .inside) .0
+element-copy-out-t21 c = of-three refl (three c .inside) .0
 
-mul-t14 : tie.Need-mul-t14
-mul-t14 c = search needs
+mul-t12 : tie.Need-mul-t12
+mul-t12 c = search needs
 
-element-copy-out-t23-2 : tie.Need-element-copy-out-t23-2
+element-copy-out-t21-2 : tie.Need-element-copy-out-t21-2
 unfolding at
-element-copy-out-t23-2 c = of-three refl (three (c .before) .inside) .1
+element-copy-out-t21-2 c = of-three refl (three (c .before) .inside) .1
 
 without-lowest-requires : tie.Need-without-lowest-requires
 without-lowest-requires c κs = search needs
@@ -85,59 +78,19 @@ returns-2 c = λ p g h. c .revise-last .ensures _ (scoped-3 g _ h (c .before .be
 
 along-requires : tie.Need-along-requires
 unfolding at
-along-requires c κs = let d = c .before .before .before .before .before .before .before .before .before .before .before in let s = three (c .before .before .before .before .before .before .before .before .before) in (d .pre .0, (d .pre .1 .1 .worded, (one (c .before .before .before .before), (of-three (s .is) (d .pre .1 .4), (_, s)))))
+along-requires c κs = let d = c .before .before .before .before .before .before .before .before .before .before .before in let s = three (c .before .before .before .before .before .before .before .before .before) in (d .pre .0, ((d .pre .1 .1 .worded, c .before .before .before .before .before .before .before .before .before .if1 .left), (one (c .before .before .before .before), (of-three (s .is) (d .pre .1 .4), (_, s)))))
 
 returns-3 : tie.Need-returns-3
 unfolding at
 returns-3 c = λ p g h. c .along .ensures _ (scoped-3 g _ h (c .before .before .before .before .before .before .before .before .before .before .if1 .left))
 
-mul-t13-2 : tie.Need-mul-t13-2
-mul-t13-2 c = search needs
-
-element-copy-out-t23-3 : tie.Need-element-copy-out-t23-3
+across-requires : tie.Need-across-requires
 unfolding at
-element-copy-out-t23-3 c = of-three refl (three (c .before .before .before .before .before) .inside) .2
+across-requires c κs = let d = c .before .before .before .before .before .before .before .before in let s = three (c .before .before .before .before .before .before) in (d .pre .0, ((d .pre .1 .1 .worded, c .before .before .before .before .before .before .if1 .left), (of-three (s .is) (d .pre .1 .3) .2, (of-three (s .is) (d .pre .1 .4), (_, s)))))
 
-mul-quiet : tie.Need-mul-quiet
-mul-quiet c = search needs
-
-add-quiet : tie.Need-add-quiet
-add-quiet c = search needs
-
-quiet-requires : tie.Need-quiet-requires
-unfolding at
-quiet-requires c κs = let s = three (c .before .before .before .before .before .before) in let h = narrow (c .before .before .before .before .before .before) in (omega (arith, s .room), (h .0, (h .1, h .2)))
-
--- nothing is lost
 returns-4 : tie.Need-returns-4
 unfolding at
-returns-4 c =
-    let d = c .before .before .before .before .before .before .before .before .before .before in
-    let s = three (c .before .before .before .before .before .before .before .before) in
-    let h = narrow (c .before .before .before .before .before .before .before .before) in λ p g i.
-    three-same (scoped-3 g _ i (c .before .before .before .before .before .before .before .before .if1 .left)) _ (d .pre .0) _ _ _ (d .pre .0 .1 _) (d .pre .0 .1 _) (d .pre .0 .1 _) (worded (d .args .numbers .now) (d .args .supports .now) (g .worded) _ _ _ _ (s .room) (h .0) (h .1) (h .2) _ _ _ (c .before .quiet .ensures (c .if4 .taken))) refl refl refl (of-three (s .is) (d .pre .1 .3) .2)
-
-mul-joined8 : tie.Need-mul-joined8
-mul-joined8 c = search needs
-
-add-joined8 : tie.Need-add-joined8
-add-joined8 c = search needs
-
-joined8-requires : tie.Need-joined8-requires
-unfolding at
-joined8-requires c κs = let s = three (c .before .before .before .before .before .before .before .before) in let h = narrow (c .before .before .before .before .before .before .before .before) in (omega (arith, s .room), (h .0, (h .1, h .2)))
-
-leave-requires : tie.Need-leave-requires
-unfolding at
-leave-requires c κs = (c .before .before .before .before .before .before .before .before .before .before .before .before .pre .0, of-three refl (three (c .before .before .before .before .before .before .before .before .before .before) .inside))
-
-returns-5 : tie.Need-returns-5
-unfolding at
-returns-5 c =
-    let d = c .before .before .before .before .before .before .before .before .before .before .before .before .before in
-    let h = narrow (c .before .before .before .before .before .before .before .before .before .before .before) in λ p g i.
-    let s = scoped-3 g _ i (c .before .before .before .before .before .before .before .before .before .before .before .if1 .left) in
-    c .leave .ensures _ _ _ s (worded (d .args .numbers .now) (d .args .supports .now) (g .worded) _ _ _ _ (s .room) (h .0) (h .1) (h .2) _ _ _ (c .before .before .joined8 .ensures))
+returns-4 c = λ p g h. c .across .ensures _ (scoped-3 g _ h (c .before .before .before .before .before .before .before .if1 .left))
 
 pub revise8-spec : {M : Type 1} → statement M
 revise8-spec =
@@ -148,10 +101,10 @@ revise8-spec =
     element-copy-out-w
     revise-few-requires
     returns
-    mul-t13
-    element-copy-out-t23
-    mul-t14
-    element-copy-out-t23-2
+    mul-t11
+    element-copy-out-t21
+    mul-t12
+    element-copy-out-t21-2
     without-lowest-requires
     is-empty-requires
     without-lowest-requires-2
@@ -160,14 +113,5 @@ revise8-spec =
     returns-2
     along-requires
     returns-3
-    mul-t13-2
-    element-copy-out-t23-3
-    mul-quiet
-    add-quiet
-    quiet-requires
-    returns-4
-    mul-joined8
-    add-joined8
-    joined8-requires
-    leave-requires
-    returns-5)
+    across-requires
+    returns-4)

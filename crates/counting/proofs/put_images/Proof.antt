@@ -7,7 +7,7 @@ use Rattle.counting.proofs.put_images.Statement.{statement}
 use Rattle.counting.proofs.put_images.Tie as tie
 
 ask-requires : tie.Need-ask-requires
-ask-requires c κs = (zeros 384, zeros 8192, search needs, refl)
+ask-requires c κs = (zeros 2432, zeros 8192, search needs, refl)
 
 put-images-requires : tie.Need-put-images-requires
 put-images-requires c κs =

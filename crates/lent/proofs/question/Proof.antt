@@ -6,7 +6,7 @@ use Rattle.lent.proofs.question.Statement.{statement}
 use Rattle.lent.proofs.question.Tie as tie
 
 ask-requires : tie.Need-ask-requires
-ask-requires c κs = (zeros 384, zeros 8192, refl, refl)
+ask-requires c κs = (zeros 2432, zeros 8192, refl, refl)
 
 returns : tie.Need-returns
 returns c = search needs

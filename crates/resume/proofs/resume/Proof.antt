@@ -24,7 +24,7 @@ prepare-again-requires c κs = record {
   work-length = c .before .before .before .before .before .put-cut .ensures .work-length;
   supports-blank = zeros 8192;
   tables-length = zeros 55296 .sized;
-  numbers-blank = zeros 384;
+  numbers-blank = zeros 2432;
 }
 
 go-on-requires : tie.Need-go-on-requires

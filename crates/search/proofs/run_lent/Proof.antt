@@ -87,14 +87,14 @@ abbrev mach : Answer → Val
 mach r = only (EL.vals O.the-type O′.the-laws r)
 
 -- new arrays
-blank : (size : ℕ) → Blank (replicate 208 0) (replicate 256 0) (replicate 8192 0) (replicate 55296 0) (replicate 384 0) size
+blank : (size : ℕ) → Blank (replicate 208 0) (replicate 256 0) (replicate 8192 0) (replicate 55296 0) (replicate 2432 0) size
 blank size = record {
   stack-length = zeros 208 .sized;
   work-length = zeros 256 .sized;
   none-listed = zeros 256 .blank PLANS;
   supports-blank = zeros 8192;
   tables-length = zeros 55296 .sized;
-  numbers-blank = zeros 384;
+  numbers-blank = zeros 2432;
   unlisted = λ n. absurd (n (zeros 256 .blank WANTED));
 }
 
@@ -206,10 +206,10 @@ module _ {M : Type 1} (𝓤 : URA M) (H : Heap 𝓤) (A : Atoms 𝓤) (W : Given
       a₃′ x = loan.local 𝓤 H A W (Array u16 55296) l₈ 0 x
 
       abbrev A₄ : List ℕ → Fml
-      A₄ x = in-memory (Array u64 384) .lies x l₉ 0
+      A₄ x = in-memory (Array u64 2432) .lies x l₉ 0
 
       abbrev a₄′ : List ℕ → One 𝓤 H A
-      a₄′ x = loan.local 𝓤 H A W (Array u64 384) l₉ 0 x
+      a₄′ x = loan.local 𝓤 H A W (Array u64 2432) l₉ 0 x
 
       abbrev to-explore : List ℕ → List ℕ → List ℕ → List ℕ → List ℕ → (a : ℕ) → a < 2 ^ 32 → (ls : List ℕ) → length ls ≡ n → Tally → Loans 𝓤 H A
       to-explore st wk su tb nu a ga ls e ta = cons (a₀′ st) (cons (a₁′ wk) (cons (a₂′ su) (cons (a₃′ tb) (cons (a₄′ nu) (cons (shared′ κ₀ q₀ s₀) (cons (shared′ κ₁ q₁ s₁) (cons (shared′ κ₂ q₂ s₂) (num-u32 a ga (cons (list′ ls e) (cons (tally′ ta) nil))))))))))
@@ -253,8 +253,8 @@ module _ {M : Type 1} (𝓤 : URA M) (H : Heap 𝓤) (A : Atoms 𝓤) (W : Given
           assigns ! (rep ! 256 (lit ! tt)) (from ! (stop !)) (init ! 31 refl (zeros-typed 𝓤 H A W w64 256 (omega arith))) $
           assigns ! (rep ! 8192 (lit ! tt)) (from ! (stop !)) (init ! 29 refl (zeros-typed 𝓤 H A W w16 8192 (omega arith))) $
           assigns ! (rep ! 55296 (lit ! tt)) (from ! (stop !)) (init ! 27 refl (zeros-typed 𝓤 H A W w16 55296 (omega arith))) $
-          assigns ! (rep ! 384 (lit ! tt)) (from ! (stop !)) (init ! 25 refl (zeros-typed 𝓤 H A W w64 384 (omega arith))) $
-          move ! (25 ∷ []) $ use1 W (‵ (A₄ l₅ l₆ l₇ l₈ l₉ (replicate 384 0))) (zeros-in 𝓤 H A W w64 384 (omega arith) l₉) $
+          assigns ! (rep ! 2432 (lit ! tt)) (from ! (stop !)) (init ! 25 refl (zeros-typed 𝓤 H A W w64 2432 (omega arith))) $
+          move ! (25 ∷ []) $ use1 W (‵ (A₄ l₅ l₆ l₇ l₈ l₉ (replicate 2432 0))) (zeros-in 𝓤 H A W w64 2432 (omega arith) l₉) $
           fjoin ! $
           move ! (26 ∷ []) $ use1 W (‵ (A₃ l₅ l₆ l₇ l₈ l₉ (replicate 55296 0))) (zeros-in 𝓤 H A W w16 55296 (omega arith) l₈) $
           fjoin ! $
@@ -273,9 +273,9 @@ module _ {M : Type 1} (𝓤 : URA M) (H : Heap 𝓤) (A : Atoms 𝓤) (W : Given
           assigns ! (addr ! (from ! (fld ! refl (hop ! (look-in ! 32 (sub ! 0 refl (whole !))) (stop !))))) (from ! (stop !)) (init ! 11 refl (tt, tt)) $
           assigns ! (agg ! (and-then ! (load ! (from ! (stop !)) (look ! 11 refl)) (and-then ! (load ! (from ! (fld ! refl (stop !))) (look-in ! 32 (sub ! 1 refl (whole !)))) (no-more !)))) (from ! (stop !)) (init ! 9 refl (tt, (tt, (record { fits = room .0 }, tt)))) $
           assigns ! (addr ! (from ! (hop ! (look ! 30 refl) (stop !)))) (from ! (stop !)) (init ! 7 refl (tt, tt)) $
-          calls-lent ! fm (to-explore l₅ l₆ l₇ l₈ l₉ (replicate 208 0) (replicate 256 0) (replicate 8192 0) (replicate 55296 0) (replicate 384 0) a ga ls e₀ ta) (vptr l₅ 0 ∷ vptr l₆ 0 ∷ vptr l₇ 0 ∷ vptr l₈ 0 ∷ vptr l₉ 0 ∷ v₀ ∷ v₁ ∷ v₂ ∷ vint w32 a ∷ vl ∷ vptr b o ∷ []) u8 (vint w8) (λ r v is. ap only (is .0))
-          (fact 𝓤 (Blank (replicate 208 0) (replicate 256 0) (replicate 8192 0) (replicate 55296 0) (replicate 384 0) (length ls))) (asks _ (blank (length ls))) (λ r w. Explored (replicate 256 0) (s₀ .now) (s₁ .now) (s₂ .now) a ls (tallyIn ta) (w .1 .0) (w .1 .1 .1 .1 .1 .1 .1 .1 .1 .0) (tallyIn (w .1 .1 .1 .1 .1 .1 .1 .1 .1 .1 .0)) r)
-          (λ x. known-explore (((x .0 .0 ∷ [], (x .1 .0 .0 ∷ [], (x .1 .1 .0 .0 ∷ [], (x .1 .1 .1 .0 .0 ∷ [], (x .1 .1 .1 .1 .0 .0 ∷ [], (κ₀, (κ₁, (κ₂, (x .1 .1 .1 .1 .1 .1 .1 .1 .0 .0 ∷ [], (x .1 .1 .1 .1 .1 .1 .1 .1 .1 .0 .0 ∷ [], tt)))))))))), (fullShare, (fullShare, (fullShare, (fullShare, (fullShare, (q₀, (q₁, (q₂, (fullShare, (fullShare, tt)))))))))), tt, (to l₅ 0 (x .0 .1) (replicate 208 0), (to l₆ 0 (x .1 .0 .1) (replicate 256 0), (to l₇ 0 (x .1 .1 .0 .1) (replicate 8192 0), (to l₈ 0 (x .1 .1 .1 .0 .1) (replicate 55296 0), (to l₉ 0 (x .1 .1 .1 .1 .0 .1) (replicate 384 0), (s₀, (s₁, (s₂, (a, (to lb lo (x .1 .1 .1 .1 .1 .1 .1 .1 .0 .1) ls, (to b o (x .1 .1 .1 .1 .1 .1 .1 .1 .1 .0 .1) ta, tt))))))))))), (vptr l₅ 0 ∷ [], (vptr l₆ 0 ∷ [], (vptr l₇ 0 ∷ [], (vptr l₈ 0 ∷ [], (vptr l₉ 0 ∷ [], (v₀ ∷ [], (v₁ ∷ [], (v₂ ∷ [], (vint w32 a ∷ [], (vl ∷ [], (vptr b o ∷ [], tt)))))))))))), tt)) (λ x. (and-then ! (load ! (from ! (stop !)) (look ! 21 refl)) (and-then ! (load ! (from ! (stop !)) (look ! 19 refl)) (and-then ! (load ! (from ! (stop !)) (look ! 17 refl)) (and-then ! (load ! (from ! (stop !)) (look ! 15 refl)) (and-then ! (load ! (from ! (stop !)) (look ! 13 refl)) (and-then ! (load ! (from ! (stop !)) (look ! 40 refl)) (and-then ! (load ! (from ! (stop !)) (look ! 38 refl)) (and-then ! (load ! (from ! (stop !)) (look ! 36 refl)) (and-then ! (load ! (from ! (stop !)) (look ! 34 refl)) (and-then ! (load ! (from ! (stop !)) (look ! 9 refl)) (and-then ! (load ! (from ! (stop !)) (look ! 7 refl)) (no-more !))))))))))))) (λ r₁ w₁ is₁ f₁ said₁.
+          calls-lent ! fm (to-explore l₅ l₆ l₇ l₈ l₉ (replicate 208 0) (replicate 256 0) (replicate 8192 0) (replicate 55296 0) (replicate 2432 0) a ga ls e₀ ta) (vptr l₅ 0 ∷ vptr l₆ 0 ∷ vptr l₇ 0 ∷ vptr l₈ 0 ∷ vptr l₉ 0 ∷ v₀ ∷ v₁ ∷ v₂ ∷ vint w32 a ∷ vl ∷ vptr b o ∷ []) u8 (vint w8) (λ r v is. ap only (is .0))
+          (fact 𝓤 (Blank (replicate 208 0) (replicate 256 0) (replicate 8192 0) (replicate 55296 0) (replicate 2432 0) (length ls))) (asks _ (blank (length ls))) (λ r w. Explored (replicate 256 0) (s₀ .now) (s₁ .now) (s₂ .now) a ls (tallyIn ta) (w .1 .0) (w .1 .1 .1 .1 .1 .1 .1 .1 .1 .0) (tallyIn (w .1 .1 .1 .1 .1 .1 .1 .1 .1 .1 .0)) r)
+          (λ x. known-explore (((x .0 .0 ∷ [], (x .1 .0 .0 ∷ [], (x .1 .1 .0 .0 ∷ [], (x .1 .1 .1 .0 .0 ∷ [], (x .1 .1 .1 .1 .0 .0 ∷ [], (κ₀, (κ₁, (κ₂, (x .1 .1 .1 .1 .1 .1 .1 .1 .0 .0 ∷ [], (x .1 .1 .1 .1 .1 .1 .1 .1 .1 .0 .0 ∷ [], tt)))))))))), (fullShare, (fullShare, (fullShare, (fullShare, (fullShare, (q₀, (q₁, (q₂, (fullShare, (fullShare, tt)))))))))), tt, (to l₅ 0 (x .0 .1) (replicate 208 0), (to l₆ 0 (x .1 .0 .1) (replicate 256 0), (to l₇ 0 (x .1 .1 .0 .1) (replicate 8192 0), (to l₈ 0 (x .1 .1 .1 .0 .1) (replicate 55296 0), (to l₉ 0 (x .1 .1 .1 .1 .0 .1) (replicate 2432 0), (s₀, (s₁, (s₂, (a, (to lb lo (x .1 .1 .1 .1 .1 .1 .1 .1 .0 .1) ls, (to b o (x .1 .1 .1 .1 .1 .1 .1 .1 .1 .0 .1) ta, tt))))))))))), (vptr l₅ 0 ∷ [], (vptr l₆ 0 ∷ [], (vptr l₇ 0 ∷ [], (vptr l₈ 0 ∷ [], (vptr l₉ 0 ∷ [], (v₀ ∷ [], (v₁ ∷ [], (v₂ ∷ [], (vint w32 a ∷ [], (vl ∷ [], (vptr b o ∷ [], tt)))))))))))), tt)) (λ x. (and-then ! (load ! (from ! (stop !)) (look ! 21 refl)) (and-then ! (load ! (from ! (stop !)) (look ! 19 refl)) (and-then ! (load ! (from ! (stop !)) (look ! 17 refl)) (and-then ! (load ! (from ! (stop !)) (look ! 15 refl)) (and-then ! (load ! (from ! (stop !)) (look ! 13 refl)) (and-then ! (load ! (from ! (stop !)) (look ! 40 refl)) (and-then ! (load ! (from ! (stop !)) (look ! 38 refl)) (and-then ! (load ! (from ! (stop !)) (look ! 36 refl)) (and-then ! (load ! (from ! (stop !)) (look ! 34 refl)) (and-then ! (load ! (from ! (stop !)) (look ! 9 refl)) (and-then ! (load ! (from ! (stop !)) (look ! 7 refl)) (no-more !))))))))))))) (λ r₁ w₁ is₁ f₁ said₁.
           let st₁ : List ℕ = w₁ .0 in let wk₁ : List ℕ = w₁ .1 .0 in let su₁ : List ℕ = w₁ .1 .1 .0 in let tb₁ : List ℕ = w₁ .1 .1 .1 .0 in let nu₁ : List ℕ = w₁ .1 .1 .1 .1 .0 in
           let ls₁ : List ℕ = w₁ .1 .1 .1 .1 .1 .1 .1 .1 .1 .0 in let ta₁ : Tally = w₁ .1 .1 .1 .1 .1 .1 .1 .1 .1 .1 .0 in let l₁′ : length ls₁ ≡ length ls = f₁ .1 .1 .1 .1 .1 .1 .1 .1 .0 in
           land ! (from ! (stop !)) (init ! 23 refl (tt, record { fits = is₁ .1 })) $
@@ -294,7 +294,7 @@ module _ {M : Type 1} (𝓤 : URA M) (H : Heap 𝓤) (A : Atoms 𝓤) (W : Given
           move ! (1 ∷ []) $ fsplit ! $ use1 W (some (λ (v : Val). ‵ (fat fullShare (tyArray (tyInt w64) 256) l₆ 0 v))) (array-out 𝓤 H A W w64 256 wk₁ l₆) $ pick ! (λ v₁.
           move ! (1 ∷ []) $ fsplit ! $ use1 W (some (λ (v : Val). ‵ (fat fullShare (tyArray (tyInt w16) 8192) l₇ 0 v))) (array-out 𝓤 H A W w16 8192 su₁ l₇) $ pick ! (λ v₂.
           move ! (1 ∷ []) $ fsplit ! $ use1 W (some (λ (v : Val). ‵ (fat fullShare (tyArray (tyInt w16) 55296) l₈ 0 v))) (array-out 𝓤 H A W w16 55296 tb₁ l₈) $ pick ! (λ v₃.
-          move ! (1 ∷ []) $ fsplit ! $ use1 W (some (λ (v : Val). ‵ (fat fullShare (tyArray (tyInt w64) 384) l₉ 0 v))) (array-out 𝓤 H A W w64 384 nu₁ l₉) $ pick ! (λ v₄.
+          move ! (1 ∷ []) $ fsplit ! $ use1 W (some (λ (v : Val). ‵ (fat fullShare (tyArray (tyInt w64) 2432) l₉ 0 v))) (array-out 𝓤 H A W w64 2432 nu₁ l₉) $ pick ! (λ v₄.
           returns ! (look ! 47 refl) $
           forget ! 47 refl $ forget ! 45 refl $ forget ! 43 refl $ forget ! 41 refl $ forget ! 39 refl $ forget ! 37 refl $ forget ! 35 refl $ forget ! 5 refl $ forget ! 4 refl $ forget ! 3 refl $ forget ! 2 refl $ forget ! 0 refl $ forget ! 28 refl $ forget ! 26 refl $ forget ! 24 refl $ forget ! 22 refl $ forget ! 20 refl $ forget ! 18 refl $ forget ! 16 refl $ forget ! 14 refl $ forget ! 12 refl $ forget ! 10 refl $ forget ! 8 refl $ forget ! 6 refl $
           move ! (47 ∷ 48 ∷ []) $ free1 ! $ move ! (45 ∷ 46 ∷ []) $ free1 ! $ move ! (43 ∷ 44 ∷ []) $ free1 ! $ move ! (41 ∷ 42 ∷ []) $ free1 ! $ move ! (39 ∷ 40 ∷ []) $ free1 ! $ move ! (37 ∷ 38 ∷ []) $ free1 ! $ move ! (35 ∷ 36 ∷ []) $ free1 ! $ move ! (5 ∷ 34 ∷ []) $ free1 ! $ move ! (4 ∷ 32 ∷ []) $ free1 ! $ move ! (3 ∷ 30 ∷ []) $ free1 ! $ move ! (2 ∷ 28 ∷ []) $ free1 ! $ move ! (0 ∷ 26 ∷ []) $ free1 ! $ move ! (23 ∷ 24 ∷ []) $ free1 ! $ move ! (21 ∷ 22 ∷ []) $ free1 ! $ move ! (19 ∷ 20 ∷ []) $ free1 ! $ move ! (17 ∷ 18 ∷ []) $ free1 ! $ move ! (15 ∷ 16 ∷ []) $ free1 ! $ move ! (13 ∷ 14 ∷ []) $ free1 ! $ move ! (11 ∷ 12 ∷ []) $ free1 ! $ move ! (9 ∷ 10 ∷ []) $ free1 ! $ move ! (7 ∷ 8 ∷ []) $ free1 ! $ move ! (5 ∷ 6 ∷ []) $ free1 ! $ move ! (3 ∷ 4 ∷ []) $ free1 ! $ move ! (1 ∷ 2 ∷ []) $ free1 ! $ free0 ! $

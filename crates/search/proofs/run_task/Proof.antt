@@ -213,10 +213,10 @@ module _ {M : Type 1} (𝓤 : URA M) (H : Heap 𝓤) (A : Atoms 𝓤) (W : Given
       a₃′ x = loan.local 𝓤 H A W (Array u16 55296) l₈ 0 x
 
       abbrev A₄ : List ℕ → Fml
-      A₄ x = in-memory (Array u64 384) .lies x l₉ 0
+      A₄ x = in-memory (Array u64 2432) .lies x l₉ 0
 
       abbrev a₄′ : List ℕ → One 𝓤 H A
-      a₄′ x = loan.local 𝓤 H A W (Array u64 384) l₉ 0 x
+      a₄′ x = loan.local 𝓤 H A W (Array u64 2432) l₉ 0 x
 
       abbrev T₀ : Tally → Fml
       T₀ x = in-memory T.the-row .lies x t₀ 0
@@ -270,8 +270,8 @@ module _ {M : Type 1} (𝓤 : URA M) (H : Heap 𝓤) (A : Atoms 𝓤) (W : Given
           assigns ! (rep ! 256 (lit ! tt)) (from ! (stop !)) (init ! 39 refl (zeros-typed 𝓤 H A W w64 256 (omega arith))) $
           assigns ! (rep ! 8192 (lit ! tt)) (from ! (stop !)) (init ! 37 refl (zeros-typed 𝓤 H A W w16 8192 (omega arith))) $
           assigns ! (rep ! 55296 (lit ! tt)) (from ! (stop !)) (init ! 35 refl (zeros-typed 𝓤 H A W w16 55296 (omega arith))) $
-          assigns ! (rep ! 384 (lit ! tt)) (from ! (stop !)) (init ! 33 refl (zeros-typed 𝓤 H A W w64 384 (omega arith))) $
-          move ! (33 ∷ []) $ use1 W (‵ (A₄ l₅ l₆ l₇ l₈ l₉ t₀ (replicate 384 0))) (zeros-in 𝓤 H A W w64 384 (omega arith) l₉) $
+          assigns ! (rep ! 2432 (lit ! tt)) (from ! (stop !)) (init ! 33 refl (zeros-typed 𝓤 H A W w64 2432 (omega arith))) $
+          move ! (33 ∷ []) $ use1 W (‵ (A₄ l₅ l₆ l₇ l₈ l₉ t₀ (replicate 2432 0))) (zeros-in 𝓤 H A W w64 2432 (omega arith) l₉) $
           fjoin ! $
           move ! (34 ∷ []) $ use1 W (‵ (A₃ l₅ l₆ l₇ l₈ l₉ t₀ (replicate 55296 0))) (zeros-in 𝓤 H A W w16 55296 (omega arith) l₈) $
           fjoin ! $
@@ -283,12 +283,12 @@ module _ {M : Type 1} (𝓤 : URA M) (H : Heap 𝓤) (A : Atoms 𝓤) (W : Given
           fjoin ! $
           -- put_task(&mut work, bare, wanted)
           assigns ! (addr ! (from ! (stop !))) (from ! (stop !)) (init ! 25 refl (tt, tt)) $
-          calls-lent ! fm (to-put l₅ l₆ l₇ l₈ l₉ t₀ (replicate 208 0) (replicate 256 0) (replicate 8192 0) (replicate 55296 0) (replicate 384 0) ls bare gb wanted gw) (vptr l₆ 0 ∷ vint w64 bare ∷ vint w64 wanted ∷ []) unit (λ _. vunit) (λ r v is. ap only is) (fact 𝓤 (length {A = ℕ} (replicate 256 0) ≡ 256)) (asks _ (zeros 256 .sized)) (λ r w. w .0 ≡ set (set (replicate 256 0) BARE bare) WANTED wanted)
+          calls-lent ! fm (to-put l₅ l₆ l₇ l₈ l₉ t₀ (replicate 208 0) (replicate 256 0) (replicate 8192 0) (replicate 55296 0) (replicate 2432 0) ls bare gb wanted gw) (vptr l₆ 0 ∷ vint w64 bare ∷ vint w64 wanted ∷ []) unit (λ _. vunit) (λ r v is. ap only is) (fact 𝓤 (length {A = ℕ} (replicate 256 0) ≡ 256)) (asks _ (zeros 256 .sized)) (λ r w. w .0 ≡ set (set (replicate 256 0) BARE bare) WANTED wanted)
           (λ x. known-put ((((x .0 .0 ∷ [], tt), (fullShare, tt), tt, (to l₆ 0 (x .0 .1) (replicate 256 0), (bare, (wanted, tt))), (vptr l₆ 0 ∷ [], (vint w64 bare ∷ [], (vint w64 wanted ∷ [], tt))))), tt)) (λ x. (and-then ! (load ! (from ! (stop !)) (look ! 25 refl)) (and-then ! (load ! (from ! (stop !)) (look ! 42 refl)) (and-then ! (load ! (from ! (stop !)) (look ! 40 refl)) (no-more !))))) (λ rₚ wₚ isₚ fₚ saidₚ.
           let wk : List ℕ = wₚ .0 in
           land ! (from ! (stop !)) (init ! 27 refl (tt, tt)) $
           -- no_nodes()
-          calls-lent ! fm (to-none l₅ l₆ l₇ l₈ l₉ t₀ (replicate 208 0) wk (replicate 8192 0) (replicate 55296 0) (replicate 384 0) ls) [] T.the-row tally-val (λ r v is. ap only (SL.tells T.the-type T′.the-laws r _ is)) (emp 𝓤) (id⊢ 𝓤 _) (λ r w. Cleared (tallyIn r)) (λ x. known-none ((tt, tt, tt, tt, tt), tt)) (λ x. (no-more !)) (λ ta w₀ is₀ f₀ said₀.
+          calls-lent ! fm (to-none l₅ l₆ l₇ l₈ l₉ t₀ (replicate 208 0) wk (replicate 8192 0) (replicate 55296 0) (replicate 2432 0) ls) [] T.the-row tally-val (λ r v is. ap only (SL.tells T.the-type T′.the-laws r _ is)) (emp 𝓤) (id⊢ 𝓤 _) (λ r w. Cleared (tallyIn r)) (λ x. known-none ((tt, tt, tt, tt, tt), tt)) (λ x. (no-more !)) (λ ta w₀ is₀ f₀ said₀.
           land ! (from ! (stop !)) (init ! 23 refl (SL.lawful T.the-type T′.the-laws 𝓤 H A W .typed ta _ is₀ .0)) $
           assigns ! (of-opd ! (load ! (from ! (stop !)) (look ! 23 refl))) (from ! (stop !)) (init ! 31 refl (SL.lawful T.the-type T′.the-laws 𝓤 H A W .typed ta _ is₀ .0)) $
           -- explore(&mut stack, .., sheet, pairs, block, limit, list, &mut tally)
@@ -301,9 +301,9 @@ module _ {M : Type 1} (𝓤 : URA M) (H : Heap 𝓤) (A : Atoms 𝓤) (W : Given
           assigns ! (agg ! (and-then ! (load ! (from ! (stop !)) (look ! 11 refl)) (and-then ! (load ! (from ! (fld ! refl (stop !))) (look-in ! 38 (sub ! 1 refl (whole !)))) (no-more !)))) (from ! (stop !)) (init ! 9 refl (tt, (tt, (record { fits = room .0 }, tt)))) $
           assigns ! (addr ! (from ! (stop !))) (from ! (stop !)) (init ! 7 refl (tt, tt)) $
           move ! (31 ∷ []) $ use1 W (‵ (T₀ l₅ l₆ l₇ l₈ l₉ t₀ ta)) (tally-in t₀ ta is₀) $ move ! (1 ∷ []) $ fsplit ! $ move ! (1 ∷ []) $ fsplit ! $ move ! (1 ∷ []) $ fsplit ! $ move ! (1 ∷ []) $ fsplit ! $ move ! (1 ∷ []) $ fsplit ! $ move ! (1 ∷ []) $ fsplit ! $ move ! (1 ∷ []) $ fsplit ! $ move ! (1 ∷ []) $ fsplit ! $ move ! (1 ∷ []) $ fsplit ! $ move ! (10 ∷ 1 ∷ []) $ fjoin ! $ move ! (1 ∷ 0 ∷ []) $ fjoin ! $ move ! (1 ∷ 0 ∷ []) $ fjoin ! $ move ! (1 ∷ 0 ∷ []) $ fjoin ! $ move ! (1 ∷ 0 ∷ []) $ fjoin ! $ move ! (1 ∷ 0 ∷ []) $ fjoin ! $ move ! (1 ∷ 0 ∷ []) $ fjoin ! $ move ! (1 ∷ 0 ∷ []) $ fjoin ! $ move ! (1 ∷ 0 ∷ []) $ fjoin ! $ move ! (1 ∷ 0 ∷ []) $ fjoin ! $
-          calls-lent ! fm (to-explore l₅ l₆ l₇ l₈ l₉ t₀ (replicate 208 0) wk (replicate 8192 0) (replicate 55296 0) (replicate 384 0) a ga ls e₀ ta) (vptr l₅ 0 ∷ vptr l₆ 0 ∷ vptr l₇ 0 ∷ vptr l₈ 0 ∷ vptr l₉ 0 ∷ v₀ ∷ v₁ ∷ v₂ ∷ vint w32 a ∷ vl ∷ vptr t₀ 0 ∷ []) u8 (vint w8) (λ r v is. ap only (is .0))
-          (fact 𝓤 (Blank (replicate 208 0) wk (replicate 8192 0) (replicate 55296 0) (replicate 384 0) (length ls))) (asks _ (tasked bare wanted wk (length ls) saidₚ ok)) (λ r w. Explored wk (s₀ .now) (s₁ .now) (s₂ .now) a ls (tallyIn ta) (w .1 .0) (w .1 .1 .1 .1 .1 .1 .1 .1 .1 .0) (tallyIn (w .1 .1 .1 .1 .1 .1 .1 .1 .1 .1 .0)) r)
-          (λ x. known-explore (((x .0 .0 ∷ [], (x .1 .0 .0 ∷ [], (x .1 .1 .0 .0 ∷ [], (x .1 .1 .1 .0 .0 ∷ [], (x .1 .1 .1 .1 .0 .0 ∷ [], (κ₀, (κ₁, (κ₂, (x .1 .1 .1 .1 .1 .1 .1 .1 .0 .0 ∷ [], (x .1 .1 .1 .1 .1 .1 .1 .1 .1 .0 .0 ∷ [], tt)))))))))), (fullShare, (fullShare, (fullShare, (fullShare, (fullShare, (q₀, (q₁, (q₂, (fullShare, (fullShare, tt)))))))))), tt, (to l₅ 0 (x .0 .1) (replicate 208 0), (to l₆ 0 (x .1 .0 .1) wk, (to l₇ 0 (x .1 .1 .0 .1) (replicate 8192 0), (to l₈ 0 (x .1 .1 .1 .0 .1) (replicate 55296 0), (to l₉ 0 (x .1 .1 .1 .1 .0 .1) (replicate 384 0), (s₀, (s₁, (s₂, (a, (to lb lo (x .1 .1 .1 .1 .1 .1 .1 .1 .0 .1) ls, (to t₀ 0 (x .1 .1 .1 .1 .1 .1 .1 .1 .1 .0 .1) ta, tt))))))))))), (vptr l₅ 0 ∷ [], (vptr l₆ 0 ∷ [], (vptr l₇ 0 ∷ [], (vptr l₈ 0 ∷ [], (vptr l₉ 0 ∷ [], (v₀ ∷ [], (v₁ ∷ [], (v₂ ∷ [], (vint w32 a ∷ [], (vl ∷ [], (vptr t₀ 0 ∷ [], tt)))))))))))), tt)) (λ x. (and-then ! (load ! (from ! (stop !)) (look ! 21 refl)) (and-then ! (load ! (from ! (stop !)) (look ! 19 refl)) (and-then ! (load ! (from ! (stop !)) (look ! 17 refl)) (and-then ! (load ! (from ! (stop !)) (look ! 15 refl)) (and-then ! (load ! (from ! (stop !)) (look ! 13 refl)) (and-then ! (load ! (from ! (stop !)) (look ! 49 refl)) (and-then ! (load ! (from ! (stop !)) (look ! 47 refl)) (and-then ! (load ! (from ! (stop !)) (look ! 45 refl)) (and-then ! (load ! (from ! (stop !)) (look ! 43 refl)) (and-then ! (load ! (from ! (stop !)) (look ! 9 refl)) (and-then ! (load ! (from ! (stop !)) (look ! 7 refl)) (no-more !))))))))))))) (λ r₁ w₁ is₁ f₁ said₁.
+          calls-lent ! fm (to-explore l₅ l₆ l₇ l₈ l₉ t₀ (replicate 208 0) wk (replicate 8192 0) (replicate 55296 0) (replicate 2432 0) a ga ls e₀ ta) (vptr l₅ 0 ∷ vptr l₆ 0 ∷ vptr l₇ 0 ∷ vptr l₈ 0 ∷ vptr l₉ 0 ∷ v₀ ∷ v₁ ∷ v₂ ∷ vint w32 a ∷ vl ∷ vptr t₀ 0 ∷ []) u8 (vint w8) (λ r v is. ap only (is .0))
+          (fact 𝓤 (Blank (replicate 208 0) wk (replicate 8192 0) (replicate 55296 0) (replicate 2432 0) (length ls))) (asks _ (tasked bare wanted wk (length ls) saidₚ ok)) (λ r w. Explored wk (s₀ .now) (s₁ .now) (s₂ .now) a ls (tallyIn ta) (w .1 .0) (w .1 .1 .1 .1 .1 .1 .1 .1 .1 .0) (tallyIn (w .1 .1 .1 .1 .1 .1 .1 .1 .1 .1 .0)) r)
+          (λ x. known-explore (((x .0 .0 ∷ [], (x .1 .0 .0 ∷ [], (x .1 .1 .0 .0 ∷ [], (x .1 .1 .1 .0 .0 ∷ [], (x .1 .1 .1 .1 .0 .0 ∷ [], (κ₀, (κ₁, (κ₂, (x .1 .1 .1 .1 .1 .1 .1 .1 .0 .0 ∷ [], (x .1 .1 .1 .1 .1 .1 .1 .1 .1 .0 .0 ∷ [], tt)))))))))), (fullShare, (fullShare, (fullShare, (fullShare, (fullShare, (q₀, (q₁, (q₂, (fullShare, (fullShare, tt)))))))))), tt, (to l₅ 0 (x .0 .1) (replicate 208 0), (to l₆ 0 (x .1 .0 .1) wk, (to l₇ 0 (x .1 .1 .0 .1) (replicate 8192 0), (to l₈ 0 (x .1 .1 .1 .0 .1) (replicate 55296 0), (to l₉ 0 (x .1 .1 .1 .1 .0 .1) (replicate 2432 0), (s₀, (s₁, (s₂, (a, (to lb lo (x .1 .1 .1 .1 .1 .1 .1 .1 .0 .1) ls, (to t₀ 0 (x .1 .1 .1 .1 .1 .1 .1 .1 .1 .0 .1) ta, tt))))))))))), (vptr l₅ 0 ∷ [], (vptr l₆ 0 ∷ [], (vptr l₇ 0 ∷ [], (vptr l₈ 0 ∷ [], (vptr l₉ 0 ∷ [], (v₀ ∷ [], (v₁ ∷ [], (v₂ ∷ [], (vint w32 a ∷ [], (vl ∷ [], (vptr t₀ 0 ∷ [], tt)))))))))))), tt)) (λ x. (and-then ! (load ! (from ! (stop !)) (look ! 21 refl)) (and-then ! (load ! (from ! (stop !)) (look ! 19 refl)) (and-then ! (load ! (from ! (stop !)) (look ! 17 refl)) (and-then ! (load ! (from ! (stop !)) (look ! 15 refl)) (and-then ! (load ! (from ! (stop !)) (look ! 13 refl)) (and-then ! (load ! (from ! (stop !)) (look ! 49 refl)) (and-then ! (load ! (from ! (stop !)) (look ! 47 refl)) (and-then ! (load ! (from ! (stop !)) (look ! 45 refl)) (and-then ! (load ! (from ! (stop !)) (look ! 43 refl)) (and-then ! (load ! (from ! (stop !)) (look ! 9 refl)) (and-then ! (load ! (from ! (stop !)) (look ! 7 refl)) (no-more !))))))))))))) (λ r₁ w₁ is₁ f₁ said₁.
           let st₁ : List ℕ = w₁ .0 in let wk₁ : List ℕ = w₁ .1 .0 in let su₁ : List ℕ = w₁ .1 .1 .0 in let tb₁ : List ℕ = w₁ .1 .1 .1 .0 in let nu₁ : List ℕ = w₁ .1 .1 .1 .1 .0 in
           let ls₁ : List ℕ = w₁ .1 .1 .1 .1 .1 .1 .1 .1 .1 .0 in let ta₁ : Tally = w₁ .1 .1 .1 .1 .1 .1 .1 .1 .1 .1 .0 in let l₁′ : length ls₁ ≡ length ls = f₁ .1 .1 .1 .1 .1 .1 .1 .1 .0 in
           land ! (from ! (stop !)) (init ! 29 refl (tt, record { fits = is₁ .1 })) $
@@ -322,7 +322,7 @@ module _ {M : Type 1} (𝓤 : URA M) (H : Heap 𝓤) (A : Atoms 𝓤) (W : Given
           move ! (1 ∷ []) $ fsplit ! $ use1 W (some (λ (v : Val). ‵ (fat fullShare (tyArray (tyInt w64) 256) l₆ 0 v))) (array-out 𝓤 H A W w64 256 wk₁ l₆) $ pick ! (λ u₁.
           move ! (1 ∷ []) $ fsplit ! $ use1 W (some (λ (v : Val). ‵ (fat fullShare (tyArray (tyInt w16) 8192) l₇ 0 v))) (array-out 𝓤 H A W w16 8192 su₁ l₇) $ pick ! (λ u₂.
           move ! (1 ∷ []) $ fsplit ! $ use1 W (some (λ (v : Val). ‵ (fat fullShare (tyArray (tyInt w16) 55296) l₈ 0 v))) (array-out 𝓤 H A W w16 55296 tb₁ l₈) $ pick ! (λ u₃.
-          move ! (1 ∷ []) $ fsplit ! $ use1 W (some (λ (v : Val). ‵ (fat fullShare (tyArray (tyInt w64) 384) l₉ 0 v))) (array-out 𝓤 H A W w64 384 nu₁ l₉) $ pick ! (λ u₄.
+          move ! (1 ∷ []) $ fsplit ! $ use1 W (some (λ (v : Val). ‵ (fat fullShare (tyArray (tyInt w64) 2432) l₉ 0 v))) (array-out 𝓤 H A W w64 2432 nu₁ l₉) $ pick ! (λ u₄.
           move ! (1 ∷ []) $ fsplit ! $ move ! (1 ∷ []) $ fsplit ! $ move ! (1 ∷ []) $ fsplit ! $ move ! (1 ∷ []) $ fsplit ! $ move ! (1 ∷ []) $ fsplit ! $ use1 W (some (λ (us : List Val). ‵ (cellAt fullShare (T.the-row .mir) us t₀ 0) ⊛ ‵ (T.the-row .own ta₁ us))) (lies-out 𝓤 H A W T.the-row ta₁ t₀ 0) $ pick ! (λ us. split ! $
           spelt ! T.the-row (Is T.the-row) (shows 𝓤 H A T.the-row) (SL.vals T.the-type T′.the-laws) (SL.tells T.the-type T′.the-laws) fullShare ta₁ us t₀ 0 $
           use1 W (‵ (fat fullShare T′.mir t₀ 0 (tally-val ta₁))) (W .laws .raw-at fullShare T′.mir t₀ 0 (tally-val ta₁)) $

@@ -10,7 +10,7 @@ use Rattle.sheet.proofs.tables.ask.Reads as tables-ask-reads
 
 -- src/lib.rt:28:9
 ask-requires : tie.Need-ask-requires
-ask-requires c κs = (zeros 384, zeros 8192)
+ask-requires c κs = (zeros 2432, zeros 8192)
 
 enum-told : tie.Need-enum-told
 enum-told c = search needs

@@ -1,73 +1,46 @@
--- Eight sets go into one number, the last first. Assumes nothing.
-use mathlib.Core.Path.{refl}
-use Prim.Native.Nat.{_+_, _-_}
+-- Eight sets of a value of the first variable, or of the second. Assumes nothing.
 use native.Mathlib.Omega.{arith}
-use lib.ListN.{getD}
 use borrow.Author.Needs.{needs}
-use Rattle.model.specs.Lists.{at}
-use Rattle.model.proofs.Masks.{byte-lt}
-use Rattle.index.proofs.Lanes.{LanesSoFar, lanes-begin, lanes-fit, lanes-turn, lanes-end}
 use Rattle.index.proofs.words.word.Statement.{statement}
 use Rattle.index.proofs.words.word.Tie as tie
 
-abbrev Inv-loop : tie.InvT-loop
-Inv-loop supports base all₀ t₀ all t = LanesSoFar supports base t all
+mul-lanes : tie.Need-mul-lanes
+mul-lanes c = search needs
 
-abbrev μ-loop : tie.MeasureT-loop
-μ-loop supports base all₀ t₀ all t = 8 - t
+mul-lanes-2 : tie.Need-mul-lanes-2
+mul-lanes-2 c = search needs
 
-loop-holds : tie.Need-loop-holds Inv-loop μ-loop
-loop-holds c = lanes-begin _ _
+add-lanes : tie.Need-add-lanes
+add-lanes c = search needs
 
-mul-all : tie.Need-mul-all Inv-loop μ-loop
-mul-all c = record { fits = omega (arith, lanes-fit _ _ _ _ 0 (c .before .loop .inv) (c .loop-test .taken)) }
+lanes-requires : tie.Need-lanes-requires
+lanes-requires c κs = search needs
 
-add-all : tie.Need-add-all Inv-loop μ-loop
-add-all c = search needs
+mul-lanes-3 : tie.Need-mul-lanes-3
+mul-lanes-3 c = search needs
 
-sub-all : tie.Need-sub-all Inv-loop μ-loop
-sub-all c = search needs
+add-lanes-2 : tie.Need-add-lanes-2
+add-lanes-2 c = search needs
 
-mul-all-2 : tie.Need-mul-all-2 Inv-loop μ-loop
-mul-all-2 c = search needs
+lanes-requires-2 : tie.Need-lanes-requires-2
+lanes-requires-2 c κs = search needs
 
-element-copy-out-all : tie.Need-element-copy-out-all Inv-loop μ-loop
-element-copy-out-all c = search needs
+returns : tie.Need-returns
+returns c = record { first = λ z. c .lanes .ensures; second = λ z. absurd (omega arith) }
 
-cast-all : tie.Need-cast-all Inv-loop μ-loop
-cast-all c = record { fits = omega (arith, byte-lt (getD (c .before .before .before .args .supports .now) (c .before .before .before .args .base + 7 - c .before .before .loop .t) 0)) }
-
-add-all-2 : tie.Need-add-all-2 Inv-loop μ-loop
-add-all-2 c = record { fits = lanes-fit _ _ _ _ (getD (c .before .before .before .args .supports .now) (c .before .before .before .args .base + 7 - c .before .before .loop .t) 0) (c .before .before .loop .inv) (c .before .loop-test .taken) }
-
-add-t : tie.Need-add-t Inv-loop μ-loop
-add-t c = search needs
-
-loop-less : tie.Need-loop-less Inv-loop μ-loop
-loop-less c = search needs
-
-loop-again : tie.Need-loop-again Inv-loop μ-loop
-unfolding at
-loop-again c = lanes-turn _ _ _ _ _ (c .before .before .loop .inv) (c .before .loop-test .taken) refl
-
-returns : tie.Need-returns Inv-loop μ-loop
-returns c = lanes-end _ _ _ _ (search needs) (c .before .loop .inv)
+returns-2 : tie.Need-returns-2
+returns-2 c = record { first = λ z. absurd (omega arith); second = λ z. c .lanes2 .ensures }
 
 pub word-spec : {M : Type 1} → statement M
 word-spec =
     tie.close
     (tie.spec
-    Inv-loop
-    μ-loop
-    loop-holds
-    mul-all
-    add-all
-    sub-all
-    mul-all-2
-    element-copy-out-all
-    cast-all
-    add-all-2
-    add-t
-    loop-less
-    loop-again
-    returns)
+    mul-lanes
+    mul-lanes-2
+    add-lanes
+    lanes-requires
+    mul-lanes-3
+    add-lanes-2
+    lanes-requires-2
+    returns
+    returns-2)

@@ -1,47 +1,34 @@
--- A number for each constraint and each of eight first values. Assumes nothing.
+-- The sixteen numbers of a constraint, one after another. Assumes nothing.
 use mathlib.Core.Path.{refl}
-use Prim.Native.Nat.{_+_, _-_, _*_, _/_, _%_, _≤_}
+use Prim.Native.Nat.{_-_, _≤_}
 use native.Mathlib.Omega.{arith}
 use borrow.Author.Needs.{needs}
 use Rattle.model.specs.Filling.{Filled}
-use Rattle.layout.specs.Places.{LANES}
-use Rattle.index.specs.Steps.{Lanes}
 use Rattle.model.proofs.Filling.{filled-begin, filled-turn, filled-end}
+use Rattle.index.specs.Steps.{Word}
 use Rattle.index.proofs.words.words.Statement.{statement}
 use Rattle.index.proofs.words.words.Tie as tie
 
 abbrev Inv-loop : tie.InvT-loop
-Inv-loop numbers₀ supports c₀ numbers c = (c ≤ 256) × Filled (λ j. LANES + j) (λ j r. Lanes supports (256 * (j / 8) + 16 * (j % 8)) r) c numbers₀ numbers
+Inv-loop supports k made₀ n₀ made n = (n ≤ 16) × Filled (λ i. i) (Word supports k) n made₀ made
 
 abbrev μ-loop : tie.MeasureT-loop
-μ-loop numbers₀ supports c₀ numbers c = 256 - c
+μ-loop supports k made₀ n₀ made n = 16 - n
 
 loop-holds : tie.Need-loop-holds Inv-loop μ-loop
 loop-holds c = (search needs, filled-begin _ _ _)
 
-mul-word : tie.Need-mul-word Inv-loop μ-loop
-mul-word c = search needs
-
-mul-word-2 : tie.Need-mul-word-2 Inv-loop μ-loop
-mul-word-2 c = search needs
-
-add-word : tie.Need-add-word Inv-loop μ-loop
-add-word c = search needs
-
 word-requires : tie.Need-word-requires Inv-loop μ-loop
 word-requires c κs = search needs
 
-add-numbers : tie.Need-add-numbers Inv-loop μ-loop
-add-numbers c = search needs
+mul-made : tie.Need-mul-made Inv-loop μ-loop
+mul-made c = search needs
 
-mul-numbers : tie.Need-mul-numbers Inv-loop μ-loop
-mul-numbers c = search needs
+element-write-made : tie.Need-element-write-made Inv-loop μ-loop
+element-write-made c = search needs
 
-element-write-numbers : tie.Need-element-write-numbers Inv-loop μ-loop
-element-write-numbers c = search needs
-
-add-c : tie.Need-add-c Inv-loop μ-loop
-add-c c = search needs
+add-n : tie.Need-add-n Inv-loop μ-loop
+add-n c = search needs
 
 loop-less : tie.Need-loop-less Inv-loop μ-loop
 loop-less c = search needs
@@ -59,14 +46,10 @@ words-spec =
     Inv-loop
     μ-loop
     loop-holds
-    mul-word
-    mul-word-2
-    add-word
     word-requires
-    add-numbers
-    mul-numbers
-    element-write-numbers
-    add-c
+    mul-made
+    element-write-made
+    add-n
     loop-less
     loop-again
     returns)

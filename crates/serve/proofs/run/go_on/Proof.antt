@@ -75,7 +75,7 @@ prepare-again-requires c κs =
       work-length = c .before .before .before .before .before .before .before .before .before .before .before .put-progress .ensures .work-length;
       supports-blank = zeros 8192;
       tables-length = length-replicate {A = ℕ} 55296 0;
-      numbers-blank = zeros 384;
+      numbers-blank = zeros 2432;
     }
 
 add-list : tie.Need-add-list
