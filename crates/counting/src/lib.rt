@@ -11,6 +11,7 @@ ghost use Rattle.figure.specs.Figure.{reportFigure};
 ghost use Rattle.counting.specs.Told.{countedLent, told, means};
 ghost use Rattle.counting.specs.Held.{Sized, Solved, Ran};
 use layout::SYMMETRIES;
+use layout::VARIABLES;
 use search::Ending;
 
 // The number of families, the dash, or the refusal of a run.
@@ -42,6 +43,7 @@ pub fn plan_room() -> [u8; 49152]
 }
 
 // Puts the images of the pairs under all symmetries of a run whose questions are passed, its variables in the settling order; how many symmetries.
+// Question 16 and those to the block are not asked again.
 fn put_images(sheet: &[u8], pairs: &[u8], block: &[u8], images: &mut [u8; 26112]) -> usize
     requires { ⌜ (verdictLent (now sheet) (now pairs) (now block) ≡ accepted) × (length (now images) ≡ 26112) ⌝ }
     ensures { λ r. ⌜ Put (problemLent (now (sheet .entry)) (now (pairs .entry)) (now (block .entry))) (now (images .exit)) r ⌝ }
@@ -49,15 +51,8 @@ fn put_images(sheet: &[u8], pairs: &[u8], block: &[u8], images: &mut [u8; 26112]
     let mut numbers = [0u64; 2432];
     let mut supports = [0u16; 8192];
     let mut order = [0u8; 16];
-    lent::ask(
-        sheet,
-        pairs,
-        block,
-        &mut numbers,
-        &mut supports,
-        images,
-        &mut order,
-    );
+    sheet::recompile(sheet, &mut numbers, &mut supports, images);
+    order::settling_order(numbers[VARIABLES] as usize, pairs, &mut order);
     let symmetries = orderings::put_images(block, &numbers, images);
     if pairs.len() != 0 {
         numbers[SYMMETRIES] = symmetries as u64;
