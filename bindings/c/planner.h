@@ -9,11 +9,11 @@
  * Threads. Calls may be made from several threads at once, as long as no buffer that one call writes to is
  * lent to another at the same time.
  *
- * Stack. The most that a call takes below the caller, on the sheet that goes deepest (12 windows of 16 duties,
- * each duty tried one below the other):
- *   planner_filter 4 KB, planner_question 23 KB, planner_question_lent and planner_closed 51 KB, planner_run,
- *   planner_run_lent and planner_at_least, with pairs and a block or without, 198 KB, planner_families 264 KB,
- *   planner_report 313 KB, planner_desk_sit 25 KB, planner_desk_turn and planner_desk_rounds 185 KB (KB: 1,000
+ * Stack. The most that a call takes below the caller, on the sheets that go deepest (12 windows of 16 duties, 16
+ * exchanges, pairs and a block):
+ *   planner_filter 4 KB, planner_question 37 KB, planner_question_lent and planner_closed 67 KB, planner_run,
+ *   planner_run_lent and planner_at_least, with pairs and a block or without, 181 KB, planner_families 239 KB,
+ *   planner_report 286 KB, planner_desk_sit 37 KB, planner_desk_turn and planner_desk_rounds 178 KB (KB: 1,000
  *   bytes).
  * With less the process ends by a fault at the guard page. A thread of PLANNER_STACK_BYTES is enough for
  * each; some systems give a thread less unless asked (musl: 128 KB). */
