@@ -1,6 +1,2 @@
-// Calls about runs, with answers in lent bytes. A refusal's number and item are those of the papers.
-pub mod at_least;
-mod counts;
-pub mod exchanges;
-pub mod lendings;
+// Calls about the runs of paper 01, with answers in lent bytes. A refusal's number and item are those of the papers.
 pub mod runs;

@@ -1,9 +1,9 @@
-// Calls about runs: crates export_run and export_families say what they answer and leave.
+// Calls about runs: crates export_run, export_lent and export_families say what they answer and leave.
 ghost use mathlib.Core.Path.{_≡_};
 ghost use Rattle.export_run.specs.Run.{questionCode, runCode, runList, runAnswer};
-ghost use Rattle.export_run.specs.Lent.{lentQuestionCode, lentRunCode, lentRunList, lentRunAnswer};
-ghost use Rattle.export_run.specs.Enough.{enoughCode, enoughBytes};
-ghost use Rattle.export_run.specs.Closed.{closedCode, closedAnswer};
+ghost use Rattle.export_lent.specs.Lent.{lentQuestionCode, lentRunCode, lentRunList, lentRunAnswer};
+ghost use Rattle.export_lent.specs.Enough.{enoughCode, enoughBytes};
+ghost use Rattle.export_lent.specs.Closed.{closedCode, closedAnswer};
 ghost use Rattle.export_families.specs.Families.{familiesCode, familiesAnswer};
 
 // The questions to a sheet.
@@ -29,7 +29,7 @@ pub extern "C" fn planner_run(sheet: &[u8], limit: u32, list: &mut [u8], answer:
 pub extern "C" fn planner_question_lent(sheet: &[u8], pairs: &[u8], block: &[u8]) -> u32
     ensures { λ r. ⌜ r ≡ lentQuestionCode (now (sheet .entry)) (now (pairs .entry)) (now (block .entry)) ⌝ }
 {
-    export_run::lendings::question_lent(sheet, pairs, block)
+    export_lent::lendings::question_lent(sheet, pairs, block)
 }
 
 // Such a run, with its nodes by place (#107).
@@ -46,7 +46,7 @@ pub extern "C" fn planner_run_lent(
     ensures { λ _. ⌜ now (list .exit) ≡ lentRunList (now (sheet .entry)) (now (pairs .entry)) (now (block .entry)) limit (now (list .entry)) (now (answer .entry)) ⌝ }
     ensures { λ _. ⌜ now (answer .exit) ≡ lentRunAnswer (now (sheet .entry)) (now (pairs .entry)) (now (block .entry)) limit (now (list .entry)) (now (answer .entry)) ⌝ }
 {
-    export_run::lendings::run_lent(sheet, pairs, block, limit, list, answer)
+    export_lent::lendings::run_lent(sheet, pairs, block, limit, list, answer)
 }
 
 // Are there at least so many plans (#101)?
@@ -62,7 +62,7 @@ pub extern "C" fn planner_at_least(
     ensures { λ r. ⌜ r ≡ enoughCode (now (sheet .entry)) (now (pairs .entry)) (now (block .entry)) plans limit (now (answer .entry)) ⌝ }
     ensures { λ _. ⌜ now (answer .exit) ≡ enoughBytes (now (sheet .entry)) (now (pairs .entry)) (now (block .entry)) plans limit (now (answer .entry)) ⌝ }
 {
-    export_run::at_least::at_least(sheet, pairs, block, plans, limit, answer)
+    export_lent::at_least::at_least(sheet, pairs, block, plans, limit, answer)
 }
 
 // Whether the exchanges are closed (#112).
@@ -71,7 +71,7 @@ pub extern "C" fn planner_closed(sheet: &[u8], pairs: &[u8], block: &[u8], answe
     ensures { λ r. ⌜ r ≡ closedCode (now (sheet .entry)) (now (pairs .entry)) (now (block .entry)) (now (answer .entry)) ⌝ }
     ensures { λ _. ⌜ now (answer .exit) ≡ closedAnswer (now (sheet .entry)) (now (pairs .entry)) (now (block .entry)) (now (answer .entry)) ⌝ }
 {
-    export_run::exchanges::closed(sheet, pairs, block, answer)
+    export_lent::exchanges::closed(sheet, pairs, block, answer)
 }
 
 // The number of families (#104).

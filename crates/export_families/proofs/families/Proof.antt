@@ -6,7 +6,7 @@ use Rattle.figure.specs.Figure.{number, dash}
 use Rattle.counting.specs.Told.{refusal, told, means}
 use Rattle.counting.proofs.Bare.{told-few}
 use Rattle.wire.proofs.Codes.{refused-small}
-use Rattle.export_run.proofs.Lent.{lent-small}
+use Rattle.export_lent.proofs.Lent.{lent-small}
 use Rattle.export_families.proofs.Figures.{wrong-answer, right-answer, refusal-counted}
 use Rattle.export_families.proofs.families.Statement.{statement}
 use Rattle.export_families.proofs.families.Tie as tie

@@ -1,0 +1,43 @@
+-- What `planner_closed` answers, by what it called. Assumes nothing.
+use mathlib.Core.Path.{_≡_, sym, ap, _∙_}
+use mathlib.Core.Bool.{Bool}
+use mathlib.Core.List.{List}
+use Prim.Native.Nat.{ℕ}
+use native.Mathlib.Omega.{arith}
+use lib.ListN.{length}
+use borrow.Author.Tests.{eq-eqb, ne-eqb}
+use Rattle.model.specs.Lists.{choose}
+use Rattle.model.specs.Problem.{Problem}
+use Rattle.model.specs.Verdict.{Verdict, accepted, refused}
+use Rattle.lent.specs.Lent.{verdictLent, problemWith}
+use Rattle.closed.specs.Lent.{Told, refusal, toldFor, closedLent}
+use Rattle.wire.specs.Wire.{wrongLength}
+use Rattle.export_lent.specs.Closed.{toldCode, toldBytes, closedCode, closedAnswer}
+
+module _ (b pairs block answer : List ℕ) where
+  abbrev Tested : ℕ → List ℕ → Type 0
+  Tested r bytes = (r ≡ closedCode b pairs block answer) × (bytes ≡ closedAnswer b pairs block answer)
+
+  pub wrong-answer : (length answer ≡ 12 → ⊥) → Tested wrongLength answer
+  unfolding closedCode closedAnswer
+  wrong-answer h =
+      let e = ne-eqb (length answer) 12 h in (
+        sym (ap {B = ℕ} (λ (t : Bool). choose t (toldCode (closedLent b pairs block)) wrongLength) e),
+        sym (ap {B = List ℕ} (λ (t : Bool). choose t (toldBytes (closedLent b pairs block) answer) answer) e),
+      )
+
+  pub right-answer : (o : Told) (r : ℕ) (bytes : List ℕ) → length answer ≡ 12 → o ≡ closedLent b pairs block → r ≡ toldCode o → bytes ≡ toldBytes o answer → Tested r bytes
+  unfolding closedCode closedAnswer
+  right-answer o r bytes h so code w =
+      let e = eq-eqb (length answer) 12 h in (
+        code ∙ ap toldCode so ∙ sym (ap {B = ℕ} (λ (t : Bool). choose t (toldCode (closedLent b pairs block)) wrongLength) e),
+        w ∙ ap (λ (q : Told). toldBytes q answer) so ∙ sym (ap {B = List ℕ} (λ (t : Bool). choose t (toldBytes (closedLent b pairs block) answer) answer) e),
+      )
+
+pub refusal-told : (b pairs block : List ℕ) (number item : ℕ) → refusal number item ≡ closedLent b pairs block → verdictLent b pairs block ≡ refused number item
+unfolding closedLent
+refusal-told b pairs block number item e = go (verdictLent b pairs block) (problemWith b block) e
+  where
+    go : (v : Verdict) (p : Problem) → refusal number item ≡ toldFor v p → v ≡ refused number item
+    go accepted p h = absurd (let z : _≡_ {A = ℕ} 0 1 = cc in omega arith)
+    go (refused n i) p h = cc

@@ -1,0 +1,124 @@
+-- What `planner_question_lent` and `planner_run_lent` answer, by what they called; the item of a refusal of pairs or a block is below 256 too.
+-- Assumes nothing.
+use mathlib.Core.Path.{_≡_, refl, sym, ap, _∙_, subst}
+use mathlib.Core.Bool.{Bool}
+use mathlib.Core.List.{List, [], _∷_}
+use Prim.Native.Nat.{ℕ, _%_, _^_, _<_, _≤_}
+use native.Mathlib.Omega.{arith}
+use lib.Dec.{leb, ltb, eqb}
+use lib.ListN.{length}
+use borrow.Author.Tests.{eq-eqb, ne-eqb}
+use Rattle.model.specs.Lists.{all, at, both, choose}
+use Rattle.model.specs.Problem.{Problem}
+use Rattle.model.specs.Verdict.{Verdict, accepted, refused, ask}
+use Rattle.model.specs.Sheet.{problemOf, verdictOf, symmetriesVerdict}
+use Rattle.model.specs.Run.{Answer, refusal, ended, Ending, nodesIn, Tally}
+use Rattle.model.proofs.Tally.{at-total}
+use Rattle.order.specs.Order.{settlesAll, orderVerdict}
+use Rattle.order.specs.RunBy.{resultBy, placeCounts}
+use Rattle.sheet.specs.Meaning.{andThen}
+use Rattle.lent.specs.Lent.{verdictLent, problemWith, orderLent, problemLent, answerLentFor, answerLent, listLent, tallyLent}
+use Rattle.lent.proofs.Lent.{ran-lent, counts-lent, passed-all}
+use Rattle.lent.proofs.LentTally.{tally-lent}
+use Rattle.wire.specs.Wire.{wrongLength}
+use Rattle.export_run.specs.Run.{answerCode}
+use Rattle.export_lent.specs.Lent.{placedBytes, lentRunCode, lentRunList, lentRunAnswer}
+use Rattle.export_run.specs.Inner.{Counted}
+use Rattle.export_lent.specs.Inner.{Twelve}
+use Rattle.wire.proofs.Codes.{Small, ask-small, verdict-small, symmetries-small}
+use Rattle.export_run.proofs.Ran.{plans-most}
+use Rattle.block.specs.Block.{factorial, orderingTable, blockTables, isBlock, blockVerdict, blockLent}
+use Rattle.model.proofs.Lists.{T-of, length-below}
+use Rattle.model.proofs.Accepted.{symmetries-are, passed}
+use Rattle.block.proofs.Orderings.{factorial-le}
+use Rattle.block.proofs.Block.{block-is}
+
+-- a block's items count on from at most sixteen, 120 of them
+block-small : (p : Problem) (block : List ℕ) → length (p .symmetries) ≤ 16 → Small (blockLent p block)
+unfolding blockLent blockVerdict blockTables
+block-small p [] h = tt
+block-small p (first ∷ []) h = omega arith
+block-small p (first ∷ m ∷ []) h =
+    ask-small (isBlock p first m) 36 0 (symmetriesVerdict p (length (p .symmetries)) (blockTables p first m)) (omega arith)
+    (λ e. let n = length-below (orderingTable p first m) (factorial m) in
+    let f = factorial-le m (block-is p first m (T-of (isBlock p first m) e) .0) in
+    symmetries-small p (length (p .symmetries)) (blockTables p first m) (omega arith))
+block-small p (first ∷ m ∷ x ∷ block) h = omega arith
+
+order-small : (n : ℕ) (pairs : List ℕ) (later : Verdict) → Small later → Small (orderVerdict n pairs later)
+unfolding orderVerdict
+order-small n pairs later s =
+    let z : 0 < 256 = omega arith in
+    let v30 = ask (settlesAll n pairs) 30 0 later in
+    let c29 = all (λ x. ltb x n) pairs in
+    ask-small (both (leb (length pairs) 128) (eqb (length pairs % 2) 0)) 28 0 (ask c29 29 0 v30) z (λ e. ask-small c29 29 0 v30 z (λ e. ask-small (settlesAll n pairs) 30 0 later z (λ e. s)))
+
+and-small : (v u : Verdict) → Small v → (v ≡ accepted → Small u) → Small (andThen v u)
+and-small accepted u s t = t refl
+and-small (refused number item) u s t = s
+
+few-symmetries : (b : List ℕ) → verdictOf b ≡ accepted → length (problemOf b .symmetries) ≤ 16
+few-symmetries b e = let l = symmetries-are b in let f = passed b (passed-all (verdictOf b) e) .header .symmetries in omega arith
+
+pub lent-small : (b pairs block : List ℕ) → Small (verdictLent b pairs block)
+unfolding verdictLent
+lent-small b pairs block =
+    and-small (verdictOf b) (orderVerdict (problemOf b .variables) pairs (blockLent (problemOf b) block)) (verdict-small b)
+    (λ e. order-small (problemOf b .variables) pairs (blockLent (problemOf b) block) (block-small (problemOf b) block (few-symmetries b e)))
+
+-- ---- planner_run_lent
+pub refusal-lent-of : (b pairs block : List ℕ) (limit : ℕ) (out : List ℕ) (number item : ℕ) → answerLent b pairs block limit out ≡ refusal number item → verdictLent b pairs block ≡ refused number item
+unfolding answerLent answerLentFor
+refusal-lent-of b pairs block limit out number item e = go (verdictLent b pairs block) e
+  where
+    go : (v : Verdict) → answerLentFor v b pairs block limit (length out) ≡ refusal number item → v ≡ refused number item
+    go accepted h = absurd (let z : _≡_ {A = ℕ} 0 1 = cc in omega arith)
+    go (refused n i) h = cc
+
+module _ (b pairs block : List ℕ) (limit : ℕ) (list : List ℕ) where
+  pub counted-lent : (e : Ending) → limit < 2 ^ 32 → answerLent b pairs block limit list ≡ ended e → Counted e
+  unfolding resultBy
+  counted-lent e l h =
+      record { plans = omega (arith, plans-most (problemLent b pairs block) limit (length list) e (ran-lent b pairs block limit list e h .so), counts-lent b pairs block limit list e h .0); made = omega (arith, counts-lent b pairs block limit list e h .0) }
+
+  module _ (e : Ending) (tally after : Tally) (so : answerLent b pairs block limit list ≡ ended e) (is : after ≡ tallyLent b pairs block limit list tally) where
+    -- the counts of a run that ended
+    pub counts-of : after .counts ≡ placeCounts (orderLent b pairs) (problemWith b block) (nodesIn e)
+    counts-of = ap (λ (t : Tally). t .counts) is ∙ tally-lent b pairs block limit list e tally so .1
+
+    -- they add up to the nodes made, which are at most the limit
+    pub counts-fit : limit < 2 ^ 32 → Twelve (after .counts)
+    unfolding at
+    counts-fit l =
+        let t = tally-lent b pairs block limit list e tally so in
+        let c = ap (λ (u : Tally). u .counts) is in
+        subst Twelve (sym c) record {
+          long = t .2;
+          small = λ i. omega (arith, at-total (tallyLent b pairs block limit list tally .counts) i, t .0, t .3, counted-lent e l so .made);
+        }
+
+  module _ (answer : List ℕ) where
+    pub wrong-answer : (length answer ≡ 60 → ⊥) →
+        (wrongLength ≡ lentRunCode b pairs block limit list answer) × ((list ≡ lentRunList b pairs block limit list answer) × (answer ≡ lentRunAnswer b pairs block limit list answer))
+    unfolding lentRunCode lentRunList lentRunAnswer
+    wrong-answer h =
+        let e = ne-eqb (length answer) 60 h in (
+          sym (ap {B = ℕ} (λ (t : Bool). choose t (answerCode (answerLent b pairs block limit list)) wrongLength) e),
+          (
+            sym (ap {B = List ℕ} (λ (t : Bool). choose t (listLent b pairs block limit list) list) e),
+            sym (ap {B = List ℕ} (λ (t : Bool). choose t (placedBytes b pairs block (answerLent b pairs block limit list) answer) answer) e),
+          ),
+        )
+
+    pub right-answer : (r : ℕ) (after bytes : List ℕ) (a : Answer) → length answer ≡ 60 → answerLent b pairs block limit list ≡ a → r ≡ answerCode a → after ≡ listLent b pairs block limit list →
+        bytes ≡ placedBytes b pairs block a answer →
+        (r ≡ lentRunCode b pairs block limit list answer) × ((after ≡ lentRunList b pairs block limit list answer) × (bytes ≡ lentRunAnswer b pairs block limit list answer))
+    unfolding lentRunCode lentRunList lentRunAnswer
+    right-answer r after bytes a h so c l w =
+        let e = eq-eqb (length answer) 60 h in (
+          c ∙ ap answerCode (sym so) ∙ sym (ap {B = ℕ} (λ (t : Bool). choose t (answerCode (answerLent b pairs block limit list)) wrongLength) e),
+          (
+            l ∙ sym (ap {B = List ℕ} (λ (t : Bool). choose t (listLent b pairs block limit list) list) e),
+            w ∙ ap (λ (x : Answer). placedBytes b pairs block x answer) (sym so) ∙ sym (ap {B = List ℕ} (λ (t : Bool). choose t (placedBytes b pairs block (answerLent b pairs block limit list) answer) answer) e),
+          ),
+        )

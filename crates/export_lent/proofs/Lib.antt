@@ -1,0 +1,4 @@
+pub mod Tallied
+pub mod Lent
+pub mod Closed
+pub mod AtLeast

@@ -1,0 +1,46 @@
+// Calls that are lent a sheet, pairs and a block (paper 02, #108 and #111). Pairs: two bytes each, "this place before that place".
+use crate::counts::ending;
+use wire::code;
+ghost use mathlib.Core.Path.{_≡_};
+ghost use Rattle.export_lent.specs.Lent.{lentQuestionCode, lentRunCode, lentRunList, lentRunAnswer};
+
+// Puts all questions of a run that is lent pairs and a block: 0, or the number of the first "no" times 256, plus its item.
+pub fn question_lent(sheet: &[u8], pairs: &[u8], block: &[u8]) -> u32
+    ensures { λ r. ⌜ r ≡ lentQuestionCode (now (sheet .entry)) (now (pairs .entry)) (now (block .entry)) ⌝ }
+{
+    let answer = lent::question(sheet, pairs, block);
+    match answer {
+        sheet::Answer::Accepted => 0,
+        sheet::Answer::Refused { number, item } => code(number, item),
+    }
+}
+
+// As planner_run, lent pairs and a block besides, and the answer has 60 bytes: kind, plans and nodes, then twelve numbers of four bytes, the nodes that
+// settle each place. Returns 0, or the refusal, or, asked first, 255 times 256 where the answer has not 60 bytes; list and answer are then as they came.
+pub fn run_lent(
+    sheet: &[u8],
+    pairs: &[u8],
+    block: &[u8],
+    limit: u32,
+    list: &mut [u8],
+    answer: &mut [u8],
+) -> u32
+    ensures { λ r. ⌜ r ≡ lentRunCode (now (sheet .entry)) (now (pairs .entry)) (now (block .entry)) limit (now (list .entry)) (now (answer .entry)) ⌝ }
+    ensures { λ _. ⌜ now (list .exit) ≡ lentRunList (now (sheet .entry)) (now (pairs .entry)) (now (block .entry)) limit (now (list .entry)) (now (answer .entry)) ⌝ }
+    ensures { λ _. ⌜ now (answer .exit) ≡ lentRunAnswer (now (sheet .entry)) (now (pairs .entry)) (now (block .entry)) limit (now (list .entry)) (now (answer .entry)) ⌝ }
+{
+    if answer.len() != 60 {
+        return 65280;
+    }
+    let r = search::run_counted(sheet, pairs, block, limit, list);
+    let tally = r.tally;
+    let counts = tally.counts;
+    let said = r.answer;
+    match said {
+        search::Answer::Refused { number, item } => code(number, item),
+        search::Answer::Ended(e) => {
+            ending(answer, e, counts);
+            0
+        }
+    }
+}
