@@ -3,7 +3,7 @@
 use crate::input::Input;
 use crate::listing::Listing;
 use crate::text::Statement;
-use planner::Closed;
+use planner::{Closed, Ending};
 
 /// How much of a line is shown.
 const LONGEST: usize = 60;
@@ -11,6 +11,16 @@ const LONGEST: usize = 60;
 const NOT_COUNTED: &str =
     "families aren't counted: without the exchanges the run doesn't finish, with this allowance and room for 4,096 plans";
 const ONE_OF_EACH: &str = "one plan of each family, the one that reads earliest: the exchanges are closed";
+
+/// How many families a finished run's plans are of, where they were counted: without exchanges each plan is one.
+pub fn number(listing: &Listing, input: &Input) -> Option<u32> {
+    match listing.families {
+        Some(families) => families.count,
+        None if listing.ending != Ending::Finished => None,
+        None if listing.plans.is_empty() || !input.made.has_exchanges() => Some(listing.plans.len() as u32),
+        None => None,
+    }
+}
 
 /// What is to be said beside their number. Every family has a listed plan, so as many plans as families are one of each.
 pub fn words(listing: &Listing, input: &Input) -> Vec<String> {

@@ -2,7 +2,7 @@
 
 use crate::command::{refuse, Arguments, Choice, Command, Outcome, Stop};
 use crate::counts::drawn;
-use crate::families::words;
+use crate::families::{number, words};
 use crate::input::{Input, BLOCK_OPTION, PAIRS_OPTION};
 use crate::listing::{Limits, Listing, PLANS_OPTION, TRIALS_OPTION};
 use crate::pairs::settled;
@@ -55,7 +55,7 @@ fn run(arguments: &Arguments) -> Result<Outcome, Stop> {
     let status = listing.status();
     let ending = listing.ending() + listing.hint() + "\n";
     let (output, note) = if arguments.has("--json") {
-        (json(problem, &listing).into_bytes(), String::new())
+        (json(problem, &listing, number(&listing, &input)).into_bytes(), String::new())
     } else if arguments.has("--csv") {
         (csv(problem, &listing).into_bytes(), ending)
     } else if arguments.has("--rows") {

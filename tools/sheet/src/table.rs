@@ -36,8 +36,8 @@ pub fn csv(problem: &Problem, listing: &Listing) -> String {
     rows(problem, listing).iter().map(line).collect()
 }
 
-/// One object: windows, duties, the ending, and the plans, each with its duty by window.
-pub fn json(problem: &Problem, listing: &Listing) -> String {
+/// One object: windows, duties, the ending, the number of families, and the plans, each with its duty by window.
+pub fn json(problem: &Problem, listing: &Listing, families: Option<u32>) -> String {
     let list = |names: &[String]| names.iter().map(|name| quoted(name)).collect::<Vec<_>>().join(", ");
     let plan = |plan: &Vec<u8>| {
         let pairs = plan.iter().zip(&problem.variables);
@@ -48,12 +48,13 @@ pub fn json(problem: &Problem, listing: &Listing) -> String {
     let plans: Vec<String> = listing.plans.iter().map(plan).collect();
     let plans = if plans.is_empty() { String::new() } else { format!("\n{}\n  ", plans.join(",\n")) };
     format!(
-        "{{\n  \"windows\": [{}],\n  \"duties\": [{}],\n  \"ending\": \"{}\",\n  \"listed\": {},\n  \"trials\": {},\n  \"plans\": [{plans}]\n}}\n",
+        "{{\n  \"windows\": [{}],\n  \"duties\": [{}],\n  \"ending\": \"{}\",\n  \"listed\": {},\n  \"trials\": {},\n  \"families\": {},\n  \"plans\": [{plans}]\n}}\n",
         list(&problem.variables),
         list(&problem.values),
         listing.word(),
         listing.plans.len(),
         listing.trials,
+        families.map_or("null".to_string(), |count| count.to_string()),
     )
 }
 

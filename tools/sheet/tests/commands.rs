@@ -58,6 +58,7 @@ fn golden_files() {
     golden("stand.table", output("plans examples/stand.txt"), 0);
     golden("cycle.table", output("plans examples/cycle.txt"), 0);
     golden("cycle.html", output("page examples/cycle.txt"), 0);
+    golden("cycle.json", output("plans --json examples/cycle.txt"), 0);
     golden("hall.trials", output("plans --by-window examples/hall.txt"), 0);
     golden("spent.html", output("page --trials=4 examples/cycle.txt"), 2);
     golden("full.json", output("plans --plans 2 --json examples/cycle.txt"), 2);
