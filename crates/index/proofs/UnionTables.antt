@@ -1,7 +1,7 @@
 -- Unions of numbers of eight lanes, and what they say of the support sets. Assumes nothing.
 use mathlib.Core.Path.{_≡_, refl, sym, ap, _∙_, subst, subst₂}
 use mathlib.Core.Bool.{Bool, true, false}
-use mathlib.Core.Logic.{_⊎_, ⊎-elim}
+use mathlib.Core.Logic.{inl, inr, ⊎-elim}
 use mathlib.Core.List.{List}
 use Prim.Native.Nat.{ℕ, zero, suc, _+_, _*_, _/_, _%_, _≤_, _<_}
 use native.Mathlib.Omega.{arith}
@@ -12,28 +12,18 @@ use lib.ListN.{length}
 use Rattle.model.specs.Lists.{at, both, choose}
 use Rattle.model.specs.ValueSets.{has}
 use Rattle.model.specs.Filling.{Filled}
-use Rattle.model.proofs.Lists.{both-i, both-l, both-r, either-l, either-r, either-e}
+use Rattle.model.proofs.Lists.{both-i, both-l, both-r}
 use Rattle.model.proofs.Sets.{has-none}
-use Rattle.model.proofs.Masks.{has-or}
+use Rattle.model.proofs.Members.{or-i, or-e}
 use Rattle.layout.specs.Places.{SCOPES, SPREAD, UNIONS}
 use Rattle.layout.specs.Tables.{UnionOf, Words}
 use Rattle.index.specs.Steps.{Lanes, Word, United, Unioned, Unions, Spread}
 
--- ---- a bit of a union
-or-l : (x y b : ℕ) → T (has x b) → T (has (bitOr x y) b)
-or-l x y b t = subst T (sym (has-or x y b)) (either-l (has x b) (has y b) t)
-
-or-r : (x y b : ℕ) → T (has y b) → T (has (bitOr x y) b)
-or-r x y b t = subst T (sym (has-or x y b)) (either-r (has x b) (has y b) t)
-
-or-e : (x y b : ℕ) → T (has (bitOr x y) b) → T (has x b) ⊎ T (has y b)
-or-e x y b t = either-e (has x b) (has y b) (subst T (has-or x y b) t)
-
+-- ---- four numbers from a base on, of which m has some
 picked : (c : Bool) (w b : ℕ) → has (choose c w 0) b ≡ both c (has w b)
 picked true w b = refl
 picked false w b = has-none b
 
--- ---- four numbers from a base on, of which m has some
 module _ (m : ℕ) (words : List ℕ) (base : ℕ) where
   abbrev Part : ℕ → ℕ → Type 0
   Part i n = n ≡ choose (has m i) (at words (base + i)) 0
@@ -58,10 +48,10 @@ module _ (m : ℕ) (words : List ℕ) (base : ℕ) where
       ep = let z : base ≡ base + 0 = omega arith in e ∙ ap (λ (n : ℕ). choose (has m 0) (at words n) 0) z
 
       any : (i b : ℕ) → i < 4 → T (has m i) → T (has (at words (base + i)) b) → T (has (bitOr (bitOr p q) (bitOr r s)) b)
-      any zero b h t u = or-l (bitOr p q) (bitOr r s) b (or-l p q b (into 0 p b ep t u))
-      any (suc zero) b h t u = or-l (bitOr p q) (bitOr r s) b (or-r p q b (into 1 q b eq t u))
-      any (suc (suc zero)) b h t u = or-r (bitOr p q) (bitOr r s) b (or-l r s b (into 2 r b er t u))
-      any (suc (suc (suc zero))) b h t u = or-r (bitOr p q) (bitOr r s) b (or-r r s b (into 3 s b es t u))
+      any zero b h t u = or-i (bitOr p q) (bitOr r s) b (inl (or-i p q b (inl (into 0 p b ep t u))))
+      any (suc zero) b h t u = or-i (bitOr p q) (bitOr r s) b (inl (or-i p q b (inr (into 1 q b eq t u))))
+      any (suc (suc zero)) b h t u = or-i (bitOr p q) (bitOr r s) b (inr (or-i r s b (inl (into 2 r b er t u))))
+      any (suc (suc (suc zero))) b h t u = or-i (bitOr p q) (bitOr r s) b (inr (or-i r s b (inr (into 3 s b es t u))))
       any (suc (suc (suc (suc i)))) b h t u = absurd (omega arith)
 
 -- ---- one constraint after another

@@ -52,9 +52,6 @@ module _ {p : Problem} {tables ds : List ℕ} {loose x first : ℕ} (r : CanCut 
   set-some : at ds x ≡ 0 → ⊥
   set-some = full-take n ds s sixteen (r .given .full) x (r .known)
 
-  pub set-pos : 1 ≤ at ds x
-  set-pos = let e = set-some in omega arith
-
   set-small : at ds x < 2 ^ 16
   set-small = s .1 x
 

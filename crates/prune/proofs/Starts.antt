@@ -92,9 +92,6 @@ module _ (p : Problem) (gs : List (List ℕ)) (few : p .variables ≤ 16) (prefi
       sets-are : setsOf p sets ≡ setsAt (withOrderings p gs) prefix
       sets-are = a .sets-are refl ∙ ap (setsAt (withOrderings p gs)) is
 
-way-initial : (p : Problem) (prefix es : List ℕ) → Way p prefix es → Inside es (p .initial)
-way-initial p prefix es w x v t = narrowed-e prefix (p .initial) x v (w .inside x v t) .0
-
 pub arrays-hold : {p : Problem} {gs : List (List ℕ)} {stack work supports tables numbers : List ℕ} → Ready p gs stack work supports tables numbers → ArraysHold p supports tables numbers
 arrays-hold r = record { indexed = r .indexed; wellFormed = r .wellFormed; constraints = r .constraints; symmetries = r .symmetries }
 
