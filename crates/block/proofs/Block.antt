@@ -1,7 +1,7 @@
 -- A block's symmetries: what an ordering does to pairs, that trades of neighbours are enough to ask, that its variables have equal initial sets, and that two of them make one. Assumes nothing.
-use mathlib.Core.Path.{_≡_, refl, sym, ap, ap₂, _∙_, subst}
+use mathlib.Core.Path.{_≡_, sym, ap, ap₂, _∙_, subst}
 use mathlib.Core.Bool.{Bool, false}
-use mathlib.Core.List.{List, [], _∷_, _++_, map, List·Memᴰ, List·Memᴰ·head, List·Memᴰ·tail, Memᴰ·cast, Memᴰ·map, Memᴰ·of-map}
+use mathlib.Core.List.{List, [], _∷_, _++_, map, List·Memᴰ, Memᴰ·cast, Memᴰ·map, Memᴰ·of-map}
 use mathlib.Core.Logic.{_⊎_, inl, inr}
 use Prim.Native.Nat.{ℕ, zero, suc, _+_, _-_, _*_, _≤_, _<_}
 use native.Mathlib.Omega.{arith}
@@ -16,6 +16,7 @@ use Rattle.model.specs.Verdict.{Verdict, accepted, refused, ask, isAccepted}
 use Rattle.model.specs.Sheet.{permutesPairs, symmetriesVerdict}
 use Rattle.model.specs.WellFormed.{WellFormed, GoodSymmetry}
 use Rattle.block.specs.Block.{ordering, factorial, andThen, inBlock, imageOf, orderingTable, blockTables, withBlock, isBlock, blockVerdict, TradePasses}
+use Rattle.model.proofs.Asked.{symmetries-i, symmetries-first}
 use Rattle.model.proofs.Lists.{both-l, both-r, T-of, of-T, not-of, T-ext, map-append, below-i, below-e, upFrom-add, length-below}
 use Rattle.model.proofs.Sets.{mask-ext}
 use Rattle.model.proofs.Accepted.{asked, symmetries-e}
@@ -229,28 +230,6 @@ module _ (p : Problem) (w : WellFormed p) (first m : ℕ) (few : Few m) (inside 
       Memᴰ·cast (ap₂ andThen (sym (a .2)) (sym (b .2)) ∙ table-andThen (a .0) (b .0) (t .0) l k (t .2) (o (a .0) l)) (Memᴰ·map table (below-i (factorial m) (t .0) (t .1)))
 
 -- ---- the questions
-pub symmetries-i : (p : Problem) (i : ℕ) (gs : List (List ℕ)) → ((g : List ℕ) → List·Memᴰ g gs → T (permutesPairs p g) × T (respects p g)) → symmetriesVerdict p i gs ≡ accepted
-unfolding symmetriesVerdict
-symmetries-i p i [] h = refl
-symmetries-i p i (g ∷ gs) h =
-    let r = h g (List·Memᴰ·head refl) in
-    ap₂ (λ (b c : Bool). ask b 15 i (ask c 16 i (symmetriesVerdict p (suc i) gs))) (of-T (permutesPairs p g) (r .0)) (of-T (respects p g) (r .1))
-    ∙ symmetries-i p (suc i) gs (λ f m. h f (List·Memᴰ·tail m))
-
--- the first table that fails decides
-symmetries-first : (p : Problem) (gs : List (List ℕ)) (i : ℕ) (g : List ℕ) (hs : List (List ℕ)) → ((f : List ℕ) → List·Memᴰ f gs → T (permutesPairs p f) × T (respects p f)) →
-    symmetriesVerdict p i (gs ++ (g ∷ hs)) ≡ ask (permutesPairs p g) 15 (i + length gs) (ask (respects p g) 16 (i + length gs) (symmetriesVerdict p (suc (i + length gs)) hs))
-unfolding symmetriesVerdict
-symmetries-first p [] i g hs h =
-    let e : i ≡ i + 0 = omega arith in
-    ap (λ (n : ℕ). ask (permutesPairs p g) 15 n (ask (respects p g) 16 n (symmetriesVerdict p (suc n) hs))) e
-symmetries-first p (f ∷ gs) i g hs h =
-    let r = h f (List·Memᴰ·head refl) in
-    let e : suc i + length gs ≡ i + suc (length gs) = omega arith in
-    ap₂ (λ (b c : Bool). ask b 15 i (ask c 16 i (symmetriesVerdict p (suc i) (gs ++ (g ∷ hs))))) (of-T (permutesPairs p f) (r .0)) (of-T (respects p f) (r .1))
-    ∙ symmetries-first p gs (suc i) g hs (λ k m. h k (List·Memᴰ·tail m))
-    ∙ ap (λ (n : ℕ). ask (permutesPairs p g) 15 n (ask (respects p g) 16 n (symmetriesVerdict p (suc n) hs))) e
-
 -- what the block's questions show
 pub record Block (p : Problem) (first m : ℕ) : Type 0 where
   pub few : Few m

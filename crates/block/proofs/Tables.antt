@@ -1,24 +1,25 @@
 -- Symmetry tables: two that pass questions 15 and 16 do so one after the other, and a table that moves nothing passes; tables that move variables. Assumes nothing.
 use mathlib.Core.Path.{_≡_, refl, sym, ap, ap₂, _∙_, subst}
-use mathlib.Core.Bool.{Bool, true, false, not}
-use mathlib.Core.List.{List, [], _∷_, _++_, map, List·Memᴰ, List·Memᴰ·head, List·Memᴰ·tail, List·Memᴰ·not-nil, List·Memᴰ·cases-cons, List·Memᴰ·eq-of-singleton, Memᴰ·cast, Memᴰ·map, Memᴰ·of-map}
+use mathlib.Core.Bool.{Bool, true, false}
+use mathlib.Core.List.{List, [], _∷_, map, List·Memᴰ, List·Memᴰ·head, List·Memᴰ·tail, List·Memᴰ·not-nil, List·Memᴰ·cases-cons, List·Memᴰ·eq-of-singleton, Memᴰ·cast, Memᴰ·map, Memᴰ·of-map}
 use mathlib.Core.Logic.{_⊎_, inl, inr, ⊎-elim}
-use Prim.Native.Nat.{ℕ, suc, _+_, _*_, _/_, _%_, _<_}
+use Prim.Native.Nat.{ℕ, suc, _*_, _/_, _%_, _<_}
 use native.Mathlib.Omega.{arith}
 use lib.Dec.{T, eqb, eqb-refl}
 use lib.ListN.{length}
-use Rattle.model.specs.Lists.{all, any, keep, flat, below, at, same}
+use Rattle.model.specs.Lists.{all, any, below, at}
 use Rattle.model.specs.ValueSets.{has}
-use Rattle.model.specs.Problem.{Problem, Constraint, pair, isPair, pairsAt, within, assignments, doubled, excluded, forbidden, respects}
+use Rattle.model.specs.Problem.{Problem, Constraint, pair, isPair, pairsAt, within, doubled, excluded, forbidden, respects}
 use Rattle.model.specs.Sheet.{distinct, permutesPairs}
 use Rattle.model.specs.Claims.{Drawn}
 use Rattle.block.specs.Block.{andThen, variableTable}
 use Rattle.model.specs.WellFormed.{WellFormed, GoodSymmetry, Respected}
-use Rattle.model.proofs.Lists.{both-i, T-dec, of-T, not-of, all-i, any-i, below-e, length-below, at-below, at-ext, map-ext}
+use Rattle.model.proofs.Lists.{both-i, T-dec, of-T, not-of, all-i, any-i, below-e, length-below, at-below, at-ext}
 use Rattle.model.proofs.Assignments.{drawn-e}
 use Rattle.model.proofs.Pairs as P
 use Rattle.model.proofs.Symmetry as S
 use Rattle.model.proofs.More.{withSymmetries}
+use Rattle.model.proofs.Asked.{good-other, respects-other}
 use Rattle.order.proofs.Reordered.{apart-distinct}
 use Rattle.block.proofs.Orderings.{at-andThen, length-andThen}
 
@@ -30,30 +31,8 @@ pub choose-no : {A : Type 0} (b : Bool) (x y : A) → b ≡ false → elim b [ t
 choose-no true x y e = absurd (subst T e tt)
 choose-no false x y e = refl
 
--- ---- the questions do not look at the other symmetries
+-- ---- other symmetries
 module _ (p : Problem) (gs : List (List ℕ)) where
-  pairsAt-other : (xs vs : List ℕ) → pairsAt (withSymmetries p gs) xs vs ≡ pairsAt p xs vs
-  unfolding pairsAt pair
-  pairsAt-other [] vs = refl
-  pairsAt-other (x ∷ xs) [] = refl
-  pairsAt-other (x ∷ xs) (v ∷ vs) = ap (λ (r : List ℕ). (x * p .values + v) ∷ r) (pairsAt-other xs vs)
-
-  excluded-other : (c : Constraint) → excluded (withSymmetries p gs) c ≡ excluded p c
-  unfolding excluded
-  excluded-other c = map-ext (pairsAt (withSymmetries p gs) (c .scope)) (pairsAt p (c .scope)) (keep (λ vs. not (any (same vs) (c .rows))) (assignments (map (at (p .initial)) (c .scope)))) (λ vs m. pairsAt-other (c .scope) vs)
-
-  forbidden-other : forbidden (withSymmetries p gs) ≡ forbidden p
-  unfolding forbidden doubled pair
-  forbidden-other = ap (λ (l : List (List (List ℕ))). flat (map (doubled p) (below (p .variables))) ++ flat l) (map-ext (excluded (withSymmetries p gs)) (excluded p) (p .constraints) (λ c m. excluded-other c))
-
-  pub good-other : (g : List ℕ) → GoodSymmetry p g → GoodSymmetry (withSymmetries p gs) g
-  unfolding permutesPairs isPair
-  good-other g a = record { sized = a .sized; permutes = a .permutes }
-
-  pub respects-other : (g : List ℕ) → T (respects p g) → T (respects (withSymmetries p gs) g)
-  unfolding respects
-  respects-other g = subst (λ (fs : List (List ℕ)). T (all (λ f. any (λ h. within h (map (at g) f)) fs) fs)) (sym forbidden-other)
-
   -- so the problem with other symmetries is as good as these are
   pub well-formed-with : WellFormed p → ((g : List ℕ) → List·Memᴰ g gs → GoodSymmetry p g) → WellFormed (withSymmetries p gs)
   well-formed-with w h = record {
@@ -65,11 +44,11 @@ module _ (p : Problem) (gs : List (List ℕ)) where
     nonempty = w .nonempty;
     narrow = w .narrow;
     constrained = λ c i. (let g = w .constrained c i in record { some = g .some; few = g .few; inside = g .inside; ordered = g .ordered; sized = g .sized; valued = g .valued });
-    symmetric = λ g i. good-other g (h g i);
+    symmetric = λ g i. good-other p gs g (h g i);
   }
 
   pub respected-with : ((g : List ℕ) → List·Memᴰ g gs → T (respects p g)) → Respected (withSymmetries p gs)
-  respected-with h = record { respectful = λ g i. respects-other g (h g i) }
+  respected-with h = record { respectful = λ g i. respects-other p gs g (h g i) }
 
 -- a table that passes questions 15 and 16
 pub record Passes (p : Problem) (g : List ℕ) : Type 0 where

@@ -1,78 +1,28 @@
 -- A sheet without its exchanges is accepted where the sheet is, and states the same problem without symmetries (specs/FigureClaims). Assumes nothing.
 use mathlib.Core.Path.{_≡_, refl, sym, ap, ap₂, _∙_, subst}
-use mathlib.Core.Bool.{Bool, true, not}
-use mathlib.Core.List.{List, [], _∷_, _++_, map, List·Memᴰ, List·Memᴰ·head, List·Memᴰ·tail}
-use Prim.Native.Nat.{ℕ, zero, suc, _+_, _-_, _*_, _^_, _≤_, _<_}
+use mathlib.Core.Bool.{Bool, true}
+use mathlib.Core.List.{List, [], _++_, map}
+use Prim.Native.Nat.{ℕ, suc, _+_, _-_, _*_, _^_, _≤_, _<_}
 use native.Mathlib.Omega.{arith}
-use lib.Dec.{T, leb, ltb, eqb, leb→le, not-T, eqb→eq}
 use lib.ListN.{length, take, drop, length-append, length-take, length-drop}
 use lib.Seq.{getD-take, getD-drop}
-use borrow.Author.Tests.{eq-eqb, le-leb, lt-ltb}
-use Rattle.model.specs.Lists.{all, both, at, below, upFrom, ascending, rowsAscend}
+use borrow.Author.Tests.{eq-eqb}
+use Rattle.model.specs.Lists.{at, below, upFrom}
 use Rattle.model.specs.Bytes.{twoBytes}
 use Rattle.model.specs.Problem.{Problem, Constraint}
-use Rattle.model.specs.Verdict.{Verdict, accepted, ask, isAccepted}
-use Rattle.model.specs.Sheet.{Header, word, words, headerOf, headerVerdict, scopeAt, rowsAt, afterAt, constraintsFrom, tableAt, problemOf, setsVerdict, constraintVerdict, constraintsVerdict, tablesFit, formVerdict, symmetriesVerdict, verdictOf}
-use Rattle.model.proofs.Lists.{of-T, at-skip, below-e}
-use Rattle.model.proofs.Accepted.{HeaderPassed, Passed, asked, at-words}
-use Rattle.model.proofs.OneMore.{word-of, at-left, after-low, arity, count, after-agree, scope-agree, rows-agree, Agree, word-agree, words-agree, constraints-agree}
+use Rattle.model.specs.Verdict.{Verdict, accepted, ask}
+use Rattle.model.specs.Sheet.{Header, word, words, headerOf, headerVerdict, constraintsFrom, tableAt, problemOf, setsVerdict, constraintsVerdict, tablesFit, formVerdict, symmetriesVerdict, verdictOf}
+use Rattle.model.proofs.Lists.{at-skip, below-e}
+use Rattle.model.proofs.Accepted.{HeaderPassed, Passed, at-words}
+use Rattle.model.proofs.OneMore.{word-of, at-left, Agree, word-agree, words-agree, constraints-agree}
+use Rattle.model.proofs.Asked.{tablesHeader, header-passes, sets-pass, constraints-pass}
 use Rattle.model.proofs.Demands.{of-accepted}
 use Rattle.figure.specs.Figure.{problemBare, bareSheet}
 use Rattle.figure.specs.FigureClaims.{Bare-sheet}
 
--- ---- questions that are passed say what is asked after them
-pub header-passes : (h : Header) (bytes : ℕ) (later : Verdict) → HeaderPassed h bytes → headerVerdict h bytes later ≡ later
-unfolding headerVerdict
-header-passes h bytes later q =
-    let e1 = le-leb 16 bytes (q .long) in
-    let e2 = ap₂ both (le-leb 1 (h .variables) (q .some)) (le-leb (h .variables) 12 (q .few)) in
-    let e3 = ap₂ both (le-leb 1 (h .values) (q .one)) (le-leb (h .values) 16 (q .sixteen)) in
-    let e4 = le-leb (h .constraints) 32 (q .constraints) in
-    let e5 = le-leb (h .symmetries) 16 (q .symmetries) in
-    let e6 = eq-eqb (h .size) bytes (q .whole) in
-    let e7 = ap₂ both (eq-eqb (h .first) 16 (q .first)) (ap₂ both (eq-eqb (h .second) (16 + 2 * h .variables) (q .second)) (ap₂ both (le-leb (h .second) (h .third) (q .ordered)) (le-leb (h .third) (h .size) (q .third)))) in
-    λ j. ask (e1 j) 1 0 (ask (e2 j) 2 0 (ask (e3 j) 3 0 (ask (e4 j) 4 0 (ask (e5 j) 5 0 (ask (e6 j) 6 0 (ask (e7 j) 7 0 later))))))
-
-sets-pass : (c : List ℕ) (h : Header) (xs : List ℕ) (later : Verdict) → ((x : ℕ) → List·Memᴰ x xs → (word c (16 + 2 * x) < 2 ^ h .values) × (0 < word c (16 + 2 * x))) → setsVerdict c h xs later ≡ later
-unfolding setsVerdict
-sets-pass c h [] later k = refl
-sets-pass c h (x ∷ xs) later k =
-    let s = word c (16 + 2 * x) in
-    let q = k x (List·Memᴰ·head refl) in
-    let e : both (ltb s (2 ^ h .values)) (not (eqb s 0)) ≡ true = ap₂ both (lt-ltb s (2 ^ h .values) (q .0)) (of-T (not (eqb s 0)) (not-T (eqb s 0) (λ t. let z = eqb→eq s 0 t in let y = q .1 in omega arith))) in
-    ap (λ (t : Bool). ask t 8 x (setsVerdict c h xs later)) e ∙ sets-pass c h xs later (λ y m. k y (List·Memᴰ·tail m))
-
 -- the header without exchanges
 abbrev bareHeader : Header → Header
-bareHeader h = record { variables = h .variables; values = h .values; constraints = h .constraints; symmetries = 0; first = h .first; second = h .second; third = h .third; size = h .third }
-
--- the questions to constraints that stand in both sheets alike
-module _ (b c : List ℕ) (h : Header) (g : Agree b c 16 (h .third)) where
-  constraints-pass : (k i o : ℕ) (v w : Verdict) → 16 ≤ o → T (isAccepted (constraintsVerdict b h k i o v)) → constraintsVerdict c (bareHeader h) k i o w ≡ w
-  unfolding constraintsVerdict constraintVerdict
-  constraints-pass zero i o v w low t = ap (λ (q : Bool). ask q 9 i w) (of-T (eqb o (h .third)) (asked (eqb o (h .third)) 9 i v t .0))
-  constraints-pass (suc k) i o v w low t =
-      let q1 = asked (leb (o + 4) (h .third)) 9 i _ t in
-      let q2 = asked (both (both (leb 1 (word b o)) (leb (word b o) 3)) (leb (word b (o + 2)) 256)) 10 i _ (q1 .1) in
-      let q3 = asked (leb (afterAt b o) (h .third)) 9 i _ (q2 .1) in
-      let q4 = asked (both (all (λ x. ltb x (h .variables)) (scopeAt b o)) (ascending (scopeAt b o))) 11 i _ (q3 .1) in
-      let q5 = asked (all (all (λ w. ltb w (h .values))) (rowsAt b o)) 12 i _ (q4 .1) in
-      let q6 = asked (rowsAscend (rowsAt b o)) 13 i (constraintsVerdict b h k (suc i) (afterAt b o) v) (q5 .1) in
-      let head : o + 4 ≤ h .third = leb→le (o + 4) (h .third) (q1 .0) in
-      let tail : afterAt b o ≤ h .third = leb→le (afterAt b o) (h .third) (q3 .0) in
-      let ea = arity b c (h .third) g o low head tail in
-      let ec = count b c (h .third) g o low head tail in
-      let es = scope-agree b c (h .third) g o low head tail in
-      let er = rows-agree b c (h .third) g o low head tail in
-      let ef = after-agree b c (h .third) g o low head tail in
-      let e1 = of-T (leb (o + 4) (h .third)) (q1 .0) in
-      let e2 = ap₂ (λ (m r : ℕ). both (both (leb 1 m) (leb m 3)) (leb r 256)) ea ec ∙ of-T (both (both (leb 1 (word b o)) (leb (word b o) 3)) (leb (word b (o + 2)) 256)) (q2 .0) in
-      let e3 = ap (λ (z : ℕ). leb z (h .third)) ef ∙ of-T (leb (afterAt b o) (h .third)) (q3 .0) in
-      let e4 = ap (λ (z : List ℕ). both (all (λ x. ltb x (h .variables)) z) (ascending z)) es ∙ of-T (both (all (λ x. ltb x (h .variables)) (scopeAt b o)) (ascending (scopeAt b o))) (q4 .0) in
-      let e5 = ap (all (all (λ w. ltb w (h .values)))) er ∙ of-T (all (all (λ w. ltb w (h .values))) (rowsAt b o)) (q5 .0) in
-      let e6 = ap rowsAscend er ∙ of-T (rowsAscend (rowsAt b o)) (q6 .0) in
-      let rest = ap (λ (z : ℕ). constraintsVerdict c (bareHeader h) k (suc i) z w) ef ∙ constraints-pass k (suc i) (afterAt b o) v w (after-low b o low) (q6 .1) in
-      λ j. ask (e1 j) 9 i (ask (e2 j) 10 i (ask (e3 j) 9 i (ask (e4 j) 11 i (ask (e5 j) 12 i (ask (e6 j) 13 i (rest j))))))
+bareHeader h = tablesHeader h 0 (h .third)
 
 -- ---- the bytes
 module _ (b : List ℕ) (ok : Passed b) where
@@ -207,7 +157,7 @@ module _ (b : List ℕ) (ok : Passed b) where
       ap₂ (λ (h : Header) (v : Verdict). headerVerdict h (length c) (setsVerdict c h (below (h .variables)) (constraintsVerdict c h (h .constraints) 0 (h .second) (ask (tablesFit h) 14 0 v)))) header last
       ∙ header-passes h (length c) _ header-good
       ∙ sets-pass c h (below n) _ (λ x m. sets-good x (below-e n x m))
-      ∙ constraints-pass b c (headerOf b) body (headerOf b .constraints) 0 (headerOf b .second) (ok .walked .0) end (omega (arith, ok .header .second)) (ok .walked .1)
+      ∙ constraints-pass b c (headerOf b) body 0 (headerOf b .third) (headerOf b .constraints) 0 (headerOf b .second) (ok .walked .0) end (omega (arith, ok .header .second)) (ok .walked .1)
       ∙ ap (λ (q : Bool). ask q 14 0 accepted) e14
 
 pub bare-passed : (b : List ℕ) → Passed b → (verdictOf (bareSheet b) ≡ accepted) × (problemOf (bareSheet b) ≡ problemBare b)

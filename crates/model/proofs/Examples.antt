@@ -4,6 +4,7 @@ use mathlib.Core.Bool.{Bool, false}
 use mathlib.Core.List.{List, []}
 use Prim.Native.Nat.{ℕ, _^_, _≤_, _<_}
 use lib.ListN.{length}
+use native.Mathlib.Omega.{arith}
 use borrow.Author.Tests.{le-leb}
 use Rattle.model.specs.Lists.{both, all, any, keep, flat, tabulate, upFrom, below, at, same, earlier, ascending, rowsAscend}
 use Rattle.model.specs.ValueSets.{has, maskBelow, least, members, anyEmpty}
@@ -13,7 +14,7 @@ use Rattle.model.specs.Nogood.{obeysFrom, obeying, used, filtered, entri
 use Rattle.model.specs.Search.{entriesAt, nogoodsOf, rowWith, supported, pruned, narrowed, rounds, setsAt, isLive, nodesBelow, nodes, isPlan}
 use Rattle.model.specs.Run.{search, resultOf, answerFor, answerOf, written, listFor, listOf, tallyOf, listedPlans}
 use Rattle.model.specs.Claims.{leaders}
-use Rattle.model.specs.Examples.{filterOf, sheetF, tests, Each}
+use Rattle.model.specs.Examples.{filterOf, sheetF, tests, testsMore, Each}
 use Rattle.model.specs.Verdict.{Verdict, accepted, ask}
 use Rattle.model.proofs.Filter.{filtered-none}
 
@@ -39,3 +40,8 @@ examples =
 pub free-rotation : keep (isPlan (problemOf sheetF)) (nodes (problemOf sheetF)) ≡ leaders (problemOf sheetF)
 unfolding opened
 free-rotation = refl
+
+-- and one exchange more
+pub examples-more : Each testsMore
+unfolding opened
+examples-more = ((omega arith, refl, refl), ((omega arith, refl, refl), (refl, (refl, (refl, (refl, tt))))))

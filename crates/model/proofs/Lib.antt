@@ -29,6 +29,8 @@ pub mod Image
 pub mod Chains
 pub mod More
 pub mod OneMore
+pub mod Asked
+pub mod OneMoreAccepted
 pub mod Demands
 pub mod Examples
 pub mod Examples02

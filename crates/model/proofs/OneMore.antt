@@ -6,15 +6,15 @@ use Prim.Native.Nat.{ℕ, zero, suc, _+_, _-_, _*_, _/_, _%_, _≤_, _<_}
 use native.Mathlib.Nat.{mul-le-mul-right}
 use native.Mathlib.Omega.{arith}
 use lib.Dec.{T}
-use lib.ListN.{length, take, drop, length-take, length-drop}
+use lib.ListN.{length, take, drop, length-append, length-take, length-drop}
 use lib.Seq.{getD-take, getD-drop}
 use Rattle.model.specs.Lists.{below, upFrom, at}
 use Rattle.model.specs.Problem.{Constraint}
 use Rattle.model.specs.Verdict.{Verdict, isAccepted}
 use Rattle.model.specs.Sheet.{Header, word, words, headerOf, scopeAt, rowsAt, afterAt, constraintsVerdict, constraintsFrom, tableAt, problemOf, verdictOf}
-use Rattle.model.specs.Claims.{OneMore}
+use Rattle.model.specs.Claims.{sizeWith, OneMore, exchangeIn}
 use Rattle.model.specs.Bytes.{twoBytes}
-use Rattle.model.proofs.Lists.{map-shift, at-skip, at-append, below-e, upFrom-e, upFrom-add, map-append, map-ext}
+use Rattle.model.proofs.Lists.{map-shift, at-skip, at-append, below-e, upFrom-e, upFrom-add, map-append, map-ext, length-below}
 use Rattle.model.proofs.Accepted.{Passed, passed, constraint-asked}
 use Rattle.model.proofs.More.{withSymmetries}
 
@@ -120,7 +120,7 @@ module _ (b c t : List ℕ) (k : ℕ) (more : OneMore b c k t) (ok : Passed b) w
   up = headerOf b .symmetries + 1
 
   abbrev size : ℕ
-  size = headerOf b .size + length t
+  size = sizeWith b t
 
   l1 : length (take 6 b) ≡ 6
   l1 = length-take 6 b ∙ omega (arith, ok .header .long)
@@ -226,8 +226,28 @@ module _ (b c t : List ℕ) (k : ℕ) (more : OneMore b c k t) (ok : Passed b) w
   unfolding headerOf
   same-third = word-agree b c 8 14 middle 12 (omega arith) (omega arith)
 
+  same-first : headerOf c .first ≡ headerOf b .first
+  unfolding headerOf
+  same-first = word-agree b c 8 14 middle 8 (omega arith) (omega arith)
+
+  longer-size : headerOf c .size ≡ sizeWith b t
+  unfolding headerOf e4 at
+  longer-size = word-of c 14 size (at4 14 (omega arith)) (at4 15 (omega arith))
+
+  pub header-more : headerOf c ≡ record { variables = headerOf b .variables; values = headerOf b .values; constraints = headerOf b .constraints; symmetries = headerOf b .symmetries + 1; first = headerOf b .first; second = headerOf b .second; third = headerOf b .third; size = sizeWith b t }
+  header-more = λ i. record { variables = same-variables i; values = same-values i; constraints = same-constraints i; symmetries = more-symmetries i; first = same-first i; second = same-second i; third = same-third i; size = longer-size i }
+
+  pub length-more : length c ≡ length b + length t
+  unfolding e2 e3 e4 e5 e6
+  length-more =
+      ap length whole ∙ length-append (take 6 b) e2
+      ∙ ap₂ (λ (x y : ℕ). x + suc (suc y)) l1
+      (length-append (take 6 (drop 8 b)) e4 ∙ ap₂ (λ (x y : ℕ). x + suc (suc y)) l3
+      (length-append (take (cut - 16) (drop 16 b)) e6 ∙ ap₂ (λ (x y : ℕ). x + y) l5 (length-append t (drop cut b) ∙ ap (λ (y : ℕ). length t + y) (length-drop cut b))))
+      ∙ omega (arith, cut-low, cut-high)
+
   -- sets and constraints
-  below-third : Agree b c 16 third
+  pub below-third : Agree b c 16 (headerOf b .third)
   below-third i h l = body i h (omega (arith, third-cut))
 
   pub same-initial : words c 16 (headerOf c .variables) ≡ words b 16 (headerOf b .variables)
@@ -299,6 +319,14 @@ module _ (b c t : List ℕ) (k : ℕ) (more : OneMore b c k t) (ok : Passed b) w
   pub after : List (List ℕ)
   after = map (tableAt b (headerOf b)) (upFrom k (headerOf b .symmetries - k))
 
+  pub length-before : length before ≡ k
+  unfolding before
+  length-before = length-below (tableAt b (headerOf b)) k
+
+  pub added-is : added ≡ exchangeIn b t
+  unfolding added
+  added-is = refl
+
   -- the tables of k + m symmetries, in two parts
   parted : {A : Type 0} (f : ℕ → A) (m : ℕ) → map f (below (k + m)) ≡ map f (below k) ++ map f (upFrom k m)
   unfolding below
@@ -326,11 +354,11 @@ module _ (b c t : List ℕ) (k : ℕ) (more : OneMore b c k t) (ok : Passed b) w
       ∙ ap₂ (λ (xs ys : List (List ℕ)). xs ++ ys) (map-ext f′ f (below k) (λ i l. table-before i (below-e k i l)))
       (ap₂ (λ (x : List ℕ) (r : List (List ℕ)). x ∷ r) table-at (map-shift f′ k m ∙ map-ext (λ i. f′ (suc i)) f (upFrom k m) (λ i l. table-after i (upFrom-e k m i l .0))))
 
-  longer : problemOf c ≡ withSymmetries (problemOf b) (before ++ (added ∷ after))
+  pub longer : problemOf c ≡ withSymmetries (problemOf b) (before ++ (added ∷ after))
   unfolding problemOf
   longer = λ i. record { variables = same-variables i; values = same-values i; initial = same-initial i; constraints = same-rules i; symmetries = new-tables i }
 
-  old : problemOf b .symmetries ≡ before ++ after
+  pub old : problemOf b .symmetries ≡ before ++ after
   unfolding problemOf
   old = old-tables
 

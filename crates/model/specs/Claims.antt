@@ -7,13 +7,13 @@ use mathlib.Core.Bool.{Bool, false, not}
 use mathlib.Core.List.{List, [], _∷_, _++_, List·Memᴰ, Sublistᴰ}
 use Prim.Native.Nat.{ℕ, suc, _+_, _-_, _*_, _/_, _%_, _^_, _≤_, _<_}
 use lib.ListN.{length, take, drop, replicate}
-use lib.Dec.{T, eqb}
+use lib.Dec.{T, eqb, leb}
 use Rattle.model.specs.Lists.{any, at, keep, both, earlier, rowsAscend, total}
 use Rattle.model.specs.Bytes.{twoBytes}
 use Rattle.model.specs.ValueSets.{has, anyEmpty}
 use Rattle.model.specs.Problem.{Problem, Constraint, isSolution, assignments, takes, respects}
-use Rattle.model.specs.Verdict.{accepted}
-use Rattle.model.specs.Sheet.{problemOf, headerOf, verdictOf, permutesPairs}
+use Rattle.model.specs.Verdict.{accepted, ask}
+use Rattle.model.specs.Sheet.{words, problemOf, headerOf, verdictOf, permutesPairs}
 use Rattle.model.specs.Nogood.{Entry, obeys, filtered}
 use Rattle.model.specs.Search.{nogoodsOf, rowWith, setsAt, isLive, nodes, isPlan}
 use Rattle.model.specs.Run.{Ending, finished, spent, full, plansIn, nodesIn, answerOf, refusal, ended, listOf, listedPlans, Tally, tallyAt, tallyOf}
@@ -161,13 +161,34 @@ Nothing-listed =
     (b : List ℕ) (limit : ℕ) (out : List ℕ) (plans made : ℕ) →
     answerOf b limit out ≡ ended (finished plans made) → (plans ≡ 0) ↔ ((s : List ℕ) → T (isSolution (problemOf b) s) → ⊥)
 
+-- the length of a sheet that has the table t more
+abbrev pub sizeWith : List ℕ → List ℕ → ℕ
+sizeWith b t = headerOf b .size + length t
+
 -- sheet c has one exchange more than b: the table t stands at place k among them, g and the length are raised to fit,
 -- and all other bytes are the same in the same order
 abbrev pub OneMore : List ℕ → List ℕ → ℕ → List ℕ → Type 0
 OneMore b c k t =
     (k ≤ headerOf b .symmetries) × (length t ≡ 2 * (headerOf b .variables * headerOf b .values)) ×
-    (c ≡ take 6 b ++ twoBytes (headerOf b .symmetries + 1) ++ take 6 (drop 8 b) ++ twoBytes (headerOf b .size + length t)
+    (c ≡ take 6 b ++ twoBytes (headerOf b .symmetries + 1) ++ take 6 (drop 8 b) ++ twoBytes (sizeWith b t)
     ++ take (headerOf b .third + k * length t - 16) (drop 16 b) ++ t ++ drop (headerOf b .third + k * length t) b)
+
+-- the exchange that stands in the bytes t of a table
+abbrev pub exchangeIn : List ℕ → List ℕ → List ℕ
+exchangeIn b t = words t 0 (headerOf b .variables * headerOf b .values)
+
+-- what c is answered where b is accepted: a seventeenth exchange is refused, else 15 and 16 are put to the new one at its place, and nothing else is
+-- refused
+abbrev pub One-more-answer : Type 0
+One-more-answer =
+    (b c t : List ℕ) (k : ℕ) → OneMore b c k t → verdictOf b ≡ accepted →
+    verdictOf c ≡ ask (leb (headerOf b .symmetries + 1) 16) 5 0 (ask (permutesPairs (problemOf b) (exchangeIn b t)) 15 k (ask (respects (problemOf b) (exchangeIn b t)) 16 k accepted))
+
+-- so c is accepted exactly if it has at most 16 exchanges and the new one passes 15 and 16
+abbrev pub One-more-accepted : Type 0
+One-more-accepted =
+    (b c t : List ℕ) (k : ℕ) → OneMore b c k t → verdictOf b ≡ accepted →
+    (verdictOf c ≡ accepted) ↔ ((headerOf b .symmetries < 16) × T (permutesPairs (problemOf b) (exchangeIn b t)) × T (respects (problemOf b) (exchangeIn b t)))
 
 -- where b's run finished: a finished run of c lists no other plan and makes no more nodes
 abbrev pub Fewer : Type 0

@@ -13,7 +13,7 @@ use Rattle.model.specs.Nogood.{entries, filterVerdict, setsAfter}
 use Rattle.model.specs.Sheet.{verdictOf, problemOf}
 use Rattle.model.specs.Search.{nodes, isLive}
 use Rattle.model.specs.Run.{Answer, refusal, ended, finished, spent, full, answerOf, listOf}
-use Rattle.model.specs.Claims.{plansHeld}
+use Rattle.model.specs.Claims.{plansHeld, OneMore}
 
 -- each of the statements holds
 abbrev pub Each : List (Type 0) → Type 0
@@ -115,3 +115,31 @@ tests =
 -- three places, two values, no rule, and the rotation: here nogoods wait for an equality that can hold
 abbrev pub sheetF : List ℕ
 sheetF = bytes (3 ∷ 2 ∷ 0 ∷ 1 ∷ 16 ∷ 22 ∷ 22 ∷ 34 ∷ 3 ∷ 3 ∷ 3 ∷ 2 ∷ 3 ∷ 4 ∷ 5 ∷ 0 ∷ 1 ∷ [])
+
+-- the exchanges of sheet A as bytes: its own, one that moves nothing, and one that trades the values 0 and 1
+abbrev pub placesTraded : List ℕ
+placesTraded = bytes (3 ∷ 4 ∷ 5 ∷ 0 ∷ 1 ∷ 2 ∷ [])
+
+abbrev nothingMoved : List ℕ
+nothingMoved = bytes (0 ∷ 1 ∷ 2 ∷ 3 ∷ 4 ∷ 5 ∷ [])
+
+abbrev pub valuesTraded : List ℕ
+valuesTraded = bytes (1 ∷ 0 ∷ 2 ∷ 4 ∷ 3 ∷ 5 ∷ [])
+
+-- A with two exchanges, and with a third between them
+abbrev pub sheetA2 : List ℕ
+sheetA2 = bytes ((2 ∷ 3 ∷ 1 ∷ 2 ∷ 16 ∷ 20 ∷ 52 ∷ 76 ∷ 7 ∷ 7 ∷ []) ++ differ 0 1) ++ nothingMoved ++ placesTraded
+
+abbrev pub sheetA3 : List ℕ
+sheetA3 = bytes ((2 ∷ 3 ∷ 1 ∷ 3 ∷ 16 ∷ 20 ∷ 52 ∷ 88 ∷ 7 ∷ 7 ∷ []) ++ differ 0 1) ++ nothingMoved ++ valuesTraded ++ placesTraded
+
+-- one exchange more: sheet A beside A with g = 0, and a table between two others; both stay accepted, and with three exchanges the run lists 2 of the 3 plans
+abbrev pub testsMore : List (Type 0)
+testsMore =
+    OneMore sheetA0 sheetA 0 placesTraded
+    ∷ OneMore sheetA2 sheetA3 1 valuesTraded
+    ∷ (verdictOf sheetA2 ≡ accepted)
+    ∷ (verdictOf sheetA3 ≡ accepted)
+    ∷ (answerOf sheetA2 1000000 (room 12) ≡ ended (finished 3 6))
+    ∷ (answerOf sheetA3 1000000 (room 12) ≡ ended (finished 2 5))
+    ∷ []

@@ -22,6 +22,7 @@ use Rattle.order.specs.Reordered.{write, renamed, symmetryIn, reordered}
 use Rattle.order.specs.RunBy.{resultBy, placeCounts}
 use Rattle.sheet.specs.Meaning.{andThen}
 use Rattle.block.specs.Block.{factorial, variableTable, orderingTable, tablesLent, blockLent}
+use Rattle.model.proofs.Asked as A
 use Rattle.block.proofs.Tables as B
 use Rattle.block.proofs.Block.{is-block, block-e, block-i}
 use Rattle.block.proofs.Orderings.{factorial-up}
@@ -127,7 +128,7 @@ block-other p gs w v (first ∷ m ∷ []) h =
     let k = block-e p w first m h in
     block-i (withSymmetries p gs) v first m (is-block (withSymmetries p gs) first m (k .few) (k .inside))
     (λ i l n. let r = k .rows (factorial i) (factorial-up i m l n) in
-    (B.good-other p gs (orderingTable p first m (factorial i)) (r .good) .permutes, B.respects-other p gs (orderingTable p first m (factorial i)) (r .respectful)))
+    (A.good-other p gs (orderingTable p first m (factorial i)) (r .good) .permutes, A.respects-other p gs (orderingTable p first m (factorial i)) (r .respectful)))
 block-other p gs w v (first ∷ m ∷ x ∷ more) h = h
 
 pub retyped-accepted-lent : Retyped-accepted-lent

@@ -17,8 +17,7 @@ use Rattle.model.proofs.Accepted.{Passed, passed, asked}
 use Rattle.model.specs.WellFormed.{WellFormed, Respected}
 use Rattle.model.proofs.OneMore.{after-low, arity, count, after-agree, scope-agree, rows-agree, Agree, word-same, words-same, word-agree, words-agree, constraints-agree}
 use Rattle.model.proofs.More.{withSymmetries}
-use Rattle.block.proofs.Tables.{good-other, respects-other}
-use Rattle.block.proofs.Block.{symmetries-i}
+use Rattle.model.proofs.Asked.{symmetries-i, good-other, respects-other}
 
 -- ---- a member of a list is one of any order of it
 pub perm-mem : {A : Type 0} {x : A} {l m : List A} → List·Permᴰ l m → List·Memᴰ x l → List·Memᴰ x m
