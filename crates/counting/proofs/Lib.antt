@@ -2,3 +2,4 @@
 pub mod Images
 pub mod Bare
 pub mod FamilyCalls
+pub mod Tied

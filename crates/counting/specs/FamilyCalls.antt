@@ -14,7 +14,7 @@ use Rattle.closed.specs.Lent as L
 use Rattle.closed.specs.declared.Answer as CA
 use Rattle.closed.specs.declared.Answer.the-variants as CV
 use Rattle.search.specs.Demands.{plansFrom}
-use Rattle.search.specs.DemandsLent.{CallLent}
+use Rattle.search.specs.Calls.{CallLent}
 use Rattle.walk.specs.declared.Tally.{Tally}
 use Rattle.search.specs.declared.Ending.the-variants.{Finished as Done}
 use Rattle.search.specs.declared.Answer as SA
@@ -46,9 +46,13 @@ One-of-each-calls =
     (b pairs block : List ℕ) (limit : ℕ) (out : List ℕ) (tally : Tally) (r : SA.Answer) (after : List ℕ) (tally′ : Tally) → CallLent b pairs block limit out tally r after tally′ →
     (plans nodes : ℕ) → r ≡ Ended (Done plans nodes) → Closed (problemWith b block) → OneListedEach b pairs block plans (plansFrom b plans after)
 
+-- a call of `closed`: r comes back
+abbrev pub CallClosed : List ℕ → List ℕ → List ℕ → CA.Answer → Type 0
+CallClosed b pairs block r = L.means r ≡ closedLent b pairs block
+
 -- closed they are where `closed` says so ..
 abbrev pub Closed-calls : Type 0
-Closed-calls = (b pairs block : List ℕ) (r : CA.Answer) → L.means r ≡ closedLent b pairs block → r ≡ CV.Closed → Closed (problemWith b block)
+Closed-calls = (b pairs block : List ℕ) (r : CA.Answer) → CallClosed b pairs block r → r ≡ CV.Closed → Closed (problemWith b block)
 
 -- .. and where a block is used with no exchanges of the sheet
 abbrev pub Block-calls : Type 0

@@ -25,7 +25,8 @@ use Rattle.search.specs.declared.Ending.{Ending}
 use Rattle.search.specs.declared.Ending.the-variants.{Finished, Spent, Full}
 use Rattle.search.specs.declared.Answer.{Answer}
 use Rattle.search.specs.declared.Answer.the-variants.{Refused, Ended}
-use Rattle.search.specs.Demands.{Call, CallWith, plansFrom, AtEnd, AtFinish, Demands}
+use Rattle.search.specs.Calls.{Call, CallWith}
+use Rattle.search.specs.Demands.{plansFrom, AtEnd, AtFinish, Demands}
 use Rattle.search.proofs.Sheets.{answer-refused, list-refused}
 
 -- ---- an answer is known by what it means

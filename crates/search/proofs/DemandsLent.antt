@@ -29,7 +29,8 @@ use Rattle.search.specs.declared.Ending.the-variants.{Finished}
 use Rattle.search.specs.declared.Answer.{Answer}
 use Rattle.search.specs.declared.Answer.the-variants.{Refused, Ended}
 use Rattle.search.specs.Demands.{plansFrom}
-use Rattle.search.specs.DemandsLent.{CallLent, AtEndLent, AtFinishLent, TalliedLent, DemandsLent}
+use Rattle.search.specs.Calls.{CallLent}
+use Rattle.search.specs.DemandsLent.{AtEndLent, AtFinishLent, TalliedLent, DemandsLent}
 use Rattle.search.proofs.Demands.{is-refused, is-ended, is-finished}
 
 module _ (b pairs block : List ℕ) (limit : ℕ) (out : List ℕ) (tally : Tally) (r : Answer) (after : List ℕ) (tally′ : Tally) (c : CallLent b pairs block limit out tally r after tally′) where

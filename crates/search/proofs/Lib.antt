@@ -5,3 +5,4 @@ pub mod Demands
 pub mod DemandsLent
 pub mod RetypedCalls
 pub mod EnoughCalls
+pub mod Tied

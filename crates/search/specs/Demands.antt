@@ -10,25 +10,16 @@ use Rattle.model.specs.Lists.{rowsAscend}
 use Rattle.model.specs.Problem.{isSolution}
 use Rattle.model.specs.Verdict.{accepted, refused}
 use Rattle.model.specs.Sheet.{verdictOf, problemOf}
-use Rattle.model.specs.Run.{answerOf, listOf, listedPlans, plansIn, nodesIn, tallyOf}
+use Rattle.model.specs.Run.{listedPlans, plansIn, nodesIn}
 use Rattle.model.specs.Claims.{leaders, CountsAt, Tallied, Chain, OneMore}
 use Rattle.walk.specs.Meaning.{tallyIn}
-use Rattle.search.specs.Meaning.{endingOf, means}
+use Rattle.search.specs.Meaning.{endingOf}
+use Rattle.search.specs.Calls.{Call, CallWith}
 use Rattle.walk.specs.declared.Tally.{Tally}
 use Rattle.search.specs.declared.Ending.{Ending}
 use Rattle.search.specs.declared.Ending.the-variants.{Finished}
 use Rattle.search.specs.declared.Answer.{Answer}
 use Rattle.search.specs.declared.Answer.the-variants.{Refused, Ended}
-
--- a call of `run`: sheet b, node limit, list `out` as it came, answer r, list `after` at the end. The two equations are its contract.
-pub record Call (b : List ℕ) (limit : ℕ) (out : List ℕ) (r : Answer) (after : List ℕ) : Type 0 where
-  pub answers : means r ≡ answerOf b limit out
-  pub leaves : after ≡ listOf b limit out
-
--- a call of `run_with`, which is lent a tally besides: as it came, and at the end
-pub record CallWith (b : List ℕ) (limit : ℕ) (out : List ℕ) (tally : Tally) (r : Answer) (after : List ℕ) (tally′ : Tally) : Type 0 where
-  pub call : Call b limit out r after
-  pub counts : tallyIn tally′ ≡ tallyOf b limit out (tallyIn tally)
 
 -- the listed plans: as many rows of n bytes at the front of the list as the ending carries
 abbrev pub plansFrom : List ℕ → ℕ → List ℕ → List (List ℕ)

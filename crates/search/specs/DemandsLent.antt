@@ -15,22 +15,15 @@ use Rattle.model.specs.Run.{plansIn, nodesIn}
 use Rattle.model.specs.Claims.{OneMore}
 use Rattle.order.specs.Reordered.{read, ChainBy}
 use Rattle.order.specs.RunBy.{leadersBy, CountsBy, placeCounts}
-use Rattle.lent.specs.Lent.{verdictLent, problemWith, orderLent, problemLent, answerLent, listLent, tallyLent}
-use Rattle.walk.specs.Meaning.{tallyIn}
-use Rattle.search.specs.Meaning.{endingOf, means}
+use Rattle.lent.specs.Lent.{verdictLent, problemWith, orderLent, problemLent}
+use Rattle.search.specs.Meaning.{endingOf}
+use Rattle.search.specs.Calls.{CallLent}
 use Rattle.search.specs.Demands.{plansFrom}
 use Rattle.walk.specs.declared.Tally.{Tally}
 use Rattle.search.specs.declared.Ending.{Ending}
 use Rattle.search.specs.declared.Ending.the-variants.{Finished}
 use Rattle.search.specs.declared.Answer.{Answer}
 use Rattle.search.specs.declared.Answer.the-variants.{Refused, Ended}
-
--- a call of `run_lent`: sheet b, pairs, block, node limit, list and tally as they came, answer r, list and tally at the end. The three equations are
--- its contract.
-pub record CallLent (b pairs block : List ℕ) (limit : ℕ) (out : List ℕ) (tally : Tally) (r : Answer) (after : List ℕ) (tally′ : Tally) : Type 0 where
-  pub answers : means r ≡ answerLent b pairs block limit out
-  pub leaves : after ≡ listLent b pairs block limit out
-  pub counts : tallyIn tally′ ≡ tallyLent b pairs block limit out (tallyIn tally)
 
 -- ---- demand 2, of every run that ends: the listed plans are a first part of the leaders in the order; read in the order they ascend strictly, so
 -- each stands there once; the bytes after them are unchanged, the nodes are within the limit, and the counts are those of the tree up to where the run

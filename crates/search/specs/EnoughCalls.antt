@@ -11,7 +11,7 @@ use Rattle.enough.specs.AtLeast.{enough, unknown}
 use Rattle.enough.specs.Lent.{answered, enoughLent}
 use Rattle.enough.specs.LentClaims.{AgreesLent, FiguresLent}
 use Rattle.search.specs.Meaning.{means, saidEnough}
-use Rattle.search.specs.DemandsLent.{CallLent}
+use Rattle.search.specs.Calls.{CallLent}
 use Rattle.walk.specs.declared.Tally.{Tally}
 use Rattle.search.specs.declared.Answer.{Answer}
 use Rattle.search.specs.declared.Enough.{Enough}

@@ -2,6 +2,7 @@
 pub mod Meaning
 pub mod Tasks
 pub mod Whole
+pub mod Calls
 pub mod Demands
 pub mod DemandsLent
 pub mod RetypedCalls

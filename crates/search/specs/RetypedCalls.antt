@@ -8,7 +8,7 @@ use Rattle.lent.specs.Lent.{verdictLent}
 use Rattle.retyped.specs.Retyped.{SameButOrder}
 use Rattle.walk.specs.Meaning.{tallyIn}
 use Rattle.search.specs.Meaning.{means}
-use Rattle.search.specs.DemandsLent.{CallLent}
+use Rattle.search.specs.Calls.{CallLent}
 use Rattle.walk.specs.declared.Tally.{Tally}
 use Rattle.search.specs.declared.Answer.{Answer}
 

@@ -8,11 +8,11 @@ use layout::SPENT;
 use walk::Tally;
 ghost use mathlib.Core.Path.{_≡_};
 ghost use lib.ListN.{length};
-ghost use Rattle.model.specs.Run.{answerOf, listOf, tallyOf};
 ghost use Rattle.lent.specs.Lent.{answerLent, listLent, tallyLent};
 ghost use Rattle.walk.specs.Walk.{noNodes};
 ghost use Rattle.walk.specs.Meaning.{tallyIn};
 ghost use Rattle.search.specs.Meaning.{means, saidEnough};
+ghost use Rattle.search.specs.Calls.{Call, CallWith, CallLent};
 ghost use Rattle.search.specs.Tasks.{answerBare, listBare, enoughNone, enoughFor};
 ghost use Rattle.enough.specs.Lent.{enoughLent};
 ghost use Rattle.search.specs.Whole.{Stopped, Answered, Done};
@@ -76,7 +76,7 @@ pub fn run_lent(
     list: &mut [u8],
     tally: &mut Tally,
 ) -> Answer
-    ensures { λ r. ⌜ (means r ≡ answerLent (now (sheet .entry)) (now (pairs .entry)) (now (block .entry)) limit (now (list .entry))) × (now (list .exit) ≡ listLent (now (sheet .entry)) (now (pairs .entry)) (now (block .entry)) limit (now (list .entry))) × (tallyIn (now (tally .exit)) ≡ tallyLent (now (sheet .entry)) (now (pairs .entry)) (now (block .entry)) limit (now (list .entry)) (tallyIn (now (tally .entry)))) ⌝ }
+    ensures { λ r. ⌜ CallLent (now (sheet .entry)) (now (pairs .entry)) (now (block .entry)) limit (now (list .entry)) (now (tally .entry)) r (now (list .exit)) (now (tally .exit)) ⌝ }
 {
     let mut stack = [0u16; 208];
     let mut work = [0u64; 256];
@@ -137,7 +137,7 @@ fn run_task(
 
 // A run of paper 01, which is lent neither pairs nor a block.
 pub fn run_with(sheet: &[u8], limit: u32, list: &mut [u8], tally: &mut Tally) -> Answer
-    ensures { λ r. ⌜ (means r ≡ answerOf (now (sheet .entry)) limit (now (list .entry))) × (now (list .exit) ≡ listOf (now (sheet .entry)) limit (now (list .entry))) × (tallyIn (now (tally .exit)) ≡ tallyOf (now (sheet .entry)) limit (now (list .entry)) (tallyIn (now (tally .entry)))) ⌝ }
+    ensures { λ r. ⌜ CallWith (now (sheet .entry)) limit (now (list .entry)) (now (tally .entry)) r (now (list .exit)) (now (tally .exit)) ⌝ }
 {
     let none = [0u8; 0];
     run_lent(sheet, &none, &none, limit, list, tally)
@@ -163,8 +163,7 @@ pub fn run_counted(
 
 // A run of paper 01 whose tally is not asked for.
 pub fn run(sheet: &[u8], limit: u32, list: &mut [u8]) -> Answer
-    ensures { λ r. ⌜ means r ≡ answerOf (now (sheet .entry)) limit (now (list .entry)) ⌝ }
-    ensures { λ _. ⌜ now (list .exit) ≡ listOf (now (sheet .entry)) limit (now (list .entry)) ⌝ }
+    ensures { λ r. ⌜ Call (now (sheet .entry)) limit (now (list .entry)) r (now (list .exit)) ⌝ }
 {
     let none = [0u8; 0];
     let r = run_counted(sheet, &none, &none, limit, list);

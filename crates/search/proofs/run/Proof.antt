@@ -23,7 +23,7 @@ returns c =
     let e = c .before .before .run-counted .ensures in
     let a = c .before .before .before .before .before .before .before .before .args in
     let h = nothing-lent (now (a .sheet)) in
-    (e .0 ∙ h .answer (a .limit) (now (a .list)), e .1 ∙ h .list (a .limit) (now (a .list)))
+    record { answers = e .0 ∙ h .answer (a .limit) (now (a .list)); leaves = e .1 ∙ h .list (a .limit) (now (a .list)) }
 
 pub run-spec : {M : Type 1} → statement M
 run-spec =

@@ -43,6 +43,7 @@ use Rattle.walk.specs.Walk.{noNodes}
 use Rattle.walk.specs.Pair.{Cleared}
 use Rattle.walk.specs.Meaning.{tallyIn}
 use Rattle.search.specs.Meaning.{means}
+use Rattle.search.specs.Calls.{CallLent}
 use Rattle.walk.specs.declared.Tally.{Tally}
 use Rattle.search.specs.declared.Answer.{Answer}
 use Rattle.search.specs.declared.CountedRun.{CountedRun}
@@ -200,7 +201,7 @@ module _ {M : Type 1} (𝓤 : URA M) (H : Heap 𝓤) (A : Atoms 𝓤) (W : Given
           assigns ! (addr ! (from ! (stop !))) (from ! (stop !)) (init ! 1 refl (tt, tt)) $
           move ! (11 ∷ []) $ use1 W (‵ (in-memory T.the-row .lies h₀ l₄ 0)) (tally-in l₄ h₀ is₀) $ move ! (1 ∷ []) $ fsplit ! $ move ! (1 ∷ []) $ fsplit ! $ move ! (1 ∷ []) $ fsplit ! $ move ! (1 ∷ []) $ fsplit ! $ move ! (5 ∷ 1 ∷ []) $ fjoin ! $ move ! (1 ∷ 0 ∷ []) $ fjoin ! $ move ! (1 ∷ 0 ∷ []) $ fjoin ! $ move ! (1 ∷ 0 ∷ []) $ fjoin ! $ move ! (1 ∷ 0 ∷ []) $ fjoin ! $
           calls-lent ! fm (to-run ls e₀ a ga l₄ h₀) (v₀ ∷ v₁ ∷ v₂ ∷ vint w32 a ∷ vl ∷ vptr l₄ 0 ∷ []) O.the-row mach (λ r v is. ap only (EL.tells O.the-type O′.the-laws r _ is)) (emp 𝓤) (id⊢ 𝓤 _)
-          (λ r w. (means r ≡ answerLent (s₀ .now) (s₁ .now) (s₂ .now) a ls) × (w .1 .1 .1 .1 .0 ≡ listLent (s₀ .now) (s₁ .now) (s₂ .now) a ls) × (tallyIn (w .1 .1 .1 .1 .1 .0) ≡ tallyLent (s₀ .now) (s₁ .now) (s₂ .now) a ls (tallyIn h₀)))
+          (λ r w. CallLent (s₀ .now) (s₁ .now) (s₂ .now) a ls h₀ r (w .1 .1 .1 .1 .0) (w .1 .1 .1 .1 .1 .0))
           (λ x. known-run (((κ₀, (κ₁, (κ₂, (x .1 .1 .1 .0 .0 ∷ [], (x .1 .1 .1 .1 .0 .0 ∷ [], tt))))), (q₀, (q₁, (q₂, (fullShare, (fullShare, tt))))), tt, (s₀, (s₁, (s₂, (a, (to lb lo (x .1 .1 .1 .0 .1) ls, (to l₄ 0 (x .1 .1 .1 .1 .0 .1) h₀, tt)))))), (v₀ ∷ [], (v₁ ∷ [], (v₂ ∷ [], (vint w32 a ∷ [], (vl ∷ [], (vptr l₄ 0 ∷ [], tt))))))), tt)) (λ x. (and-then ! (load ! (from ! (stop !)) (look ! 20 refl)) (and-then ! (load ! (from ! (stop !)) (look ! 18 refl)) (and-then ! (load ! (from ! (stop !)) (look ! 16 refl)) (and-then ! (load ! (from ! (stop !)) (look ! 14 refl)) (and-then ! (load ! (from ! (stop !)) (look ! 3 refl)) (and-then ! (load ! (from ! (stop !)) (look ! 1 refl)) (no-more !)))))))) (λ r₁ w₁ is₁ f₁ said₁.
           let ta₁ : Tally = w₁ .1 .1 .1 .1 .1 .0 in
           land ! (from ! (stop !)) (init ! 9 refl (EL.lawful O.the-type O′.the-laws 𝓤 H A W tt .typed r₁ _ is₁ .0)) $
@@ -218,7 +219,7 @@ module _ {M : Type 1} (𝓤 : URA M) (H : Heap 𝓤) (A : Atoms 𝓤) (W : Given
           returns ! (look ! 23 refl) $
           forget ! 23 refl $ forget ! 21 refl $ forget ! 19 refl $ forget ! 17 refl $ forget ! 15 refl $ forget ! 13 refl $ forget ! 1 refl $ forget ! 10 refl $ forget ! 8 refl $ forget ! 6 refl $ forget ! 4 refl $ forget ! 2 refl $
           move ! (23 ∷ 24 ∷ []) $ free1 ! $ move ! (21 ∷ 22 ∷ []) $ free1 ! $ move ! (19 ∷ 20 ∷ []) $ free1 ! $ move ! (17 ∷ 18 ∷ []) $ free1 ! $ move ! (15 ∷ 16 ∷ []) $ free1 ! $ move ! (13 ∷ 14 ∷ []) $ free1 ! $ move ! (1 ∷ 12 ∷ []) $ free1 ! $ move ! (9 ∷ 10 ∷ []) $ free1 ! $ move ! (7 ∷ 8 ∷ []) $ free1 ! $ move ! (5 ∷ 6 ∷ []) $ free1 ! $ move ! (3 ∷ 4 ∷ []) $ free1 ! $ move ! (1 ∷ 2 ∷ []) $ free1 ! $ free0 ! $
-          keep ! (0 ∷ []) $ by ! (exits r is _ (f₁ .1 .1 .1 .0) (said₁ .0, said₁ .1, said₁ .2 ∙ ap (tallyLent (s₀ .now) (s₁ .now) (s₂ .now) a ls) (said₀ .is)))))))))))))))))))
+          keep ! (0 ∷ []) $ by ! (exits r is _ (f₁ .1 .1 .1 .0) (said₁ .answers, said₁ .leaves, said₁ .counts ∙ ap (tallyLent (s₀ .now) (s₁ .now) (s₂ .now) a ls) (said₀ .is)))))))))))))))))))
 
 module _ {M : Type 1} (𝓤 : URA M) (H : Heap 𝓤) (A : Atoms 𝓤) (W : Given 𝓤 H A) (mem : Memory → SProp 𝓤) (run : Routine → Fun 𝓤) where
   run-counted-walks : (C : Calls 𝓤 H) (Λ : Loops 𝓤 H) → FmC 𝓤 H (W .laws) C → Triple 𝓤 (C #walk·no-nodes) (None 𝓤 H A W mem run) → Triple 𝓤 (C #search·run-lent) (RunLent 𝓤 H A W mem run) → Walks 𝓤 H A counted.ended stayed (WpFn 𝓤 H C Λ code.function) (counted.clauses 𝓤 H A mem run)

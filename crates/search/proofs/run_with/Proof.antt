@@ -36,11 +36,9 @@ use denote.Triple.Spec.{Meets, tripleOf}
 use denote.Triple.Table.{entered, cited}
 use denote.Triple.Walked.{says, Stays, stay-ref, stay-slice, stay-dropped, walkOf, Walks, ends-at, walked, goes-dropped, goes-slice, goes-ref, walk-meets}
 use denote.Enum.Laws as EL
-use Rattle.model.specs.Run.{answerOf, listOf, tallyOf}
-use Rattle.lent.specs.Lent.{answerLent, listLent, tallyLent}
 use Rattle.lent.proofs.LentTally.{nothing-lent}
 use Rattle.walk.specs.Meaning.{tallyIn}
-use Rattle.search.specs.Meaning.{means}
+use Rattle.search.specs.Calls.{CallWith, CallLent}
 use Rattle.walk.specs.declared.Tally.{Tally}
 use Rattle.search.specs.declared.Answer.{Answer}
 use Rattle.walk.proofs.Tally as T
@@ -144,7 +142,7 @@ module _ {M : Type 1} (𝓤 : URA M) (H : Heap 𝓤) (A : Atoms 𝓤) (W : Given
       abbrev Post : Val → SProp 𝓤
       Post = walkOf 𝓤 H A run-with.ended stayed (run-with.clauses 𝓤 H A mem run) .post at-run
 
-      exits : (r : Answer) → Is O.the-row r (mach r ∷ []) → (ls′ : List ℕ) (ta′ : Tally) → length ls′ ≡ length ls → (means r ≡ answerOf (s .now) a ls) × (ls′ ≡ listOf (s .now) a ls) × (tallyIn ta′ ≡ tallyOf (s .now) a ls (tallyIn ta)) → ent 𝓤 (sem 𝓤 H A (Held ls′ ta′)) (Post (mach r))
+      exits : (r : Answer) → Is O.the-row r (mach r ∷ []) → (ls′ : List ℕ) (ta′ : Tally) → length ls′ ≡ length ls → CallWith (s .now) a ls ta r ls′ ta′ → ent 𝓤 (sem 𝓤 H A (Held ls′ ta′)) (Post (mach r))
       exits r is ls′ ta′ l e =
           qed W (‵ (Held ls′ ta′) ∷ []) ∵ suffices ! _ (ends-at 𝓤 H A run-with.ended stayed (run-with.clauses 𝓤 H A mem run) W at-run (mach r) r (tt, (tt, (ls′, (ta′, tt)))) (tt, (tt, (l, (tt, tt))))) $ says ! e $
           fsplit ! $ move ! (1 ∷ []) $ fsplit ! $ move ! (1 ∷ []) $ fsplit ! $ move ! (3 ∷ []) $ fsplit ! $ move ! (4 ∷ []) $ fsplit ! $ move ! (4 ∷ []) $ fsplit ! $ move ! (1 ∷ 6 ∷ []) $ join ! $ move ! (3 ∷ 0 ∷ []) $ join ! $ move ! (4 ∷ 0 ∷ []) $ join ! $ frame ! $ nothing ! $ move ! (1 ∷ 0 ∷ []) $ fjoin ! $ move ! (1 ∷ 0 ∷ []) $ fjoin ! $ nothing ! $ fjoin ! $ nothing ! $ fjoin ! $
@@ -168,14 +166,14 @@ module _ {M : Type 1} (𝓤 : URA M) (H : Heap 𝓤) (A : Atoms 𝓤) (W : Given
           assigns ! (addr ! (from ! (hop ! (look ! 17 refl) (stop !)))) (from ! (stop !)) (init ! 1 refl (tt, tt)) $
           fsplit ! $ move ! (1 ∷ []) $ nothing ! $ fjoin ! $ nothing ! $ fjoin ! $ move ! (1 ∷ 0 ∷ []) $ fjoin ! $
           calls-lent ! fm (to-run ls e₀ a ga l₅ ta) (vs ∷ nothing-at l₅ ∷ nothing-at l₅ ∷ vint w32 a ∷ vl ∷ vptr b o ∷ []) O.the-row mach (λ r v is. ap only (EL.tells O.the-type O′.the-laws r _ is)) (emp 𝓤) (id⊢ 𝓤 _)
-          (λ r w. (means r ≡ answerLent (s .now) [] [] a ls) × (w .1 .1 .1 .1 .0 ≡ listLent (s .now) [] [] a ls) × (tallyIn (w .1 .1 .1 .1 .1 .0) ≡ tallyLent (s .now) [] [] a ls (tallyIn ta)))
+          (λ r w. CallLent (s .now) [] [] a ls ta r (w .1 .1 .1 .1 .0) (w .1 .1 .1 .1 .1 .0))
           (λ x. known-run (((κ₀, (x .1 .0 .0 ∷ [], (x .1 .1 .0 .0 ∷ [], (x .1 .1 .1 .0 .0 ∷ [], (x .1 .1 .1 .1 .0 .0 ∷ [], tt))))), (q₀, (fullShare, (fullShare, (fullShare, (fullShare, tt))))), tt, (s, (to l₅ 0 (x .1 .0 .1) [], (to l₅ 0 (x .1 .1 .0 .1) [], (a, (to lb lo (x .1 .1 .1 .0 .1) ls, (to b o (x .1 .1 .1 .1 .0 .1) ta, tt)))))), (vs ∷ [], (nothing-at l₅ ∷ [], (nothing-at l₅ ∷ [], (vint w32 a ∷ [], (vl ∷ [], (vptr b o ∷ [], tt))))))), tt)) (λ x. (and-then ! (load ! (from ! (stop !)) (look ! 23 refl)) (and-then ! (load ! (from ! (stop !)) (look ! 11 refl)) (and-then ! (load ! (from ! (stop !)) (look ! 7 refl)) (and-then ! (load ! (from ! (stop !)) (look ! 21 refl)) (and-then ! (load ! (from ! (stop !)) (look ! 3 refl)) (and-then ! (load ! (from ! (stop !)) (look ! 1 refl)) (no-more !)))))))) (λ r₁ w₁ is₁ f₁ said₁.
           land ! (from ! (stop !)) (init ! 25 refl (EL.lawful O.the-type O′.the-laws 𝓤 H A W tt .typed r₁ _ is₁ .0)) $
           fsplit ! $ move ! (1 ∷ []) $ fsplit ! $ drop ! $ fsplit ! $ drop ! $ move ! (1 ∷ 0 ∷ []) $ fjoin ! $
           returns ! (look ! 25 refl) $
           forget ! 25 refl $ forget ! 23 refl $ forget ! 21 refl $ forget ! 19 refl $ forget ! 17 refl $ forget ! 15 refl $ forget ! 13 refl $ forget ! 11 refl $ forget ! 9 refl $ forget ! 7 refl $ forget ! 5 refl $ forget ! 3 refl $ forget ! 1 refl $
           move ! (25 ∷ 26 ∷ []) $ free1 ! $ move ! (23 ∷ 24 ∷ []) $ free1 ! $ move ! (21 ∷ 22 ∷ []) $ free1 ! $ move ! (19 ∷ 20 ∷ []) $ free1 ! $ move ! (17 ∷ 18 ∷ []) $ free1 ! $ move ! (15 ∷ 16 ∷ []) $ free1 ! $ move ! (13 ∷ 14 ∷ []) $ free1 ! $ move ! (11 ∷ 12 ∷ []) $ free1 ! $ move ! (9 ∷ 10 ∷ []) $ free1 ! $ move ! (7 ∷ 8 ∷ []) $ free1 ! $ move ! (5 ∷ 6 ∷ []) $ free1 ! $ move ! (3 ∷ 4 ∷ []) $ free1 ! $ move ! (1 ∷ 2 ∷ []) $ free1 ! $ free0 ! $
-          keep ! (0 ∷ []) $ by ! (exits r₁ is₁ _ _ (f₁ .1 .1 .1 .0) (let h = nothing-lent (s .now) in (said₁ .0 ∙ h .answer a ls, said₁ .1 ∙ h .list a ls, said₁ .2 ∙ h .tally a ls (tallyIn ta))))))))))))))))))
+          keep ! (0 ∷ []) $ by ! (exits r₁ is₁ _ _ (f₁ .1 .1 .1 .0) (let h = nothing-lent (s .now) in record { call = record { answers = said₁ .answers ∙ h .answer a ls; leaves = said₁ .leaves ∙ h .list a ls }; counts = said₁ .counts ∙ h .tally a ls (tallyIn ta) }))))))))))))))))
 
 module _ {M : Type 1} (𝓤 : URA M) (H : Heap 𝓤) (A : Atoms 𝓤) (W : Given 𝓤 H A) (mem : Memory → SProp 𝓤) (run : Routine → Fun 𝓤) where
   run-with-walks : (C : Calls 𝓤 H) (Λ : Loops 𝓤 H) → FmC 𝓤 H (W .laws) C → Triple 𝓤 (C #search·run-lent) (RunLent 𝓤 H A W mem run) → Walks 𝓤 H A run-with.ended stayed (WpFn 𝓤 H C Λ code.function) (run-with.clauses 𝓤 H A mem run)

@@ -195,7 +195,7 @@ run-report-ending-report-requires t c κs =
     let s = c .before .before .before .before .before .before .before .before .before .before .before .before .before in
     let f = c .before .before .before .before .before .before .before in
     let g = c .before .before .before .answer2 .given in
-    let h = sym (f .run .ensures .0) ∙ ap means (g .1) in
+    let h = sym (f .run .ensures .answers) ∙ ap means (g .1) in
     let long : length (s .args .list .now) ≡ 4096 * s .args .n = omega (arith, s .pre .1 .1, f .before .before .if1 .left) in (
       ran-so (s .args .sheet .now) (s .args .n) (s .args .list .now) (endingOf (g .0 .0)) (s .pre .1 .0) long h,
       listed (s .args .sheet .now) (s .args .n) (s .args .list .now) (endingOf (g .0 .0)) (s .pre .1 .0) long h (f .run .last .1 .1 .0) (f .run .kept .1 .1 .0),
@@ -242,7 +242,7 @@ run-report-returns-2 t c =
     let g = c .before .before .before .before .before .answer .given in
     let r = c .before .before .refused in
     let b = s .args .sheet .now in
-    let v = refusal-of b 1000000 (s .args .list .now) (g .0 .0) (g .0 .1 .0) (sym (f .run .ensures .0) ∙ ap means (g .1)) in
+    let v = refusal-of b 1000000 (s .args .list .now) (g .0 .0) (g .0 .1 .0) (sym (f .run .ensures .answers) ∙ ap means (g .1)) in
     subst (λ (l : List ℕ). Fronted (s .args .out .now) l (r .last .1 .1 .0) (r .result)) (refused-text b (g .0 .0) (g .0 .1 .0) v) (r .ensures)
 
 run-report-same-length-5 : (t : ℕ) → run-report-lts.Need-same-length-5 (
@@ -284,9 +284,9 @@ run-report-returns-3 t c =
     let f = c .before .before .before .before .before .before .before .before .before .before in
     let g = c .before .before .before .before .before .before .answer2 .given in
     let r = c .before .before .ending-report in
-    let h = sym (f .run .ensures .0) ∙ ap means (g .1) in
+    let h = sym (f .run .ensures .answers) ∙ ap means (g .1) in
     let long : length (s .args .list .now) ≡ 4096 * s .args .n = omega (arith, s .pre .1 .1, f .before .before .if1 .left) in
-    let e = ended-text (s .args .sheet .now) (s .args .n) (s .args .list .now) (endingOf (g .0 .0)) (s .pre .1 .0) long h (f .run .last .1 .1 .0) (f .run .ensures .1) in
+    let e = ended-text (s .args .sheet .now) (s .args .n) (s .args .list .now) (endingOf (g .0 .0)) (s .pre .1 .0) long h (f .run .last .1 .1 .0) (f .run .ensures .leaves) in
     subst (λ (l : List ℕ). Fronted (s .args .out .now) l (r .last .1 .1 .1 .1 .0) (r .result)) e (r .ensures)
 
 pub +run-report-spec : {M : Type 1} → statement M

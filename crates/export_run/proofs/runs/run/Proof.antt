@@ -23,7 +23,7 @@ code-requires c κs =
     let s = c .before .before .before .before .before .before .before .before .before .before .before in
     let g = c .before .r .given in
     let b = s .args .sheet .now in
-    let v = refusal-of b (s .args .limit) (s .args .list .now) (g .0 .0) (g .0 .1 .0) (sym (c .before .before .before .before .before .run .ensures .0) ∙ ap means (g .1)) in
+    let v = refusal-of b (s .args .limit) (s .args .list .now) (g .0 .0) (g .0 .1 .0) (sym (c .before .before .before .before .before .run .ensures .answers) ∙ ap means (g .1)) in
     refused-small (verdictOf b) (g .0 .0) (g .0 .1 .0) v (verdict-small b)
 
 enum-known-r-2 : tie.Need-enum-known-r-2
@@ -33,7 +33,7 @@ ending-requires : tie.Need-ending-requires
 ending-requires c κs =
     let s = c .before .before .before .before .before .before .before .before .before .before .before .before in
     let g = c .before .before .r2 .given in
-    (c .before .before .before .before .before .before .before .before .if1 .left, counted (s .args .sheet .now) (s .args .limit) (s .args .list .now) (endingOf (g .0 .0)) (s .fits .limit .fits) (sym (c .before .before .before .before .before .before .run .ensures .0) ∙ ap means (g .1)))
+    (c .before .before .before .before .before .before .before .before .if1 .left, counted (s .args .sheet .now) (s .args .limit) (s .args .list .now) (endingOf (g .0 .0)) (s .fits .limit .fits) (sym (c .before .before .before .before .before .before .run .ensures .answers) ∙ ap means (g .1)))
 
 same-length : tie.Need-same-length
 same-length c = search needs
@@ -43,7 +43,7 @@ returns-2 c =
     let a = c .before .before .before .before .before .before .before .before .before .before .before .before .args in
     let f = c .before .before .before .before .before .before .run in
     let g = c .before .before .r .given in
-    right-answer (a .sheet .now) (a .limit) (a .list .now) (a .answer .now) (c .code .result) (f .last .1 .1 .0) (a .answer .now) (refusal (g .0 .0) (g .0 .1 .0)) (c .before .before .before .before .before .before .before .before .if1 .left) (sym (f .ensures .0) ∙ ap means (g .1)) (c .code .ensures) (f .ensures .1) refl
+    right-answer (a .sheet .now) (a .limit) (a .list .now) (a .answer .now) (c .code .result) (f .last .1 .1 .0) (a .answer .now) (refusal (g .0 .0) (g .0 .1 .0)) (c .before .before .before .before .before .before .before .before .if1 .left) (sym (f .ensures .answers) ∙ ap means (g .1)) (c .code .ensures) (f .ensures .leaves) refl
 
 same-length-2 : tie.Need-same-length-2
 same-length-2 c = search needs
@@ -57,7 +57,7 @@ returns-3 c =
     let f = c .before .before .before .before .before .before .before .before .before .run in
     let g = c .before .before .before .before .before .r2 .given in
     let t = c .before .before .ending in
-    right-answer (a .sheet .now) (a .limit) (a .list .now) (a .answer .now) 0 (f .last .1 .1 .0) (t .last .0) (ended (endingOf (g .0 .0))) (c .before .before .before .before .before .before .before .before .before .before .before .if1 .left) (sym (f .ensures .0) ∙ ap means (g .1)) refl (f .ensures .1) (t .ensures)
+    right-answer (a .sheet .now) (a .limit) (a .list .now) (a .answer .now) 0 (f .last .1 .1 .0) (t .last .0) (ended (endingOf (g .0 .0))) (c .before .before .before .before .before .before .before .before .before .before .before .if1 .left) (sym (f .ensures .answers) ∙ ap means (g .1)) refl (f .ensures .leaves) (t .ensures)
 
 pub run-spec : {M : Type 1} → statement M
 run-spec =

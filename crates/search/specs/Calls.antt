@@ -1,0 +1,27 @@
+-- A call of `run`, `run_with`, `run_lent`: what it was lent, what it answered, and what the lent bytes are at the end. Each is the function's contract;
+-- `Demands` and its like say what a caller may rely on.
+use mathlib.Core.Path.{_≡_}
+use mathlib.Core.List.{List}
+use Prim.Native.Nat.{ℕ}
+use Rattle.model.specs.Run.{answerOf, listOf, tallyOf}
+use Rattle.lent.specs.Lent.{answerLent, listLent, tallyLent}
+use Rattle.walk.specs.Meaning.{tallyIn}
+use Rattle.search.specs.Meaning.{means}
+use Rattle.walk.specs.declared.Tally.{Tally}
+use Rattle.search.specs.declared.Answer.{Answer}
+
+-- `run`: sheet b, node limit, list `out` as it came, answer r, list `after` at the end
+pub record Call (b : List ℕ) (limit : ℕ) (out : List ℕ) (r : Answer) (after : List ℕ) : Type 0 where
+  pub answers : means r ≡ answerOf b limit out
+  pub leaves : after ≡ listOf b limit out
+
+-- `run_with`, which is lent a tally besides: as it came, and at the end
+pub record CallWith (b : List ℕ) (limit : ℕ) (out : List ℕ) (tally : Tally) (r : Answer) (after : List ℕ) (tally′ : Tally) : Type 0 where
+  pub call : Call b limit out r after
+  pub counts : tallyIn tally′ ≡ tallyOf b limit out (tallyIn tally)
+
+-- `run_lent`, which is lent pairs and a block besides
+pub record CallLent (b pairs block : List ℕ) (limit : ℕ) (out : List ℕ) (tally : Tally) (r : Answer) (after : List ℕ) (tally′ : Tally) : Type 0 where
+  pub answers : means r ≡ answerLent b pairs block limit out
+  pub leaves : after ≡ listLent b pairs block limit out
+  pub counts : tallyIn tally′ ≡ tallyLent b pairs block limit out (tallyIn tally)
