@@ -6,4 +6,6 @@ pub mod Endings
 pub mod Turns
 pub mod Copies
 pub mod Questions
+pub mod FilterCalls
 pub mod Splits
+pub mod Tied

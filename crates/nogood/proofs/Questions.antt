@@ -17,7 +17,8 @@ use Rattle.nogood.specs.declared.Answer.{Answer}
 use Rattle.nogood.specs.declared.Answer.the-variants as answer
 use Rattle.nogood.specs.declared.Verdict as code
 use Rattle.nogood.specs.declared.Verdict.the-variants.{Accepted, Refused}
-use Rattle.nogood.specs.Lists.{Listed, Applied, means, verdictIs}
+use Rattle.nogood.specs.Lists.{Listed, Applied, verdictIs}
+use Rattle.nogood.specs.FilterCalls.{CallFilter}
 use Rattle.nogood.proofs.Marks.{ok-right}
 
 -- ---- the first entry that is not right
@@ -118,15 +119,15 @@ module _ (ds xs es us : List ℕ) (a : code.Verdict) (v : verdictIs a ≡ filter
       )
 
   pub after-accepted : (rs : List ℕ) (r : Answer) → a ≡ Accepted → Applied ds (entries xs es us) rs r
-      → (means r ≡ filterAnswer ds xs es us) × (rs ≡ setsAfter (filterVerdict ds xs es us) ds (entries xs es us))
+      → CallFilter ds xs es us r rs
   unfolding setsAfter filterAnswer
   after-accepted rs r e h =
       let q : accepted ≡ filterVerdict ds xs es us = ap verdictIs (sym e) ∙ v in
-      (h .answer ∙ ap (λ (w : Verdict). answerBy w (filterEnding ds (entries xs es us))) q, h .left ∙ ap (λ (w : Verdict). setsAfter w ds (entries xs es us)) q)
+      record { answers = h .answer ∙ ap (λ (w : Verdict). answerBy w (filterEnding ds (entries xs es us))) q; leaves = h .left ∙ ap (λ (w : Verdict). setsAfter w ds (entries xs es us)) q }
 
   pub after-refused : (number item : ℕ) → a ≡ Refused number item
-      → (means (answer.Refused number item) ≡ filterAnswer ds xs es us) × (ds ≡ setsAfter (filterVerdict ds xs es us) ds (entries xs es us))
+      → CallFilter ds xs es us (answer.Refused number item) ds
   unfolding setsAfter filterAnswer
   after-refused number item e =
       let q : refused number item ≡ filterVerdict ds xs es us = ap verdictIs (sym e) ∙ v in
-      (ap (λ (w : Verdict). answerBy w (filterEnding ds (entries xs es us))) q, ap (λ (w : Verdict). setsAfter w ds (entries xs es us)) q)
+      record { answers = ap (λ (w : Verdict). answerBy w (filterEnding ds (entries xs es us))) q; leaves = ap (λ (w : Verdict). setsAfter w ds (entries xs es us)) q }

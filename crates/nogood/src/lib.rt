@@ -5,9 +5,10 @@ ghost use mathlib.Core.Path.{_≡_};
 ghost use Prim.Native.Nat.{ℕ, suc, _≤_, _<_, _^_};
 ghost use lib.ListN.{length, take, drop};
 ghost use Rattle.model.specs.Lists.{at};
-ghost use Rattle.model.specs.Nogood.{kindOf, entries, entryOf, entryOk, firstWrong, filterVerdict, filterAnswer, setsAfter};
+ghost use Rattle.model.specs.Nogood.{kindOf, entries, entryOf, entryOk, firstWrong, filterVerdict};
 ghost use Rattle.nogood.specs.Scan.{Stepped, Right, Resolved};
-ghost use Rattle.nogood.specs.Lists.{Ready, PassResult, AtSplit, ScanResult, Loaded, Listed, Applied, zeros, kindAs, verdictIs, means};
+ghost use Rattle.nogood.specs.Lists.{Ready, PassResult, AtSplit, ScanResult, Loaded, Listed, Applied, zeros, kindAs, verdictIs};
+ghost use Rattle.nogood.specs.FilterCalls.{CallFilter};
 use entry::Step;
 use model::ValueSet;
 
@@ -275,8 +276,7 @@ fn question(sets: &[u16], index: &[u8], equal: &[u8], not_equal: &[u8]) -> Verdi
 
 // Takes from the sets each value that no assignment uses that is drawn from them and obeys every nogood. A refusal leaves them as they came.
 pub fn filter(sets: &mut [u16], index: &[u8], equal: &[u8], not_equal: &[u8]) -> Answer
-    ensures answer { λ r. ⌜ means r ≡ filterAnswer (now (sets .entry)) (now (index .entry)) (now (equal .entry)) (now («not_equal» .entry)) ⌝ }
-    ensures remainder { λ _. ⌜ now (sets .exit) ≡ setsAfter (filterVerdict (now (sets .entry)) (now (index .entry)) (now (equal .entry)) (now («not_equal» .entry))) (now (sets .entry)) (entries (now (index .entry)) (now (equal .entry)) (now («not_equal» .entry))) ⌝ }
+    ensures { λ r. ⌜ CallFilter (now (sets .entry)) (now (index .entry)) (now (equal .entry)) (now («not_equal» .entry)) r (now (sets .exit)) ⌝ }
 {
     let verdict = question(sets, index, equal, not_equal);
     match verdict {

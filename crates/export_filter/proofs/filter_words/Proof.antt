@@ -15,7 +15,7 @@ use Rattle.export_filter.proofs.filter_words.Tie as tie
 answer : (c : tie.After-filter) → means (c .filter .result) ≡ filterAnswer (setsIn (c .before .before .before .before .before .before .before .before .before .before .before .before .args .sets .now)) (c .before .before .before .before .before .before .before .before .before .before .before .before .args .index .now) (c .before .before .before .before .before .before .before .before .before .before .before .before .args .equal .now) (c .before .before .before .before .before .before .before .before .before .before .before .before .args .not-equal .now)
 answer c =
     let a = c .before .before .before .before .before .before .before .before .before .before .before .before .args in
-    c .filter .ensures .0 ∙ ap (λ (w : List ℕ). filterAnswer w (a .index .now) (a .equal .now) (a .not-equal .now)) (c .before .before .before .before .load .ensures)
+    c .filter .ensures .answers ∙ ap (λ (w : List ℕ). filterAnswer w (a .index .now) (a .equal .now) (a .not-equal .now)) (c .before .before .before .before .load .ensures)
 
 load-requires : tie.Need-load-requires
 load-requires c κs = search needs
@@ -43,7 +43,7 @@ unfolding filteredBytes
 returns c =
     let f = c .before .before .before .before .before .before .before .before in
     let a = f .before .before .before .before .before .before .before .before .before .before .before .before .args in
-    let left = f .filter .ensures .1 ∙ ap (λ (w : List ℕ). setsAfter (filterVerdict w (a .index .now) (a .equal .now) (a .not-equal .now)) w (entries (a .index .now) (a .equal .now) (a .not-equal .now))) (f .before .before .before .before .load .ensures) in
+    let left = f .filter .ensures .leaves ∙ ap (λ (w : List ℕ). setsAfter (filterVerdict w (a .index .now) (a .equal .now) (a .not-equal .now)) w (entries (a .index .now) (a .equal .now) (a .not-equal .now))) (f .before .before .before .before .load .ensures) in
     (c .filter-code .ensures ∙ ap filterAnswerCode (answer f), c .before .before .before .store .ensures ∙ ap bytesOf left)
 
 pub filter-words-spec : {M : Type 1} → statement M
