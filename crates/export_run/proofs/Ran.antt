@@ -18,6 +18,7 @@ use Rattle.model.proofs.Runs.{nodes-allowed, counts, Counted as Tree·counted}
 use Rattle.wire.specs.Wire.{wrongLength}
 use Rattle.export_run.specs.Run.{answerCode, answerBytes, runCode, runList, runAnswer}
 use Rattle.export_run.specs.Inner.{Counted}
+use Rattle.export_run.specs.Exported.{CallExported}
 
 -- ---- refusals
 pub refusal-of : (b : List ℕ) (limit : ℕ) (out : List ℕ) (number item : ℕ) → answerOf b limit out ≡ refusal number item → verdictOf b ≡ refused number item
@@ -58,25 +59,23 @@ counted b limit out e l h =
 
 -- ---- the run for callers
 module _ (b : List ℕ) (limit : ℕ) (list answer : List ℕ) where
-  pub wrong-answer : (length answer ≡ 12 → ⊥) → (wrongLength ≡ runCode b limit list answer) × ((list ≡ runList b limit list answer) × (answer ≡ runAnswer b limit list answer))
+  pub wrong-answer : (length answer ≡ 12 → ⊥) → CallExported b limit list answer wrongLength list answer
   unfolding runCode runList runAnswer
   wrong-answer h =
-      let e = ne-eqb (length answer) 12 h in (
-        sym (ap {B = ℕ} (λ (t : Bool). choose t (answerCode (answerOf b limit list)) wrongLength) e),
-        (
-          sym (ap {B = List ℕ} (λ (t : Bool). choose t (listOf b limit list) list) e),
-          sym (ap {B = List ℕ} (λ (t : Bool). choose t (answerBytes (answerOf b limit list) answer) answer) e),
-        ),
-      )
+      let e = ne-eqb (length answer) 12 h in
+      record {
+        returns = sym (ap {B = ℕ} (λ (t : Bool). choose t (answerCode (answerOf b limit list)) wrongLength) e);
+        leaves = sym (ap {B = List ℕ} (λ (t : Bool). choose t (listOf b limit list) list) e);
+        tells = sym (ap {B = List ℕ} (λ (t : Bool). choose t (answerBytes (answerOf b limit list) answer) answer) e);
+      }
 
   pub right-answer : (r : ℕ) (after bytes : List ℕ) (a : Answer) → length answer ≡ 12 → answerOf b limit list ≡ a → r ≡ answerCode a → after ≡ listOf b limit list → bytes ≡ answerBytes a answer →
-      (r ≡ runCode b limit list answer) × ((after ≡ runList b limit list answer) × (bytes ≡ runAnswer b limit list answer))
+      CallExported b limit list answer r after bytes
   unfolding runCode runList runAnswer
   right-answer r after bytes a h so c l w =
-      let e = eq-eqb (length answer) 12 h in (
-        c ∙ ap answerCode (sym so) ∙ sym (ap {B = ℕ} (λ (t : Bool). choose t (answerCode (answerOf b limit list)) wrongLength) e),
-        (
-          l ∙ sym (ap {B = List ℕ} (λ (t : Bool). choose t (listOf b limit list) list) e),
-          w ∙ ap (λ (x : Answer). answerBytes x answer) (sym so) ∙ sym (ap {B = List ℕ} (λ (t : Bool). choose t (answerBytes (answerOf b limit list) answer) answer) e),
-        ),
-      )
+      let e = eq-eqb (length answer) 12 h in
+      record {
+        returns = c ∙ ap answerCode (sym so) ∙ sym (ap {B = ℕ} (λ (t : Bool). choose t (answerCode (answerOf b limit list)) wrongLength) e);
+        leaves = l ∙ sym (ap {B = List ℕ} (λ (t : Bool). choose t (listOf b limit list) list) e);
+        tells = w ∙ ap (λ (x : Answer). answerBytes x answer) (sym so) ∙ sym (ap {B = List ℕ} (λ (t : Bool). choose t (answerBytes (answerOf b limit list) answer) answer) e);
+      }

@@ -5,7 +5,8 @@ use wire::three;
 ghost use mathlib.Core.Path.{_≡_};
 ghost use lib.ListN.{length};
 ghost use Rattle.search.specs.Meaning.{endingOf};
-ghost use Rattle.export_run.specs.Run.{questionCode, endingBytes, runCode, runList, runAnswer};
+ghost use Rattle.export_run.specs.Run.{questionCode, endingBytes};
+ghost use Rattle.export_run.specs.Exported.{CallExported};
 ghost use Rattle.export_run.specs.Inner.{Counted};
 
 // Puts the questions to a sheet: 0 where it is accepted, else the number of the first "no" times 256, plus its item.
@@ -35,9 +36,7 @@ fn ending(out: &mut [u8], e: Ending)
 // bytes, low byte first: 1 finished, 2 spent, 3 full, then plans and nodes. Returns 0, or the refusal as above, or 255 times 256 where
 // the answer has not 12 bytes; list and answer are then as they came.
 pub fn run(sheet: &[u8], limit: u32, list: &mut [u8], answer: &mut [u8]) -> u32
-    ensures { λ r. ⌜ r ≡ runCode (now (sheet .entry)) limit (now (list .entry)) (now (answer .entry)) ⌝ }
-    ensures { λ _. ⌜ now (list .exit) ≡ runList (now (sheet .entry)) limit (now (list .entry)) (now (answer .entry)) ⌝ }
-    ensures { λ _. ⌜ now (answer .exit) ≡ runAnswer (now (sheet .entry)) limit (now (list .entry)) (now (answer .entry)) ⌝ }
+    ensures { λ r. ⌜ CallExported (now (sheet .entry)) limit (now (list .entry)) (now (answer .entry)) r (now (list .exit)) (now (answer .exit)) ⌝ }
 {
     if answer.len() != 12 {
         return 65280;

@@ -1,6 +1,7 @@
 // Calls about runs: crates export_run, export_lent and export_families say what they answer and leave.
 ghost use mathlib.Core.Path.{_≡_};
-ghost use Rattle.export_run.specs.Run.{questionCode, runCode, runList, runAnswer};
+ghost use Rattle.export_run.specs.Run.{questionCode};
+ghost use Rattle.export_run.specs.Exported.{CallExported};
 ghost use Rattle.export_lent.specs.Lent.{lentQuestionCode, lentRunCode, lentRunList, lentRunAnswer};
 ghost use Rattle.export_lent.specs.Enough.{enoughCode, enoughBytes};
 ghost use Rattle.export_lent.specs.Closed.{closedCode, closedAnswer};
@@ -17,9 +18,7 @@ pub extern "C" fn planner_question(sheet: &[u8]) -> u32
 // The run of paper 01.
 #[no_mangle]
 pub extern "C" fn planner_run(sheet: &[u8], limit: u32, list: &mut [u8], answer: &mut [u8]) -> u32
-    ensures { λ r. ⌜ r ≡ runCode (now (sheet .entry)) limit (now (list .entry)) (now (answer .entry)) ⌝ }
-    ensures { λ _. ⌜ now (list .exit) ≡ runList (now (sheet .entry)) limit (now (list .entry)) (now (answer .entry)) ⌝ }
-    ensures { λ _. ⌜ now (answer .exit) ≡ runAnswer (now (sheet .entry)) limit (now (list .entry)) (now (answer .entry)) ⌝ }
+    ensures { λ r. ⌜ CallExported (now (sheet .entry)) limit (now (list .entry)) (now (answer .entry)) r (now (list .exit)) (now (answer .exit)) ⌝ }
 {
     export_run::runs::run(sheet, limit, list, answer)
 }
