@@ -63,7 +63,7 @@ insert-length order r (s ∷ rows) = go (insert-length order r rows) (same r s) 
     go ih false true = omega (arith, length-append r (s ++ flat rows))
     go ih false false = omega (arith, length-append s (flat (insert order r rows)), length-append s (flat rows))
 
-union-length : (order : List ℕ) (rows others : List (List ℕ)) → length (flat (union order rows others)) ≤ length (flat rows) + length (flat others)
+pub union-length : (order : List ℕ) (rows others : List (List ℕ)) → length (flat (union order rows others)) ≤ length (flat rows) + length (flat others)
 unfolding union flat
 union-length order rows [] = omega arith
 union-length order rows (r ∷ others) = omega (arith, insert-length order r (union order rows others), union-length order rows others, length-append r (flat others))

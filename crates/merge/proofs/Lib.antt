@@ -7,3 +7,4 @@ pub mod Turning
 pub mod Walking
 pub mod Asking
 pub mod Claimed
+pub mod Tied

@@ -9,8 +9,9 @@ ghost use Rattle.model.specs.Lists.{choose, earlier};
 ghost use Rattle.model.specs.Room.{rowsIn, refusal, outcomeOf, roomAfter};
 ghost use Rattle.model.specs.Written.{placed, Written};
 ghost use Rattle.order.specs.Reordered.{earlierBy};
-ghost use Rattle.merge.specs.Merge.{ascends, mergedBy, merged, wholeLists, orderedVerdict, mergeVerdict};
+ghost use Rattle.merge.specs.Merge.{ascends, mergedBy, wholeLists, orderedVerdict};
 ghost use Rattle.merge.specs.Meaning.{means};
+ghost use Rattle.merge.specs.Calls.{CallMerge};
 ghost use Rattle.merge.specs.Inner.{Places, Kind, wayOf, Number, eightOf, wordOf, Long, Decides, Rests, Sorts, stands, ofFirst, Fronts, takenFirst, takenSecond, Walked};
 
 pub enum Answer {
@@ -391,8 +392,7 @@ pub fn merge<'a>(
     second: &'a [u8],
     room: &mut [u8],
 ) -> Answer
-    ensures { λ r. ⌜ means r ≡ outcomeOf (mergeVerdict n (now (pairs .entry)) (now (first .entry)) (now (second .entry)) (length (now (room .entry)))) (merged n (now (pairs .entry)) (now (first .entry)) (now (second .entry))) ⌝ }
-    ensures { λ _. ⌜ now (room .exit) ≡ roomAfter (mergeVerdict n (now (pairs .entry)) (now (first .entry)) (now (second .entry)) (length (now (room .entry)))) (merged n (now (pairs .entry)) (now (first .entry)) (now (second .entry))) (now (room .entry)) ⌝ }
+    ensures { λ r. ⌜ CallMerge n (now (pairs .entry)) (now (first .entry)) (now (second .entry)) (now (room .entry)) r (now (room .exit)) ⌝ }
 {
     if !whole(n, first, second) {
         return refused(24);

@@ -18,7 +18,8 @@ refused-requires c κs = search needs
 returns : tie.Need-returns
 returns c =
     let a = c .before .before .before .before .before .before .before .args in
-    no-24 (a .n) (a .pairs .now) (a .first .now) (a .second .now) (a .room .now) _ (sym (c .before .before .whole .ensures) ∙ not-true _ (c .before .if1 .taken)) (c .refused .ensures)
+    let q = no-24 (a .n) (a .pairs .now) (a .first .now) (a .second .now) (a .room .now) _ (sym (c .before .before .whole .ensures) ∙ not-true _ (c .before .if1 .taken)) (c .refused .ensures) in
+    record { answers = q .0; leaves = q .1 }
 
 settling-order-requires : tie.Need-settling-order-requires
 settling-order-requires c κs =
@@ -31,7 +32,8 @@ refused-requires-2 c κs = search needs
 returns-2 : tie.Need-returns-2
 returns-2 c =
     let a = c .before .before .before .before .before .before .before .before .before .before .args in
-    no-pairs (a .n) (a .pairs .now) (a .first .now) (a .second .now) (a .room .now) (sym (c .before .before .before .before .before .whole .ensures) ∙ not-false _ (c .before .before .before .before .if1 .left)) (c .before .before .settling-order .ensures) (c .before .if2 .taken) _ (c .refused2 .ensures)
+    let q = no-pairs (a .n) (a .pairs .now) (a .first .now) (a .second .now) (a .room .now) (sym (c .before .before .before .before .before .whole .ensures) ∙ not-false _ (c .before .before .before .before .if1 .left)) (c .before .before .settling-order .ensures) (c .before .if2 .taken) _ (c .refused2 .ensures) in
+    record { answers = q .0; leaves = q .1 }
 
 array-share-prefix-order : tie.Need-array-share-prefix-order
 array-share-prefix-order c =
@@ -60,7 +62,8 @@ returns-3 : tie.Need-returns-3
 returns-3 c =
     let a = c .before .before .before .before .before .before .before .before .before .before .before .before .before .before .args in
     let r = c .before .before .merge-by in
-    answered (a .n) (a .pairs .now) (a .first .now) (a .second .now) (a .room .now) (sym (c .before .before .before .before .before .before .before .before .before .whole .ensures) ∙ not-false _ (c .before .before .before .before .before .before .before .before .if1 .left)) (c .before .before .before .before .before .before .settling-order .ensures) (c .before .before .before .before .before .if2 .left) (means (r .result)) _ (r .ensures .0) (r .ensures .1)
+    let q = answered (a .n) (a .pairs .now) (a .first .now) (a .second .now) (a .room .now) (sym (c .before .before .before .before .before .before .before .before .before .whole .ensures) ∙ not-false _ (c .before .before .before .before .before .before .before .before .if1 .left)) (c .before .before .before .before .before .before .settling-order .ensures) (c .before .before .before .before .before .if2 .left) (means (r .result)) _ (r .ensures .0) (r .ensures .1) in
+    record { answers = q .0; leaves = q .1 }
 
 pub merge-spec : {M : Type 1} → statement M
 merge-spec =

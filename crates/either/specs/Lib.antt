@@ -1,0 +1,2 @@
+-- Two runs and the merge of their lists.
+pub mod EitherCalls
