@@ -6,3 +6,4 @@ pub mod DemandsLent
 pub mod RetypedCalls
 pub mod EnoughCalls
 pub mod Tied
+pub mod Moments

@@ -7,3 +7,4 @@ pub mod Demands
 pub mod DemandsLent
 pub mod RetypedCalls
 pub mod EnoughCalls
+pub mod Moments
