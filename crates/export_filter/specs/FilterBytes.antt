@@ -11,7 +11,7 @@ use Rattle.nogood.specs.declared.Answer.the-variants.{Failed, Entailed, Consist
 use Rattle.wire.specs.Wire.{wrongLength}
 use Rattle.export_filter.specs.Filter.{setsIn, filterCode, filterBytes}
 
--- a call: bytes b of the sets and the three lists as lent, the code that comes back, bytes b′ of the sets at the end. The two equations are its contract.
+-- a call: bytes b of the sets and the three lists as lent, the code that comes back, bytes b′ of the sets at the end. It is the function's contract.
 pub record CallBytes (b xs es us : List ℕ) (code : ℕ) (b′ : List ℕ) : Type 0 where
   pub answers : code ≡ filterCode b xs es us
   pub leaves : b′ ≡ filterBytes b xs es us

@@ -7,7 +7,8 @@ ghost use Prim.Native.Nat.{_*_};
 ghost use lib.ListN.{length};
 ghost use Rattle.model.specs.Nogood.{filterAnswer};
 ghost use Rattle.nogood.specs.Lists.{means};
-ghost use Rattle.export_filter.specs.Filter.{filterAnswerCode, setsIn, filteredBytes, filterCode, filterBytes, SmallAnswer};
+ghost use Rattle.export_filter.specs.Filter.{filterAnswerCode, setsIn, filteredBytes, SmallAnswer};
+ghost use Rattle.export_filter.specs.FilterBytes.{CallBytes};
 
 // How the filter ended as one number, or its refusal.
 fn filter_code(answer: nogood::Answer) -> u32
@@ -43,8 +44,7 @@ fn filter_words(
 // Filters sets of values, each two bytes, low byte first: 0 where it ended consistent, 1 entailed, 2 failed (paper 02, #102), else the
 // refusal as above and the sets as they came. An odd number of bytes is 255 times 256.
 pub fn filter(sets: &mut [u8], index: &[u8], equal: &[u8], not_equal: &[u8]) -> u32
-    ensures { λ r. ⌜ r ≡ filterCode (now (sets .entry)) (now (index .entry)) (now (equal .entry)) (now («not_equal» .entry)) ⌝ }
-    ensures { λ _. ⌜ now (sets .exit) ≡ filterBytes (now (sets .entry)) (now (index .entry)) (now (equal .entry)) (now («not_equal» .entry)) ⌝ }
+    ensures { λ r. ⌜ CallBytes (now (sets .entry)) (now (index .entry)) (now (equal .entry)) (now («not_equal» .entry)) r (now (sets .exit)) ⌝ }
 {
     if sets.len() % 2 != 0 {
         return 65280;

@@ -4,7 +4,7 @@ mod lists;
 mod runs;
 
 ghost use mathlib.Core.Path.{_≡_};
-ghost use Rattle.export_filter.specs.Filter.{filterCode, filterBytes};
+ghost use Rattle.export_filter.specs.FilterBytes.{CallBytes};
 ghost use Rattle.export_report.specs.Report.{reportLength, reportBytes};
 
 // The filter for increasing nogoods (paper 02, #102).
@@ -15,8 +15,7 @@ pub extern "C" fn planner_filter(
     equal: &[u8],
     not_equal: &[u8],
 ) -> u32
-    ensures { λ r. ⌜ r ≡ filterCode (now (sets .entry)) (now (index .entry)) (now (equal .entry)) (now («not_equal» .entry)) ⌝ }
-    ensures { λ _. ⌜ now (sets .exit) ≡ filterBytes (now (sets .entry)) (now (index .entry)) (now (equal .entry)) (now («not_equal» .entry)) ⌝ }
+    ensures { λ r. ⌜ CallBytes (now (sets .entry)) (now (index .entry)) (now (equal .entry)) (now («not_equal» .entry)) r (now (sets .exit)) ⌝ }
 {
     export_filter::filter(sets, index, equal, not_equal)
 }

@@ -13,7 +13,7 @@ use Rattle.export_filter.proofs.filter.Tie as tie
 returns : tie.Need-returns
 returns c =
     let a = c .before .before .before .before .before .args in
-    (odd-code (a .sets .now) (a .index .now) (a .equal .now) (a .not-equal .now) (c .if1 .taken), odd-bytes (a .sets .now) (a .index .now) (a .equal .now) (a .not-equal .now) (c .if1 .taken))
+    record { answers = odd-code (a .sets .now) (a .index .now) (a .equal .now) (a .not-equal .now) (c .if1 .taken); leaves = odd-bytes (a .sets .now) (a .index .now) (a .equal .now) (a .not-equal .now) (c .if1 .taken) }
 
 returns-2 : tie.Need-returns-2
 returns-2 c =
@@ -22,11 +22,12 @@ returns-2 c =
     let even = c .before .if1 .left in
     let n = length sets / 2 in
     let twice : length sets ≡ 2 * n = omega arith in
-    let e = many sets (a .index .now) (a .equal .now) (a .not-equal .now) n twice (c .if2 .taken) in (
-      sym (ap filterAnswerCode (declined-by sets (a .index .now) (a .equal .now) (a .not-equal .now) 17 0 e)) ∙ even-code sets (a .index .now) (a .equal .now) (a .not-equal .now) even,
-      refused-bytes sets (a .index .now) (a .equal .now) (a .not-equal .now) n 17 0 twice (λ i. c .before .before .before .before .before .slice-known .given i .fits) e
-          ∙ even-bytes sets (a .index .now) (a .equal .now) (a .not-equal .now) even,
-    )
+    let e = many sets (a .index .now) (a .equal .now) (a .not-equal .now) n twice (c .if2 .taken) in
+    record {
+      answers = sym (ap filterAnswerCode (declined-by sets (a .index .now) (a .equal .now) (a .not-equal .now) 17 0 e)) ∙ even-code sets (a .index .now) (a .equal .now) (a .not-equal .now) even;
+      leaves = refused-bytes sets (a .index .now) (a .equal .now) (a .not-equal .now) n 17 0 twice (λ i. c .before .before .before .before .before .slice-known .given i .fits) e
+          ∙ even-bytes sets (a .index .now) (a .equal .now) (a .not-equal .now) even;
+    }
 
 array-borrow-prefix-words : tie.Need-array-borrow-prefix-words
 array-borrow-prefix-words c = search needs
@@ -45,7 +46,7 @@ returns-3 c =
     let f = c .before .before .before in
     let a = f .before .before .before .before .before .before .before .before .before .args in
     let even = c .before .before .before .before .before .before .before .if1 .left in
-    (f .filter-words .ensures .0 ∙ even-code (a .sets .now) (a .index .now) (a .equal .now) (a .not-equal .now) even, f .filter-words .ensures .1 ∙ even-bytes (a .sets .now) (a .index .now) (a .equal .now) (a .not-equal .now) even)
+    record { answers = f .filter-words .ensures .0 ∙ even-code (a .sets .now) (a .index .now) (a .equal .now) (a .not-equal .now) even; leaves = f .filter-words .ensures .1 ∙ even-bytes (a .sets .now) (a .index .now) (a .equal .now) (a .not-equal .now) even }
 
 pub filter-spec : {M : Type 1} → statement M
 filter-spec =
