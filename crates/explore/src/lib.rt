@@ -13,7 +13,7 @@ ghost use Rattle.explore.specs.Explored.{Explored};
 
 // Puts the questions to what is lent, and makes of it all that the search reads: REFUSED where it is, and its number and item then stand in `work`;
 // ALL where the empty prefix is dead, else DEEPER.
-fn prepare(
+pub fn prepare(
     stack: &mut [u16; 208],
     work: &mut [u64; 256],
     supports: &mut [u16; 8192],

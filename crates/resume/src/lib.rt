@@ -258,7 +258,7 @@ fn put_cut(work: &mut [u64; 256], cut: Cut, plans: usize)
 }
 
 // The values of the last node in `work`, as bytes.
-fn last_values(work: &[u64; 256]) -> [u8; 12]
+pub fn last_values(work: &[u64; 256]) -> [u8; 12]
     requires { ⌜ (at (now work) LAST ≤ 12) × ((i : ℕ) → i < at (now work) LAST → at (now work) i < 256) ⌝ }
     ensures { λ r. ⌜ Valued (now (work .entry)) r ⌝ }
 {

@@ -44,7 +44,7 @@ pub struct CountedRun {
 }
 
 // The answer of a run that has stopped so, with what stands in `work` and this many nodes.
-fn answered(work: &[u64; 256], made: u32, stop: u8) -> Answer
+pub fn answered(work: &[u64; 256], made: u32, stop: u8) -> Answer
     requires { ⌜ Stopped (now work) stop ⌝ }
     ensures { λ r. ⌜ Answered (now (work .entry)) made stop r ⌝ }
 {

@@ -76,3 +76,9 @@ module _ (p : Problem) (order : List ℕ) (limit room k : ℕ) (prefix : List �
     pub node-inner : (length t ≡ p .variables → ⊥) → walk p order limit room (t ∷ nodesBelow p k t) s ≡ walk p order limit room (nodesBelow p k t) (counted (at order (settledBy t)) t s)
     unfolding walk
     node-inner n = ap (walk p order limit room (nodesBelow p k t)) (visit-other p order limit room t s going allowed (short-no-plan p t n))
+
+-- a node that is no plan, and any nodes behind it
+pub node-then : (p : Problem) (order : List ℕ) (limit room : ℕ) (t : List ℕ) (ts : List (List ℕ)) (s : State) → s .stop ≡ ALL → (s .tally .nodes ≡ limit → ⊥) → (length t ≡ p .variables → ⊥) →
+    walk p order limit room (t ∷ ts) s ≡ walk p order limit room ts (counted (at order (settledBy t)) t s)
+unfolding walk
+node-then p order limit room t ts s going allowed n = ap (walk p order limit room ts) (visit-other p order limit room t s going allowed (short-no-plan p t n))

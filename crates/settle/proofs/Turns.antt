@@ -28,7 +28,7 @@ use Rattle.walk.specs.Walk.{withNode, Summed, State, listed, counted, walk, nod
 use Rattle.walk.specs.Pair.{prefixOf, settling, orderIn, ownIn, stateOf, ListRoom, Listed, AtPrefix, AtValues, AtValue, Walked, Entered, tried, lowestNode, lowestTried}
 use Rattle.settle.proofs.Laws.{live-values}
 use Rattle.walk.proofs.Walk.{Fits, walk-fits, walk-stopped, summed-more}
-use Rattle.settle.proofs.Steps.{below-is, step-none, step, step-spent, node-dead, node-plan, node-inner}
+use Rattle.settle.proofs.Steps.{below-is, step-none, step, step-spent, node-dead, node-plan, node-inner, node-then}
 use Rattle.walk.proofs.Prefix.{length-prefix, prefix-at, prefix-ext, prefix-take, prefix-snoc}
 use Rattle.walk.proofs.Written.{order-at, length-order, settling-inside}
 
@@ -384,6 +384,23 @@ module _ (p : Problem) (stack work supports tables numbers list : List ℕ) (tal
         stack-length = w .stack-length ∙ q .stack-length;
         work-length = w .work-length ∙ work-length₂;
       };
+    }
+
+    -- the node, and a walk along some nodes below it
+    pub node-is : prefixOf work₂ (k + 1) ≡ lowestNode work k m
+    node-is = node₂
+
+    pub entered-then : (k + 1 ≡ p .variables → ⊥) → (ts : List (List ℕ)) (stack₃ work₃ list₃ : List ℕ) (tally₃ : Tally) (stop : ℕ) → Walked p ts stack₂ work₂ numbers list next (k + 1) stack₃ work₃ list₃ tally₃ stop →
+        Walked p (lowestNode work k m ∷ ts) stack work numbers list tally k stack₃ work₃ list₃ tally₃ stop
+    entered-then n ts stack₃ work₃ list₃ tally₃ stop w = record {
+      state = w .state ∙ ap (walk p (orderIn numbers (p .variables)) (at numbers LIMIT) (at numbers ROOM) ts) state₂
+          ∙ sym (node-then p (orderIn numbers (p .variables)) (at numbers LIMIT) (at numbers ROOM) here ts (stateOf tally work ALL list) refl (g .due) (λ z. n (sym length-node ∙ z)));
+      summed = w .summed;
+      sets = λ i l. w .sets i (omega arith) ∙ sets₂ i l;
+      values = λ i l. w .values i (omega arith) ∙ before₂ i l;
+      marks = λ i l u. w .marks i l (omega arith) ∙ marks₂ i l u;
+      stack-length = w .stack-length ∙ q .stack-length;
+      work-length = w .work-length ∙ work-length₂;
     }
 
 -- ---- the measures: variables left, then values left, then whether a value is tried

@@ -116,6 +116,43 @@ fn try_value(
     )
 }
 
+// How a part of a run stopped, and what was counted by then.
+pub struct CountedPart {
+    pub stop: u8,
+    pub tally: Tally,
+}
+
+// Walks along the nodes of the values m of variable k, lowest first, in a run that has counted so far.
+pub fn walk_counted(
+    stack: &mut [u16; 208],
+    work: &mut [u64; 256],
+    supports: &[u16; 8192],
+    tables: &[u16; 55296],
+    numbers: &[u64; 2432],
+    list: &mut [u8],
+    before: Tally,
+    k: usize,
+    m: u16,
+) -> CountedPart
+    requires { ⌜ ((p : Problem) × AtValues p (now stack) (now work) (now supports) (now tables) (now numbers) (now list) (tallyIn before) k m) ⌝ }
+    ensures { λ r. ⌜ ((p : Problem) → AtValues p (now (stack .entry)) (now (work .entry)) (now (supports .entry)) (now (tables .entry)) (now (numbers .entry)) (now (list .entry)) (tallyIn before) k m → Walked p (tried p (now (work .entry)) k m) (now (stack .entry)) (now (work .entry)) (now (numbers .entry)) (now (list .entry)) (tallyIn before) k (now (stack .exit)) (now (work .exit)) (now (list .exit)) (tallyIn (r .tally)) (r .stop)) ⌝ }
+{
+    let mut sink = &mut *list;
+    let mut tally = before;
+    let stop = settle(
+        stack,
+        work,
+        supports,
+        tables,
+        numbers,
+        &mut sink,
+        &mut tally,
+        k,
+        m,
+    );
+    CountedPart { stop, tally }
+}
+
 // How a part of a run stopped, and the nodes made by then.
 pub struct Part {
     pub stop: u8,

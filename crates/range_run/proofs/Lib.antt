@@ -1,0 +1,6 @@
+-- The laws, in the order of the argument.
+pub mod Steps
+pub mod Walks
+pub mod Ends
+pub mod Done
+pub mod Claimed

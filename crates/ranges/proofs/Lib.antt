@@ -1,0 +1,4 @@
+-- The laws, in the order of the argument.
+pub mod Between
+pub mod Within
+pub mod Joined

@@ -1,0 +1,1 @@
+// Parts of a run that is lent a sheet, pairs and a block, each bounded by two paths: definitions (specs/) and laws (proofs/), no work.
