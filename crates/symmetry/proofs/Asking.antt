@@ -1,6 +1,6 @@
 -- The constraints that can refuse three pairs, asked one after another. Assumes nothing.
 use mathlib.Core.Path.{_≡_, refl, sym, ap, _∙_, subst}
-use mathlib.Core.Bool.{true, false}
+use mathlib.Core.Bool.{Bool, true, false}
 use mathlib.Core.List.{List, [], _∷_, List·Memᴰ·head, List·Memᴰ·tail}
 use mathlib.Core.Logic.{inl, inr, ⊎-elim}
 use Prim.Native.Nat.{ℕ, _-_, _/_, _^_, _≤_, _<_}
@@ -8,22 +8,23 @@ use native.Mathlib.Nat.{lt-of-le-of-lt, lt-of-lt-of-le}
 use native.Mathlib.Omega.{arith}
 use lib.Dec.{T, eqb, eqb-refl}
 use lib.ListN.{length}
-use lib.Bits.{bitAnd, and-le-l}
+use lib.Bits.{bitAnd, bitOr, and-le-l}
 use lib.Count.{trailingZeros}
 use lib.Pow.{pow-mono}
-use Rattle.model.specs.Lists.{any}
+use Rattle.model.specs.Lists.{any, at}
 use Rattle.model.specs.ValueSets.{has}
 use Rattle.model.specs.Problem.{Problem}
 use Rattle.model.proofs.Lists.{T-of, of-T, not-of, of-not, all-i, any-i}
 use Rattle.model.proofs.Sets.{has-lt, has-none}
 use Rattle.model.proofs.Members.{low-has, rest-i}
 use Rattle.layout.specs.Layout.{constraintAt}
-use Rattle.symmetry.specs.Forbidden.{blocked, numberOf, clashes, valueIn, refusedBy, Candidates, Triple, Pending}
+use Rattle.symmetry.specs.Forbidden.{blocked, numberOf, clashes, valueIn, refusedBy, Refusing, Triple, Pending}
 use Rattle.symmetry.proofs.Codes.{variable-lt}
 use Rattle.symmetry.proofs.Blocks.{clash-blocked}
+use Rattle.symmetry.proofs.Scopes.{all-has}
 use Rattle.symmetry.proofs.Triples.{OneGives, found, refused-all, refused-blocked, blocked-refused}
 
-module _ (p : Problem) (numbers supports : List ℕ) (short a b e : ℕ) (t : Triple p numbers supports short a b e) where
+module _ (p : Problem) (numbers supports : List ℕ) (a b e : ℕ) (t : Triple p numbers supports a b e) where
   -- ---- two of the pairs clash
   pub first-clash : clashes a b ≡ true → true ≡ blocked p (numberOf p a ∷ numberOf p b ∷ numberOf p e ∷ [])
   first-clash h = sym (of-T _ (clash-blocked p (t .ready .framed .stated) a b _ (t .first) (t .second) (T-of (clashes a b) h) (List·Memᴰ·head refl) (List·Memᴰ·tail (List·Memᴰ·head refl))))
@@ -45,31 +46,56 @@ module _ (p : Problem) (numbers supports : List ℕ) (short a b e : ℕ) (t : Tr
   one-of x (inr (inl g)) = any-i (eqb x) _ x (List·Memᴰ·tail (List·Memᴰ·head (sym (g .0)))) (eqb-refl x)
   one-of x (inr (inr g)) = any-i (eqb x) _ x (List·Memᴰ·tail (List·Memᴰ·tail (List·Memᴰ·head (sym (g .0))))) (eqb-refl x)
 
-  pub pending-start : (set : ℕ) → Candidates p (a / 16) (b / 16) (e / 16) set → Pending p a b e set
-  pending-start set c =
-      record {
-        few = c .few;
-        whole = λ k h r. c .whole k h (all-i _ (constraintAt p k .scope) (λ x m. one-of x (found a b e x (refused-all p (t .ready .framed .stated) a b e (t .first) (t .second) (t .third) (constraintAt p k) r x m))));
-      }
+  pub pending-start : (set : ℕ) → set < 2 ^ length (p .constraints) → Pending p a b e set set
+  pending-start set h = record { few = h; whole = λ k l i r. i }
 
-  module _ (set : ℕ) (l : Pending p a b e set) (n : set ≡ 0 → ⊥) where
-    fits : set < 2 ^ 64
-    fits = lt-of-lt-of-le (l .few) (pow-mono (let h : length (p .constraints) ≤ 64 = omega (arith, t .ready .framed .stated .most) in h))
+  module _ (set rest : ℕ) (l : Pending p a b e set rest) where
+    module _ (n : rest ≡ 0 → ⊥) where
+      fits : rest < 2 ^ 64
+      fits = lt-of-lt-of-le (l .few) (pow-mono (let h : length (p .constraints) ≤ 64 = omega (arith, t .ready .framed .stated .most) in h))
 
-    pub pending-next : trailingZeros 64 set < length (p .constraints)
-    pending-next = has-lt (length (p .constraints)) set _ (l .few) (low-has 64 set (omega arith) fits .0)
+      pub pending-next : trailingZeros 64 rest < length (p .constraints)
+      pending-next = has-lt (length (p .constraints)) rest _ (l .few) (low-has 64 rest (omega arith) fits .0)
 
-    pub pending-stop : refusedBy (constraintAt p (trailingZeros 64 set)) a b e ≡ true → true ≡ blocked p (numberOf p a ∷ numberOf p b ∷ numberOf p e ∷ [])
-    pending-stop r = sym (of-T _ (refused-blocked p (t .ready .framed .stated) a b e (t .first) (t .second) (t .third) (trailingZeros 64 set) pending-next (T-of _ r)))
+      pub pending-stop : refusedBy (constraintAt p (trailingZeros 64 rest)) a b e ≡ true → Refusing p a b e set true
+      pending-stop r =
+          record {
+            yes = λ q. refused-blocked p (t .ready .framed .stated) a b e (t .first) (t .second) (t .third) (trailingZeros 64 rest) pending-next (T-of _ r);
+            no = λ q. absurd (subst T q tt);
+          }
 
-    pub pending-rest : refusedBy (constraintAt p (trailingZeros 64 set)) a b e ≡ false → Pending p a b e (bitAnd set (set - 1))
-    pending-rest r =
+      pub pending-rest : refusedBy (constraintAt p (trailingZeros 64 rest)) a b e ≡ false → Pending p a b e set (bitAnd rest (rest - 1))
+      pending-rest r =
+          record {
+            few = lt-of-le-of-lt (and-le-l rest (rest - 1)) (l .few);
+            whole = λ k h i s. ⊎-elim (λ q. q) (λ q. absurd (of-not _ r (subst (λ (j : ℕ). T (refusedBy (constraintAt p j) a b e)) q s))) (rest-i 64 rest (omega arith) fits k (l .whole k h i s));
+          }
+
+    pub pending-none : rest ≡ 0 → Refusing p a b e set false
+    pending-none z =
         record {
-          few = lt-of-le-of-lt (and-le-l set (set - 1)) (l .few);
-          whole = λ k h s. ⊎-elim (λ q. q) (λ q. absurd (of-not _ r (subst (λ (j : ℕ). T (refusedBy (constraintAt p j) a b e)) q s))) (rest-i 64 set (omega arith) fits k (l .whole k h s));
+          yes = λ q. absurd (subst T (sym q) tt);
+          no = λ q k h i s. of-not (has rest k) (ap (λ (n : ℕ). has n k) z ∙ has-none k) (l .whole k h i s);
         }
 
-  pub pending-none : (set : ℕ) → Pending p a b e set → set ≡ 0 → clashes a b ≡ false → clashes a e ≡ false → clashes b e ≡ false → false ≡ blocked p (numberOf p a ∷ numberOf p b ∷ numberOf p e ∷ [])
-  pending-none set l z ab ae be =
-      sym (not-of _ (λ s. let r = blocked-refused p (t .ready .framed .stated) a b e (t .first) (t .second) (t .third) ab ae be s in
-      of-not (has set (r .0)) (ap (λ (n : ℕ). has n (r .0)) z ∙ has-none (r .0)) (l .whole (r .0) (r .1) (r .2))))
+  pub asked-yes : (set : ℕ) (r : Bool) → Refusing p a b e set r → r ≡ true → true ≡ blocked p (numberOf p a ∷ numberOf p b ∷ numberOf p e ∷ [])
+  asked-yes set r h q = sym (of-T _ (h .yes q))
+
+  -- all constraints on the variables are asked
+  pub asked-all : (set : ℕ) (r : Bool) → set ≡ bitOr (bitOr (at numbers (a / 16)) (at numbers (b / 16))) (at numbers (e / 16)) → Refusing p a b e set r → clashes a b ≡ false → clashes a e ≡ false → clashes b e ≡ false →
+      r ≡ blocked p (numberOf p a ∷ numberOf p b ∷ numberOf p e ∷ [])
+  asked-all set r es h ab ae be = go r refl
+    where
+      go : (q : Bool) → r ≡ q → r ≡ blocked p (numberOf p a ∷ numberOf p b ∷ numberOf p e ∷ [])
+      go true q = q ∙ asked-yes set r h q
+      go false q =
+          q
+          ∙ sym (not-of _ (λ s.
+          let w = t .ready .framed .stated in
+          let v = variables-small in
+          let k = blocked-refused p w a b e (t .first) (t .second) (t .third) ab ae be s in
+          h .no q (k .0) (k .1)
+          (subst (λ (n : ℕ). T (has n (k .0))) (sym es)
+          (all-has p numbers (t .ready .framed) (a / 16) (b / 16) (e / 16) (v .0) (v .1) (v .2) (k .0) (k .1)
+          (all-i _ (constraintAt p (k .0) .scope) (λ x m. one-of x (found a b e x (refused-all p w a b e (t .first) (t .second) (t .third) (constraintAt p (k .0)) (k .2) x m))))))
+          (k .2)))

@@ -18,9 +18,9 @@ use Rattle.symmetry.proofs.Blocks.{clash-blocked}
 use Rattle.symmetry.proofs.Codes.{init-16}
 use Rattle.symmetry.proofs.Laws.{all-stop, all-rest, all-over}
 
-module _ (p : Problem) (numbers supports codes : List ℕ) (short x set a b : ℕ) (s : Beside p numbers supports codes short x set a b) where
+module _ (p : Problem) (numbers supports codes : List ℕ) (x set a b : ℕ) (s : Beside p numbers supports codes x set a b) where
   w : Stated p
-  w = s .lent .ready .framed .stated
+  w = s .ready .framed .stated
 
   next : (set ≡ 0 → ⊥) → T (has (at (p .initial) x) (lowestOf set))
   next n = s .values (lowestOf set) (lowest-in set (s .small) n)
@@ -41,13 +41,13 @@ module _ (p : Problem) (numbers supports codes : List ℕ) (short x set a b : �
     is-code = ee ∙ ap (λ (u : ℕ). at codes (16 * x + u)) ev
 
     pub beside-pair : PairCode p e
-    beside-pair = subst (PairCode p) (sym is-code) (s .lent .coded x (lowestOf set) (s .variable) (next n))
+    beside-pair = subst (PairCode p) (sym is-code) (s .coded x (lowestOf set) (s .variable) (next n))
 
     pub beside-small : e / 16 < 16
     beside-small = omega (arith, beside-pair .0, w .few)
 
-    pub beside-triple : Triple p numbers supports short a b e
-    beside-triple = record { ready = s .lent .ready; shorts = s .lent .shorts; first = s .first; second = s .second; third = inr beside-pair }
+    pub beside-triple : Triple p numbers supports a b e
+    beside-triple = record { ready = s .ready; first = s .first; second = s .second; third = inr beside-pair }
 
     answer : (r : Bool) → r ≡ blocked p (numberOf p a ∷ numberOf p b ∷ numberOf p e ∷ []) → blocked p (numberOf p a ∷ numberOf p b ∷ numberOf p (at codes (16 * x + lowestOf set)) ∷ []) ≡ r
     answer r q = sym (q ∙ ap (λ (z : ℕ). blocked p (numberOf p a ∷ numberOf p b ∷ numberOf p z ∷ [])) is-code)
@@ -57,11 +57,12 @@ module _ (p : Problem) (numbers supports codes : List ℕ) (short x set a b : �
 
     -- `new` is the set without it
     pub beside-rest : (new : ℕ) (r total : Bool) → new ≡ withoutMask set v → r ≡ blocked p (numberOf p a ∷ numberOf p b ∷ numberOf p e ∷ []) → r ≡ true → allBlocked p codes x a b (members set) ≡ total →
-        Beside p numbers supports codes short x new a b × (allBlocked p codes x a b (members new) ≡ total)
+        Beside p numbers supports codes x new a b × (allBlocked p codes x a b (members new) ≡ total)
     beside-rest new r total z q f t =
-        subst (λ (m : ℕ). Beside p numbers supports codes short x m a b × (allBlocked p codes x a b (members m) ≡ total)) (sym (z ∙ ap (withoutMask set) ev)) (
+        subst (λ (m : ℕ). Beside p numbers supports codes x m a b × (allBlocked p codes x a b (members m) ≡ total)) (sym (z ∙ ap (withoutMask set) ev)) (
           record {
-            lent = s .lent;
+            ready = s .ready;
+            coded = s .coded;
             variable = s .variable;
             values = λ u h. s .values u (without-e set (lowestOf set) u h .0);
             small = mask-lt 16 _;
@@ -73,3 +74,10 @@ module _ (p : Problem) (numbers supports codes : List ℕ) (short x set a b : �
 
   pub beside-over : (total : Bool) → set ≡ 0 → allBlocked p codes x a b (members set) ≡ total → true ≡ total
   beside-over total z t = all-over _ set total t z
+
+-- without the first pair
+pub beside-one : (p : Problem) (numbers supports codes : List ℕ) (x set a b : ℕ) → a ≡ 255 → Beside p numbers supports codes x set a b → Beside p numbers supports codes x set 255 b
+beside-one p numbers supports codes x set a b e s = subst (λ (c : ℕ). Beside p numbers supports codes x set c b) e s
+
+pub beside-one-is : (p : Problem) (codes : List ℕ) (x set a b : ℕ) (r : Bool) → a ≡ 255 → r ≡ allBlocked p codes x 255 b (members set) → r ≡ allBlocked p codes x a b (members set)
+beside-one-is p codes x set a b r e q = q ∙ ap (λ (c : ℕ). allBlocked p codes x c b (members set)) (sym e)

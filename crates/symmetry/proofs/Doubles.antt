@@ -1,27 +1,52 @@
 -- The walk of a variable's forbidden sets: one pair further. Assumes nothing.
 use mathlib.Core.Path.{_≡_, refl, sym, ap, ap₂, _∙_, subst}
 use mathlib.Core.Bool.{Bool, true, false}
-use mathlib.Core.List.{List, [], _∷_}
+use mathlib.Core.List.{List, [], _∷_, List·Memᴰ, List·Memᴰ·head, List·Memᴰ·tail}
 use mathlib.Core.Logic.{inl, inr}
-use Prim.Native.Nat.{ℕ, _+_, _*_, _^_, _<_}
+use Prim.Native.Nat.{ℕ, _+_, _*_, _/_, _^_, _<_}
 use native.Mathlib.Omega.{arith}
-use lib.Dec.{T}
+use lib.Dec.{T, eqb, eqb→eq, not-T}
+use borrow.Author.Tests.{eq-eqb}
 use Rattle.model.specs.Lists.{at, both}
 use Rattle.model.specs.ValueSets.{has, members, lowestOf, withoutMask}
 use Rattle.model.specs.Problem.{Problem}
-use Rattle.model.proofs.Sets.{mask-lt, members-of-none}
+use Rattle.model.proofs.Lists.{Sorted, T-of, of-T, both-i, all-i}
+use Rattle.model.proofs.Sets.{mask-lt, members-of-none, members-e, members-sorted}
 use Rattle.model.proofs.Lowest.{lowest-in, without-e, without-less, members-lowest}
-use Rattle.symmetry.specs.Forbidden.{blocked, numberOf, PairCode, Lent, Beside, Doubling, allBlocked, besides, doublings}
+use Rattle.symmetry.specs.Forbidden.{blocked, clashes, numberOf, PairCode, Lent, Beside, Doubling, allBlocked, besides, doublings}
+use Rattle.symmetry.proofs.Blocks.{clash-blocked}
 use Rattle.symmetry.proofs.Codes.{init-16, init-small}
 use Rattle.symmetry.proofs.Laws.{all-ext}
 use Rattle.symmetry.proofs.Walks.{none-before}
 
-pub doubling-start : (p : Problem) (numbers supports codes : List ℕ) (short x set : ℕ) → Lent p numbers supports codes short → x < p .variables → set ≡ at (p .initial) x → Doubling p codes x set
-doubling-start p numbers supports codes short x set l h e =
+-- where all pairs of a variable go to one variable, the images of any two are two pairs of it
+module _ (p : Problem) (numbers supports codes moves : List ℕ) (x : ℕ) (l : Lent p numbers supports codes moves) (h : x < p .variables) (n : at moves (192 + x) ≡ 15 → ⊥) where
+  apart : (v u : ℕ) → v < u → T (has (at (p .initial) x) v) → T (has (at (p .initial) x) u) → T (clashes (at codes (16 * x + v)) (at codes (16 * x + u)))
+  apart v u k i j =
+      both-i (eqb (at codes (16 * x + v) / 16) (at codes (16 * x + u) / 16)) _
+      (T-of _ (eq-eqb _ _ (l .moved .to x h v i n ∙ sym (l .moved .to x h u j n))))
+      (not-T (eqb (at codes (16 * x + v)) (at codes (16 * x + u))) (λ t. let e = sym (l .moved .back x v h i) ∙ ap (at moves) (eqb→eq _ _ t) ∙ l .moved .back x u h j in omega arith))
+
+  all-apart : (vs : List ℕ) → Sorted (λ (u v : ℕ). u < v) vs → ((v : ℕ) → List·Memᴰ v vs → T (has (at (p .initial) x) v)) → T (doublings p codes x vs)
+  unfolding doublings
+  all-apart [] s i = tt
+  all-apart (v ∷ vs) s i =
+      let iv = i v (List·Memᴰ·head refl) in
+      both-i (besides p codes x v vs) (doublings p codes x vs)
+      (all-i _ vs (λ u m.
+      let iu = i u (List·Memᴰ·tail m) in
+      clash-blocked p (l .ready .framed .stated) (at codes (16 * x + v)) (at codes (16 * x + u)) _ (inr (l .coded x v h iv)) (inr (l .coded x u h iu)) (apart v u (s .0 u m) iv iu) (List·Memᴰ·head refl) (List·Memᴰ·tail (List·Memᴰ·head refl))))
+      (all-apart vs (s .1) (λ u m. i u (List·Memᴰ·tail m)))
+
+  pub doubled-together : true ≡ doublings p codes x (members (at (p .initial) x))
+  doubled-together = sym (of-T _ (all-apart (members (at (p .initial) x)) (members-sorted (at (p .initial) x)) (λ v m. members-e (at (p .initial) x) v m .1)))
+
+pub doubling-start : (p : Problem) (numbers supports codes moves : List ℕ) (x set : ℕ) → Lent p numbers supports codes moves → x < p .variables → set ≡ at (p .initial) x → Doubling p codes x set
+doubling-start p numbers supports codes moves x set l h e =
     subst (Doubling p codes x) (sym e) (record { small = init-small p (l .ready .framed .stated) x h; allowed = λ u t. t; whole = refl })
 
 -- v is the lowest member, `new` the set without it
-module _ (p : Problem) (numbers supports codes : List ℕ) (short x set : ℕ) (l : Lent p numbers supports codes short) (h : x < p .variables) (s : Doubling p codes x set) (n : set ≡ 0 → ⊥) (v new : ℕ) (ev : v ≡ lowestOf set) (en : new ≡ withoutMask set v) where
+module _ (p : Problem) (numbers supports codes moves : List ℕ) (x set : ℕ) (l : Lent p numbers supports codes moves) (h : x < p .variables) (s : Doubling p codes x set) (n : set ≡ 0 → ⊥) (v new : ℕ) (ev : v ≡ lowestOf set) (en : new ≡ withoutMask set v) where
   value : T (has (at (p .initial) x) v)
   value = subst (λ (u : ℕ). T (has (at (p .initial) x) u)) (sym ev) (s .allowed (lowestOf set) (lowest-in set (s .small) n))
 
@@ -39,10 +64,11 @@ module _ (p : Problem) (numbers supports codes : List ℕ) (short x set : ℕ) (
 
   -- the pair with the lowest value, beside those with the others
   module _ (a : ℕ) (e : a ≡ at codes (16 * x + v)) where
-    pub doubling-beside : Beside p numbers supports codes short x new 255 a
+    pub doubling-beside : Beside p numbers supports codes x new 255 a
     doubling-beside =
         record {
-          lent = l;
+          ready = l .ready;
+          coded = l .coded;
           variable = h;
           values = allowed;
           small = small;

@@ -1,25 +1,18 @@
--- What the numbers hold: scopes, pairs, and the constraints on fewer than three variables. Assumes nothing.
+-- What the numbers hold: scopes and pairs. Assumes nothing.
 use mathlib.Core.Path.{_≡_, refl, sym, ap, ap₂, _∙_, subst}
 use mathlib.Core.Bool.{Bool, false}
 use mathlib.Core.List.{List}
 use Prim.Native.Nat.{ℕ, zero, suc, _+_, _*_, _/_, _%_, _^_, _≤_, _<_}
 use native.Mathlib.Nat.{pow-suc, mul-le-mul}
 use native.Mathlib.Omega.{arith}
-use lib.Dec.{eqb, ltb}
 use lib.ListN.{length}
 use lib.Pow.{pow-add}
-use lib.Bits.{bitOr, or-zero-r}
 use borrow.Author.Tests.{lt-ltb, le-ltb}
 use Rattle.model.specs.Lists.{at, both}
 use Rattle.model.specs.ValueSets.{has}
 use Rattle.model.specs.Problem.{Problem, isPair}
-use Rattle.model.proofs.Sets.{has-none}
-use Rattle.model.proofs.Members.{one-has}
-use Rattle.model.proofs.Filling.{gathered-begin, gathered-more}
-use Rattle.model.specs.Filling.{Gathered}
 use Rattle.layout.specs.Layout.{constraintAt}
 use Rattle.symmetry.specs.Table.{Framed}
-use Rattle.symmetry.specs.Forbidden.{Short}
 use Rattle.symmetry.proofs.Codes.{good, div-small, mod-small, init-small}
 
 pow-256 : (i : ℕ) → 256 ^ suc i ≡ 2 ^ (8 * i + 8)
@@ -34,9 +27,6 @@ module _ (p : Problem) (numbers : List ℕ) (f : Framed p numbers) where
 
   pub at-scope : (k i r : ℕ) → k < length (p .constraints) → i < length (constraintAt p k .scope) → r ≡ at numbers (32 + k) → r / 2 ^ (8 * i + 8) % 256 ≡ at (constraintAt p k .scope) i
   at-scope k i r h l e = ap₂ (λ (n m : ℕ). n / m % 256) e (sym (pow-256 i)) ∙ f .numbered .scope k i h l
-
-  pub few-constraints : (k : ℕ) → k < length (p .constraints) → k < 32
-  few-constraints k h = omega (arith, f .stated .most)
 
   pub few-places : (k i : ℕ) → k < length (p .constraints) → i < length (constraintAt p k .scope) → i < 3
   few-places k i h l = omega (arith, good p (f .stated) k h .few)
@@ -78,23 +68,3 @@ module _ (p : Problem) (numbers : List ℕ) (f : Framed p numbers) where
   initial-is x r h e =
       let q : r ≡ at (p .initial) x = e ∙ f .numbered .initial x h in
       (q, subst (λ (s : ℕ). s < 2 ^ 16) (sym q) (init-small p (f .stated) x h))
-
--- ---- the constraints on fewer than three variables
--- those among the first k
-abbrev pub ShortTo : Problem → ℕ → ℕ → Type 0
-ShortTo p set k = Gathered (λ j. ltb (length (constraintAt p j .scope)) 3) k set
-
-pub short-none : (p : Problem) → ShortTo p 0 0
-short-none p = gathered-begin _
-
--- with constraint k, as the code adds it
-pub short-more : (p : Problem) (set k : ℕ) → k < 64 → length (constraintAt p k .scope) < 3 → ShortTo p set k → ShortTo p (bitOr set (1 * 2 ^ k % 2 ^ 64)) (k + 1)
-short-more p set k small l s = gathered-more _ k set _ s (λ j. one-has 64 k j small ∙ sym (ap (λ (b : Bool). both b (eqb j k)) (lt-ltb (length (constraintAt p k .scope)) 3 l)))
-
-pub short-same : (p : Problem) (set k : ℕ) → 3 ≤ length (constraintAt p k .scope) → ShortTo p set k → ShortTo p set (k + 1)
-short-same p set k n s =
-    subst (λ (m : ℕ). ShortTo p m (k + 1)) (or-zero-r set)
-    (gathered-more _ k set 0 s (λ j. has-none j ∙ sym (ap (λ (b : Bool). both b (eqb j k)) (le-ltb (length (constraintAt p k .scope)) 3 n))))
-
-pub short-all : (p : Problem) (set k : ℕ) → k ≡ length (p .constraints) → ShortTo p set k → Short p set
-short-all p set k e s = subst (ShortTo p set) e s .has-is

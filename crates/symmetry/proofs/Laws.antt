@@ -1,20 +1,23 @@
 -- Laws about the model's definitions: tests over lists, loops over them that stop early, distinct numbers. Assumes nothing.
-use mathlib.Core.Path.{_≡_, refl, sym, ap, ap₂, _∙_}
+use mathlib.Core.Path.{_≡_, refl, sym, ap, ap₂, _∙_, subst}
 use mathlib.Core.Bool.{Bool, true, false, not}
 use mathlib.Core.List.{List, [], _∷_, _++_, map, List·Memᴰ, List·Memᴰ·head, List·Memᴰ·tail}
+use mathlib.Core.Logic.{_⊎_, inl, inr, ⊎-elim}
 use Prim.Native.Nat.{ℕ, suc, _+_, _-_, _^_, _≤_, _<_}
 use native.Mathlib.Numerals.{add-one}
 use native.Mathlib.Omega.{arith}
-use lib.Dec.{T}
+use lib.Dec.{T, eqb}
+use borrow.Author.Tests.{eqb-true, eqb-false}
 use lib.ListN.{length, getD, drop}
 use lib.Seq.{drop-cons, drop-length}
 use Rattle.model.specs.Lists.{both, either, all, keep, flat, upFrom, below, at}
-use Rattle.model.specs.ValueSets.{withoutMask, members, lowestOf}
+use Rattle.model.specs.ValueSets.{has, withoutMask, members, lowestOf}
 use Rattle.model.specs.Sheet.{distinct}
 use Rattle.model.proofs.Lists.{all-cons, at-mem}
 use Rattle.model.proofs.Counting.{distinct-i}
-use Rattle.model.proofs.Sets.{members-of-none}
-use Rattle.model.proofs.Lowest.{members-lowest}
+use Rattle.model.proofs.Sets.{members-of-none, has-lt, mask-lt}
+use Rattle.model.proofs.Members.{has-0}
+use Rattle.model.proofs.Lowest.{members-lowest, lowest-in, without-i, without-e, without-less}
 
 -- ---- tests
 both-assoc : (a b c : Bool) → both a (both b c) ≡ both (both a b) c
@@ -75,6 +78,42 @@ module _ (f : ℕ → Bool) (s : ℕ) (total : Bool) (e : all f (members s) ≡ 
   pub all-over : s ≡ 0 → true ≡ total
   unfolding all
   all-over z = sym (ap (λ (n : ℕ). all f (members n)) z ∙ ap (all f) members-of-none) ∙ e
+
+-- the same where what holds of each is no test
+pub record Swept (P : ℕ → Type 0) (whole rest : ℕ) : Type 0 where
+  pub small : rest < 2 ^ 16
+  pub among : (u : ℕ) → T (has rest u) → T (has whole u)
+  pub done : (u : ℕ) → T (has whole u) → T (has rest u) ⊎ P u
+
+pub swept-none : (P : ℕ → Type 0) (whole rest : ℕ) → rest ≡ whole → whole < 2 ^ 16 → Swept P whole rest
+swept-none P whole rest e h = subst (Swept P whole) (sym e) (record { small = h; among = λ u t. t; done = λ u t. inl t })
+
+pub swept-over : {P : ℕ → Type 0} (whole rest : ℕ) → Swept P whole rest → rest ≡ 0 → (u : ℕ) → T (has whole u) → P u
+swept-over whole rest s z u t = ⊎-elim (λ h. absurd (has-0 u (subst (λ (n : ℕ). T (has n u)) z h))) (λ h. h) (s .done u t)
+
+-- v is the lowest of those left
+module _ {P : ℕ → Type 0} (whole rest : ℕ) (s : Swept P whole rest) (n : rest ≡ 0 → ⊥) (v : ℕ) (ev : v ≡ lowestOf rest) where
+  low-left : T (has rest v)
+  low-left = subst (λ (u : ℕ). T (has rest u)) (sym ev) (lowest-in rest (s .small) n)
+
+  pub swept-in : T (has whole v)
+  swept-in = s .among v low-left
+
+  pub swept-small : v < 16
+  swept-small = has-lt 16 rest v (s .small) low-left
+
+  module _ (new : ℕ) (en : new ≡ withoutMask rest (lowestOf rest)) where
+    pub swept-less : new < rest
+    swept-less = subst (λ (m : ℕ). m < rest) (sym en) (without-less rest (lowestOf rest) (s .small) (lowest-in rest (s .small) n))
+
+    pub swept-rest : P v → Swept P whole new
+    swept-rest h =
+        subst (Swept P whole) (sym (en ∙ ap (withoutMask rest) (sym ev)))
+        (record { small = mask-lt 16 _; among = λ u t. s .among u (without-e rest v u t .0); done = λ u t. ⊎-elim (λ l. go u l (eqb u v) refl) inr (s .done u t) })
+      where
+        go : (u : ℕ) → T (has rest u) → (b : Bool) → eqb u v ≡ b → T (has (withoutMask rest v) u) ⊎ P u
+        go u l true e = inr (subst P (sym (eqb-true u v e)) h)
+        go u l false e = inl (without-i rest v u (s .small) l (eqb-false u v e))
 
 -- over the first numbers, and over a list
 module _ (f : ℕ → Bool) (n : ℕ) where

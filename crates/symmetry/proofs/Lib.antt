@@ -1,8 +1,10 @@
+pub mod Across
 pub mod Answers
 pub mod Asking
 pub mod Beside
 pub mod Blocks
 pub mod Codes
+pub mod Couples
 pub mod Doubles
 pub mod Frames
 pub mod Keys
@@ -12,5 +14,6 @@ pub mod Rows
 pub mod Scans
 pub mod Scopes
 pub mod Surely
+pub mod Targets
 pub mod Triples
 pub mod Walks

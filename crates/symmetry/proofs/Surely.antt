@@ -65,7 +65,7 @@ module _ (u v w x y z : ℕ) (l : u ≤ v) (m : v ≤ w) (h : x < y) (k : y < z)
       let e = second b i j in
       (first a e j, e, third c e i)
 
-member : (x : ℕ) (l : List ℕ) → T (any (eqb x) l) → List·Memᴰ x l
+pub member : (x : ℕ) (l : List ℕ) → T (any (eqb x) l) → List·Memᴰ x l
 member x l t = let r = any-e (eqb x) l t in Memᴰ·cast (eqb→eq x (r .0) (r .2)) (r .1)
 
 one : (u q : ℕ) → List·Memᴰ q (u ∷ []) → Among u u u q
@@ -97,7 +97,7 @@ whole-scope x y z (u ∷ v ∷ w ∷ s ∷ r) l o h k a b c = absurd (omega arit
 -- ---- three pairs of the variables of a constraint, whose values are no row
 module _ (p : Problem) (w : Stated p) where
   -- a pair, where its variable is below another
-  real : (a : ℕ) → MaybePair p a → a / 16 < p .variables → PairCode p a
+  pub real : (a : ℕ) → MaybePair p a → a / 16 < p .variables → PairCode p a
   real a (inl e) h = absurd (omega (arith, w .few))
   real a (inr c) h = c
 
@@ -120,7 +120,7 @@ two-digits u v h l (suc (suc j)) i = absurd (not-suc-le-zero (le-of-suc-le-suc (
 
 -- ---- the order of three pairs
 module _ (p : Problem) (x y z : ℕ) where
-  first-two-turned : T (blocked p (x ∷ y ∷ z ∷ [])) → T (blocked p (y ∷ x ∷ z ∷ []))
+  pub first-two-turned : T (blocked p (x ∷ y ∷ z ∷ [])) → T (blocked p (y ∷ x ∷ z ∷ []))
   first-two-turned = blocked-more p _ _ go
     where
       go : (q : ℕ) → List·Memᴰ q (x ∷ y ∷ z ∷ []) → List·Memᴰ q (y ∷ x ∷ z ∷ [])
@@ -205,7 +205,7 @@ module _ (p : Problem) (numbers supports : List ℕ) (k a b y : ℕ) (o : On p n
     has-e : T (any (eqb (e / 16)) (constraintAt p k .scope))
     has-e = subst (λ (x : ℕ). T (any (eqb x) (constraintAt p k .scope))) (sym f) (o .has-third)
 
-    after : b / 16 < y → (T (has (at supports (256 * k + (16 * (a % 16) + b % 16))) (e % 16)) → ⊥) → T (blocked p (numberOf p a ∷ numberOf p b ∷ numberOf p e ∷ []))
+    pub after : b / 16 < y → (T (has (at supports (256 * k + (16 * (a % 16) + b % 16))) (e % 16)) → ⊥) → T (blocked p (numberOf p a ∷ numberOf p b ∷ numberOf p e ∷ []))
     after i n =
         in-order a b e (whole-scope (a / 16) (b / 16) (e / 16) (constraintAt p k .scope) (g .few) (g .ordered) h (omega arith) (o .has-first) (o .has-second) has-e)
         pair-a pair-b c n
@@ -237,35 +237,39 @@ module _ (p : Problem) (numbers supports : List ℕ) (k a b y : ℕ) (o : On p n
       let place : 256 * k + (16 * (a % 16) + e % 16) ≡ 256 * k + 16 * (a % 16) + 1 * (e % 16) = omega arith in
       between e f c i j (λ z. lacking-e supports _ _ _ set (e % 16) l t (subst (λ (n : ℕ). T (has (at supports n) (b % 16))) place z))
 
--- the lowest of the constraints on three variables
-module _ (p : Problem) (numbers supports : List ℕ) (r : Ready p numbers supports) (a b y : ℕ) (ma : MaybePair p a) (mb : MaybePair p b) (l : y < 16) (set : ℕ) (es : set ≡ bitAnd (bitAnd (at numbers (a / 16)) (at numbers (b / 16))) (at numbers y)) (n : set ≡ 0 → ⊥) where
+-- the constraints on three variables
+module _ (p : Problem) (numbers supports : List ℕ) (r : Ready p numbers supports) (x y z : ℕ) (lx : x < 16) (ly : y < 16) (lz : z < 16) (set : ℕ) (es : set ≡ bitAnd (bitAnd (at numbers x) (at numbers y)) (at numbers z)) where
   few : set < 2 ^ length (p .constraints)
-  few = subst (λ (s : ℕ). s < 2 ^ length (p .constraints)) (sym es) (lt-of-le-of-lt (and-le-l _ (at numbers y)) (lt-of-le-of-lt (and-le-l _ (at numbers (b / 16))) (r .framed .numbered .touching-few (a / 16) (variable-lt p (r .framed .stated) a ma))))
+  few = subst (λ (s : ℕ). s < 2 ^ length (p .constraints)) (sym es) (lt-of-le-of-lt (and-le-l _ (at numbers z)) (lt-of-le-of-lt (and-le-l _ (at numbers y)) (r .framed .numbered .touching-few x lx)))
 
-  low-in : T (has set (trailingZeros 64 set))
-  low-in = low-has 64 set (omega arith) (lt-of-lt-of-le few (pow-mono (let h : length (p .constraints) ≤ 64 = omega (arith, r .framed .stated .most) in h))) .0
+  pub low-in : (set ≡ 0 → ⊥) → T (has set (trailingZeros 64 set))
+  low-in n = low-has 64 set (omega arith) (lt-of-lt-of-le few (pow-mono (let h : length (p .constraints) ≤ 64 = omega (arith, r .framed .stated .most) in h))) .0
 
-  low-lt : trailingZeros 64 set < length (p .constraints)
-  low-lt = has-lt (length (p .constraints)) set _ few low-in
+  module _ (k : ℕ) (i : T (has set k)) where
+    pub on-three-lt : k < length (p .constraints)
+    on-three-lt = has-lt (length (p .constraints)) set k few i
 
-  pub on-small : trailingZeros 64 set < 32
-  on-small = omega (arith, low-lt, r .framed .stated .most)
+    pub on-three : T (any (eqb x) (constraintAt p k .scope)) × T (any (eqb y) (constraintAt p k .scope)) × T (any (eqb z) (constraintAt p k .scope))
+    on-three =
+        let t = subst T (ap (λ (s : ℕ). has s k) es ∙ has-and _ (at numbers z) k) i in
+        let s = subst T (has-and (at numbers x) (at numbers y) k) (both-l (has (bitAnd (at numbers x) (at numbers y)) k) (has (at numbers z) k) t) in (
+          subst T (r .framed .numbered .touching x k lx on-three-lt) (both-l (has (at numbers x) k) (has (at numbers y) k) s),
+          subst T (r .framed .numbered .touching y k ly on-three-lt) (both-r (has (at numbers x) k) (has (at numbers y) k) s),
+          subst T (r .framed .numbered .touching z k lz on-three-lt) (both-r (has (bitAnd (at numbers x) (at numbers y)) k) (has (at numbers z) k) t),
+        )
 
+-- the lowest of those on the variables of two pairs and a third
+module _ (p : Problem) (numbers supports : List ℕ) (r : Ready p numbers supports) (a b y : ℕ) (ma : MaybePair p a) (mb : MaybePair p b) (l : y < 16) (set : ℕ) (es : set ≡ bitAnd (bitAnd (at numbers (a / 16)) (at numbers (b / 16))) (at numbers y)) (n : set ≡ 0 → ⊥) where
   pub on-lowest : On p numbers supports (trailingZeros 64 set) a b y
   on-lowest =
-      let k = trailingZeros 64 set in
-      let st = r .framed .stated in
-      let t = subst T (ap (λ (s : ℕ). has s k) es ∙ has-and _ (at numbers y) k) low-in in
-      let ab = subst T (has-and (at numbers (a / 16)) (at numbers (b / 16)) k) (both-l (has (bitAnd (at numbers (a / 16)) (at numbers (b / 16))) k) (has (at numbers y) k) t) in
-      record {
-        ready = r;
-        inside = low-lt;
-        first = ma;
-        second = mb;
-        has-first = subst T (r .framed .numbered .touching (a / 16) k (variable-lt p st a ma) low-lt) (both-l (has (at numbers (a / 16)) k) (has (at numbers (b / 16)) k) ab);
-        has-second = subst T (r .framed .numbered .touching (b / 16) k (variable-lt p st b mb) low-lt) (both-r (has (at numbers (a / 16)) k) (has (at numbers (b / 16)) k) ab);
-        has-third = subst T (r .framed .numbered .touching y k l low-lt) (both-r (has (bitAnd (at numbers (a / 16)) (at numbers (b / 16))) k) (has (at numbers y) k) t);
-      }
+      let la = variable-lt p (r .framed .stated) a ma in
+      let lb = variable-lt p (r .framed .stated) b mb in
+      let i = low-in p numbers supports r (a / 16) (b / 16) y la lb l set es n in
+      let h = on-three p numbers supports r (a / 16) (b / 16) y la lb l set es (trailingZeros 64 set) i in
+      record { ready = r; inside = on-three-lt p numbers supports r (a / 16) (b / 16) y la lb l set es (trailingZeros 64 set) i; first = ma; second = mb; has-first = h .0; has-second = h .1; has-third = h .2 }
+
+  pub on-small : trailingZeros 64 set < 32
+  on-small = omega (arith, on-lowest .inside, r .framed .stated .most)
 
 pub on-turned : (p : Problem) (numbers supports : List ℕ) (k a b y : ℕ) → On p numbers supports k a b y → On p numbers supports k b a y
 on-turned p numbers supports k a b y o =

@@ -2,7 +2,7 @@
 use mathlib.Core.Path.{_≡_, refl, sym, ap, ap₂, _∙_, subst}
 use mathlib.Core.Bool.{Bool, true, false, not}
 use mathlib.Core.List.{List, [], _∷_, _++_, map, List·Memᴰ, List·Memᴰ·head, List·Memᴰ·tail, List·Memᴰ·not-nil}
-use mathlib.Core.Logic.{inl, inr, ⊎-elim}
+use mathlib.Core.Logic.{_⊎_, inl, inr, ⊎-elim}
 use Prim.Native.Nat.{ℕ, suc, _+_, _-_, _*_, _≤_, _<_}
 use native.Mathlib.Nat.{not-suc-le-zero, le-of-suc-le-suc}
 use native.Mathlib.Omega.{arith}
@@ -12,7 +12,7 @@ use lib.Seq.{drop-cons, drop-length}
 use Rattle.model.specs.Lists.{all, any, at, same, both, either}
 use Rattle.model.specs.ValueSets.{has, maskOf, commonMask, withoutMask, members, lowestOf}
 use Rattle.model.specs.Problem.{Problem}
-use Rattle.model.proofs.Lists.{T-ext, not-of, both-i, both-l, both-r, all-e, all-i, mem-at, either-l, T-dec}
+use Rattle.model.proofs.Lists.{T-ext, of-T, T-of, not-of, both-i, both-l, both-r, all-e, all-i, mem-at, either-l, T-dec}
 use Rattle.model.proofs.Sets.{has-mask, mask-lt, mask-e, members-i, members-e}
 use Rattle.model.proofs.Lowest.{lowest-in, without-e, without-less}
 use Rattle.model.specs.WellFormed.{GoodConstraint}
@@ -93,7 +93,7 @@ module _ (p : Problem) (w : Stated p) where
   three-blocked (a ∷ b ∷ e ∷ f ∷ r) h = absurd (omega arith)
 
 -- ---- a walk
-module _ (p : Problem) (vs numbers supports codes : List ℕ) (short k ahead key a b e : ℕ) (s : Walking p vs numbers supports codes short k ahead key a b e) where
+module _ (p : Problem) (vs numbers supports codes moves : List ℕ) (k ahead key a b e : ℕ) (s : Walking p vs numbers supports codes moves k ahead key a b e) where
   w : Stated p
   w = s .lent .ready .framed .stated
 
@@ -101,12 +101,11 @@ module _ (p : Problem) (vs numbers supports codes : List ℕ) (short k ahead key
   g = good p (s .lent .ready .framed .stated) k (s .chosen .inside)
 
   -- its last step: the three codes are those of the image
-  walked-triple : Triple p numbers supports short a b e
+  pub walked-triple : Triple p numbers supports a b e
   walked-triple =
       let m : (y : ℕ) → List·Memᴰ y (a ∷ b ∷ e ∷ []) → MaybePair p y = λ y i. three-pairs p _ (codes-pairs p codes (constraintAt p k .scope) vs (s .lent .coded) (g .inside) (s .chosen .begun)) y (subst (List·Memᴰ y) (s .shown) i) in
       record {
         ready = s .lent .ready;
-        shorts = s .lent .shorts;
         first = m a (List·Memᴰ·head refl);
         second = m b (List·Memᴰ·tail (List·Memᴰ·head refl));
         third = m e (List·Memᴰ·tail (List·Memᴰ·tail (List·Memᴰ·head refl)));
@@ -132,7 +131,7 @@ module _ (p : Problem) (vs numbers supports codes : List ℕ) (short k ahead key
 
   -- one step further
   further : (n : ahead ≡ 0 → ⊥) (v : ℕ) → T (has (at (p .initial) (at (constraintAt p k .scope) (length vs))) v) → (ahead ≡ 1 → any (same (vs ++ (v ∷ []))) (constraintAt p k .rows) ≡ false) →
-      Walking p (vs ++ (v ∷ [])) numbers supports codes short k (ahead - 1) (16 * key + v) b e (at codes (16 * at (constraintAt p k .scope) (length vs) + v))
+      Walking p (vs ++ (v ∷ [])) numbers supports codes moves k (ahead - 1) (16 * key + v) b e (at codes (16 * at (constraintAt p k .scope) (length vs) + v))
   further n v t r =
       let c = constraintAt p k in
       let z = codes-length codes (c .scope) vs (omega (arith, has-next n)) in
@@ -249,7 +248,7 @@ pub choices-over : (p : Problem) (vs codes : List ℕ) (k ahead set : ℕ) → C
 choices-over p vs codes k ahead set c z = all-over _ set _ (c .whole) z
 
 -- as the code takes it: the variable x is next, v is the lowest of the values left, `new` the set without it
-module _ (p : Problem) (vs numbers supports codes : List ℕ) (short k ahead key a b e : ℕ) (s : Walking p vs numbers supports codes short k ahead key a b e) (n : ahead ≡ 0 → ⊥) where
+module _ (p : Problem) (vs numbers supports codes moves : List ℕ) (k ahead key a b e : ℕ) (s : Walking p vs numbers supports codes moves k ahead key a b e) (n : ahead ≡ 0 → ⊥) where
   pub next-place : (i : ℕ) → i ≡ length (constraintAt p k .scope) → (ahead ≤ i) × (i - ahead ≡ length vs) × (i - ahead < length (constraintAt p k .scope))
   next-place i h = (omega (arith, s .chosen .split), omega (arith, s .chosen .split), omega (arith, s .chosen .split))
 
@@ -258,21 +257,21 @@ module _ (p : Problem) (vs numbers supports codes : List ℕ) (short k ahead key
     low-in = subst (λ (u : ℕ). T (has set u)) (sym ev) (lowest-in set (c .small) m)
 
     low-small : v < 16
-    low-small = init-16 p (s .lent .ready .framed .stated) _ v (next-var p vs numbers supports codes short k ahead key a b e s n) (c .allowed _ low-in)
+    low-small = init-16 p (s .lent .ready .framed .stated) _ v (next-var p vs numbers supports codes moves k ahead key a b e s n) (c .allowed _ low-in)
 
     pub next-less : new < set
     next-less = subst (λ (w : ℕ). w < set) (sym en) (without-less set v (c .small) low-in)
 
     pub next-spot : 16 * x + v < 256
-    next-spot = omega (arith, ex, next-var p vs numbers supports codes short k ahead key a b e s n, low-small, s .lent .ready .framed .stated .few)
+    next-spot = omega (arith, ex, next-var p vs numbers supports codes moves k ahead key a b e s n, low-small, s .lent .ready .framed .stated .few)
 
     pub next-key : 16 * key + v < 4096
     next-key = omega (arith, chosen-key p vs codes numbers supports k ahead key (s .lent .ready) (s .chosen) n, low-small)
 
-    pub next-walk : (code : ℕ) → code ≡ at codes (16 * x + v) → Walking p (vs ++ (v ∷ [])) numbers supports codes short k (ahead - 1) (16 * key + v) b e code
+    pub next-walk : (code : ℕ) → code ≡ at codes (16 * x + v) → Walking p (vs ++ (v ∷ [])) numbers supports codes moves k (ahead - 1) (16 * key + v) b e code
     next-walk code h =
-        subst (Walking p (vs ++ (v ∷ [])) numbers supports codes short k (ahead - 1) (16 * key + v) b e) (sym (h ∙ ap (λ (y : ℕ). at codes (16 * y + v)) ex))
-        (further p vs numbers supports codes short k ahead key a b e s n v (c .allowed _ low-in) (c .absent _ low-in))
+        subst (Walking p (vs ++ (v ∷ [])) numbers supports codes moves k (ahead - 1) (16 * key + v) b e) (sym (h ∙ ap (λ (y : ℕ). at codes (16 * y + v)) ex))
+        (further p vs numbers supports codes moves k ahead key a b e s n v (c .allowed _ low-in) (c .absent _ low-in))
 
     module _ (r : Bool) (h : r ≡ keeps p codes (constraintAt p k) (drop (length (vs ++ (v ∷ []))) (constraintAt p k .scope)) (vs ++ (v ∷ []))) where
       answer : keeps p codes (constraintAt p k) (drop (suc (length vs)) (constraintAt p k .scope)) (vs ++ (lowestOf set ∷ [])) ≡ r
@@ -292,16 +291,17 @@ module _ (p : Problem) (vs numbers supports codes : List ℕ) (short k ahead key
           })
 
 -- at the last variable: the two codes last chosen beside the images of its pairs
-module _ (p : Problem) (vs numbers supports codes : List ℕ) (short k ahead key a b e x set : ℕ) (s : Walking p vs numbers supports codes short k ahead key a b e) (one : ahead ≡ 1) (ex : x ≡ at (constraintAt p k .scope) (length vs)) (c : Choices p vs codes k ahead set) where
+module _ (p : Problem) (vs numbers supports codes moves : List ℕ) (k ahead key a b e x set : ℕ) (s : Walking p vs numbers supports codes moves k ahead key a b e) (one : ahead ≡ 1) (ex : x ≡ at (constraintAt p k .scope) (length vs)) (c : Choices p vs codes k ahead set) where
   some : ahead ≡ 0 → ⊥
   some z = omega arith
 
-  pub last-beside : Beside p numbers supports codes short x set b e
+  pub last-beside : Beside p numbers supports codes x set b e
   last-beside =
-      let t = walked-triple p vs numbers supports codes short k ahead key a b e s in
+      let t = walked-triple p vs numbers supports codes moves k ahead key a b e s in
       record {
-        lent = s .lent;
-        variable = subst (λ (y : ℕ). y < p .variables) (sym ex) (next-var p vs numbers supports codes short k ahead key a b e s some);
+        ready = s .lent .ready;
+        coded = s .lent .coded;
+        variable = subst (λ (y : ℕ). y < p .variables) (sym ex) (next-var p vs numbers supports codes moves k ahead key a b e s some);
         values = λ v h. subst (λ (y : ℕ). T (has (at (p .initial) y) v)) (sym ex) (c .allowed v h);
         small = c .small;
         first = t .second;
@@ -311,19 +311,54 @@ module _ (p : Problem) (vs numbers supports codes : List ℕ) (short k ahead key
   last-is : (v : ℕ) → T (has set v) →
       blocked p (numberOf p b ∷ numberOf p e ∷ numberOf p (at codes (16 * x + v)) ∷ []) ≡ keeps p codes (constraintAt p k) (drop (suc (length vs)) (constraintAt p k .scope)) (vs ++ (v ∷ []))
   last-is v h =
-      let f = further p vs numbers supports codes short k ahead key a b e s some v (c .allowed v h) (c .absent v h) in
+      let f = further p vs numbers supports codes moves k ahead key a b e s some v (c .allowed v h) (c .absent v h) in
       ap (λ (y : ℕ). blocked p (numberOf p b ∷ numberOf p e ∷ numberOf p (at codes (16 * y + v)) ∷ [])) ex
-      ∙ walked p (vs ++ (v ∷ [])) numbers supports codes short k (ahead - 1) (16 * key + v) b e _ f (omega arith)
+      ∙ walked p (vs ++ (v ∷ [])) numbers supports codes moves k (ahead - 1) (16 * key + v) b e _ f (omega arith)
       ∙ ap (λ (i : ℕ). keeps p codes (constraintAt p k) (drop i (constraintAt p k .scope)) (vs ++ (v ∷ []))) (length-snoc vs v)
 
   pub last-all : (r : Bool) → r ≡ allBlocked p codes x b e (members set) → r ≡ keeps p codes (constraintAt p k) (drop (length vs) (constraintAt p k .scope)) vs
   last-all r q = q ∙ all-ext _ _ (members set) (λ v m. last-is v (members-e set v m .1)) ∙ c .whole
 
+-- at the last variable but one: the choices for the last two that make no row are blocked
+module _ (p : Problem) (vs numbers supports codes moves : List ℕ) (k ahead key a b e : ℕ) (s : Walking p vs numbers supports codes moves k ahead key a b e) (two : ahead ≡ 2) where
+  two-some : ahead ≡ 0 → ⊥
+  two-some z = omega arith
+
+  two-more : ahead ≡ 1 → ⊥
+  two-more z = omega arith
+
+  pub carried-kept : ((v u : ℕ) → T (has (at (p .initial) (at (constraintAt p k .scope) (length vs))) v) → T (has (at (p .initial) (at (constraintAt p k .scope) (suc (length vs)))) u) →
+      T (blocked p (numberOf p e ∷ numberOf p (at codes (16 * at (constraintAt p k .scope) (length vs) + v)) ∷ numberOf p (at codes (16 * at (constraintAt p k .scope) (suc (length vs)) + u)) ∷ []))
+      ⊎ T (has (at supports (256 * k + (16 * key + v))) u)) →
+      true ≡ keeps p codes (constraintAt p k) (drop (length vs) (constraintAt p k .scope)) vs
+  carried-kept h =
+      sym (of-T _ (all-i (λ v. keeps p codes (constraintAt p k) (drop (suc (length vs)) (constraintAt p k .scope)) (vs ++ (v ∷ []))) (members (at (p .initial) (at (constraintAt p k .scope) (length vs))))
+      (λ v m. one v (members-e _ v m .1))))
+      ∙ sym (keeps-here p vs codes numbers supports k ahead key (s .lent .ready) (s .chosen) two-some)
+    where
+      one : (v : ℕ) → T (has (at (p .initial) (at (constraintAt p k .scope) (length vs))) v) → T (keeps p codes (constraintAt p k) (drop (suc (length vs)) (constraintAt p k .scope)) (vs ++ (v ∷ [])))
+      one v t =
+          let c = constraintAt p k in
+          let x = at (c .scope) (suc (length vs)) in
+          let lacks : ℕ → Bool = λ u. not (has (at supports (256 * k + (16 * key + v))) u) in
+          let set = commonMask (at (p .initial) x) (maskOf lacks) in
+          let z = further p vs numbers supports codes moves k ahead key a b e s two-some v t (λ o. absurd (two-more o)) in
+          let n : ahead - 1 ≡ 0 → ⊥ = λ o. omega arith in
+          let o : ahead - 1 ≡ 1 = omega arith in
+          let ex : x ≡ at (c .scope) (length (vs ++ (v ∷ []))) = ap (at (c .scope)) (sym (length-snoc vs v)) in
+          let left = made-last p (vs ++ (v ∷ [])) codes numbers supports k (ahead - 1) (16 * key + v) x (s .lent .ready) (z .chosen) n ex (at (p .initial) x) refl (maskOf lacks) set refl refl o in
+          T-of _
+          (sym ((last-all p (vs ++ (v ∷ [])) numbers supports codes moves k (ahead - 1) (16 * key + v) b e _ x set z o ex left true
+          (sym (of-T _ (all-i _ (members set) (λ u m.
+          let q = mask-e _ u (members-e set u m .1) .1 in
+          ⊎-elim (λ y. y) (λ y. absurd (T-not (has (at supports (256 * k + (16 * key + v))) u) (mask-e lacks u (both-r (has (at (p .initial) x) u) _ q) .1) y)) (h v u t (both-l (has (at (p .initial) x) u) _ q)))))))
+          ∙ ap (λ (i : ℕ). keeps p codes c (drop i (c .scope)) (vs ++ (v ∷ []))) (length-snoc vs v)))
+
 -- before the first variable
-pub walk-start : (p : Problem) (numbers supports codes : List ℕ) (short k ahead : ℕ) → Lent p numbers supports codes short → k < length (p .constraints) → ahead ≡ length (constraintAt p k .scope) →
-    Walking p [] numbers supports codes short k ahead 0 255 255 255
+pub walk-start : (p : Problem) (numbers supports codes moves : List ℕ) (k ahead : ℕ) → Lent p numbers supports codes moves → k < length (p .constraints) → ahead ≡ length (constraintAt p k .scope) →
+    Walking p [] numbers supports codes moves k ahead 0 255 255 255
 unfolding codesAt
-walk-start p numbers supports codes short k ahead l h e =
+walk-start p numbers supports codes moves k ahead l h e =
     record {
       lent = l;
       chosen = record { inside = h; split = omega arith; begun = tt; keyed = sym packed-none };

@@ -9,7 +9,7 @@ use lib.Dec.{T, eqb, ltb}
 use Rattle.model.specs.Lists.{all, any, at, same, both, either, below, choose}
 use Rattle.model.specs.ValueSets.{has, members}
 use Rattle.model.specs.Problem.{Problem, Constraint, pair, forbidden, within}
-use Rattle.layout.specs.Layout.{constraintAt, imageCode}
+use Rattle.layout.specs.Layout.{constraintAt, imageCode, pairCode}
 use Rattle.symmetry.specs.Table.{Framed, Ready}
 
 -- some forbidden set lies among the pairs
@@ -62,26 +62,21 @@ pub record LookedUp (c : Constraint) (a b e i key : ℕ) : Type 0 where
   pub keyed : key ≡ packed (map (valueIn a b e) (take i (c .scope)))
   pub small : (j : ℕ) → j < i → valueIn a b e (at (c .scope) j) < 16
 
--- `short`: the set of the constraints on fewer than three variables
-abbrev pub Short : Problem → ℕ → Type 0
-Short p short = (k : ℕ) → has short k ≡ both (ltb k (length (p .constraints))) (ltb (length (constraintAt p k .scope)) 3)
-
--- every constraint whose scope lies among three variables is a candidate
-pub record Candidates (p : Problem) (x y z set : ℕ) : Type 0 where
-  pub few : set < 2 ^ length (p .constraints)
-  pub whole : (k : ℕ) → k < length (p .constraints) → T (all (λ u. any (eqb u) (x ∷ y ∷ z ∷ [])) (constraintAt p k .scope)) → T (has set k)
-
-pub record Triple (p : Problem) (numbers supports : List ℕ) (short a b e : ℕ) : Type 0 where
+pub record Triple (p : Problem) (numbers supports : List ℕ) (a b e : ℕ) : Type 0 where
   pub ready : Ready p numbers supports
-  pub shorts : Short p short
   pub first : MaybePair p a
   pub second : MaybePair p b
   pub third : MaybePair p e
 
--- every constraint that refuses three pairs is still to be asked
-pub record Pending (p : Problem) (a b e set : ℕ) : Type 0 where
-  pub few : set < 2 ^ length (p .constraints)
-  pub whole : (k : ℕ) → k < length (p .constraints) → T (refusedBy (constraintAt p k) a b e) → T (has set k)
+-- whether a constraint of a set refuses three pairs
+pub record Refusing (p : Problem) (a b e set : ℕ) (r : Bool) : Type 0 where
+  pub yes : r ≡ true → T (blocked p (numberOf p a ∷ numberOf p b ∷ numberOf p e ∷ []))
+  pub no : r ≡ false → (k : ℕ) → k < length (p .constraints) → T (has set k) → T (refusedBy (constraintAt p k) a b e) → ⊥
+
+-- every constraint of a set that refuses three pairs is still to be asked
+pub record Pending (p : Problem) (a b e set rest : ℕ) : Type 0 where
+  pub few : rest < 2 ^ length (p .constraints)
+  pub whole : (k : ℕ) → k < length (p .constraints) → T (has set k) → T (refusedBy (constraintAt p k) a b e) → T (has rest k)
 
 -- ---- the walk of a constraint's forbidden sets
 unfoldable pub codesAt : List ℕ → List ℕ → List ℕ → List ℕ
@@ -108,11 +103,29 @@ lastThree (a ∷ []) = 255 ∷ 255 ∷ a ∷ []
 lastThree (a ∷ b ∷ []) = 255 ∷ a ∷ b ∷ []
 lastThree (a ∷ b ∷ e ∷ r) = a ∷ b ∷ e ∷ []
 
+-- no two numbers have one image
+abbrev pub Apart : Problem → List ℕ → Type 0
+Apart p codes = (i j : ℕ) → i < p .variables * p .values → j < p .variables * p .values → at codes (pairCode (p .values) i) ≡ at codes (pairCode (p .values) j) → i ≡ j
+
+-- at the code of the image of each of the first q numbers its value
+abbrev pub BackTo : Problem → List ℕ → List ℕ → ℕ → Type 0
+BackTo p codes back q = (j : ℕ) → j < q → at back (at codes (pairCode (p .values) j)) ≡ j % p .values
+
+-- all pairs of variable x go to variable y, unless that is 15
+abbrev pub Target : Problem → List ℕ → ℕ → ℕ → Type 0
+Target p codes x y = (v : ℕ) → T (has (at (p .initial) x) v) → (y ≡ 15 → ⊥) → at codes (16 * x + v) / 16 ≡ y
+
+-- `moves`: at the code of the image of each pair its value; from 192 on, for each variable the one that all of its pairs go to, or 15
+pub record Moved (p : Problem) (codes moves : List ℕ) : Type 0 where
+  pub small : (i : ℕ) → at moves i < 16
+  pub back : (x v : ℕ) → x < p .variables → T (has (at (p .initial) x) v) → at moves (at codes (16 * x + v)) ≡ v
+  pub to : (x : ℕ) → x < p .variables → Target p codes x (at moves (192 + x))
+
 -- what the walks of the forbidden sets are lent
-pub record Lent (p : Problem) (numbers supports codes : List ℕ) (short : ℕ) : Type 0 where
+pub record Lent (p : Problem) (numbers supports codes moves : List ℕ) : Type 0 where
   pub ready : Ready p numbers supports
-  pub shorts : Short p short
   pub coded : Coded p codes
+  pub moved : Moved p codes moves
 
 -- values vs are chosen for the first variables of constraint k, for those `ahead` they are to come
 pub record Chosen (p : Problem) (vs : List ℕ) (k ahead key : ℕ) : Type 0 where
@@ -121,8 +134,8 @@ pub record Chosen (p : Problem) (vs : List ℕ) (k ahead key : ℕ) : Type 0 whe
   pub begun : Begun p (constraintAt p k .scope) vs
   pub keyed : key ≡ packed vs
 
-pub record Walking (p : Problem) (vs numbers supports codes : List ℕ) (short k ahead key a b e : ℕ) : Type 0 where
-  pub lent : Lent p numbers supports codes short
+pub record Walking (p : Problem) (vs numbers supports codes moves : List ℕ) (k ahead key a b e : ℕ) : Type 0 where
+  pub lent : Lent p numbers supports codes moves
   pub chosen : Chosen p vs k ahead key
   pub shown : a ∷ b ∷ e ∷ [] ≡ lastThree (codesAt codes (constraintAt p k .scope) vs)
   pub absent : ahead ≡ 0 → any (same vs) (constraintAt p k .rows) ≡ false
@@ -154,13 +167,35 @@ pub record On (p : Problem) (numbers supports : List ℕ) (k a b y : ℕ) : Type
   pub has-second : T (any (eqb (b / 16)) (constraintAt p k .scope))
   pub has-third : T (any (eqb y) (constraintAt p k .scope))
 
+-- constraint m has the variable of pair a and the variables y and z
+pub record Across (p : Problem) (numbers supports : List ℕ) (m a y z : ℕ) : Type 0 where
+  pub ready : Ready p numbers supports
+  pub inside : m < length (p .constraints)
+  pub first : MaybePair p a
+  pub has-first : T (any (eqb (a / 16)) (constraintAt p m .scope))
+  pub has-second : T (any (eqb y) (constraintAt p m .scope))
+  pub has-third : T (any (eqb z) (constraintAt p m .scope))
+
+-- the pairs e of y and f of z are blocked with pair a, or the values that they come from stand in the sets from `from` on
+abbrev pub FromRow : Problem → List ℕ → List ℕ → ℕ → ℕ → ℕ → ℕ → Type 0
+FromRow p supports moves from a e f = T (blocked p (numberOf p a ∷ numberOf p e ∷ numberOf p f ∷ [])) ⊎ T (has (at supports (from + at moves e)) (at moves f))
+
+-- the same for each f of z
+abbrev pub FromRows : Problem → List ℕ → List ℕ → ℕ → ℕ → ℕ → ℕ → Type 0
+FromRows p supports moves from a e z = (u : ℕ) → T (has (at (p .initial) z) u) → FromRow p supports moves from a e (16 * z + u)
+
+-- the values of z in the set at i, for the pair e, come from values of the set that it comes from
+abbrev pub SetFrom : Problem → List ℕ → List ℕ → ℕ → ℕ → ℕ → ℕ → Type 0
+SetFrom p supports moves from i e z = (u : ℕ) → T (has (at (p .initial) z) u) → T (has (at supports i) u) → T (has (at supports (from + at moves e)) (at moves (16 * z + u)))
+
 -- the image of each (x, v) is blocked with the pairs a and b
 abbrev pub allBlocked : Problem → List ℕ → ℕ → ℕ → ℕ → List ℕ → Bool
 allBlocked p codes x a b vs = all (λ v. blocked p (numberOf p a ∷ numberOf p b ∷ numberOf p (at codes (16 * x + v)) ∷ [])) vs
 
 -- values of the initial set of x, and two pairs
-pub record Beside (p : Problem) (numbers supports codes : List ℕ) (short x set a b : ℕ) : Type 0 where
-  pub lent : Lent p numbers supports codes short
+pub record Beside (p : Problem) (numbers supports codes : List ℕ) (x set a b : ℕ) : Type 0 where
+  pub ready : Ready p numbers supports
+  pub coded : Coded p codes
   pub variable : x < p .variables
   pub values : (v : ℕ) → T (has set v) → T (has (at (p .initial) x) v)
   pub small : set < 2 ^ 16

@@ -2,17 +2,16 @@
 ghost use mathlib.Core.Path.{_≡_};
 ghost use mathlib.Core.List.{[], _∷_};
 ghost use mathlib.Core.Bool.{not};
-ghost use Prim.Native.Nat.{ℕ, _+_, _*_, _≤_, _<_};
+ghost use Prim.Native.Nat.{ℕ, _+_, _*_, _^_, _≤_, _<_};
 ghost use lib.ListN.{length};
 ghost use Rattle.model.specs.Lists.{at};
 ghost use Rattle.model.specs.ValueSets.{has, maskOf};
 ghost use Rattle.model.specs.Problem.{Problem};
 ghost use Rattle.layout.specs.Layout.{constraintAt};
 ghost use Rattle.symmetry.specs.Table.{Framed, Ready};
-ghost use Rattle.symmetry.specs.Forbidden.{Short, Candidates, Triple, clashes, valueIn, refusedBy, blocked as blockedBy, numberOf};
+ghost use Rattle.symmetry.specs.Forbidden.{Refusing, Triple, clashes, valueIn, refusedBy, blocked as blockedBy, numberOf};
 use super::table::number;
 use crate::Numbers;
-use layout::CONSTRAINTS;
 use layout::SCOPES;
 use model::ValueSet;
 
@@ -46,34 +45,6 @@ pub fn scope_at(numbers: &Numbers, k: usize, i: usize) -> usize
     ensures { λ r. ⌜ ((p : Problem) → Framed p (now (numbers .entry)) → k < length (p .constraints) → i < length (constraintAt p k .scope) → r ≡ at (constraintAt p k .scope) i) ⌝ }
 {
     (number(numbers, SCOPES + k) >> (8 * i + 8)) % 256
-}
-
-// The set of the constraints on fewer than three variables.
-pub fn short_scopes(numbers: &Numbers) -> usize
-    requires { ⌜ ((p : Problem) × Framed p (now numbers)) ⌝ }
-    ensures { λ r. ⌜ ((p : Problem) → Framed p (now (numbers .entry)) → Short p r) ⌝ }
-{
-    let c = number(numbers, CONSTRAINTS);
-    let mut set = 0usize;
-    let mut k = 0;
-    while k < c {
-        if arity(numbers, k) < 3 {
-            set = set | (1usize << k);
-        }
-        k += 1;
-    }
-    set
-}
-
-// Constraints among which are all whose scope lies among three variables.
-fn candidates(numbers: &Numbers, short: usize, x: usize, y: usize, z: usize) -> usize
-    requires { ⌜ (x < 16) × (y < 16) × (z < 16) ⌝ }
-    ensures { λ r. ⌜ ((p : Problem) → Framed p (now (numbers .entry)) → Short p short → Candidates p x y z r) ⌝ }
-{
-    let s = number(numbers, x);
-    let t = number(numbers, y);
-    let u = number(numbers, z);
-    ((s | t | u) & short) | (s & t & u)
 }
 
 // Two pairs of one variable.
@@ -125,17 +96,34 @@ fn refused(
     !support(supports, 256 * k + key / 16).contains((key % 16) as u16)
 }
 
-// Whether some forbidden set lies among three pairs.
-pub fn blocked(
+// Whether a constraint of a set refuses three pairs.
+fn any_refuses(
     numbers: &Numbers,
     supports: &[u16; 8192],
-    short: usize,
+    set: usize,
     a: usize,
     b: usize,
     e: usize,
 ) -> bool
-    requires { ⌜ ((p : Problem) × Triple p (now numbers) (now supports) short a b e) ⌝ }
-    ensures { λ r. ⌜ ((p : Problem) → Triple p (now (numbers .entry)) (now (supports .entry)) short a b e → r ≡ blockedBy p (numberOf p a ∷ numberOf p b ∷ numberOf p e ∷ [])) ⌝ }
+    requires { ⌜ ((p : Problem) × Triple p (now numbers) (now supports) a b e × (set < 2 ^ length (p .constraints))) ⌝ }
+    ensures { λ r. ⌜ ((p : Problem) → Triple p (now (numbers .entry)) (now (supports .entry)) a b e → set < 2 ^ length (p .constraints) → Refusing p a b e set r) ⌝ }
+{
+    let mut pending = set;
+    while pending != 0 {
+        let k = usize::trailing_zeros(pending) as usize;
+        if refused(numbers, supports, k, a, b, e) {
+            return true;
+        }
+        pending = pending & (pending - 1);
+    }
+    false
+}
+
+// Whether some forbidden set lies among three pairs: the constraints on two of their variables are asked first, as most often one of
+// these refuses.
+pub fn blocked(numbers: &Numbers, supports: &[u16; 8192], a: usize, b: usize, e: usize) -> bool
+    requires { ⌜ ((p : Problem) × Triple p (now numbers) (now supports) a b e) ⌝ }
+    ensures { λ r. ⌜ ((p : Problem) → Triple p (now (numbers .entry)) (now (supports .entry)) a b e → r ≡ blockedBy p (numberOf p a ∷ numberOf p b ∷ numberOf p e ∷ [])) ⌝ }
 {
     if clash(a, b) {
         return true;
@@ -146,13 +134,11 @@ pub fn blocked(
     if clash(b, e) {
         return true;
     }
-    let mut pending = candidates(numbers, short, a / 16, b / 16, e / 16);
-    while pending != 0 {
-        let k = usize::trailing_zeros(pending) as usize;
-        if refused(numbers, supports, k, a, b, e) {
-            return true;
-        }
-        pending = pending & (pending - 1);
+    let s = number(numbers, a / 16);
+    let t = number(numbers, b / 16);
+    let u = number(numbers, e / 16);
+    if any_refuses(numbers, supports, (s & t) | (s & u) | (t & u), a, b, e) {
+        return true;
     }
-    false
+    any_refuses(numbers, supports, s | t | u, a, b, e)
 }

@@ -48,6 +48,20 @@ fn missing(supports: &[u16; 8192], k: usize, a: usize, b: usize, y: usize) -> Va
     ValueSet::EMPTY
 }
 
+// The same for pairs in any order.
+pub fn refusing(supports: &[u16; 8192], k: usize, a: usize, b: usize, y: usize) -> ValueSet
+    requires { ⌜ k < 32 ⌝ }
+    ensures { λ r. ⌜ ((p : Problem) (numbers : List ℕ) → On p numbers (now (supports .entry)) k a b y → Sure p a b y (r .bits)) ⌝ }
+{
+    if a / 16 < b / 16 {
+        return missing(supports, k, a, b, y);
+    }
+    if b / 16 < a / 16 {
+        return missing(supports, k, b, a, y);
+    }
+    ValueSet::EMPTY
+}
+
 // Values of variable y whose pairs are surely blocked with the pairs a and b, by a constraint on the three variables.
 fn surely(numbers: &Numbers, supports: &[u16; 8192], a: usize, b: usize, y: usize) -> ValueSet
     requires { ⌜ ((p : Problem) × Ready p (now numbers) (now supports) × MaybePair p a × MaybePair p b × (y < 16)) ⌝ }
@@ -57,14 +71,7 @@ fn surely(numbers: &Numbers, supports: &[u16; 8192], a: usize, b: usize, y: usiz
     if set == 0 {
         return ValueSet::EMPTY;
     }
-    let k = usize::trailing_zeros(set) as usize;
-    if a / 16 < b / 16 {
-        return missing(supports, k, a, b, y);
-    }
-    if b / 16 < a / 16 {
-        return missing(supports, k, b, a, y);
-    }
-    ValueSet::EMPTY
+    refusing(supports, usize::trailing_zeros(set) as usize, a, b, y)
 }
 
 // The same, where those of variable z are known.
@@ -91,17 +98,16 @@ pub fn surely_after(
 pub fn third_blocked(
     numbers: &Numbers,
     supports: &[u16; 8192],
-    short: usize,
     a: usize,
     b: usize,
     e: usize,
     sure: ValueSet,
 ) -> bool
-    requires { ⌜ ((p : Problem) × Triple p (now numbers) (now supports) short a b e) ⌝ }
-    ensures { λ r. ⌜ ((p : Problem) → Triple p (now (numbers .entry)) (now (supports .entry)) short a b e → PairCode p e → Sure p a b (e / 16) (sure .bits) → r ≡ blockedBy p (numberOf p a ∷ numberOf p b ∷ numberOf p e ∷ [])) ⌝ }
+    requires { ⌜ ((p : Problem) × Triple p (now numbers) (now supports) a b e) ⌝ }
+    ensures { λ r. ⌜ ((p : Problem) → Triple p (now (numbers .entry)) (now (supports .entry)) a b e → PairCode p e → Sure p a b (e / 16) (sure .bits) → r ≡ blockedBy p (numberOf p a ∷ numberOf p b ∷ numberOf p e ∷ [])) ⌝ }
 {
     if sure.contains((e % 16) as u16) {
         return true;
     }
-    blocked(numbers, supports, short, a, b, e)
+    blocked(numbers, supports, a, b, e)
 }

@@ -9,27 +9,23 @@ ghost use Rattle.model.specs.Problem.{Problem};
 ghost use Rattle.layout.specs.Layout.{constraintAt};
 ghost use Rattle.symmetry.specs.Table.{Ready};
 ghost use Rattle.symmetry.specs.Forbidden.{Lent, Chosen, Walking, Choices, Beside, keeps, allBlocked, doublings};
+use super::carried::carried;
 use super::forbidden::arity;
 use super::forbidden::clash;
 use super::forbidden::complement;
 use super::forbidden::scope_at;
 use super::forbidden::support;
+use super::moves::TO;
+use super::moves::place;
 use super::sure::surely_after;
 use super::sure::third_blocked;
 use super::table::initial;
 use super::table::number;
-use super::table::wide;
+use super::two::pairs_blocked;
 use crate::Numbers;
 use layout::CONSTRAINTS;
 use layout::VARIABLES;
 use model::ValueSet;
-
-fn code(codes: &[u8; 256], i: usize) -> usize
-    requires { ⌜ i < 256 ⌝ }
-    ensures { λ r. ⌜ r ≡ at (now (codes .entry)) i ⌝ }
-{
-    wide(codes[i])
-}
 
 // The values to try for the next variable x of constraint k: those of its initial set, less for the last variable those of its rows.
 fn choices(
@@ -57,15 +53,17 @@ fn all_blocked(
     numbers: &Numbers,
     supports: &[u16; 8192],
     codes: &[u8; 256],
-    short: usize,
     x: usize,
     set: ValueSet,
     a: usize,
     b: usize,
 ) -> bool
-    requires { ⌜ ((p : Problem) × Beside p (now numbers) (now supports) (now codes) short x (set .bits) a b) ⌝ }
-    ensures { λ r. ⌜ ((p : Problem) → Beside p (now (numbers .entry)) (now (supports .entry)) (now (codes .entry)) short x (set .bits) a b → r ≡ allBlocked p (now (codes .entry)) x a b (members (set .bits))) ⌝ }
+    requires { ⌜ ((p : Problem) × Beside p (now numbers) (now supports) (now codes) x (set .bits) a b) ⌝ }
+    ensures { λ r. ⌜ ((p : Problem) → Beside p (now (numbers .entry)) (now (supports .entry)) (now (codes .entry)) x (set .bits) a b → r ≡ allBlocked p (now (codes .entry)) x a b (members (set .bits))) ⌝ }
 {
+    if a == 255 {
+        return pairs_blocked(numbers, supports, codes, x, set, b);
+    }
     if clash(a, b) {
         return true;
     }
@@ -75,10 +73,10 @@ fn all_blocked(
     while !rest.is_empty() {
         let v = rest.lowest();
         rest = rest.without(v as u16);
-        let e = code(codes, 16 * x + v as usize);
+        let e = place(codes, 16 * x + v as usize);
         sure = surely_after(numbers, supports, a, b, e / 16, y, sure);
         y = e / 16;
-        if !third_blocked(numbers, supports, short, a, b, e, sure) {
+        if !third_blocked(numbers, supports, a, b, e, sure) {
             return false;
         }
     }
@@ -92,20 +90,23 @@ fn walk(
     numbers: &Numbers,
     supports: &[u16; 8192],
     codes: &[u8; 256],
-    short: usize,
+    moves: &[u8; 256],
     k: usize,
     ahead: usize,
     key: usize,
     a: usize,
     b: usize,
 ) -> bool
-    requires { ⌜ ((p : Problem) × (vs : List ℕ) × (z : ℕ) × Walking p vs (now numbers) (now supports) (now codes) short k ahead key z a b × (ahead ≡ 0 → ⊥)) ⌝ }
-    ensures { λ r. ⌜ ((p : Problem) (vs : List ℕ) (z : ℕ) → Walking p vs (now (numbers .entry)) (now (supports .entry)) (now (codes .entry)) short k ahead key z a b → (ahead ≡ 0 → ⊥) → r ≡ keeps p (now (codes .entry)) (constraintAt p k) (drop (length vs) (constraintAt p k .scope)) vs) ⌝ }
+    requires { ⌜ ((p : Problem) × (vs : List ℕ) × (z : ℕ) × Walking p vs (now numbers) (now supports) (now codes) (now moves) k ahead key z a b × (ahead ≡ 0 → ⊥)) ⌝ }
+    ensures { λ r. ⌜ ((p : Problem) (vs : List ℕ) (z : ℕ) → Walking p vs (now (numbers .entry)) (now (supports .entry)) (now (codes .entry)) (now (moves .entry)) k ahead key z a b → (ahead ≡ 0 → ⊥) → r ≡ keeps p (now (codes .entry)) (constraintAt p k) (drop (length vs) (constraintAt p k .scope)) vs) ⌝ }
 {
     let x = scope_at(numbers, k, arity(numbers, k) - ahead);
     let mut set = choices(numbers, supports, k, ahead, key, x);
     if ahead == 1 {
-        return all_blocked(numbers, supports, codes, short, x, set, a, b);
+        return all_blocked(numbers, supports, codes, x, set, a, b);
+    }
+    if carried(numbers, supports, moves, k, ahead, key, b) {
+        return true;
     }
     while !set.is_empty() {
         let v = set.lowest();
@@ -114,12 +115,12 @@ fn walk(
             numbers,
             supports,
             codes,
-            short,
+            moves,
             k,
             ahead - 1,
             16 * key + v as usize,
             b,
-            code(codes, 16 * x + v as usize),
+            place(codes, 16 * x + v as usize),
         ) {
             return false;
         }
@@ -132,10 +133,10 @@ pub fn constraints(
     numbers: &Numbers,
     supports: &[u16; 8192],
     codes: &[u8; 256],
-    short: usize,
+    moves: &[u8; 256],
 ) -> bool
-    requires { ⌜ ((p : Problem) × Lent p (now numbers) (now supports) (now codes) short) ⌝ }
-    ensures { λ r. ⌜ ((p : Problem) → Lent p (now (numbers .entry)) (now (supports .entry)) (now (codes .entry)) short → r ≡ all (λ c. keeps p (now (codes .entry)) c (c .scope) []) (p .constraints)) ⌝ }
+    requires { ⌜ ((p : Problem) × Lent p (now numbers) (now supports) (now codes) (now moves)) ⌝ }
+    ensures { λ r. ⌜ ((p : Problem) → Lent p (now (numbers .entry)) (now (supports .entry)) (now (codes .entry)) (now (moves .entry)) → r ≡ all (λ c. keeps p (now (codes .entry)) c (c .scope) []) (p .constraints)) ⌝ }
 {
     let c = number(numbers, CONSTRAINTS);
     let mut k = 0;
@@ -144,7 +145,7 @@ pub fn constraints(
             numbers,
             supports,
             codes,
-            short,
+            moves,
             k,
             arity(numbers, k),
             0,
@@ -163,25 +164,26 @@ fn doubles(
     numbers: &Numbers,
     supports: &[u16; 8192],
     codes: &[u8; 256],
-    short: usize,
+    moves: &[u8; 256],
     x: usize,
 ) -> bool
-    requires { ⌜ ((p : Problem) × Lent p (now numbers) (now supports) (now codes) short × (x < p .variables)) ⌝ }
-    ensures { λ r. ⌜ ((p : Problem) → Lent p (now (numbers .entry)) (now (supports .entry)) (now (codes .entry)) short → x < p .variables → r ≡ doublings p (now (codes .entry)) x (members (at (p .initial) x))) ⌝ }
+    requires { ⌜ ((p : Problem) × Lent p (now numbers) (now supports) (now codes) (now moves) × (x < p .variables)) ⌝ }
+    ensures { λ r. ⌜ ((p : Problem) → Lent p (now (numbers .entry)) (now (supports .entry)) (now (codes .entry)) (now (moves .entry)) → x < p .variables → r ≡ doublings p (now (codes .entry)) x (members (at (p .initial) x))) ⌝ }
 {
+    if place(moves, TO + x) != 15 {
+        return true;
+    }
     let mut rest = initial(numbers, x);
     while !rest.is_empty() {
         let v = rest.lowest();
         rest = rest.without(v as u16);
-        if !all_blocked(
+        if !pairs_blocked(
             numbers,
             supports,
             codes,
-            short,
             x,
             rest,
-            255,
-            code(codes, 16 * x + v as usize),
+            place(codes, 16 * x + v as usize),
         ) {
             return false;
         }
@@ -190,14 +192,19 @@ fn doubles(
 }
 
 // Whether the images of any two pairs of one variable are blocked.
-pub fn variables(numbers: &Numbers, supports: &[u16; 8192], codes: &[u8; 256], short: usize) -> bool
-    requires { ⌜ ((p : Problem) × Lent p (now numbers) (now supports) (now codes) short) ⌝ }
-    ensures { λ r. ⌜ ((p : Problem) → Lent p (now (numbers .entry)) (now (supports .entry)) (now (codes .entry)) short → r ≡ all (λ x. doublings p (now (codes .entry)) x (members (at (p .initial) x))) (below (p .variables))) ⌝ }
+pub fn variables(
+    numbers: &Numbers,
+    supports: &[u16; 8192],
+    codes: &[u8; 256],
+    moves: &[u8; 256],
+) -> bool
+    requires { ⌜ ((p : Problem) × Lent p (now numbers) (now supports) (now codes) (now moves)) ⌝ }
+    ensures { λ r. ⌜ ((p : Problem) → Lent p (now (numbers .entry)) (now (supports .entry)) (now (codes .entry)) (now (moves .entry)) → r ≡ all (λ x. doublings p (now (codes .entry)) x (members (at (p .initial) x))) (below (p .variables))) ⌝ }
 {
     let n = number(numbers, VARIABLES);
     let mut x = 0;
     while x < n {
-        if !doubles(numbers, supports, codes, short, x) {
+        if !doubles(numbers, supports, codes, moves, x) {
             return false;
         }
         x += 1;

@@ -8,13 +8,13 @@ use lib.Dec.{lit<}
 use lib.Count.{trailingZeros, trailing-le}
 use Rattle.model.specs.Lists.{at}
 use Rattle.symmetry.proofs.Codes.{variable-lt}
-use Rattle.symmetry.proofs.Surely.{sure-none, sure-turned, on-small, on-lowest, on-turned}
+use Rattle.symmetry.proofs.Surely.{sure-none, on-small, on-lowest}
 use borrow.Author.Needs.{needs}
 use Rattle.symmetry.proofs.sure.surely.Statement.{statement}
 use Rattle.symmetry.proofs.sure.surely.Tie as tie
 use Rattle.symmetry.proofs.sure.surely.Reads as reads
 use Rattle.symmetry.proofs.sure.surely.Lts as lts
-use Rattle.symmetry.proofs.sure.missing.Reads as missing-reads
+use Rattle.symmetry.proofs.sure.refusing.Reads as refusing-reads
 use Rattle.symmetry.proofs.table.number.Reads as number-reads
 
 -- src/sure.rt:54:15
@@ -40,29 +40,17 @@ found c = ap₂ bitAnd (ap₂ bitAnd (c .before .before .number .ensures) (c .be
 small : (c : tie.Else1) → trailingZeros 64 (bitAnd (bitAnd (c .before .before .before .number .result) (c .before .before .number2 .result)) (c .before .number3 .result)) < 32
 small c = let h = c .before .before .before .before .pre in on-small (h .0) _ _ (h .1) _ _ _ (h .2) (h .3) (h .4) _ (found (c .before)) (c .if1 .left)
 
--- src/sure.rt:58:13
-cast-k : tie.Need-cast-k
-cast-k c = record { fits = lt-of-le-of-lt (trailing-le 64 _) (lit< tt) }
+-- src/sure.rt:76:24
+cast-refusing : tie.Need-cast-refusing
+cast-refusing c = record { fits = lt-of-le-of-lt (trailing-le 64 _) (lit< tt) }
 
--- src/sure.rt:60:9
-missing-requires : tie.Need-missing-requires
-missing-requires c κs = small (c .before)
+-- src/sure.rt:76:5
+refusing-requires : tie.Need-refusing-requires
+refusing-requires c κs = small c
 
--- src/sure.rt:60:9
+-- src/sure.rt:68:1
 returns-2 : tie.Need-returns-2
-returns-2 c = λ p r ma mb. c .missing .ensures p _ (on-lowest p _ _ r _ _ _ ma mb (c .before .before .before .before .before .before .pre .4) _ (found (c .before .before .before)) (c .before .before .if1 .left)) (c .before .if2 .taken)
-
--- src/sure.rt:63:9
-missing-requires-2 : tie.Need-missing-requires-2
-missing-requires-2 c κs = small (c .before .before)
-
--- src/sure.rt:63:9
-returns-3 : tie.Need-returns-3
-returns-3 c = λ p r ma mb. sure-turned p _ _ _ _ (c .missing2 .ensures p _ (on-turned p _ _ _ _ _ _ (on-lowest p _ _ r _ _ _ ma mb (c .before .before .before .before .before .before .before .pre .4) _ (found (c .before .before .before .before)) (c .before .before .before .if1 .left))) (c .before .if3 .taken))
-
--- src/sure.rt:50:1
-returns-4 : tie.Need-returns-4
-returns-4 c = λ p r ma mb. sure-none p _ _ _
+returns-2 c = λ p r ma mb. c .refusing .ensures p _ (on-lowest p _ _ r _ _ _ ma mb (c .before .before .before .before .before .pre .4) _ (found (c .before .before)) (c .before .if1 .left))
 
 pub surely-spec : {M : Type 1} → statement M
 surely-spec =
@@ -72,9 +60,6 @@ surely-spec =
     number-requires-2
     number-requires-3
     returns
-    cast-k
-    missing-requires
-    returns-2
-    missing-requires-2
-    returns-3
-    returns-4)
+    cast-refusing
+    refusing-requires
+    returns-2)

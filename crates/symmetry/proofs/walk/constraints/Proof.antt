@@ -29,25 +29,25 @@ abbrev none : Constraint
 none = record { scope = []; rows = [] }
 
 abbrev Inv-loop : tie.InvT-loop
-Inv-loop numbers supports codes short c k₀ k = (p : Problem) → Lent p numbers supports codes short → (k ≤ length (p .constraints)) × (all (kept p codes) (drop k (p .constraints)) ≡ all (kept p codes) (p .constraints))
+Inv-loop numbers supports codes moves c k₀ k = (p : Problem) → Lent p numbers supports codes moves → (k ≤ length (p .constraints)) × (all (kept p codes) (drop k (p .constraints)) ≡ all (kept p codes) (p .constraints))
 
 abbrev μ-loop : tie.MeasureT-loop
-μ-loop numbers supports codes short c k₀ k = c - k
+μ-loop numbers supports codes moves c k₀ k = c - k
 
 -- src/walk.rt:131:9
 number-requires : tie.Need-number-requires Inv-loop μ-loop
 number-requires c κs = search needs
 
-inside : (c : tie.In-loop Inv-loop μ-loop) (p : Problem) → Lent p (now (c .before .before .before .args .numbers)) (now (c .before .before .before .args .supports)) (now (c .before .before .before .args .codes)) (c .before .before .before .args .short) → c .before .loop .k < length (p .constraints)
+inside : (c : tie.In-loop Inv-loop μ-loop) (p : Problem) → Lent p (now (c .before .before .before .args .numbers)) (now (c .before .before .before .args .supports)) (now (c .before .before .before .args .codes)) (now (c .before .before .before .args .moves)) → c .before .loop .k < length (p .constraints)
 inside c p l = omega (arith, c .before .before .number .ensures, l .ready .framed .numbered .constraints, c .loop-test .taken)
 
-start : (c : tie.After-arity Inv-loop μ-loop) (p : Problem) → Lent p (now (c .before .before .before .before .args .numbers)) (now (c .before .before .before .before .args .supports)) (now (c .before .before .before .before .args .codes)) (c .before .before .before .before .args .short) → Walking p [] (now (c .before .before .before .before .args .numbers)) (now (c .before .before .before .before .args .supports)) (now (c .before .before .before .before .args .codes)) (c .before .before .before .before .args .short) (c .before .before .loop .k) (c .arity .result) 0 255 255 255
+start : (c : tie.After-arity Inv-loop μ-loop) (p : Problem) → Lent p (now (c .before .before .before .before .args .numbers)) (now (c .before .before .before .before .args .supports)) (now (c .before .before .before .before .args .codes)) (now (c .before .before .before .before .args .moves)) → Walking p [] (now (c .before .before .before .before .args .numbers)) (now (c .before .before .before .before .args .supports)) (now (c .before .before .before .before .args .codes)) (now (c .before .before .before .before .args .moves)) (c .before .before .loop .k) (c .arity .result) 0 255 255 255
 start c p l = walk-start p _ _ _ _ _ _ l (inside (c .before) p l) (c .arity .ensures p (l .ready .framed) (inside (c .before) p l))
 
-some : (c : tie.After-arity Inv-loop μ-loop) (p : Problem) → Lent p (now (c .before .before .before .before .args .numbers)) (now (c .before .before .before .before .args .supports)) (now (c .before .before .before .before .args .codes)) (c .before .before .before .before .args .short) → c .arity .result ≡ 0 → ⊥
+some : (c : tie.After-arity Inv-loop μ-loop) (p : Problem) → Lent p (now (c .before .before .before .before .args .numbers)) (now (c .before .before .before .before .args .supports)) (now (c .before .before .before .before .args .codes)) (now (c .before .before .before .before .args .moves)) → c .arity .result ≡ 0 → ⊥
 some c p l z = omega (arith, c .arity .ensures p (l .ready .framed) (inside (c .before) p l), good p (l .ready .framed .stated) _ (inside (c .before) p l) .some)
 
-answer : (c : tie.After-walk Inv-loop μ-loop) (p : Problem) → Lent p (now (c .before .before .before .before .before .args .numbers)) (now (c .before .before .before .before .before .args .supports)) (now (c .before .before .before .before .before .args .codes)) (c .before .before .before .before .before .args .short) → kept p (now (c .before .before .before .before .before .args .codes)) (constraintAt p (c .before .before .before .loop .k)) ≡ c .walk .result
+answer : (c : tie.After-walk Inv-loop μ-loop) (p : Problem) → Lent p (now (c .before .before .before .before .before .args .numbers)) (now (c .before .before .before .before .before .args .supports)) (now (c .before .before .before .before .before .args .codes)) (now (c .before .before .before .before .before .args .moves)) → kept p (now (c .before .before .before .before .before .args .codes)) (constraintAt p (c .before .before .before .loop .k)) ≡ c .walk .result
 answer c p l = sym (c .walk .ensures p [] 255 (start (c .before) p l) (some (c .before) p l))
 
 -- src/walk.rt:133:5

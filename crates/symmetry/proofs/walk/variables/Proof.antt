@@ -22,19 +22,19 @@ abbrev kept : Problem → List ℕ → ℕ → Bool
 kept p codes x = doublings p codes x (members (at (p .initial) x))
 
 abbrev Inv-loop : tie.InvT-loop
-Inv-loop numbers supports codes short n x₀ x = (p : Problem) → Lent p numbers supports codes short → (x ≤ p .variables) × (all (kept p codes) (upFrom x (p .variables - x)) ≡ all (kept p codes) (below (p .variables)))
+Inv-loop numbers supports codes moves n x₀ x = (p : Problem) → Lent p numbers supports codes moves → (x ≤ p .variables) × (all (kept p codes) (upFrom x (p .variables - x)) ≡ all (kept p codes) (below (p .variables)))
 
 abbrev μ-loop : tie.MeasureT-loop
-μ-loop numbers supports codes short n x₀ x = n - x
+μ-loop numbers supports codes moves n x₀ x = n - x
 
 -- src/walk.rt:188:9
 number-requires : tie.Need-number-requires Inv-loop μ-loop
 number-requires c κs = search needs
 
-inside : (c : tie.In-loop Inv-loop μ-loop) (p : Problem) → Lent p (now (c .before .before .before .args .numbers)) (now (c .before .before .before .args .supports)) (now (c .before .before .before .args .codes)) (c .before .before .before .args .short) → c .before .loop .x < p .variables
+inside : (c : tie.In-loop Inv-loop μ-loop) (p : Problem) → Lent p (now (c .before .before .before .args .numbers)) (now (c .before .before .before .args .supports)) (now (c .before .before .before .args .codes)) (now (c .before .before .before .args .moves)) → c .before .loop .x < p .variables
 inside c p l = omega (arith, c .before .before .number .ensures, l .ready .framed .numbered .variables, c .loop-test .taken)
 
-answer : (c : tie.After-doubles Inv-loop μ-loop) (p : Problem) → Lent p (now (c .before .before .before .before .args .numbers)) (now (c .before .before .before .before .args .supports)) (now (c .before .before .before .before .args .codes)) (c .before .before .before .before .args .short) → kept p (now (c .before .before .before .before .args .codes)) (c .before .before .loop .x) ≡ c .doubles .result
+answer : (c : tie.After-doubles Inv-loop μ-loop) (p : Problem) → Lent p (now (c .before .before .before .before .args .numbers)) (now (c .before .before .before .before .args .supports)) (now (c .before .before .before .before .args .codes)) (now (c .before .before .before .before .args .moves)) → kept p (now (c .before .before .before .before .args .codes)) (c .before .before .loop .x) ≡ c .doubles .result
 answer c p l = sym (c .doubles .ensures p l (inside (c .before) p l))
 
 -- src/walk.rt:190:5
