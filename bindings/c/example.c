@@ -4,6 +4,7 @@
 #include <stdio.h>
 
 #include "planner.h"
+#include "planner_words.h"
 
 /* Two windows, three duties, one rule (the windows differ), one exchange (the windows change places). */
 static const uint8_t sheet_a[64] = {
@@ -25,15 +26,25 @@ static uint32_t number(const uint8_t *bytes) {
     return bytes[0] | (uint32_t)bytes[1] << 8 | (uint32_t)bytes[2] << 16 | (uint32_t)bytes[3] << 24;
 }
 
+/* Lent where there are no pairs and no block. */
+static const uint8_t none[1] = {0};
+
 static const char *const kinds[] = {"", "finished", "spent", "full"};
+
+/* Says a refusal, with what was asked and isn't so; 1 if it is one. */
+static int refused(const char *what, uint32_t status) {
+    if (status < 256)
+        return 0;
+    printf("%s: refused %u %u: %s\n", what, PLANNER_NUMBER(status), PLANNER_ITEM(status),
+           planner_words(PLANNER_NUMBER(status)));
+    return 1;
+}
 
 static void list_plans(uint32_t node_limit) {
     uint8_t list[16], answer[PLANNER_ANSWER_BYTES];
     uint32_t status = planner_run(sheet_a, sizeof sheet_a, node_limit, list, sizeof list, answer, sizeof answer);
-    if (status != 0) {
-        printf("refused %u %u\n", PLANNER_NUMBER(status), PLANNER_ITEM(status));
+    if (refused("sheet A", status))
         return;
-    }
     uint32_t kind = number(answer), plans = number(answer + 4), trials = number(answer + 8);
     for (uint32_t i = 0; i < plans; i++)
         printf("plan %d %d\n", list[2 * i], list[2 * i + 1]);
@@ -42,14 +53,11 @@ static void list_plans(uint32_t node_limit) {
 
 /* With pairs, "this window before that window", and no block. */
 static void list_in_order(const uint8_t *pairs, size_t pairs_len) {
-    static const uint8_t none[1];
     uint8_t list[16], answer[PLANNER_LENT_ANSWER_BYTES];
     uint32_t status = planner_run_lent(sheet_a, sizeof sheet_a, pairs, pairs_len, none, 0, 1000000, list, sizeof list,
                                        answer, sizeof answer);
-    if (status != 0) {
-        printf("refused %u %u\n", PLANNER_NUMBER(status), PLANNER_ITEM(status));
+    if (refused("pairs", status))
         return;
-    }
     uint32_t kind = number(answer), plans = number(answer + 4), trials = number(answer + 8);
     for (uint32_t i = 0; i < plans; i++)
         printf("plan %d %d\n", list[2 * i], list[2 * i + 1]);
@@ -59,22 +67,19 @@ static void list_in_order(const uint8_t *pairs, size_t pairs_len) {
 /* Are there at least so many plans? */
 static void ask(uint32_t plans, uint32_t node_limit) {
     static const char *const words[] = {"", "yes", "no", "spent"};
-    static const uint8_t none[1];
     uint8_t answer[PLANNER_ANSWER_BYTES];
-    uint32_t status = planner_at_least(sheet_a, sizeof sheet_a, none, 0, none, 0, plans, node_limit, answer, sizeof answer);
-    if (status != 0) {
-        printf("refused %u %u\n", PLANNER_NUMBER(status), PLANNER_ITEM(status));
+    uint32_t status = planner_at_least(sheet_a, sizeof sheet_a, none, 0, none, 0, plans, node_limit, answer,
+                                       sizeof answer);
+    if (refused("sheet A", status))
         return;
-    }
     printf("at least %u with %u trials: %s %u %u\n", plans, node_limit, words[number(answer)], number(answer + 4),
            number(answer + 8));
 }
 
 /* Whether the exchanges are closed. */
 static void ask_closed(const char *name, const uint8_t *sheet, size_t sheet_len) {
-    static const uint8_t none[1];
     uint8_t answer[PLANNER_ANSWER_BYTES];
-    if (planner_closed(sheet, sheet_len, none, 0, none, 0, answer, sizeof answer) != 0)
+    if (refused(name, planner_closed(sheet, sheet_len, none, 0, none, 0, answer, sizeof answer)))
         return;
     if (number(answer) == PLANNER_CLOSED)
         printf("%s: closed\n", name);
@@ -84,9 +89,8 @@ static void ask_closed(const char *name, const uint8_t *sheet, size_t sheet_len)
 
 /* How many families there are. */
 static void count(const char *name, const uint8_t *sheet, size_t sheet_len, uint32_t node_limit) {
-    static const uint8_t none[1];
     uint8_t answer[PLANNER_ANSWER_BYTES];
-    if (planner_families(sheet, sheet_len, none, 0, none, 0, node_limit, answer, sizeof answer) != 0)
+    if (refused(name, planner_families(sheet, sheet_len, none, 0, none, 0, node_limit, answer, sizeof answer)))
         return;
     if (number(answer) == PLANNER_COUNTED)
         printf("%s with %u trials: %u families\n", name, node_limit, number(answer + 4));
@@ -103,6 +107,8 @@ static void filter(const char *name, uint8_t x2, uint8_t x5) {
     uint8_t sets[12] = {6, 0, x2, 0, 6, 0, 2, 0, x5, 0, 6, 0};
     uint32_t ending = planner_filter(sets, sizeof sets, index, sizeof index, equal, sizeof equal, not_equal,
                                      sizeof not_equal);
+    if (refused(name, ending))
+        return;
     printf("%s: %s, sets", name, endings[ending]);
     for (int i = 0; i < 12; i += 2)
         printf(" %d", sets[i]);
@@ -110,10 +116,11 @@ static void filter(const char *name, uint8_t x2, uint8_t x5) {
 }
 
 int main(void) {
+    static const uint8_t pairs[4] = {1, 0, 0, 1};
     list_plans(1000000);
     list_plans(2);
-    list_in_order((const uint8_t[]){1, 0}, 2);
-    list_in_order((const uint8_t[]){1, 0, 0, 1}, 4);
+    list_in_order(pairs, 2);
+    list_in_order(pairs, sizeof pairs);
     ask(0, 0);
     ask(2, 3);
     ask(2, 2);
@@ -126,7 +133,6 @@ int main(void) {
     filter("001", 6, 2);
     filter("001 with x5 in {1, 2}", 6, 6);
     filter("001 with x2 = 1", 2, 2);
-    uint32_t code = planner_question(sheet_a, 63);
-    printf("a byte short: refused %u %u\n", PLANNER_NUMBER(code), PLANNER_ITEM(code));
-    return 0;
+    refused("a byte short", planner_question(sheet_a, 63));
+    return planner_version() == PLANNER_VERSION ? 0 : 1;
 }

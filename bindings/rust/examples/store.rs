@@ -14,25 +14,25 @@ fn bytes(words: &[u16]) -> Vec<u8> {
     words.iter().flat_map(|word| word.to_le_bytes()).collect()
 }
 
-/// A sheet with the table that an owner keeps for hall three, fetched into the sheet's own bytes.
-fn with_table(front: &[u16], store: &Store, owner: u32) -> Result<Vec<u8>, Refusal> {
+/// A sheet with the table that a course keeps for hall three, fetched into the sheet's own bytes.
+fn with_table(front: &[u16], store: &Store, course: u32) -> Result<Vec<u8>, Refusal> {
     let mut sheet = bytes(front);
     let third = sheet.len();
     sheet.resize(third + 12, 0);
-    store.fetch(owner, 3, &mut sheet[third..])?;
+    store.fetch(course, 3, &mut sheet[third..])?;
     question(&sheet)?;
     Ok(sheet)
 }
 
 fn main() {
     let mut store = Store::new();
-    for (owner, table) in TABLES.iter().enumerate() {
-        println!("{:?}", store.put(owner as u32, 3, &bytes(table)));
+    for (course, table) in TABLES.iter().enumerate() {
+        println!("{:?}", store.put(course as u32, 3, &bytes(table)));
     }
     for (own, front) in [&FIRST[..], &SECOND[..]].into_iter().enumerate() {
-        for owner in 0..3 {
-            print!("sheet of course {own}, table of course {owner}: ");
-            match with_table(front, &store, owner) {
+        for course in 0..3 {
+            print!("sheet of course {own}, table of course {course}: ");
+            match with_table(front, &store, course) {
                 Ok(sheet) => print!("\n{}", report(&sheet)),
                 Err(refusal) => println!("{refusal}"),
             }
@@ -40,6 +40,6 @@ fn main() {
     }
     println!("{:?}", store.put(0, 4, &[0; TABLE_BYTES + 1]));
     println!("{:?}", store.fetch(0, 3, &mut [0; 11]));
-    println!("{:?} {:?}", store.remove(0, 3), store.remove(0, 3));
+    println!("{:?} {:?}", store.drop(0, 3), store.drop(0, 3));
     println!("{:?}", store.put(4, 3, &[]));
 }

@@ -72,9 +72,9 @@ pub struct Rounds {
     pub going_on: Vec<u32>,
 }
 
-/// Eight seats. Each holds a copy of a hall's sheet, its allowance, a list with room for [`SEAT_PLANS`] plans and the run so far, without
+/// Eight seats. Each holds a copy of a hall's sheet, its node limit, a list with room for [`SEAT_PLANS`] plans and the run so far, without
 /// pairs or block. What happens at one seat changes nothing at another. A hall that stays seated and not ended gets a turn within any eight
-/// turns; when it ends, its list, ending and figures are those of [`crate::run`] with the same allowance and that room. A refusal changes
+/// turns; when it ends, its list, ending and figures are those of [`crate::run`] with the same node limit and that room. A refusal changes
 /// nothing.
 #[derive(Clone)]
 pub struct Desk {

@@ -1,7 +1,7 @@
 //! Safe functions over the proved hall planner, libplanner.a. Every function takes any slices: what a
-//! caller can get wrong comes back as a [`Refusal`] with the paper's number. Any number of threads may call
-//! at once. A call takes up to [`STACK_BYTES`] of the thread's stack; [`with_stack`] makes it on a thread of
-//! its own.
+//! caller can get wrong comes back as a [`Refusal`] with its number, which [`words`] puts in words. Any
+//! number of threads may call at once. A call takes up to [`STACK_BYTES`] of the thread's stack;
+//! [`with_stack`] makes it on a thread of its own.
 
 use std::{fmt, io, panic, thread};
 
@@ -14,6 +14,8 @@ mod lent;
 mod merge;
 mod small;
 mod store;
+mod version;
+mod words;
 
 pub use closed::{closed, Closed};
 pub use columns::{columns, rows};
@@ -24,6 +26,8 @@ pub use lent::{question_lent, run_lent, LentAnswer};
 pub use merge::merge;
 pub use small::{small_sheet, small_sheets};
 pub use store::{Store, STORE_BYTES, TABLE_BYTES};
+pub use version::{version, Version, VERSION};
+pub use words::{item_words, words};
 
 mod exported {
     extern "C" {
@@ -74,6 +78,11 @@ impl Refusal {
             0 => Ok(()),
             _ => Err(Refusal { number: code / 256, item: code % 256 }),
         }
+    }
+
+    /// What was asked and isn't so.
+    pub fn words(&self) -> &'static str {
+        words(self.number).unwrap_or("")
     }
 }
 

@@ -11,8 +11,8 @@ extern "C" {
     fn planner_store_put(
         store: *mut u8,
         store_len: usize,
-        owner: u32,
-        key: u8,
+        course: u32,
+        hall: u8,
         table: *const u8,
         table_len: usize,
         answer: *mut u8,
@@ -21,8 +21,8 @@ extern "C" {
     fn planner_store_fetch(
         store: *const u8,
         store_len: usize,
-        owner: u32,
-        key: u8,
+        course: u32,
+        hall: u8,
         out: *mut u8,
         out_len: usize,
         answer: *mut u8,
@@ -31,15 +31,15 @@ extern "C" {
     fn planner_store_drop(
         store: *mut u8,
         store_len: usize,
-        owner: u32,
-        key: u8,
+        course: u32,
+        hall: u8,
         answer: *mut u8,
         answer_len: usize,
     ) -> u32;
 }
 
-/// Tables under an owner (the paper's course, 0 to 3) and a key (its hall), four keys an owner. What an
-/// owner gets back depends only on its own calls. A refusal changes nothing.
+/// Tables of exchanges by course (0 to 3) and hall, four halls a course. What a course gets back depends only on
+/// its own calls. A refusal changes nothing.
 #[derive(Clone)]
 pub struct Store {
     bytes: Box<[u8; STORE_BYTES]>,
@@ -61,14 +61,14 @@ impl Store {
     }
 
     /// Puts a table in place of the one there.
-    pub fn put(&mut self, owner: u32, key: u8, table: &[u8]) -> Result<(), Refusal> {
+    pub fn put(&mut self, course: u32, hall: u8, table: &[u8]) -> Result<(), Refusal> {
         let mut answer = [0; 12];
         Refusal::from_code(unsafe {
             planner_store_put(
                 self.bytes.as_mut_ptr(),
                 STORE_BYTES,
-                owner,
-                key,
+                course,
+                hall,
                 table.as_ptr(),
                 table.len(),
                 answer.as_mut_ptr(),
@@ -78,14 +78,14 @@ impl Store {
     }
 
     /// Copies a table to the front of the room and answers its length.
-    pub fn fetch(&self, owner: u32, key: u8, room: &mut [u8]) -> Result<usize, Refusal> {
+    pub fn fetch(&self, course: u32, hall: u8, room: &mut [u8]) -> Result<usize, Refusal> {
         let mut answer = [0; 12];
         Refusal::from_code(unsafe {
             planner_store_fetch(
                 self.bytes.as_ptr(),
                 STORE_BYTES,
-                owner,
-                key,
+                course,
+                hall,
                 room.as_mut_ptr(),
                 room.len(),
                 answer.as_mut_ptr(),
@@ -95,15 +95,15 @@ impl Store {
         Ok(u32::from_le_bytes(answer[4..8].try_into().unwrap()) as usize)
     }
 
-    /// Removes (the paper's drop) a table; its room is used again.
-    pub fn remove(&mut self, owner: u32, key: u8) -> Result<(), Refusal> {
+    /// Drops a table; its room is used again.
+    pub fn drop(&mut self, course: u32, hall: u8) -> Result<(), Refusal> {
         let mut answer = [0; 12];
         Refusal::from_code(unsafe {
             planner_store_drop(
                 self.bytes.as_mut_ptr(),
                 STORE_BYTES,
-                owner,
-                key,
+                course,
+                hall,
                 answer.as_mut_ptr(),
                 answer.len(),
             )

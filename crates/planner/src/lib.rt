@@ -7,6 +7,14 @@ ghost use mathlib.Core.Path.{_≡_};
 ghost use Rattle.export_filter.specs.FilterBytes.{CallBytes};
 ghost use Rattle.export_report.specs.Report.{reportLength, reportBytes};
 
+// The version: major * 65536 + minor * 256 + patch.
+#[no_mangle]
+pub extern "C" fn planner_version() -> u32
+    ensures { λ r. ⌜ r ≡ 65536 ⌝ }
+{
+    65536
+}
+
 // The filter for increasing nogoods (paper 02, #102).
 #[no_mangle]
 pub extern "C" fn planner_filter(

@@ -1,6 +1,6 @@
 //! Part `columns`: rows to columns and back (paper 02, #103), for all shapes; rows, stores and rooms right and damaged.
 
-use crate::tally::{code, Guarded, Tally};
+use crate::tally::{code, Guarded, Tally, WRONG_SIZE};
 use oracle::Refusal;
 use sheets::Rng;
 
@@ -23,9 +23,6 @@ extern "C" {
         answer_len: usize,
     ) -> u32;
 }
-
-/// The status where the answer has another length than 12 bytes.
-const ANSWER_ROOM: u32 = 255 * 256;
 
 /// A call: rows of some places to columns, or a store to rows.
 #[derive(Clone, Copy)]
@@ -81,7 +78,7 @@ fn wrong_answer_room(call: Call, bytes: &[u8], rng: &mut Rng, tally: &mut Tally)
     let mut answer = Guarded::new(rng.pick(&[0, 1, 11, 13, 24]), rng.word() as u8);
     let (out_before, answer_before) = (out.clone(), answer.clone());
     let status = call.planner(bytes, out.lent(), answer.lent());
-    tally.same("status", status, ANSWER_ROOM, bytes);
+    tally.same("status", status, 256 * WRONG_SIZE, bytes);
     tally.same("room untouched", &out.bytes, &out_before.bytes, bytes);
     tally.same("answer untouched", &answer.bytes, &answer_before.bytes, bytes);
 }

@@ -1,11 +1,8 @@
 //! Part `filter`: sets and nogood lists, right and damaged.
 
 use crate::planner;
-use crate::tally::{code, ending_code, Guarded, Tally};
+use crate::tally::{code, ending_code, Guarded, Tally, WRONG_SIZE};
 use sheets::{lists, Lists, Rng};
-
-/// The answer to half a set.
-const HALF_SET: u32 = 255 * 256;
 
 pub fn case(rng: &mut Rng, tally: &mut Tally) {
     for _ in 0..8 {
@@ -29,7 +26,7 @@ fn filter(lists: &Lists, odd: bool, rng: &mut Rng, tally: &mut Tally) {
     if odd {
         before.push(7);
         after = before.clone();
-        expected = HALF_SET;
+        expected = 256 * WRONG_SIZE;
     } else {
         tally.answer(&answer);
         if let Ok(ending) = answer {

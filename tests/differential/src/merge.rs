@@ -1,6 +1,6 @@
 //! Part `merge`: one list from two (paper 02, #106), with pairs (#108); lists, pairs and rooms right and damaged.
 
-use crate::tally::{code, Guarded, Tally};
+use crate::tally::{code, Guarded, Tally, WRONG_SIZE};
 use oracle::order::settling_order;
 use sheets::{pairs, Rng};
 
@@ -19,9 +19,6 @@ extern "C" {
         answer_len: usize,
     ) -> u32;
 }
-
-/// The status where the answer has another length than 12 bytes.
-const ANSWER_ROOM: u32 = 255 * 256;
 
 /// What a merge is lent besides its room.
 #[derive(Clone, Debug, PartialEq, Eq)]
@@ -154,7 +151,7 @@ fn wrong_answer_room(lent: &Lent, rng: &mut Rng, tally: &mut Tally) {
     let mut answer = Guarded::new(rng.pick(&[0, 1, 11, 13, 24]), rng.word() as u8);
     let (out_before, answer_before) = (out.clone(), answer.clone());
     let status = lent.planner(out.lent(), answer.lent());
-    tally.same("status", status, ANSWER_ROOM, &lent.first);
+    tally.same("status", status, 256 * WRONG_SIZE, &lent.first);
     tally.same("room untouched", &out.bytes, &out_before.bytes, &lent.first);
     tally.same("answer untouched", &answer.bytes, &answer_before.bytes, &lent.first);
 }

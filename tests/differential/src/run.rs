@@ -1,12 +1,9 @@
 //! Part `run`: sheets right and damaged, with node limits and rooms around the ends of the search.
 
 use crate::planner;
-use crate::tally::{Guarded, Tally};
+use crate::tally::{Guarded, Tally, WRONG_SIZE};
 use oracle::{Ending, Outcome};
 use sheets::{damaged, encode, problem, Rng};
-
-/// The answer to a wrong room for the answer.
-const ANSWER_ROOM: u32 = 255 * 256;
 
 pub fn case(rng: &mut Rng, tally: &mut Tally) {
     let problem = problem(rng);
@@ -85,7 +82,7 @@ fn wrong_answer_room(sheet: &[u8], rng: &mut Rng, tally: &mut Tally) {
     let mut answer = Guarded::new(rng.pick(&[0, 1, 11, 13, 24]), rng.word() as u8);
     let (list_before, answer_before) = (list.clone(), answer.clone());
     let status = planner::run(sheet, 100, list.lent(), answer.lent());
-    tally.same("status", status, ANSWER_ROOM, sheet);
+    tally.same("status", status, 256 * WRONG_SIZE, sheet);
     tally.same("list untouched", &list.bytes, &list_before.bytes, sheet);
     tally.same("answer untouched", &answer.bytes, &answer_before.bytes, sheet);
 }

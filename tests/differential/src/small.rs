@@ -2,7 +2,7 @@
 //! force; positions, rooms and answers of any size.
 
 use crate::planner;
-use crate::tally::{code, Guarded, Tally};
+use crate::tally::{code, Guarded, Tally, WRONG_SIZE};
 use oracle::listing::{families, leaders, reached, solutions};
 use oracle::small::{small_sheet, small_sheets};
 use oracle::Problem;
@@ -12,9 +12,6 @@ use std::time::Instant;
 extern "C" {
     fn planner_small_sheet(k: u32, out: *mut u8, out_len: usize, answer: *mut u8, answer_len: usize) -> u32;
 }
-
-/// The status where the answer has another length than 12 bytes.
-const ANSWER_ROOM: u32 = 255 * 256;
 
 /// One position and room, right or wrong.
 pub fn case(rng: &mut Rng, tally: &mut Tally) {
@@ -60,7 +57,7 @@ fn wrong_answer_room(position: u32, rng: &mut Rng, tally: &mut Tally) {
     let (out_before, answer_before) = (out.clone(), answer.clone());
     let status = call(position, &mut out, &mut answer);
     let lent = position.to_le_bytes();
-    tally.same("status", status, ANSWER_ROOM, &lent);
+    tally.same("status", status, 256 * WRONG_SIZE, &lent);
     tally.same("room untouched", &out.bytes, &out_before.bytes, &lent);
     tally.same("answer untouched", &answer.bytes, &answer_before.bytes, &lent);
 }

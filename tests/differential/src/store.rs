@@ -1,13 +1,11 @@
 //! Part `store`: sequences of calls on an empty store or on one of random bytes, beside a map; and that what
 //! an owner gets depends on no other owner's calls.
 
-use crate::tally::{code, Guarded, Tally};
+use crate::tally::{code, Guarded, Tally, WRONG_SIZE};
 use oracle::store::{self, Store, KEYS, OWNERS, SLOT_BYTES, STORE_BYTES, TABLE_BYTES};
 use oracle::Refusal;
 use sheets::Rng;
 
-/// The answer to a store or an answer of another size.
-const WRONG_SIZE: u32 = 255 * 256;
 /// Calls of one sequence.
 const CALLS: usize = 60;
 
@@ -226,7 +224,7 @@ fn wrong_sizes(start: &[u8], rng: &mut Rng, tally: &mut Tally) {
         tally.same(
             "wrong size",
             got,
-            (WRONG_SIZE, untouched, Guarded::new(room, call.key).bytes),
+            (256 * WRONG_SIZE, untouched, Guarded::new(room, call.key).bytes),
             &[call.key],
         );
         tally.same("store untouched", *bytes == before, true, &[call.key]);

@@ -223,6 +223,9 @@ pub fn run(words: &[String]) -> Result<Outcome, Stop> {
     if ["--help", "-h", "help"].contains(&name.as_str()) {
         return Ok(text(help()));
     }
+    if name == "--version" {
+        return Ok(text(format!("sheet {}, planner {}\n", env!("CARGO_PKG_VERSION"), planner::version())));
+    }
     match COMMANDS.iter().find(|command| command.name == name) {
         Some(command) if words.iter().any(|word| word == "--help" || word == "-h") => {
             Ok(text(command_help(command)))
