@@ -1,11 +1,15 @@
 """Every call on sheets whose answers are known, its refusals, and what Python alone can get wrong."""
 
+import pathlib
+import re
 import struct
 import threading
 import unittest
 
 import planner
-from planner import Ending, FilterEnding, Refusal, Said
+from planner import Ending, FilterEnding, Refusal, Said, _kept, _library
+
+HEADER = pathlib.Path(__file__).resolve().parents[2] / "c" / "planner.h"
 
 
 def sheet_of(*words: int) -> bytes:
@@ -17,6 +21,32 @@ SHEET_A = sheet_of(2, 3, 1, 1, 16, 20, 52, 64, 7, 7, *RULE, 3, 4, 5, 0, 1, 2)
 BARE_A = sheet_of(2, 3, 1, 0, 16, 20, 52, 52, 7, 7, *RULE)
 ROTATION = sheet_of(3, 2, 0, 1, 16, 22, 22, 34, 3, 3, 3, 2, 3, 4, 5, 0, 1)
 PLANS_A = [(0, 1), (0, 2), (1, 2)]
+
+
+class Interface(unittest.TestCase):
+    """What planner.h has is here, with the same numbers."""
+
+    def setUp(self) -> None:
+        self.header = HEADER.read_text()
+        lines = re.findall(r"^#define PLANNER_(\w+) (\d+)\b", self.header, re.MULTILINE)
+        self.numbers = {name: int(number) for name, number in lines}
+
+    def test_functions(self) -> None:
+        declared = re.findall(r"^(?:uint32_t|size_t) planner_(\w+)\(", self.header, re.MULTILINE)
+        self.assertEqual(set(declared), set(_library._ARGUMENTS))
+
+    def test_constants(self) -> None:
+        for name in "ABSENT DESK_BYTES SEATS SEAT_PLANS STACK_BYTES STORE_BYTES TABLE_BYTES".split():
+            self.assertEqual(getattr(planner, name), self.numbers[name], name)
+
+    def test_kinds(self) -> None:
+        for ending in Ending:
+            self.assertEqual(ending.value, self.numbers[ending.name])
+            self.assertIs(_kept._ENDED[self.numbers["SEAT_" + ending.name]], ending)
+        self.assertEqual(_kept._RUNNING, self.numbers["SEAT_RUNNING"])
+        self.assertEqual([said.value for said in Said], [self.numbers[name] for name in ("YES", "NO", "UNKNOWN")])
+        names = ("CONSISTENT", "ENTAILED", "FILTER_FAILED")
+        self.assertEqual([ending.value for ending in FilterEnding], [self.numbers[name] for name in names])
 
 
 class Calls(unittest.TestCase):
