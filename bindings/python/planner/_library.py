@@ -45,6 +45,8 @@ _ARGUMENTS: Dict[str, Tuple[Any, ...]] = {
 class Refusal(Exception):
     """The first question answered "no", and the window, rule, exchange or entry that it speaks of."""
 
+    __module__ = "planner"
+
     def __init__(self, number: int, item: int) -> None:
         super().__init__(number, item)
         self.number = number
