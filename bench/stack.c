@@ -1,10 +1,12 @@
-/* stack: how much of the stack each exported function takes below its caller, at most, on the sheets that go deepest. A
- * thread's stack is painted, the call is made on it, and the lowest byte that lost its paint is looked for. Each call is
- * made in a process of its own, so that the C library's functions are bound in it. */
+/* stack: how much of the stack each exported function takes below its caller, at most, on the sheets that go deepest.
+ * A thread's stack is painted, the call is made on it, and the lowest byte that lost its paint is looked for. Each call
+ * is made in a process of its own, so that the C library's functions are bound in it, and so is the one that has to come
+ * before it. */
 #include <pthread.h>
 #include <stdio.h>
 #include <stdlib.h>
 #include <string.h>
+#include <sys/mman.h>
 #include <sys/wait.h>
 #include <unistd.h>
 
@@ -18,17 +20,23 @@ struct sheet {
 };
 
 static struct sheet bare, exchanged;
-static uint8_t desk[PLANNER_DESK_BYTES], store[PLANNER_STORE_BYTES], table[PLANNER_TABLE_BYTES];
-static uint8_t list[WINDOWS * PLANNER_SEAT_PLANS], other[8 + sizeof list], out[2 * sizeof list + PLANNER_REPORT_ROOM];
+static uint8_t table[PLANNER_TABLE_BYTES], list[WINDOWS * PLANNER_SEAT_PLANS];
+static uint8_t out[2 * sizeof list + PLANNER_REPORT_ROOM];
 static uint8_t answer[PLANNER_LENT_ANSWER_BYTES];
 static const uint8_t pairs[2] = {0, 1}, block[2] = {10, 2};
+
+/* What a call leaves for another, seen from every process. */
+static struct {
+    uint8_t desk[PLANNER_DESK_BYTES], store[PLANNER_STORE_BYTES], columns[8 + sizeof list];
+} *kept;
 
 static void add(struct sheet *sheet, unsigned word) {
     sheet->bytes[sheet->length++] = word & 255;
     sheet->bytes[sheet->length++] = word >> 8;
 }
 
-/* One of two rules of a window with the next: a duty below 15 has rows with the next one's low duties, or its high ones. */
+/* One of two rules of a window with the next: a duty below 15 has rows with the next one's low duties, or the high
+ * ones. */
 static void add_rule(struct sheet *sheet, unsigned window, unsigned from) {
     unsigned words[] = {2, 15 * 8 + DUTIES, window, window + 1};
     for (int i = 0; i < 4; i++)
@@ -61,8 +69,11 @@ static void deepest(struct sheet *sheet, unsigned ruled, unsigned exchanges) {
 #define LENT SHEET(exchanged), pairs, 2, block, 2
 #define ANSWER answer, PLANNER_ANSWER_BYTES
 #define SEAT_ANSWER answer, PLANNER_SEAT_ANSWER_BYTES
+#define DESK kept->desk, PLANNER_DESK_BYTES
+#define STORE kept->store, PLANNER_STORE_BYTES
+#define COLUMNS kept->columns, sizeof kept->columns
+#define OUT out, sizeof out
 
-/* The calls, by number; those of a kept buffer follow one another in one process. */
 static uint32_t question(void) { return planner_question(SHEET(exchanged)); }
 static uint32_t question_lent(void) { return planner_question_lent(LENT); }
 static uint32_t run(void) { return planner_run(SHEET(exchanged), 1000000, list, sizeof list, ANSWER); }
@@ -73,44 +84,55 @@ static uint32_t run_lent(void) {
 static uint32_t at_least(void) { return planner_at_least(LENT, 5000, 1000000, ANSWER); }
 static uint32_t families(void) { return planner_families(LENT, 1000000, ANSWER); }
 static uint32_t closed(void) { return planner_closed(LENT, ANSWER); }
-static uint32_t report(void) { return planner_report(SHEET(exchanged), out, sizeof out) == 0; }
+static uint32_t report(void) { return planner_report(SHEET(exchanged), OUT) == 0; }
 static uint32_t filter(void) {
     static uint8_t sets[12] = {6, 0, 6, 0, 6, 0, 2, 0, 2, 0, 6, 0};
     static const uint8_t index[8] = {0, 1, 2, 3, 4, 2, 5, 0}, equal[8] = {255, 1, 255, 1, 1, 255, 2, 255};
     static const uint8_t not_equal[8] = {2, 255, 1, 255, 255, 2, 255, 1};
     return planner_filter(sets, 12, index, 8, equal, 8, not_equal, 8) > 2;
 }
-static uint32_t columns(void) { return planner_columns(WINDOWS, list, sizeof list, other, sizeof other, ANSWER); }
-static uint32_t rows(void) { return planner_rows(other, sizeof other, list, sizeof list, ANSWER); }
+static uint32_t columns(void) { return planner_columns(WINDOWS, list, sizeof list, COLUMNS, ANSWER); }
+static uint32_t rows(void) { return planner_rows(COLUMNS, list, sizeof list, ANSWER); }
 static uint32_t merge(void) {
-    return planner_merge(WINDOWS, pairs, 2, list, WINDOWS, list, WINDOWS, out, sizeof out, ANSWER);
+    return planner_merge(WINDOWS, pairs, 2, list, WINDOWS, list, WINDOWS, OUT, ANSWER);
 }
-static uint32_t store_put(void) { return planner_store_put(store, sizeof store, 3, 9, table, sizeof table, ANSWER); }
-static uint32_t store_fetch(void) { return planner_store_fetch(store, sizeof store, 3, 9, out, sizeof out, ANSWER); }
-static uint32_t store_drop(void) { return planner_store_drop(store, sizeof store, 3, 9, ANSWER); }
-static uint32_t desk_sit(void) { return planner_desk_sit(desk, sizeof desk, SHEET(exchanged), 1000000, ANSWER); }
-static uint32_t desk_turn(void) { return planner_desk_turn(desk, sizeof desk, SEAT_ANSWER); }
-static uint32_t desk_rounds(void) { return planner_desk_rounds(desk, sizeof desk, 1000000, ANSWER); }
-static uint32_t desk_look(void) { return planner_desk_look(desk, sizeof desk, 0, SEAT_ANSWER); }
-static uint32_t desk_leave(void) { return planner_desk_leave(desk, sizeof desk, 0, out, sizeof out, ANSWER); }
-static uint32_t small_sheet(void) { return planner_small_sheet(500, out, sizeof out, ANSWER); }
+static uint32_t store_put(void) { return planner_store_put(STORE, 3, 9, table, sizeof table, ANSWER); }
+static uint32_t store_fetch(void) { return planner_store_fetch(STORE, 3, 9, OUT, ANSWER); }
+static uint32_t store_drop(void) { return planner_store_drop(STORE, 3, 9, ANSWER); }
+static uint32_t desk_sit(void) { return planner_desk_sit(DESK, SHEET(exchanged), 1000000, ANSWER); }
+static uint32_t desk_turn(void) { return planner_desk_turn(DESK, SEAT_ANSWER); }
+static uint32_t desk_rounds(void) { return planner_desk_rounds(DESK, 1000000, ANSWER); }
+static uint32_t desk_look(void) { return planner_desk_look(DESK, 0, SEAT_ANSWER); }
+static uint32_t desk_leave(void) { return planner_desk_leave(DESK, 0, OUT, ANSWER); }
+static uint32_t small_sheet(void) { return planner_small_sheet(500, OUT, ANSWER); }
 static uint32_t version(void) { return planner_version() == 0; }
 
 static const struct call {
     const char *name;
     uint32_t (*call)(void), (*before)(void);
 } calls[] = {
-    {"version", version, 0},          {"question", question, 0},
-    {"filter", filter, 0},            {"run", run, 0},
-    {"run, no exchanges", run_bare, 0}, {"question_lent", question_lent, 0},
-    {"run_lent", run_lent, 0},        {"at_least", at_least, 0},
-    {"families", families, 0},        {"closed", closed, 0},
-    {"report", report, 0},            {"columns", columns, 0},
-    {"rows", rows, columns},          {"merge", merge, 0},
-    {"store_put", store_put, 0},      {"store_fetch", store_fetch, store_put},
-    {"store_drop", store_drop, store_put}, {"desk_sit", desk_sit, 0},
-    {"desk_turn", desk_turn, desk_sit}, {"desk_rounds", desk_rounds, desk_sit},
-    {"desk_look", desk_look, desk_sit}, {"desk_leave", desk_leave, desk_sit},
+    {"version", version, 0},
+    {"question", question, 0},
+    {"filter", filter, 0},
+    {"run", run, 0},
+    {"run, no exchanges", run_bare, 0},
+    {"question_lent", question_lent, 0},
+    {"run_lent", run_lent, 0},
+    {"at_least", at_least, 0},
+    {"families", families, 0},
+    {"closed", closed, 0},
+    {"report", report, 0},
+    {"columns", columns, 0},
+    {"rows", rows, columns},
+    {"merge", merge, 0},
+    {"store_put", store_put, 0},
+    {"store_fetch", store_fetch, store_put},
+    {"store_drop", store_drop, store_put},
+    {"desk_sit", desk_sit, 0},
+    {"desk_turn", desk_turn, desk_sit},
+    {"desk_look", desk_look, desk_sit},
+    {"desk_rounds", desk_rounds, 0},
+    {"desk_leave", desk_leave, 0},
     {"small_sheet", small_sheet, 0},
 };
 
@@ -131,8 +153,6 @@ static void measure(const struct call *call) {
     pthread_t thread;
     size_t at = 0;
     memset(painted, PAINT, sizeof painted);
-    if (call->before != 0 && call->before() != 0)
-        printf("refused before: ");
     if (pthread_attr_init(&attributes) != 0 || pthread_attr_setstack(&attributes, painted, sizeof painted) != 0
         || pthread_create(&thread, &attributes, measured, (void *)call) != 0)
         exit(1);
@@ -142,17 +162,29 @@ static void measure(const struct call *call) {
     printf("%-18s %7td\n", call->name, top - (painted + at));
 }
 
+/* A process for the call, or for the one before it. */
+static void apart(const struct call *call, int is_before) {
+    pid_t child = fork();
+    if (child == 0) {
+        if (is_before)
+            call->before();
+        else
+            measure(call);
+        exit(0);
+    }
+    waitpid(child, 0, 0);
+}
+
 int main(void) {
+    kept = mmap(0, sizeof *kept, PROT_READ | PROT_WRITE, MAP_SHARED | MAP_ANONYMOUS, -1, 0);
+    if (kept == MAP_FAILED)
+        return 1;
     deepest(&bare, 11, 0);
     deepest(&exchanged, 9, 16);
     for (size_t i = 0; i < sizeof calls / sizeof calls[0]; i++) {
-        pid_t child = fork();
-        if (child == 0) {
-            measure(&calls[i]);
-            return 0;
-        }
-        waitpid(child, 0, 0);
-        fflush(stdout);
+        if (calls[i].before != 0)
+            apart(&calls[i], 1);
+        apart(&calls[i], 0);
     }
     return 0;
 }
