@@ -272,6 +272,27 @@ uint32_t planner_desk_leave(uint8_t *desk, size_t desk_len, uint32_t seat, uint8
  * number of bytes written, 0. Refusals: 39 (k is a position), then 40 (out has at least 52 bytes). */
 uint32_t planner_small_sheet(uint32_t k, uint8_t *out, size_t out_len, uint8_t *answer, size_t answer_len);
 
+/* ---- A run in parts: the trials of one tree between two paths, run apart and joined. A path is any bytes: the values of windows in the
+ * settling order. No bytes is before the first trial, the one byte 255 after the last; otherwise a trial comes after a path that
+ * is the front of it, or that has the smaller value at the first difference. */
+
+/* As planner_run_lent, for exactly the trials that come after the path `from` and not after `upto`, with a node limit and a list of their own. 0, with
+ * the list and the answer written, the part's head; or number * 256 + item as planner_run_lent refuses or, asked first, PLANNER_WRONG_SIZE where
+ * the answer hasn't PLANNER_PART_BYTES bytes; list and answer are then as they came. The head, its numbers of 32 bits, low byte first:
+ *     0  the kind, the plans, the trials and twelve counts, as in the answer of planner_run_lent
+ *    60  the name of the problem, four digests: of the sheet by base 1000003, of the sheet by base 65599, of the pairs and of the block by base
+ *        1000003. The digest by base q of no bytes is 1; with one byte x more, h becomes (h * q + x + 1) % 2147483647
+ *    76  from: how many values, at most twelve, then these, then zeros, 13 bytes. Of a longer path its first twelve, which mean the same range
+ *    89  upto, likewise
+ *   102  the last trial made, else from, likewise
+ * Parts of one sheet, pairs and block that go on from each other, whatever their limits and lists, are together the run: a finished part reaches
+ * `upto`, a spent one its last trial (go on from there), and a full one has to be run again with more room. */
+#define PLANNER_PART_BYTES 115
+uint32_t planner_run_part(const uint8_t *sheet, size_t sheet_len, const uint8_t *pairs, size_t pairs_len,
+                          const uint8_t *block, size_t block_len, const uint8_t *from, size_t from_len,
+                          const uint8_t *upto, size_t upto_len, uint32_t node_limit, uint8_t *list, size_t list_len,
+                          uint8_t *answer, size_t answer_len);
+
 #ifdef __cplusplus
 }
 #endif

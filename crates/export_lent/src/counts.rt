@@ -14,7 +14,7 @@ ghost use Rattle.export_lent.specs.Inner.{Twelve};
 ghost use Rattle.export_lent.specs.Tallied.{numbersOf};
 
 // Writes the counts from a place on.
-fn numbers(out: &mut [u8], start: usize, counts: [u32; 12])
+pub fn numbers(out: &mut [u8], start: usize, counts: [u32; 12])
     requires { ⌜ (start + 48 ≤ length (now out)) × Twelve counts ⌝ }
     ensures { λ _. ⌜ Written (now (out .entry)) start (numbersOf counts) (now (out .exit)) (start + 48) ⌝ }
 {

@@ -1,5 +1,5 @@
 // Calls that are lent a sheet, pairs and a block, with answers in lent bytes. A refusal's number and item are those of the papers.
 pub mod at_least;
-mod counts;
+pub mod counts;
 pub mod exchanges;
 pub mod lendings;

@@ -1,6 +1,7 @@
 // The planner for C and Rust: exported functions on numbers and byte slices. Each hands its call to the crate that proves it.
 mod desks;
 mod lists;
+mod parts;
 mod runs;
 
 ghost use mathlib.Core.Path.{_≡_};

@@ -1,0 +1,62 @@
+-- `digest`: after i turns it is the digest of the first i bytes. Assumes nothing.
+use mathlib.Core.Path.{_≡_}
+use Prim.Native.Nat.{_≤_, _<_, _-_}
+use native.Mathlib.Omega.{arith}
+use borrow.Author.Needs.{needs}
+use lib.ListN.{length, take}
+use Rattle.export_parts.specs.Head.{digest}
+use Rattle.export_parts.proofs.Pieces.{digest-none, digest-turn, digest-all}
+use Rattle.export_parts.proofs.digests.digest.Statement.{statement}
+use Rattle.export_parts.proofs.digests.digest.Tie as tie
+
+abbrev Inv-loop : tie.InvT-loop
+Inv-loop bytes base h₀ i₀ h i = (i ≤ length bytes) × (h < 2147483647) × (h ≡ digest base (take i bytes))
+
+abbrev μ-loop : tie.MeasureT-loop
+μ-loop bytes base h₀ i₀ h i = length bytes - i
+
+loop-holds : tie.Need-loop-holds Inv-loop μ-loop
+loop-holds c = (omega arith, omega arith, digest-none (c .before .args .base))
+
+shared-slice-read-byte : tie.Need-shared-slice-read-byte Inv-loop μ-loop
+shared-slice-read-byte c = omega arith
+
+byte-requires : tie.Need-byte-requires Inv-loop μ-loop
+byte-requires c κs = search needs
+
+with-byte-requires : tie.Need-with-byte-requires Inv-loop μ-loop
+with-byte-requires c κs = search needs
+
+add-i : tie.Need-add-i Inv-loop μ-loop
+add-i c = omega arith
+
+loop-less : tie.Need-loop-less Inv-loop μ-loop
+loop-less c = omega arith
+
+loop-again : tie.Need-loop-again Inv-loop μ-loop
+loop-again c =
+    let t = c .before .before .before in
+    let l = t .before .loop in
+    let s = t .before .before .before in
+    (omega arith, c .with-byte .ensures .1, digest-turn (s .args .base) (l .i) (l .h) (c .before .byte .result) (c .with-byte .result) (s .args .bytes .now) (t .loop-test .taken) (l .inv .2) (c .before .byte .ensures .0) (c .with-byte .ensures .0))
+
+returns : tie.Need-returns Inv-loop μ-loop
+returns c =
+    let l = c .before .loop in
+    let s = c .before .before .before in
+    (digest-all (s .args .base) (l .i) (l .h) (s .args .bytes .now) (c .loop-test .left) (l .inv .2), l .inv .1)
+
+pub digest-spec : {M : Type 1} → statement M
+digest-spec =
+    tie.close
+    (tie.spec
+    Inv-loop
+    μ-loop
+    loop-holds
+    shared-slice-read-byte
+    byte-requires
+    with-byte-requires
+    add-i
+    loop-less
+    loop-again
+    returns)
