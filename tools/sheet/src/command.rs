@@ -4,13 +4,16 @@
 use crate::problem::Problem;
 use crate::text::Fault;
 use crate::words::nearest;
-use crate::{columns, desk, enough, explain, make, merge, page, plans, show, why};
-use std::io::{Read, Write};
+use crate::{best, columns, desk, enough, explain, import, make, merge, page, plans, show, why};
+use std::io::{BufWriter, Read, StdoutLock, Write};
 use std::ops::RangeInclusive;
+use std::sync::atomic::{AtomicBool, Ordering};
 
 /// The commands, in the order of the help.
-const COMMANDS: [Command; 11] = [
+const COMMANDS: [Command; 13] = [
+    import::COMMAND,
     plans::COMMAND,
+    best::COMMAND,
     enough::COMMAND,
     why::COMMAND,
     page::COMMAND,
@@ -109,7 +112,8 @@ impl Arguments {
                 {
                     Some(value) => options.push((*name, value)),
                     None if *kind == "FILE" => return refuse(format!("{name} takes a file")),
-                    None => return refuse(format!("{name} takes a number")),
+                    None if *kind == "N" => return refuse(format!("{name} takes a number")),
+                    None => return refuse(format!("{name} takes {kind}")),
                 },
                 Some(choice) if given.is_none() => options.push((choice.name, String::new())),
                 None if word == "-" || !word.starts_with('-') => sources.push(Source(word.clone())),
@@ -133,6 +137,12 @@ impl Arguments {
     /// What an option gives, if it is there.
     fn value(&self, name: &str) -> Option<&String> {
         self.options.iter().rev().find(|(other, _)| *other == name).map(|(_, value)| value)
+    }
+
+    /// What an option that may stand several times gives, in turn.
+    pub fn all(&self, name: &str) -> impl Iterator<Item = &String> {
+        let name = name.to_string();
+        self.options.iter().filter(move |(other, _)| *other == name).map(|(_, value)| value)
     }
 
     /// The file that an option names, if it is there.
@@ -204,9 +214,11 @@ impl Source {
         })
     }
 
-    /// A fault of the file's text.
-    pub fn fault(&self, fault: Fault) -> Stop {
-        Stop { status: Status::Refused, text: format!("{}:{}: {}", self.name(), fault.line, fault.text) }
+    /// The faults of the file's text, a line for each.
+    pub fn faults(&self, faults: &[Fault]) -> Stop {
+        let lines: Vec<String> =
+            faults.iter().map(|fault| format!("{}:{}: {}", self.name(), fault.line, fault.text)).collect();
+        Stop { status: Status::Refused, text: lines.join("\n") }
     }
 }
 
@@ -258,9 +270,10 @@ fn help() -> String {
 
 fn command_help(command: &Command) -> String {
     let mut text = format!("sheet {} {}\n{}\n", command.name, command.usage, command.about);
+    let name = |choice: &Choice| [choice.name, choice.value.unwrap_or("")].join(" ").trim_end().to_string();
+    let width = command.options.iter().map(|choice| name(choice).len() + 2).max().unwrap_or(0).max(14);
     for choice in command.options {
-        let name = [choice.name, choice.value.unwrap_or("")].join(" ");
-        text += &format!("  {:14}{}\n", name.trim_end(), choice.about);
+        text += &format!("  {:width$}{}\n", name(choice), choice.about);
     }
     text
 }
@@ -283,11 +296,46 @@ pub fn main(words: &[String]) -> Status {
     }
 }
 
+/// Was standard output closed when the program started? The program says so before anything is opened in its place.
+pub static OUTPUT_CLOSED: AtomicBool = AtomicBool::new(false);
+
+/// Standard output, written bit by bit.
+pub struct Out(BufWriter<StdoutLock<'static>>);
+
+pub fn out() -> Out {
+    Out(BufWriter::with_capacity(1 << 16, std::io::stdout().lock()))
+}
+
+impl Out {
+    /// Writes a part.
+    pub fn all(&mut self, write: impl FnOnce(&mut dyn Write) -> std::io::Result<()>) -> Result<(), Stop> {
+        match OUTPUT_CLOSED.load(Ordering::Relaxed) {
+            true => written(Err(std::io::Error::from_raw_os_error(CLOSED))),
+            false => written(write(&mut self.0)),
+        }
+    }
+
+    /// Sees that all is written.
+    pub fn end(&mut self) -> Result<(), Stop> {
+        written(self.0.flush())
+    }
+}
+
+/// The error of a file that isn't open.
+const CLOSED: i32 = 9;
+
+fn written(result: std::io::Result<()>) -> Result<(), Stop> {
+    result.map_err(|error| Stop { status: Status::Failed, text: format!("standard output: {error}") })
+}
+
 /// Writes to standard output.
 pub fn print(bytes: &[u8]) -> Result<(), Stop> {
-    let mut out = std::io::stdout().lock();
-    let written = out.write_all(bytes).and_then(|_| out.flush());
-    written.map_err(|error| Stop { status: Status::Failed, text: format!("standard output: {error}") })
+    if bytes.is_empty() {
+        return Ok(());
+    }
+    let mut out = out();
+    out.all(|out| out.write_all(bytes))?;
+    out.end()
 }
 
 /// Says lines on standard error, if they can be said.

@@ -4,7 +4,8 @@ use crate::command::{print, refuse, say, Arguments, Choice, Command, Outcome, So
 use crate::counts::share;
 use crate::input::Input;
 use crate::listing::{Limits, Listing, TRIALS_OPTION};
-use crate::plans::shown;
+use crate::plans::{ended, EXPLAIN_OPTION};
+use crate::table::table;
 use crate::words::counted;
 use planner::{Answer, Desk, Ending, Standing, SEATS, SEAT_PLANS};
 use std::io::{IsTerminal, Write};
@@ -22,6 +23,7 @@ pub const COMMAND: Command = Command {
             value: Some("N"),
             about: "after every N turns of each seat, says on standard error how it stands",
         },
+        EXPLAIN_OPTION,
     ],
     asks: false,
     run,
@@ -40,7 +42,8 @@ fn run(arguments: &Arguments) -> Result<Outcome, Stop> {
     }
     let halls = arguments.sources.iter().map(read).collect::<Result<Vec<Input>, Stop>>()?;
     let mut halls = halls.iter();
-    let mut day = Day { desk: Desk::new(), seats: [None; SEATS as usize], limits };
+    let explain = arguments.has(EXPLAIN_OPTION.name);
+    let mut day = Day { desk: Desk::new(), seats: [None; SEATS as usize], limits, explain };
     let mut progress = Progress::new(every);
     let mut status = Status::Finished;
     loop {
@@ -61,6 +64,7 @@ fn run(arguments: &Arguments) -> Result<Outcome, Stop> {
 /// A text for a seat, which has no room for pairs and block.
 fn read(source: &Source) -> Result<Input, Stop> {
     let input = Input::read(source)?;
+    say(&input.notes());
     match (&input.made.pairs[..], &input.made.block[..]) {
         ([], []) => Ok(input),
         (_, []) => refuse(format!("{} has `before` lines, which a desk doesn't take", input.name)),
@@ -73,6 +77,7 @@ struct Day<'a> {
     desk: Desk,
     seats: [Option<&'a Input>; SEATS as usize],
     limits: Limits,
+    explain: bool,
 }
 
 impl<'a> Day<'a> {
@@ -103,12 +108,13 @@ impl<'a> Day<'a> {
         let answer = Answer { ending: ending.expect("a run that has ended"), plans, nodes };
         let mut list = vec![0; hall.made.problem.variables.len() * plans as usize];
         hall.accepted(self.desk.leave(seat, &mut list))?;
-        let listing = hall.accepted(Listing::alone(&hall.made, answer, &list, self.limits))?;
+        let listing = hall.accepted(Listing::alone(&hall.made, answer, list, self.limits))?;
         let hint = match listing.ending {
             Ending::Full => " (a seat has room for so many)",
             _ => listing.hint(),
         };
-        print(format!("seat {seat}, {}\n{}\n", hall.name, shown(hall, &listing, hint)).as_bytes())?;
+        let plans = table(&hall.made.problem, &listing) + &ended(hall, &listing, hint, self.explain);
+        print(format!("seat {seat}, {}\n{plans}\n", hall.name).as_bytes())?;
         Ok(listing.status())
     }
 }

@@ -1,7 +1,8 @@
 //! `sheet enough`: are there at least so many plans? (paper 02, #101) The answer in words and as exit status.
 
+use crate::advice::advice_of;
 use crate::command::{refuse, Arguments, Command, Outcome, Status, Stop};
-use crate::input::{Input, BLOCK_OPTION, PAIRS_OPTION};
+use crate::input::{Input, BLOCK_OPTION, FIX_OPTION, PAIRS_OPTION, STRICT_OPTION};
 use crate::listing::{Limits, TRIALS_OPTION};
 use crate::words::counted;
 use planner::Enough;
@@ -11,7 +12,7 @@ pub const COMMAND: Command = Command {
     usage: "M TEXT",
     about: "says whether there are at least M plans, also by its status: 0 yes, 1 no, 2 not known",
     files: 2..=2,
-    options: &[TRIALS_OPTION, PAIRS_OPTION, BLOCK_OPTION],
+    options: &[FIX_OPTION, STRICT_OPTION, TRIALS_OPTION, PAIRS_OPTION, BLOCK_OPTION],
     asks: true,
     run,
 };
@@ -28,22 +29,23 @@ fn run(arguments: &Arguments) -> Result<Outcome, Stop> {
     let input = Input::read(source)?.lent(arguments)?;
     let enough = input.at_least(plans, limits)?;
     let (words, status) = said(enough);
+    let advice = if status == Status::UNKNOWN { advice_of(&input.made, limits) } else { String::new() };
     let left = if input.made.has_exchanges() { LEFT_OUT } else { "" };
-    Ok(Outcome { output: (words + left).into_bytes(), note: String::new(), status })
+    Ok(Outcome { output: format!("{words}{advice}\n{left}").into_bytes(), note: input.notes(), status })
 }
 
 /// The answer in words, and as status.
 fn said(enough: Enough) -> (String, Status) {
     match enough {
         Enough::Yes { plans, nodes } => {
-            (format!("yes: at least {}, {}\n", counted(plans, "plan"), counted(nodes, "trial")), Status::YES)
+            (format!("yes: at least {}, {}", counted(plans, "plan"), counted(nodes, "trial")), Status::YES)
         }
         Enough::No { plans, nodes } => {
-            (format!("no: {} in all, {}\n", number(plans), counted(nodes, "trial")), Status::NO)
+            (format!("no: {} in all, {}", number(plans), counted(nodes, "trial")), Status::NO)
         }
         Enough::Spent { plans, nodes } => (
             format!(
-                "not known: stopped at the allowance of {}, {} so far (--trials N allows more)\n",
+                "not known: stopped at the allowance of {}, {} so far (--trials N allows more)",
                 counted(nodes, "trial"),
                 number(plans)
             ),

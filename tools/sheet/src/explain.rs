@@ -20,7 +20,7 @@ fn run(arguments: &Arguments) -> Result<Outcome, Stop> {
     let answer = match std::str::from_utf8(&bytes) {
         Ok(words) if !words.is_empty() && !is_sheet(&bytes) => make(words)
             .map(|made| accepted(&made.problem))
-            .map_err(|fault| arguments.sources[0].fault(fault).text),
+            .map_err(|faults| arguments.sources[0].faults(&faults).text),
         _ => explain(&bytes),
     };
     let status = if answer.is_ok() { Status::Finished } else { Status::Refused };

@@ -17,29 +17,35 @@ pub fn number(listing: &Listing, input: &Input) -> Option<u32> {
     match listing.families {
         Some(families) => families.count,
         None if listing.ending != Ending::Finished => None,
-        None if listing.plans.is_empty() || !input.made.has_exchanges() => Some(listing.plans.len() as u32),
+        None if listing.listed == 0 || !input.made.has_exchanges() => Some(listing.listed),
         None => None,
     }
 }
 
-/// What is to be said beside their number. Every family has a listed plan, so as many plans as families are one of each.
+/// Why they weren't counted, where they weren't.
+pub fn not_counted(listing: &Listing) -> Option<&'static str> {
+    listing.families.filter(|families| families.count.is_none()).map(|_| NOT_COUNTED)
+}
+
+/// What is to be said beside their number.
 pub fn words(listing: &Listing, input: &Input) -> Vec<String> {
-    let Some(families) = listing.families else {
-        return Vec::new();
-    };
-    let not_counted = families.count.is_none().then(|| NOT_COUNTED.to_string());
+    not_counted(listing).map(String::from).into_iter().chain(closed(listing, input)).collect()
+}
+
+/// Are the exchanges closed? Every family has a listed plan, so as many plans as families are one of each.
+pub fn closed(listing: &Listing, input: &Input) -> Option<String> {
+    let families = listing.families?;
     let several = match families.count {
-        Some(count) if count as usize == listing.plans.len() => "one plan of each family, though",
+        Some(count) if count == listing.listed => "one plan of each family, though",
         Some(_) => "some family has several plans, as",
         None => "a family may have several plans, as",
     };
-    let closed = match families.closed {
+    Some(match families.closed {
         Closed::Yes => ONE_OF_EACH.to_string(),
         Closed::Missing { first, second } => {
             format!("{several} the exchanges aren't closed: {}", product(input, first, second))
         }
-    };
-    not_counted.into_iter().chain([closed]).collect()
+    })
 }
 
 fn product(input: &Input, first: u32, second: u32) -> String {

@@ -1,12 +1,15 @@
 //! A text that a command is given, with what it states and its accepted sheet.
 
-use crate::command::{refuse, Arguments, Choice, Source, Stop};
+use crate::advice::advice;
+use crate::command::{refuse, Arguments, Choice, Source, Status, Stop};
+use crate::fixed::{kept, kept_block};
 use crate::listing::{at_least, list_on_terminal, Limits, Listing};
-use crate::make::{make_stated, of_block, Made};
+use crate::make::{make_all, of_block, Made};
 use crate::parse::parse;
-use crate::text::Text;
+use crate::text::{Fault, Text};
+use crate::words::{counted, name_of, nearest, written};
 use crate::{alike, pairs};
-use planner::{Enough, Refusal};
+use planner::{Ending, Enough, Refusal};
 
 pub const PAIRS_OPTION: Choice = Choice {
     name: "--pairs",
@@ -20,25 +23,109 @@ pub const BLOCK_OPTION: Choice = Choice {
     about: "takes windows for alike by a file, as `sheet make --block` writes it",
 };
 
+pub const FIX_OPTION: Choice = Choice {
+    name: "--fix",
+    value: Some("WINDOW=DUTY"),
+    about: "the window has that duty, as by a `fix` line; may stand several times",
+};
+
+pub const STRICT_OPTION: Choice = Choice {
+    name: "--strict",
+    value: None,
+    about: "refuses exchanges that fixed duties break, rather than leaving them out",
+};
+
+pub const WHERE_OPTION: Choice = Choice {
+    name: "--where",
+    value: Some("WINDOW=DUTY"),
+    about: "shows those of the listed plans where the window has that duty; may stand several times",
+};
+
 pub struct Input {
     /// The file's name for people.
     pub name: String,
-    /// The text as written.
+    /// The text as written, with a `fix` line for each --fix below it.
     pub source: String,
     pub text: Text,
     pub made: Made,
+    /// What is left out of the text, a line for each.
+    left_out: Vec<String>,
+    /// The windows' duties by which plans are chosen.
+    wanted: Vec<(usize, usize)>,
 }
 
 impl Input {
     pub fn read(source: &Source) -> Result<Input, Stop> {
-        let words = source.text()?;
-        let text = parse(&words).map_err(|fault| source.fault(fault))?;
-        let made = make_stated(&text).map_err(|fault| source.fault(fault))?;
-        Ok(Input { name: source.name().to_string(), source: words, text, made })
+        Input::new(source.name(), source.text()?, &[])
     }
 
-    /// The same with the pairs and the block of the files that `--pairs` and `--block` name.
+    /// A text whose last lines stand for options.
+    fn new(name: &str, source: String, options: &[String]) -> Result<Input, Stop> {
+        let own = source.lines().count() - options.len();
+        let said = |fault: &Fault| match fault.line.checked_sub(own + 1) {
+            Some(option) => format!("--fix {}: {}", options[option], fault.text),
+            None => format!("{name}:{}: {}", fault.line, fault.text),
+        };
+        let stop = |faults: Vec<Fault>| Stop {
+            status: Status::Refused,
+            text: faults.iter().map(said).collect::<Vec<_>>().join("\n"),
+        };
+        let kept = parse(&source).and_then(|text| kept(&text)).map_err(stop)?;
+        let made = make_all(&kept.text).map_err(stop)?;
+        let line = |line: usize| source.lines().nth(line - 1).unwrap_or("").trim();
+        let left_out = kept.left_out.iter();
+        let left_out =
+            left_out.map(|left| format!("{name}:{}: `{}` {}", left.line, line(left.line), left.text));
+        let left_out = left_out.collect();
+        Ok(Input { name: name.to_string(), text: kept.text, made, left_out, wanted: Vec::new(), source })
+    }
+
+    /// What is to be said beside the answer: what is left out of the text.
+    pub fn notes(&self) -> String {
+        self.left_out.iter().map(|line| format!("{line}\n")).collect()
+    }
+
+    /// The same with what the options say: fixed duties, the duties by which plans are chosen, and the pairs and the
+    /// block of the files that `--pairs` and `--block` name.
     pub fn lent(mut self, arguments: &Arguments) -> Result<Input, Stop> {
+        let options: Vec<String> = arguments.all(FIX_OPTION.name).cloned().collect();
+        if !options.is_empty() {
+            let mut source = self.source.trim_end().to_string() + "\n\n";
+            for option in &options {
+                let (window, value) = self.pair(FIX_OPTION.name, option)?;
+                let [window, value] = [&self.text.variables[window], &self.text.values[value]];
+                source += &format!("fix {} {} # --fix\n", written(window), written(value));
+            }
+            self = Input::new(&self.name, source, &options)?;
+        }
+        let wanted = arguments.all(WHERE_OPTION.name).map(|option| self.pair(WHERE_OPTION.name, option));
+        self.wanted = wanted.collect::<Result<_, Stop>>()?;
+        self.files(arguments)?;
+        match arguments.has(STRICT_OPTION.name) && !self.left_out.is_empty() {
+            true => refuse(self.notes()),
+            false => Ok(self),
+        }
+    }
+
+    /// The window and the duty of an option such as `win1=cid`.
+    fn pair(&self, name: &str, option: &str) -> Result<(usize, usize), Stop> {
+        let find = |names: &[String], word: &str| names.iter().position(|other| *other == name_of(word));
+        let parts: Vec<(&str, &str)> =
+            option.match_indices('=').map(|(at, _)| (&option[..at], &option[at + 1..])).collect();
+        let (windows, duties) = (&self.text.variables, &self.text.values);
+        let found =
+            parts.iter().find_map(|(window, duty)| Some((find(windows, window)?, find(duties, duty)?)));
+        let (kind, names, word) = match (found, parts.first()) {
+            (Some(pair), _) => return Ok(pair),
+            (None, None) => return refuse(format!("{name} takes WINDOW=DUTY, not `{option}`")),
+            (None, Some((window, _))) if find(windows, window).is_none() => ("window", windows, window),
+            (None, Some((_, duty))) => ("duty", duties, duty),
+        };
+        refuse(format!("{name} {option}: no {kind} is called `{word}`{}", nearest(word, names)))
+    }
+
+    /// Takes the pairs and the block of files.
+    fn files(&mut self, arguments: &Arguments) -> Result<(), Stop> {
         let [pairs, block] = ["--pairs", "--block"].map(|name| arguments.file(name));
         if let Some(file) = &pairs {
             if !self.made.pairs.is_empty() {
@@ -50,10 +137,12 @@ impl Input {
             if !self.made.block.is_empty() {
                 return refuse(format!("{} has an `alike` line, and so takes no --block", self.name));
             }
-            self.made.block = file.bytes()?;
+            let (kept, left) = kept_block(&self.text, file.bytes()?);
+            self.left_out.extend(left.map(|left| format!("{}: the block {left}", file.name())));
+            self.made.block = kept;
         }
         match planner::question_lent(&self.made.sheet, &self.made.pairs, &self.made.block) {
-            Ok(()) => Ok(self),
+            Ok(()) => Ok(()),
             Err(refusal) => {
                 let (file, words) = match of_block(&self.made.problem, refusal) {
                     true => (block, not_alike(&self.made, refusal)),
@@ -65,9 +154,37 @@ impl Input {
         }
     }
 
-    /// The plans.
+    /// The plans, those that `--where` chooses.
     pub fn list(&self, limits: Limits) -> Result<Listing, Stop> {
-        self.accepted(list_on_terminal(&self.made, limits))
+        let mut listing = self.accepted(list_on_terminal(&self.made, limits))?;
+        if listing.ending == Ending::Spent {
+            listing.hint += &advice(&self.made, &listing.counts, limits);
+        }
+        if self.chooses() {
+            listing.plans = listing.plans.filtered(|plan| self.is_wanted(plan));
+            listing.shown = Some(self.shown(listing.plans.len()));
+        }
+        Ok(listing)
+    }
+
+    /// Are only some of the listed plans to be shown?
+    pub fn chooses(&self) -> bool {
+        !self.wanted.is_empty()
+    }
+
+    /// Is a plan to be shown?
+    pub fn is_wanted(&self, plan: &[u8]) -> bool {
+        self.wanted.iter().all(|&(window, duty)| plan[window] == duty as u8)
+    }
+
+    /// Which of the listed plans are shown, so many.
+    pub fn shown(&self, plans: usize) -> String {
+        let duty = |&(window, duty): &(usize, usize)| {
+            format!("{}={}", written(&self.text.variables[window]), written(&self.text.values[duty]))
+        };
+        let wanted: Vec<String> = self.wanted.iter().map(duty).collect();
+        let plans = if plans == 0 { "none".to_string() } else { counted(plans as u64, "plan") };
+        format!("of those listed, {plans} with {} shown", wanted.join(" "))
     }
 
     /// Are there at least so many plans?

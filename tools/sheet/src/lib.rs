@@ -1,18 +1,25 @@
-//! Halls as texts: `parse` reads a text, `compose` and `pack` make what its sheet states, `make` the sheet;
-//! `listing` runs the planner. Each command is a module: `plans`, `enough`, `why`, `page`, `desk`, `make`, `show`,
-//! `explain`, `columns` (with `rows`), `merge`.
+//! Halls as texts: `parse` reads a text, `fixed` keeps the exchanges that its fixed duties bear, `compose`, `amount` and
+//! `pack` make what its sheet states, `make` the sheet; `listing` runs the planner. Each command is a module: `import`,
+//! `plans`, `best`, `enough`, `why`, `page`, `desk`, `make`, `show`, `explain`, `columns` (with `rows`), `merge`.
 //! Whether a sheet is accepted, and which plans it has, is always asked of the proved planner.
 
+pub mod advice;
 pub mod alike;
+pub mod amount;
+pub mod best;
 pub mod columns;
 pub mod command;
 pub mod compose;
 pub mod counts;
+pub mod csv;
 pub mod desk;
 pub mod enough;
 pub mod explain;
 pub mod families;
+pub mod fixed;
+pub mod import;
 pub mod input;
+pub mod letters;
 pub mod listing;
 pub mod make;
 pub mod merge;
@@ -20,8 +27,10 @@ pub mod pack;
 pub mod page;
 pub mod pairs;
 pub mod parse;
+pub mod parts;
 pub mod plans;
 pub mod problem;
+pub mod score;
 pub mod show;
 pub mod table;
 pub mod text;

@@ -1,6 +1,6 @@
 //! Runs of the proved planner: but for halls at a desk, the only place that calls it for plans.
 
-use crate::command::{Arguments, Choice, Status, Stop};
+use crate::command::{refuse, Arguments, Choice, Status, Stop};
 use crate::make::Made;
 use crate::words::{counted, families};
 use planner::{Answer, Closed, Ending, Enough, Refusal};
@@ -61,17 +61,62 @@ pub struct Families {
     pub closed: Closed,
 }
 
+/// Plans one after the other, a number for each window's duty.
+#[derive(Clone, Debug, PartialEq, Eq)]
+pub struct Plans {
+    windows: usize,
+    bytes: Vec<u8>,
+}
+
+impl Plans {
+    /// The plans at the front of a list of so many windows.
+    pub fn new(windows: usize, mut bytes: Vec<u8>, plans: usize) -> Plans {
+        bytes.truncate(windows * plans);
+        Plans { windows, bytes }
+    }
+
+    pub fn len(&self) -> usize {
+        self.bytes.len() / self.windows
+    }
+
+    pub fn is_empty(&self) -> bool {
+        self.bytes.is_empty()
+    }
+
+    pub fn iter(&self) -> std::slice::ChunksExact<'_, u8> {
+        self.bytes.chunks_exact(self.windows)
+    }
+
+    /// All rows, nothing between them.
+    pub fn bytes(&self) -> &[u8] {
+        &self.bytes
+    }
+
+    /// Those plans that fit.
+    pub fn filtered(&self, fits: impl Fn(&[u8]) -> bool) -> Plans {
+        let bytes = self.iter().filter(|plan| fits(plan)).flatten().copied().collect();
+        Plans { windows: self.windows, bytes }
+    }
+}
+
 /// The plans that a run listed, and how it ended.
 #[derive(Clone, Debug, PartialEq, Eq)]
 pub struct Listing {
     pub ending: Ending,
-    pub plans: Vec<Vec<u8>>,
+    /// The plans to be shown.
+    pub plans: Plans,
+    /// How many the run listed.
+    pub listed: u32,
+    /// Which of them are shown, where not all are.
+    pub shown: Option<String>,
     pub trials: u32,
     /// The trials by window.
     pub counts: [u32; 12],
     /// What is known of the families, where a finished run lists plans under exchanges.
     pub families: Option<Families>,
     pub limits: Limits,
+    /// What to ask for to go further.
+    pub hint: String,
 }
 
 /// Lists the plans of a sheet, in the order of its pairs. A watched run, and one for the first plan, raises its
@@ -100,7 +145,7 @@ pub fn list(
         }
         allowance = allowance.saturating_mul(2).min(limits.trials);
     };
-    Ok(Listing { counts: lent.counts, ..Listing::alone(made, lent.answer, &room, limits)? })
+    Ok(Listing { counts: lent.counts, ..Listing::alone(made, lent.answer, room, limits)? })
 }
 
 /// Lists the plans, and shows on a terminal how far a long run has come.
@@ -137,9 +182,8 @@ fn so_far(answer: Answer) -> String {
 
 impl Listing {
     /// What a run without counts by window answered, and the plans at the front of its list.
-    pub fn alone(made: &Made, answer: Answer, list: &[u8], limits: Limits) -> Result<Listing, Refusal> {
-        let n = made.problem.variables.len();
-        let plans = list.chunks(n).take(answer.plans as usize).map(<[u8]>::to_vec).collect();
+    pub fn alone(made: &Made, answer: Answer, list: Vec<u8>, limits: Limits) -> Result<Listing, Refusal> {
+        let plans = Plans::new(made.problem.variables.len(), list, answer.plans as usize);
         let has_families = answer.ending == Ending::Finished && answer.plans > 0 && made.has_exchanges();
         let families = match has_families && !limits.first {
             true => Some(Families {
@@ -148,12 +192,28 @@ impl Listing {
             }),
             false => None,
         };
-        Ok(Listing { ending: answer.ending, plans, trials: answer.nodes, counts: [0; 12], families, limits })
+        let Answer { ending, plans: listed, nodes: trials } = answer;
+        let hint = match ending {
+            _ if limits.first && listed > 0 => "",
+            Ending::Finished => "",
+            Ending::Full => " (--plans N makes room)",
+            Ending::Spent => " (--trials N allows more)",
+        };
+        let (shown, counts, hint) = (None, [0; 12], hint.to_string());
+        Ok(Listing { ending, plans, listed, shown, trials, counts, families, limits, hint })
+    }
+
+    /// A listing that shows a plan, or that has none to show.
+    pub fn some_shown(self) -> Result<Listing, Stop> {
+        match self.plans.is_empty() && self.listed > 0 {
+            true => refuse(self.ending()),
+            false => Ok(self),
+        }
     }
 
     /// Was one plan enough, and is it there?
     fn first_found(&self) -> bool {
-        self.limits.first && !self.plans.is_empty()
+        self.limits.first && self.listed > 0
     }
 
     pub fn status(&self) -> Status {
@@ -173,11 +233,16 @@ impl Listing {
         }
     }
 
-    /// The ending in words.
+    /// The ending in words, and which plans are shown.
     pub fn ending(&self) -> String {
-        let plans = match self.plans.len() {
+        let shown = self.shown.as_ref().map_or(String::new(), |shown| format!("; {shown}"));
+        self.ended() + &shown
+    }
+
+    fn ended(&self) -> String {
+        let plans = match self.listed {
             0 => "no plan".to_string(),
-            count => counted(count as u64, "plan"),
+            count => counted(count, "plan"),
         };
         let spent = format!("stopped at the allowance of {}", counted(self.limits.trials, "trial"));
         match self.ending {
@@ -190,19 +255,15 @@ impl Listing {
             Ending::Spent if self.first_found() => {
                 "stopped at the first plan: more plans may exist".to_string()
             }
-            Ending::Full if self.plans.is_empty() => "stopped at a plan, with room for none".to_string(),
+            Ending::Full if self.listed == 0 => "stopped at a plan, with room for none".to_string(),
             Ending::Full => format!("stopped at {plans}: there are more"),
-            Ending::Spent if self.plans.is_empty() => format!("{spent}, {plans} so far: plans may exist"),
+            Ending::Spent if self.listed == 0 => format!("{spent}, {plans} so far: plans may exist"),
             Ending::Spent => format!("{spent}, {plans} listed: more plans may exist"),
         }
     }
 
     /// What to ask for to go further.
-    pub fn hint(&self) -> &'static str {
-        match self.ending {
-            Ending::Full if !self.first_found() => " (--plans N makes room)",
-            Ending::Spent if !self.first_found() => " (--trials N allows more)",
-            _ => "",
-        }
+    pub fn hint(&self) -> &str {
+        &self.hint
     }
 }

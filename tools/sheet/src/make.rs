@@ -2,13 +2,14 @@
 
 use crate::alike;
 use crate::command::{refuse, Arguments, Choice, Command, Outcome, Status, Stop};
-use crate::compose::{as_written, compose, Composed};
+use crate::compose::{as_written, compose, Composed, MOST_EXCHANGES};
 use crate::explain::{broken_set, reason};
+use crate::fixed::kept;
 use crate::input::Input;
 use crate::pairs;
 use crate::parse::parse;
 use crate::problem::{Place, Problem};
-use crate::text::{fault, Parsed, Stated, Statement, Text};
+use crate::text::{fault, Faults, Parsed, Stated, Statement, Text};
 use planner::Refusal;
 
 pub const COMMAND: Command = Command {
@@ -35,6 +36,7 @@ pub const COMMAND: Command = Command {
 /// What a sheet leaves out.
 const NO_PAIRS: &str = "the sheet doesn't hold the `before` lines; --pairs FILE writes them beside it\n";
 const NO_BLOCK: &str = "the sheet doesn't hold the `alike` line; --block FILE writes it beside it\n";
+const NO_WISHES: &str = "the sheet doesn't hold preferences; `sheet best` takes them from the text\n";
 
 fn run(arguments: &Arguments) -> Result<Outcome, Stop> {
     let files = ["--pairs", "--block"].map(|name| arguments.file(name));
@@ -43,8 +45,12 @@ fn run(arguments: &Arguments) -> Result<Outcome, Stop> {
             return refuse(format!("make writes the {what} to a file, not to standard output"));
         }
     }
-    let made = Input::read(&arguments.sources[0])?.made;
-    let mut note = String::new();
+    let input = Input::read(&arguments.sources[0])?;
+    let mut note = input.notes();
+    if input.text.statements.iter().any(|stated| stated.statement.prefers()) {
+        note += NO_WISHES;
+    }
+    let made = input.made;
     for ((file, bytes), left_out) in files.iter().zip([&made.pairs, &made.block]).zip([NO_PAIRS, NO_BLOCK]) {
         match file {
             Some(file) => file.write(bytes)?,
@@ -71,22 +77,56 @@ impl Made {
     }
 }
 
-/// The sheet that a text describes.
-pub fn make(text: &str) -> Parsed<Made> {
-    make_stated(&parse(text)?)
+/// The sheet that a text describes, or all faults that can be told at once.
+pub fn make(text: &str) -> Result<Made, Faults> {
+    make_all(&kept(&parse(text)?)?.text)
 }
 
-pub fn make_stated(text: &Text) -> Parsed<Made> {
+/// The sheet, or the faults of all lines that can be judged: after a fault the rest is asked without its line. Where a
+/// line is left out that says which plans there are, exchanges aren't judged any more, as it may be what they need.
+pub fn make_all(text: &Text) -> Result<Made, Faults> {
+    let (mut rest, mut all) = (text.clone(), Faults::new());
+    loop {
+        let faults = match make_stated(&rest) {
+            Ok(made) if all.is_empty() => return Ok(made),
+            Ok(_) => break,
+            Err(faults) => faults,
+        };
+        let before = rest.statements.len();
+        let wrong = |stated: &Stated| faults.iter().any(|fault| fault.line == stated.first);
+        let narrows = rest.statements.iter().any(|stated| wrong(stated) && stated.statement.narrows());
+        rest.statements.retain(|stated| !wrong(stated) && !(narrows && stated.statement.exchanges()));
+        all.extend(faults);
+        if rest.statements.len() == before || over_counted(text) {
+            break;
+        }
+    }
+    all.sort_by_key(|fault| fault.line);
+    Err(all)
+}
+
+/// Are there more exchanges or `before` lines than a sheet takes? Each of them would be a fault.
+fn over_counted(text: &Text) -> bool {
+    let count = |wanted: fn(&Statement) -> bool| {
+        text.statements.iter().filter(|stated| wanted(&stated.statement)).count()
+    };
+    count(|statement| matches!(statement, Statement::Exchange(_))) > MOST_EXCHANGES
+        || count(|statement| matches!(statement, Statement::Before(..))) > pairs::MOST_PAIRS
+}
+
+/// The sheet, or the first faults.
+pub fn make_stated(text: &Text) -> Result<Made, Faults> {
     let composed = compose(text)?;
     let (sheet, pairs, block) = (composed.problem.encode(), pairs::stated(text), alike::stated(text));
-    match planner::question_lent(&sheet, &pairs, &block) {
-        Ok(()) => Ok(Made { problem: composed.problem, sheet, pairs, block }),
+    let wrong = match planner::question_lent(&sheet, &pairs, &block) {
+        Ok(()) => return Ok(Made { problem: composed.problem, sheet, pairs, block }),
         Err(refusal) if (28..=30).contains(&refusal.number) => {
             pairs::check(text).and(fault(1, refusal.to_string()))
         }
         Err(refusal) if of_block(&composed.problem, refusal) => not_alike(text, &composed, refusal),
         Err(refusal) => refused(text, &composed, &sheet, refusal),
-    }
+    };
+    wrong.map_err(|fault| vec![fault])
 }
 
 /// Does a refusal speak of the block: of itself, or of an ordering after the sheet's own exchanges?

@@ -4,7 +4,7 @@
 //! 256 rows of duties that the windows may have are left. An exchange of windows has to find the rules again
 //! that it takes rules to, so threes that exchanges carry into one another are taken together.
 
-use crate::compose::{alone, forbidden, Ruled, MOST_RULES};
+use crate::compose::{amount, forbidden, single, Ruled, MOST_RULES};
 use crate::problem::{draws, Constraint, Problem};
 use crate::text::{fault, Parsed, Statement, Text};
 use crate::words::counted;
@@ -12,6 +12,9 @@ use std::collections::{BTreeMap, BTreeSet};
 
 /// The most rows of a rule.
 const MOST_ROWS: usize = 256;
+
+/// So many duties at each of three windows never make more rows.
+const FEW: usize = 6;
 
 /// How many changes to a packing are tried.
 const TURNS: usize = 20_000;
@@ -45,7 +48,8 @@ pub fn pack(text: &Text, problem: &Problem) -> Parsed<Vec<Ruled>> {
     let chosen = choose(&pairs, &groups, room);
     let needed = cost(&pairs, &groups, &chosen);
     if needed > room {
-        return fault(widest(text), too_many(problem, rules.len(), pairs.len(), needed, threes.len()));
+        let words = too_many(problem, rules.len(), pairs.len(), needed, threes.len());
+        return fault(widest(text).0, words + &would_fit(problem, &pairs, &widest(text).1, room));
     }
     let covered: BTreeSet<Two> = chosen.iter().flat_map(|&group| groups[group].pairs.clone()).collect();
     let mut packed: Vec<Vec<usize>> =
@@ -75,9 +79,29 @@ fn too_many(problem: &Problem, other: usize, pairs: usize, needed: usize, threes
     format!(
         "the rules don't fit: {other_rules}{pairs} pairs of windows kept apart need {} rules, and at most {MOST_RULES} are \
          allowed. A rule on three windows says up to three pairs where at most {MOST_ROWS} rows are left, here {threes} \
-         threes of {all}{exchanges}. Fewer duties by `may` lines make fewer rows",
+         threes of {all}{exchanges}",
         other + needed
     )
+}
+
+/// What would fit: few duties, as any three windows then have few enough rows; fewer windows, a rule for every two.
+fn would_fit(problem: &Problem, pairs: &Pairs, widest: &[usize], room: usize) -> String {
+    let groups = groups(problem, pairs, &saving(problem, pairs).collect());
+    let few = match cost(pairs, &groups, &choose(pairs, &groups, room)) <= room {
+        true => vec![format!(
+            "at most {FEW} duties at each of these windows (`may` or `clerk` lines make them fewer)"
+        )],
+        false => Vec::new(),
+    };
+    let inside = |pair: &&Two| pair.iter().all(|window| widest.contains(window));
+    let left = room.saturating_sub(pairs.len() - pairs.keys().filter(inside).count());
+    let most = (2..widest.len()).rev().find(|count| count * (count - 1) / 2 <= left);
+    let fewer = most.map(|count| format!("`all different` of at most {count} windows, with any duties"));
+    let fits: Vec<String> = few.into_iter().chain(fewer).collect();
+    match fits.is_empty() {
+        true => String::new(),
+        false => format!(". What fits: {}", fits.join("; or ")),
+    }
 }
 
 /// The rules that stay as they are: those with rows, counts, and what is forbidden on one window or on three.
@@ -87,8 +111,11 @@ fn kept(text: &Text, problem: &Problem) -> Vec<Ruled> {
     let mut line_of = BTreeMap::new();
     for stated in &text.statements {
         match &stated.statement {
-            Statement::Rule(_) | Statement::Count { .. } => {
-                rules.push((alone(problem, &stated.statement), stated.first));
+            statement @ (Statement::Rule(_) | Statement::Count { .. }) => {
+                let wide = amount(problem, statement).is_some();
+                let stays =
+                    single(problem, statement).into_iter().filter(|rule| !wide || rule.scope.len() != 2);
+                rules.extend(stays.map(|rule| (rule, stated.first)));
             }
             Statement::Forbid(rows) => {
                 for row in rows.iter().filter(|row| row.len() != 2) {
@@ -127,19 +154,28 @@ fn pairs(text: &Text, problem: &Problem) -> Pairs {
                     add(row[0], row[1], stated.first);
                 }
             }
+            statement if amount(problem, statement).is_some() => {
+                let two = single(problem, statement).into_iter().filter(|rule| rule.scope.len() == 2);
+                for Constraint { scope, rows } in two {
+                    for row in draws(problem, &scope).iter().filter(|row| !rows.contains(row)) {
+                        add((scope[0], row[0]), (scope[1], row[1]), stated.first);
+                    }
+                }
+            }
             _ => {}
         }
     }
     pairs
 }
 
-/// The line of the `all different` of the most windows, or the last statement's.
-fn widest(text: &Text) -> usize {
-    let size = |statement: &Statement| match statement {
-        Statement::Different(scope) => scope.len(),
-        _ => 0,
+/// The line and the windows of the `all different` of the most windows, or the last statement's line.
+fn widest(text: &Text) -> (usize, Vec<usize>) {
+    let scope = |statement: &Statement| match statement {
+        Statement::Different(scope) => scope.clone(),
+        _ => Vec::new(),
     };
-    text.statements.iter().max_by_key(|stated| size(&stated.statement)).map_or(1, |stated| stated.first)
+    let lines = text.statements.iter().map(|stated| (stated.first, scope(&stated.statement)));
+    lines.max_by_key(|(_, scope)| scope.len()).unwrap_or((1, Vec::new()))
 }
 
 /// The pairs of windows among some, ascending.
@@ -157,12 +193,16 @@ fn rows(problem: &Problem, pairs: &Pairs, scope: &[usize]) -> Vec<Vec<usize>> {
     draws(problem, scope).into_iter().filter(fits).collect()
 }
 
-/// The threes of windows that one rule can hold and that save a rule.
-fn threes(problem: &Problem, pairs: &Pairs) -> BTreeSet<Three> {
+/// The threes of windows whose rule saves one.
+fn saving<'a>(problem: &Problem, pairs: &'a Pairs) -> impl Iterator<Item = Three> + 'a {
     let n = problem.variables.len();
-    let all = (0..n).flat_map(|a| (a + 1..n).flat_map(move |b| (b + 1..n).map(move |c| [a, b, c])));
-    let saves = |three: &Three| inside(three).filter(|pair| pairs.contains_key(pair)).count() > 1;
-    all.filter(saves).filter(|three| rows(problem, pairs, three).len() <= MOST_ROWS).collect()
+    let all = (0..n).flat_map(move |a| (a + 1..n).flat_map(move |b| (b + 1..n).map(move |c| [a, b, c])));
+    all.filter(|three| inside(three).filter(|pair| pairs.contains_key(pair)).count() > 1)
+}
+
+/// Those of them that one rule can hold.
+fn threes(problem: &Problem, pairs: &Pairs) -> BTreeSet<Three> {
+    saving(problem, pairs).filter(|three| rows(problem, pairs, three).len() <= MOST_ROWS).collect()
 }
 
 /// The threes in groups that the exchanges carry into themselves, those groups that are whole.

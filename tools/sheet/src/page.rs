@@ -3,7 +3,7 @@
 use crate::command::{Arguments, Command, Outcome, Stop};
 use crate::counts::share;
 use crate::families::words;
-use crate::input::{Input, BLOCK_OPTION, PAIRS_OPTION};
+use crate::input::{Input, BLOCK_OPTION, FIX_OPTION, PAIRS_OPTION, STRICT_OPTION, WHERE_OPTION};
 use crate::listing::{Limits, Listing, PLANS_OPTION, TRIALS_OPTION};
 use crate::pairs::settled;
 use crate::problem::Problem;
@@ -17,7 +17,15 @@ pub const COMMAND: Command = Command {
     usage: "TEXT > hall.html",
     about: "writes the hall and its plans as a page",
     files: 1..=1,
-    options: &[TRIALS_OPTION, PLANS_OPTION, PAIRS_OPTION, BLOCK_OPTION],
+    options: &[
+        FIX_OPTION,
+        STRICT_OPTION,
+        WHERE_OPTION,
+        TRIALS_OPTION,
+        PLANS_OPTION,
+        PAIRS_OPTION,
+        BLOCK_OPTION,
+    ],
     asks: false,
     run,
 };
@@ -33,7 +41,7 @@ fn run(arguments: &Arguments) -> Result<Outcome, Stop> {
     let limits = Limits::of(arguments)?;
     let source = &arguments.sources[0];
     let input = Input::read(source)?.lent(arguments)?;
-    let listing = input.list(limits)?;
+    let listing = input.list(limits)?.some_shown()?;
     let title = match source.0.as_str() {
         "-" => "Hall".to_string(),
         file => Path::new(file).file_stem().map_or(file.into(), |stem| stem.to_string_lossy().into_owned()),
@@ -45,7 +53,7 @@ fn run(arguments: &Arguments) -> Result<Outcome, Stop> {
     let page = Page { title, input: &input, listing: &listing, why };
     Ok(Outcome {
         output: page.html().into_bytes(),
-        note: listing.ending() + listing.hint(),
+        note: input.notes() + &listing.ending() + listing.hint(),
         status: listing.status(),
     })
 }

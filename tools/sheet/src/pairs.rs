@@ -7,7 +7,7 @@ use crate::words::{counted, listed};
 use planner::Refusal;
 
 /// The most pairs.
-const MOST_PAIRS: usize = 64;
+pub const MOST_PAIRS: usize = 64;
 
 /// Why pairs are refused: the refusal, the pair at fault, and the words.
 #[derive(Clone, Debug, PartialEq, Eq)]

@@ -1,15 +1,20 @@
 //! Reads a text line by line.
 
 use crate::alike;
+use crate::letters::composed;
 use crate::problem::Constraint;
-use crate::text::{fault, Exchange, Parsed, Stated, Statement, Text};
-use crate::words::{nearest, words};
+use crate::text::{fault, Exchange, Fault, Faults, Parsed, Stated, Statement, Text};
+use crate::words::{counted, halves, name_of, nearest, nearest_name, words, LONGEST_NAME};
+use std::cell::RefCell;
 
 /// The words that start a line.
-const STARTS: [&str; 15] = [
+const STARTS: [&str; 21] = [
     "windows",
     "duties",
     "may",
+    "clerk",
+    "away",
+    "fix",
     "rule",
     "rows",
     "different",
@@ -22,35 +27,51 @@ const STARTS: [&str; 15] = [
     "exchange",
     "before",
     "alike",
+    "prefer",
+    "avoid",
+    "near",
 ];
 
 /// The most windows and the most duties.
-const MOST: [usize; 2] = [12, 16];
+pub const MOST: [usize; 2] = [12, 16];
 
-/// What a text states.
-pub fn parse(text: &str) -> Parsed<Text> {
+/// The most that a preference costs.
+const MOST_WEIGHT: u32 = 1_000;
+
+/// What a text states, or all its faults. A fault in one line leaves the others to be read, as long as windows and duties
+/// are known.
+pub fn parse(text: &str) -> Result<Text, Faults> {
     if text.starts_with('\u{feff}') {
-        return fault(1, "the text starts with a byte order mark (BOM); save it as UTF-8 without one");
+        let bom = "the text starts with a byte order mark (BOM); save it as UTF-8 without one";
+        return Err(vec![Fault { line: 1, text: bom.to_string() }]);
     }
-    let stated =
-        Text { about: String::new(), variables: Vec::new(), values: Vec::new(), statements: Vec::new() };
-    let mut parser = Parser { text: stated, line: 0, comment: Vec::new(), open: false, sets: Vec::new() };
+    let mut parser = Parser::new();
     for line in text.lines() {
         parser.line += 1;
-        let words = words(line).or_else(|text| parser.fault(text))?;
-        match line.trim().strip_prefix('#') {
-            Some(comment) => parser.comment.push(comment.trim_start_matches('#').trim().to_string()),
-            None if words.is_empty() => parser.comment.clear(),
-            None => {
-                parser.line(&words)?;
-                parser.comment.clear();
-            }
+        parser.read(line);
+        if parser.lost {
+            break;
         }
     }
-    if parser.text.values.is_empty() {
-        return fault(parser.line.max(1), "the text ends before it has named its windows and duties");
+    let mut faults = parser.faults.into_inner();
+    if parser.text.values.is_empty() && faults.is_empty() {
+        let text = "the text ends before it has named its windows and duties".to_string();
+        faults.push(Fault { line: parser.line.max(1), text });
     }
-    Ok(parser.text)
+    if faults.is_empty() {
+        Ok(parser.text)
+    } else {
+        Err(faults)
+    }
+}
+
+/// May `rows` follow?
+#[derive(PartialEq)]
+enum Open {
+    No,
+    Yes,
+    /// They follow a rule at fault.
+    Unknown,
 }
 
 struct Parser {
@@ -58,20 +79,72 @@ struct Parser {
     line: usize,
     /// The comment right above the line.
     comment: Vec<String>,
-    /// May `rows` follow?
-    open: bool,
-    /// The windows that have a `may`, and its line.
-    sets: Vec<(usize, usize)>,
+    open: Open,
+    /// The word, the window or duty and the line of what may be said of it once: `may`, `clerk`, `fix`.
+    said: Vec<(&'static str, usize, usize)>,
+    faults: RefCell<Faults>,
+    /// Is there no way on, as windows or duties aren't known?
+    lost: bool,
 }
 
 impl Parser {
+    fn new() -> Parser {
+        let text =
+            Text { about: String::new(), variables: Vec::new(), values: Vec::new(), statements: Vec::new() };
+        let (comment, said, faults) = (Vec::new(), Vec::new(), RefCell::default());
+        Parser { text, line: 0, comment, open: Open::No, said, faults, lost: false }
+    }
+
     fn fault<T>(&self, text: impl Into<String>) -> Parsed<T> {
         fault(self.line, text)
     }
 
+    /// Notes a fault and goes on.
+    fn note(&self, fault: Fault) {
+        self.faults.borrow_mut().push(fault);
+    }
+
+    /// All of them, or the last fault; the others are noted.
+    fn all<T>(&self, parts: impl Iterator<Item = Parsed<T>>) -> Parsed<Vec<T>> {
+        let mut right = Vec::new();
+        let mut last = None;
+        for part in parts {
+            match part {
+                Ok(part) => right.push(part),
+                Err(fault) => last.replace(fault).into_iter().for_each(|fault| self.note(fault)),
+            }
+        }
+        last.map_or(Ok(right), Err)
+    }
+
+    /// Both, or the last fault; the other is noted.
+    fn both<A, B>(&self, first: Parsed<A>, second: Parsed<B>) -> Parsed<(A, B)> {
+        match (first, second) {
+            (Err(fault), Err(other)) => {
+                self.note(fault);
+                Err(other)
+            }
+            (first, second) => Ok((first?, second?)),
+        }
+    }
+
+    fn read(&mut self, line: &str) {
+        if let Some(comment) = line.trim().strip_prefix('#') {
+            self.comment.push(comment.trim_start_matches('#').trim().to_string());
+            return;
+        }
+        let words = words(line).or_else(|text| self.fault(text));
+        let read = words.and_then(|words| if words.is_empty() { Ok(()) } else { self.line(&words) });
+        if let Err(fault) = read {
+            self.note(fault);
+            self.lost |= self.text.values.is_empty();
+        }
+        self.comment.clear();
+    }
+
     fn line(&mut self, words: &[&str]) -> Parsed<()> {
         let named = !self.text.values.is_empty();
-        let (start, rest) = (words[0], &words[1..]);
+        let (start, rest) = (self.start(words[0])?, &words[1..]);
         match start {
             "windows" if self.text.variables.is_empty() => {
                 self.text.variables = self.new_names("windows", rest, MOST[0])?;
@@ -83,12 +156,12 @@ impl Parser {
             "windows" | "duties" => {
                 return self.fault("`windows` stands first and once, then `duties` once");
             }
-            _ if !is_start(start) => return self.fault(unknown(start)),
             _ if !named => return self.fault("`windows` and `duties` come first"),
             "rows" => return self.rows(rest),
             _ => {
+                self.open = if start == "rule" { Open::Unknown } else { Open::No };
                 let statement = self.statement(start, rest)?;
-                self.open = matches!(statement, Statement::Rule(_));
+                self.open = if start == "rule" { Open::Yes } else { Open::No };
                 let comment = self.comment.join(" ");
                 self.text.statements.push(Stated { first: self.line, last: self.line, comment, statement });
             }
@@ -96,10 +169,33 @@ impl Parser {
         Ok(())
     }
 
-    fn statement(&mut self, start: &str, rest: &[&str]) -> Parsed<Statement> {
+    /// The word that a line starts with; one that is only written wrongly is noted.
+    fn start(&self, word: &str) -> Parsed<&'static str> {
+        let first = |start: &'static str| start.split(' ').next().unwrap_or(start);
+        if let Some(start) = STARTS.into_iter().map(first).find(|start| *start == word) {
+            return Ok(start);
+        }
+        let meant = meant(word).and_then(|meant| STARTS.into_iter().find(|start| *start == meant));
+        let wrong = Fault { line: self.line, text: unknown(word) };
+        match meant {
+            Some(start) => {
+                self.note(wrong);
+                Ok(start)
+            }
+            None => Err(wrong),
+        }
+    }
+
+    fn statement(&mut self, start: &'static str, rest: &[&str]) -> Parsed<Statement> {
         match (start, rest) {
             ("may", [window, duties @ ..]) => self.may(window, duties),
             ("may", []) => self.fault("`may` takes a window and its duties"),
+            ("clerk", [duty, windows @ ..]) if !windows.is_empty() => self.clerk(duty, windows),
+            ("clerk", _) => self.fault("`clerk` takes a duty and its windows; one that has none is `away`"),
+            ("away", [duty]) => Ok(Statement::Away(self.duty(duty)?)),
+            ("away", _) => self.fault("write `away DUTY`: no window has it"),
+            ("fix", [window, duty]) => self.fix(window, duty),
+            ("fix", _) => self.fault("write `fix WINDOW DUTY`: the window has that duty"),
             ("rule", windows) => self.rule(windows),
             ("different", [_, _]) => self.different(rest),
             ("different", _) => self.fault("`different` takes two windows; of more say `all different`"),
@@ -111,75 +207,132 @@ impl Parser {
             ("exactly", rest) => self.count(start, rest),
             ("at", [word @ ("least" | "most"), rest @ ..]) => self.count(word, rest),
             ("at", _) => self.fault("write `at least` or `at most`, a number, a duty and windows"),
-            ("before", [first, second]) => Ok(Statement::Before(self.window(first)?, self.window(second)?)),
+            ("before", [first, second]) => {
+                let (first, second) = self.both(self.window(first), self.window(second))?;
+                Ok(Statement::Before(first, second))
+            }
             ("before", _) => {
                 self.fault("write `before WINDOW WINDOW`: the first is settled before the second")
             }
             ("alike", windows) => self.alike(windows),
+            ("prefer" | "avoid", rest) => self.wish(start, rest),
+            ("near", [file]) => Ok(Statement::Near(name_of(file), 1)),
+            ("near", [file, weight]) => Ok(Statement::Near(name_of(file), self.weight(weight)?)),
+            ("near", _) => {
+                self.fault("write `near FILE`: a CSV file with a plan, and a weight if it isn't 1")
+            }
             (_, what) => self.exchange(what),
         }
     }
 
-    /// New names: at least one, each once, and none that the text uses for itself.
-    fn new_names(&self, kind: &str, names: &[&str], most: usize) -> Parsed<Vec<String>> {
-        for (i, name) in names.iter().enumerate() {
-            match *name {
-                "," => return self.fault(format!("names of {kind} are parted by spaces, not by commas")),
-                "windows" | "duties" => return self.fault(format!("`{name}` can't be a name")),
-                _ if name.contains('.') => {
-                    return self
-                        .fault(format!("`{name}` can't be a name: a point parts a window from a duty"));
-                }
-                _ if names[..i].contains(name) => {
-                    return self.fault(format!("the name `{name}` stands twice"));
-                }
-                _ => {}
+    /// New names: at least one, each once, and none that the text uses for itself. Faults are noted, and the names kept.
+    fn new_names(&self, kind: &str, words: &[&str], most: usize) -> Parsed<Vec<String>> {
+        let mut names: Vec<String> = Vec::new();
+        for word in words {
+            let name = name_of(word);
+            if let Some(wrong) = wrong_name(kind, word, &name, &names) {
+                self.note(Fault { line: self.line, text: wrong });
+            }
+            if *word != "," && !names.contains(&name) {
+                names.push(name);
             }
         }
         match names.len() {
             0 => self.fault(format!("`{kind}` takes at least one name")),
-            count if count > most => self.fault(format!("{count} {kind}, and at most {most} are allowed")),
-            _ => Ok(names.iter().map(|name| name.to_string()).collect()),
+            count => {
+                if count > most {
+                    let text = format!("{count} {kind}, and at most {most} are allowed");
+                    self.note(Fault { line: self.line, text });
+                }
+                Ok(names)
+            }
         }
     }
 
-    fn find(&self, names: &[String], kind: &str, name: &str) -> Parsed<usize> {
-        match names.iter().position(|other| other == name) {
+    fn find(&self, kind: usize, word: &str) -> Parsed<usize> {
+        const KINDS: [&str; 2] = ["window", "duty"];
+        let all = [&self.text.variables, &self.text.values];
+        let (names, name) = (all[kind], name_of(word));
+        let (kind, other, is_other) = (KINDS[kind], KINDS[1 - kind], all[1 - kind].contains(&name));
+        match names.iter().position(|other| *other == name) {
             Some(number) => Ok(number),
-            None if name == "," => self.fault(format!("a comma stands where a {kind} should")),
-            None => self.fault(format!("no {kind} is called `{name}`{}", nearest(name, names))),
+            None if word == "," => self.fault(format!("a comma stands where a {kind} should")),
+            None if is_other => {
+                self.fault(format!("no {kind} is called `{name}`: it is a {other}, and a {kind} is due here"))
+            }
+            None => {
+                let name: String = name.chars().take(LONGEST_NAME).collect();
+                self.fault(format!("no {kind} is called `{name}`{}", nearest(&name, names)))
+            }
         }
     }
 
-    fn window(&self, name: &str) -> Parsed<usize> {
-        self.find(&self.text.variables, "window", name)
+    fn window(&self, word: &str) -> Parsed<usize> {
+        self.find(0, word)
     }
 
-    fn duty(&self, name: &str) -> Parsed<usize> {
-        self.find(&self.text.values, "duty", name)
+    fn duty(&self, word: &str) -> Parsed<usize> {
+        self.find(1, word)
+    }
+
+    fn duties(&self, words: &[&str]) -> Parsed<Vec<usize>> {
+        self.all(words.iter().map(|word| self.duty(word)))
     }
 
     /// Windows, each once, as written.
-    fn windows(&self, names: &[&str]) -> Parsed<Vec<usize>> {
-        for (i, name) in names.iter().enumerate() {
-            if *name != "," && names[..i].contains(name) {
-                return self.fault(format!("`{name}` stands twice"));
-            }
+    fn windows(&self, words: &[&str]) -> Parsed<Vec<usize>> {
+        let once = |(i, word): (usize, &&str)| match *word != "," && words[..i].contains(word) {
+            true => self.fault(format!("`{}` stands twice", name_of(word))),
+            false => self.window(word),
+        };
+        self.all(words.iter().enumerate().map(once))
+    }
+
+    /// Notes that a word is said of a window or duty, which may be said once.
+    fn once(&mut self, word: &'static str, of: usize, name: &str) -> Parsed<()> {
+        let line = self.said.iter().find(|said| (said.0, said.1) == (word, of)).map(|said| said.2);
+        self.said.push((word, of, self.line));
+        match line {
+            Some(line) => self
+                .fault(format!("a second `{word}` for `{}`; the first stands in line {line}", name_of(name))),
+            None => Ok(()),
         }
-        names.iter().map(|name| self.window(name)).collect()
     }
 
     fn may(&mut self, window: &str, duties: &[&str]) -> Parsed<Statement> {
-        let variable = self.window(window)?;
-        if let Some((_, line)) = self.sets.iter().find(|(other, _)| *other == variable) {
-            return self.fault(format!("a second `may` for `{window}`; the first stands in line {line}"));
+        let (variable, duties) = self.both(self.window(window), self.duties(duties))?;
+        self.once("may", variable, window)?;
+        Ok(Statement::May(variable, set_of(&duties)))
+    }
+
+    fn clerk(&mut self, duty: &str, windows: &[&str]) -> Parsed<Statement> {
+        let (value, windows) = self.both(self.duty(duty), self.windows(windows))?;
+        self.once("clerk", value, duty)?;
+        Ok(Statement::Clerk(value, set_of(&windows)))
+    }
+
+    fn fix(&mut self, window: &str, duty: &str) -> Parsed<Statement> {
+        let (variable, value) = self.both(self.window(window), self.duty(duty))?;
+        self.once("fix", variable, window)?;
+        Ok(Statement::Fix(variable, value))
+    }
+
+    /// `prefer`, `avoid`: a window, a duty and a weight.
+    fn wish(&self, word: &str, rest: &[&str]) -> Parsed<Statement> {
+        let (window, duty, weight) = match rest {
+            [window, duty] => (window, duty, Ok(1)),
+            [window, duty, weight] => (window, duty, self.weight(weight)),
+            _ => return self.fault(format!("write `{word} WINDOW DUTY`, and a weight if it isn't 1")),
+        };
+        let ((window, value), weight) = self.both(self.both(self.window(window), self.duty(duty)), weight)?;
+        Ok(Statement::Wish { window, value, weight, wanted: word == "prefer" })
+    }
+
+    fn weight(&self, word: &str) -> Parsed<u32> {
+        match word.parse::<u32>() {
+            Ok(weight) if (1..=MOST_WEIGHT).contains(&weight) => Ok(weight),
+            _ => self.fault(format!("a weight is a number from 1 to {MOST_WEIGHT}, not `{word}`")),
         }
-        self.sets.push((variable, self.line));
-        let mut set = 0;
-        for duty in duties {
-            set |= 1 << self.duty(duty)?;
-        }
-        Ok(Statement::May(variable, set))
     }
 
     fn rule(&self, windows: &[&str]) -> Parsed<Statement> {
@@ -193,12 +346,12 @@ impl Parser {
 
     /// Rows of the rule above, parted by commas.
     fn rows(&mut self, words: &[&str]) -> Parsed<()> {
-        if !self.open {
+        if self.open == Open::No {
             return self.fault("`rows` follows a `rule`");
         }
-        let mut new = Vec::new();
-        for row in words.split(|word| *word == ",") {
-            new.push(row.iter().map(|name| self.duty(name)).collect::<Parsed<Vec<usize>>>()?);
+        let new = self.all(words.split(|word| *word == ",").map(|row| self.duties(row)))?;
+        if self.open == Open::Unknown {
+            return Ok(());
         }
         let line = self.line;
         let stated = self.text.statements.last_mut().expect("a rule is open");
@@ -229,25 +382,21 @@ impl Parser {
     /// A row of windows and duties by turns: ascending by window.
     fn row(&self, words: &[&str]) -> Parsed<Vec<(usize, usize)>> {
         let names: Vec<&str> = words.iter().step_by(2).copied().collect();
-        let duties = words.iter().skip(1).step_by(2).map(|name| self.duty(name));
-        let windows = self.windows(&names)?;
-        let mut row: Vec<(usize, usize)> =
-            windows.into_iter().zip(duties.collect::<Parsed<Vec<usize>>>()?).collect();
+        let duties: Vec<&str> = words.iter().skip(1).step_by(2).copied().collect();
+        let (windows, duties) = self.both(self.windows(&names), self.duties(&duties))?;
+        let mut row: Vec<(usize, usize)> = windows.into_iter().zip(duties).collect();
         row.sort();
         Ok(row)
     }
 
     fn forbid(&self, words: &[&str]) -> Parsed<Statement> {
-        let mut rows = Vec::new();
-        for row in words.split(|word| *word == ",") {
-            if ![2, 4, 6].contains(&row.len()) {
-                return self.fault(
-                    "`forbid` takes rows parted by commas, each WINDOW DUTY for one to three windows",
-                );
+        let row = |row: &[&str]| match row.len() {
+            2 | 4 | 6 => self.row(row),
+            _ => {
+                self.fault("`forbid` takes rows parted by commas, each WINDOW DUTY for one to three windows")
             }
-            rows.push(self.row(row)?);
-        }
-        Ok(Statement::Forbid(rows))
+        };
+        Ok(Statement::Forbid(self.all(words.split(|word| *word == ",").map(row))?))
     }
 
     fn never_together(&self, row: &[&str]) -> Parsed<Statement> {
@@ -260,18 +409,23 @@ impl Parser {
     /// `exactly`, `at least`, `at most`: a number, a duty and windows.
     fn count(&self, word: &str, rest: &[&str]) -> Parsed<Statement> {
         let [number, duty, windows @ ..] = rest else {
-            return self.fault("a number, a duty and one to three windows are wanted");
+            return self.fault("a number, a duty and windows are wanted");
         };
         let Ok(number) = number.parse::<usize>() else {
             return self.fault(format!("`{number}` is no number; write a number, a duty and windows"));
         };
-        let (value, mut scope) = (self.duty(duty)?, self.windows(windows)?);
-        if !(1..=3).contains(&scope.len()) {
-            return self.fault(format!("a rule has 1 to 3 windows, not {}", scope.len()));
+        let (value, mut scope) = self.both(self.duty(duty), self.windows(windows))?;
+        if scope.is_empty() {
+            return self.fault("a number, a duty and windows are wanted");
         }
         scope.sort();
         let least = if word == "most" { 0 } else { number };
         let most = if word == "least" { scope.len() } else { number };
+        if least > scope.len() {
+            let word = if word == "least" { "at least" } else { word };
+            let windows = counted(scope.len() as u64, "window");
+            return self.fault(format!("`{word} {number}` of {windows}: more than there are"));
+        }
         Ok(Statement::Count { least, most, value, scope })
     }
 
@@ -325,10 +479,11 @@ impl Parser {
 
     /// The number of a pair such as `cash.ann`.
     fn pair(&self, name: &str) -> Parsed<usize> {
-        match name.split_once('.') {
-            Some((window, duty)) => Ok(self.window(window)? * self.text.values.len() + self.duty(duty)?),
-            None => self.fault(format!("`{name}` is no pair; write WINDOW.DUTY")),
-        }
+        let Some((window, duty)) = halves(name) else {
+            return self.fault(format!("`{name}` is no pair; write WINDOW.DUTY"));
+        };
+        let (window, duty) = self.both(self.window(window), self.duty(duty))?;
+        Ok(window * self.text.values.len() + duty)
     }
 
     /// A permutation of `size` numbers from circles of names, parted by commas.
@@ -341,7 +496,7 @@ impl Parser {
         let mut map: Vec<usize> = (0..size).collect();
         let mut seen = Vec::new();
         for cycle in words.split(|word| *word == ",") {
-            let cycle = cycle.iter().map(|name| find(name)).collect::<Parsed<Vec<usize>>>()?;
+            let cycle = self.all(cycle.iter().map(|name| find(name)))?;
             if cycle.len() < 2 {
                 return self.fault("a circle has two or more members");
             }
@@ -372,13 +527,48 @@ impl Parser {
     }
 }
 
-/// Is it the first of the words that start a line?
-fn is_start(word: &str) -> bool {
-    STARTS.iter().any(|start| start.split(' ').next() == Some(word))
+/// A set of numbers, a bit for each.
+fn set_of(numbers: &[usize]) -> u16 {
+    numbers.iter().fold(0, |set, &number| set | 1u16.checked_shl(number as u32).unwrap_or(0))
+}
+
+/// What is wrong with a new name beside those before it, if anything is.
+fn wrong_name(kind: &str, word: &str, name: &str, before: &[String]) -> Option<String> {
+    let length = name.chars().count();
+    let spaced = name.trim() != name || name.contains("  ");
+    match word {
+        "," => Some(format!("names of {kind} are parted by spaces, not by commas")),
+        "windows" | "duties" => Some(format!("`{word}` can't be a name, but in quotes")),
+        _ if length == 0 => Some("a name in quotes has at least one letter".to_string()),
+        _ if length > LONGEST_NAME => Some(format!(
+            "a name of {}, and at most {LONGEST_NAME} are allowed",
+            counted(length as u64, "character")
+        )),
+        _ if !word.starts_with('"') && word.contains('.') => {
+            Some(format!("`{word}` can't be a name but in quotes: a point parts a window from a duty"))
+        }
+        _ if word.starts_with('"') && name_of(word) == composed(word) => {
+            Some(format!("`{word}` is two words: a name in quotes has nothing beside them"))
+        }
+        _ if spaced => Some(format!("the name `{name}` has a space at an end, or two together")),
+        _ if before.iter().any(|other| other == name) => Some(format!("the name `{name}` stands twice")),
+        _ => None,
+    }
+}
+
+/// The word that starts a line and that a word stands for which is written wrongly.
+fn meant(word: &str) -> Option<String> {
+    let starts = STARTS.map(String::from);
+    let small = word.trim_end_matches(':').to_lowercase();
+    match starts.contains(&small) {
+        true => Some(small),
+        false => nearest_name(word, &starts).cloned(),
+    }
 }
 
 /// Why a word starts no line.
 fn unknown(word: &str) -> String {
+    let is_start = |word: &str| STARTS.iter().any(|start| start.split(' ').next() == Some(word));
     let starts = STARTS.map(String::from);
     let small = word.to_lowercase();
     match word.strip_suffix(':') {
@@ -386,6 +576,7 @@ fn unknown(word: &str) -> String {
         _ if is_start(&small) => format!("write `{small}` in small letters"),
         _ => match nearest(word, &starts) {
             hint if hint.is_empty() => {
+                let word: String = word.chars().take(LONGEST_NAME).collect();
                 format!("`{word}` starts no line; the words that do are {}", STARTS.join(", "))
             }
             hint => format!("`{word}` starts no line{hint}"),

@@ -1,12 +1,14 @@
 //! `sheet plans`: a text's plans by name.
 
-use crate::command::{refuse, Arguments, Choice, Command, Outcome, Stop};
+use crate::command::{out, refuse, Arguments, Choice, Command, Out, Outcome, Stop};
 use crate::counts::drawn;
-use crate::families::{number, words};
-use crate::input::{Input, BLOCK_OPTION, PAIRS_OPTION};
+use crate::csv::BOM;
+use crate::families::{closed, not_counted, number};
+use crate::input::{Input, BLOCK_OPTION, FIX_OPTION, PAIRS_OPTION, STRICT_OPTION, WHERE_OPTION};
 use crate::listing::{Limits, Listing, PLANS_OPTION, TRIALS_OPTION};
 use crate::pairs::settled;
-use crate::table::{csv, json, table};
+use crate::table::{write_counts, write_csv, write_json, write_table, Columns};
+use std::io::Write;
 
 pub const COMMAND: Command = Command {
     name: "plans",
@@ -14,7 +16,8 @@ pub const COMMAND: Command = Command {
     about: "lists the plans by name, then says how the run ended",
     files: 1..=1,
     options: &[
-        Choice { name: "--csv", value: None, about: "as CSV; the ending goes to standard error" },
+        CSV_OPTION,
+        BOM_OPTION,
         Choice { name: "--json", value: None, about: "as one JSON object" },
         Choice {
             name: "--rows",
@@ -23,10 +26,19 @@ pub const COMMAND: Command = Command {
         },
         Choice { name: "--first", value: None, about: "one plan is enough" },
         Choice {
+            name: FREE,
+            value: None,
+            about: "with each plan who is free, and after the plans how often each stands and is free",
+        },
+        Choice {
             name: BY_WINDOW,
             value: None,
             about: "after the ending, a line for each window: its trials, their share and a bar",
         },
+        EXPLAIN_OPTION,
+        FIX_OPTION,
+        STRICT_OPTION,
+        WHERE_OPTION,
         TRIALS_OPTION,
         PLANS_OPTION,
         PAIRS_OPTION,
@@ -36,50 +48,109 @@ pub const COMMAND: Command = Command {
     run,
 };
 
+pub const CSV_OPTION: Choice =
+    Choice { name: "--csv", value: None, about: "as CSV; the ending goes to standard error" };
+
+pub const BOM_OPTION: Choice = Choice {
+    name: "--bom",
+    value: None,
+    about: "as CSV with a byte order mark, by which a spreadsheet knows the letters",
+};
+
+pub const EXPLAIN_OPTION: Choice = Choice {
+    name: "--explain",
+    value: None,
+    about: "says whether the exchanges are closed, or which of them make one that isn't there",
+};
+
+/// Shows who is free.
+const FREE: &str = "--free";
+
 /// Shows where the trials go.
 const BY_WINDOW: &str = "--by-window";
 
 /// What a list leaves out under exchanges.
 const LEFT_OUT: &str = "(a plan that an exchange makes of an earlier one is left out)\n";
 
+/// Does a command write CSV?
+pub fn as_csv(arguments: &Arguments) -> bool {
+    arguments.has(CSV_OPTION.name) || arguments.has(BOM_OPTION.name)
+}
+
 fn run(arguments: &Arguments) -> Result<Outcome, Stop> {
-    if ["--csv", "--json", "--rows"].iter().filter(|name| arguments.has(name)).count() > 1 {
+    let forms = [as_csv(arguments), arguments.has("--json"), arguments.has("--rows")];
+    if forms.iter().filter(|form| **form).count() > 1 {
         return refuse("plans takes one of --csv, --json and --rows");
     }
-    if arguments.has(BY_WINDOW) && ["--csv", "--json", "--rows"].iter().any(|name| arguments.has(name)) {
-        return refuse("--by-window goes with the table alone");
+    if let Some(name) = [BY_WINDOW, FREE].iter().find(|name| arguments.has(name) && forms.contains(&true)) {
+        return refuse(format!("{name} goes with the table alone"));
     }
     let limits = Limits::of(arguments)?;
     let input = Input::read(&arguments.sources[0])?.lent(arguments)?;
     let (problem, listing) = (&input.made.problem, input.list(limits)?);
-    let status = listing.status();
     let ending = listing.ending() + listing.hint() + "\n";
-    let (output, note) = if arguments.has("--json") {
-        (json(problem, &listing, number(&listing, &input)).into_bytes(), String::new())
-    } else if arguments.has("--csv") {
-        (csv(problem, &listing).into_bytes(), ending)
-    } else if arguments.has("--rows") {
-        (listing.plans.concat(), ending)
-    } else {
-        let by_window =
-            if arguments.has(BY_WINDOW) { drawn(&problem.variables, &listing.counts) } else { String::new() };
-        let text = shown(&input, &listing, listing.hint()) + &in_order(&input) + &by_window;
-        (text.into_bytes(), String::new())
+    let mut out = out();
+    let note = match forms {
+        [true, _, _] => {
+            out.all(|out| write_all_csv(out, arguments, &input, &listing))?;
+            ending
+        }
+        [_, true, _] => {
+            out.all(|out| write_json(out, problem, &listing, number(&listing, &input)))?;
+            String::new()
+        }
+        [_, _, true] => {
+            out.all(|out| out.write_all(listing.plans.bytes()))?;
+            ending
+        }
+        _ => {
+            write_shown(&mut out, &input, &listing, arguments)?;
+            String::new()
+        }
     };
-    Ok(Outcome { output, note, status })
+    out.end()?;
+    Ok(Outcome { output: Vec::new(), note: input.notes() + &note, status: listing.status() })
 }
 
-/// The table, the ending with a hint, and what the exchanges leave out.
-pub fn shown(input: &Input, listing: &Listing, hint: &str) -> String {
+fn write_all_csv(
+    out: &mut dyn Write,
+    arguments: &Arguments,
+    input: &Input,
+    listing: &Listing,
+) -> std::io::Result<()> {
+    write_bom(out, arguments)?;
+    write_csv(out, &input.made.problem, &listing.plans)
+}
+
+/// The byte order mark, if it is asked for.
+pub fn write_bom(out: &mut dyn Write, arguments: &Arguments) -> std::io::Result<()> {
+    write!(out, "{}", if arguments.has(BOM_OPTION.name) { BOM } else { "" })
+}
+
+/// The table, the ending, and what the options ask for.
+fn write_shown(out: &mut Out, input: &Input, listing: &Listing, arguments: &Arguments) -> Result<(), Stop> {
+    let problem = &input.made.problem;
+    let columns = Columns { costs: None, free: arguments.has(FREE) };
+    out.all(|out| write_table(out, problem, &listing.plans, columns))?;
+    out.all(|out| {
+        write!(out, "{}", ended(input, listing, listing.hint(), arguments.has(EXPLAIN_OPTION.name)))?;
+        write!(out, "{}", in_order(input))?;
+        if columns.free {
+            write_counts(out, problem, &listing.plans)?;
+        }
+        let by_window = arguments.has(BY_WINDOW).then(|| drawn(&problem.variables, &listing.counts));
+        write!(out, "{}", by_window.unwrap_or_default())
+    })
+}
+
+/// The ending with a hint, below a table if there is one, and what is to be said of exchanges.
+pub fn ended(input: &Input, listing: &Listing, hint: &str, explain: bool) -> String {
     let gap = if listing.plans.is_empty() { "" } else { "\n" };
     let left = if input.made.has_exchanges() { LEFT_OUT } else { "" };
-    let exchanges = of_exchanges(input, listing);
-    format!("{}{gap}{}{hint}\n{left}{exchanges}", table(&input.made.problem, listing), listing.ending())
-}
-
-/// Families and closed exchanges.
-fn of_exchanges(input: &Input, listing: &Listing) -> String {
-    words(listing, input).iter().map(|words| format!("({words})\n")).collect()
+    let closed = if explain { closed(listing, input) } else { None };
+    let exchanges = not_counted(listing).map(String::from).into_iter().chain(closed);
+    let exchanges: String = exchanges.map(|words| format!("({words})\n")).collect();
+    format!("{gap}{}{hint}\n{left}{exchanges}", listing.ending())
 }
 
 /// The order in which pairs settle the windows.

@@ -1,5 +1,7 @@
 //! What a sheet states, with names for its windows (variables) and duties (values).
 
+use crate::words::written;
+
 /// A rule: its windows and its rows.
 #[derive(Clone, Debug, PartialEq, Eq)]
 pub struct Constraint {
@@ -125,7 +127,7 @@ impl Problem {
     pub fn pair_name(&self, number: usize) -> String {
         let d = self.values.len();
         match self.variables.get(number / d) {
-            Some(variable) => format!("{variable}.{}", self.values[number % d]),
+            Some(variable) => format!("{}.{}", written(variable), written(&self.values[number % d])),
             None => format!("{number}"),
         }
     }

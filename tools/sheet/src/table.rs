@@ -1,61 +1,130 @@
-//! Plans by name, as a table for people, as CSV and as JSON.
+//! Plans by name, written row by row: as a table for people, as CSV and as JSON.
 
-use crate::listing::Listing;
+use crate::csv::cell;
+use crate::letters::width;
+use crate::listing::{Listing, Plans};
 use crate::problem::Problem;
+use std::io::{Result, Write};
 
-/// The names of the windows, then of each plan's duties.
-fn rows(problem: &Problem, listing: &Listing) -> Vec<Vec<String>> {
-    let names = |plan: &Vec<u8>| plan.iter().map(|&duty| problem.values[duty as usize].clone()).collect();
-    let mut rows = vec![problem.variables.clone()];
-    rows.extend(listing.plans.iter().map(names));
-    rows
+/// The names of a plan's duties.
+fn names<'a>(problem: &'a Problem, plan: &'a [u8]) -> impl Iterator<Item = &'a str> {
+    plan.iter().map(|&duty| problem.values[duty as usize].as_str())
+}
+
+/// The duties that no window of a plan has.
+pub fn free(problem: &Problem, plan: &[u8]) -> Vec<usize> {
+    (0..problem.values.len()).filter(|&duty| !plan.contains(&(duty as u8))).collect()
+}
+
+/// Who is free, in words.
+fn free_words(problem: &Problem, plan: &[u8]) -> String {
+    let names: Vec<&str> = free(problem, plan).iter().map(|&duty| problem.values[duty].as_str()).collect();
+    names.join(", ")
+}
+
+/// What a table shows of plans beside a column for each window.
+#[derive(Clone, Copy, Default)]
+pub struct Columns<'a> {
+    /// What each plan costs, before the windows.
+    pub costs: Option<&'a [u64]>,
+    /// Who is free, after the windows.
+    pub free: bool,
 }
 
 /// A column for each window; nothing where no plan is listed.
-pub fn table(problem: &Problem, listing: &Listing) -> String {
-    if listing.plans.is_empty() {
-        return String::new();
+pub fn write_table(out: &mut dyn Write, problem: &Problem, plans: &Plans, columns: Columns) -> Result<()> {
+    if plans.is_empty() {
+        return Ok(());
     }
-    let rows = rows(problem, listing);
-    let width = |column: usize| rows.iter().map(|row| row[column].chars().count()).max().unwrap_or(0);
-    let widths: Vec<usize> = (0..problem.variables.len()).map(width).collect();
-    let line = |row: &Vec<String>| {
-        let cells = row.iter().zip(&widths).map(|(name, &width)| format!("{name:width$}"));
-        cells.collect::<Vec<_>>().join("  ").trim_end().to_string() + "\n"
+    let cost = |row: usize| columns.costs.map(|costs| costs[row].to_string());
+    let mut widths: Vec<usize> = problem.variables.iter().map(|name| width(name)).collect();
+    let mut used = vec![0u16; widths.len()];
+    for plan in plans.iter() {
+        used.iter_mut().zip(plan).for_each(|(set, duty)| *set |= 1 << duty);
+    }
+    for (most, set) in widths.iter_mut().zip(&used) {
+        let duties = (0..problem.values.len()).filter(|duty| set >> duty & 1 == 1);
+        *most = duties.map(|duty| width(&problem.values[duty])).fold(*most, usize::max);
+    }
+    let costs = (0..plans.len()).filter_map(cost).map(|cost| cost.len()).max();
+    let widths: Vec<usize> = costs.map(|most| most.max(4)).into_iter().chain(widths).chain([0]).collect();
+    let mut line = |first: Option<String>, cells: &mut dyn Iterator<Item = &str>, last: Option<String>| {
+        let first = first.into_iter();
+        let cells = first.chain(cells.map(String::from)).chain(last);
+        let padded = cells.zip(&widths).map(|(cell, &most)| {
+            let gap = most.saturating_sub(width(&cell));
+            cell + &" ".repeat(gap)
+        });
+        writeln!(out, "{}", padded.collect::<Vec<_>>().join("  ").trim_end())
     };
-    rows.iter().map(line).collect()
+    let head = |shown: bool, word: &str| shown.then(|| word.to_string());
+    let windows = &mut problem.variables.iter().map(String::as_str);
+    line(head(columns.costs.is_some(), "cost"), windows, head(columns.free, "free"))?;
+    for (row, plan) in plans.iter().enumerate() {
+        let free = columns.free.then(|| free_words(problem, plan));
+        line(cost(row), &mut names(problem, plan), free)?;
+    }
+    Ok(())
 }
 
-/// A line for the windows and one for each plan; a name with a comma or a quotation mark is quoted.
-pub fn csv(problem: &Problem, listing: &Listing) -> String {
-    let cell = |name: &String| match name.contains(['"', ',']) {
-        true => format!("\"{}\"", name.replace('"', "\"\"")),
-        false => name.clone(),
-    };
-    let line = |row: &Vec<String>| row.iter().map(cell).collect::<Vec<_>>().join(",") + "\n";
-    rows(problem, listing).iter().map(line).collect()
+/// The table as a text.
+pub fn table(problem: &Problem, listing: &Listing) -> String {
+    let mut bytes = Vec::new();
+    write_table(&mut bytes, problem, &listing.plans, Columns::default()).expect("a text takes all");
+    String::from_utf8(bytes).expect("names are texts")
+}
+
+/// A line for each duty: at how many windows of all plans it stands, and in how many plans it is free.
+pub fn write_counts(out: &mut dyn Write, problem: &Problem, plans: &Plans) -> Result<()> {
+    let mut counts = vec![[0u64; 2]; problem.values.len()];
+    for plan in plans.iter() {
+        plan.iter().for_each(|&duty| counts[duty as usize][0] += 1);
+        free(problem, plan).into_iter().for_each(|duty| counts[duty][1] += 1);
+    }
+    let names = problem.values.iter().map(|name| width(name)).max().unwrap_or(0);
+    let digits = |of: usize| counts.iter().map(|count| count[of].to_string().len()).max().unwrap_or(0);
+    let [stands, free] = [digits(0), digits(1)];
+    for (name, count) in problem.values.iter().zip(&counts) {
+        let gap = " ".repeat(names - width(name));
+        writeln!(out, "{name}{gap}  stands {:>stands$}  free {:>free$}", count[0], count[1])?;
+    }
+    Ok(())
+}
+
+/// A line for the windows and one for each plan.
+pub fn write_csv(out: &mut dyn Write, problem: &Problem, plans: &Plans) -> Result<()> {
+    let windows: Vec<String> = problem.variables.iter().map(|name| cell(name)).collect();
+    let duties: Vec<String> = problem.values.iter().map(|name| cell(name)).collect();
+    writeln!(out, "{}", windows.join(","))?;
+    for plan in plans.iter() {
+        let row: Vec<&str> = plan.iter().map(|&duty| duties[duty as usize].as_str()).collect();
+        writeln!(out, "{}", row.join(","))?;
+    }
+    Ok(())
 }
 
 /// One object: windows, duties, the ending, the number of families, and the plans, each with its duty by window.
-pub fn json(problem: &Problem, listing: &Listing, families: Option<u32>) -> String {
+pub fn write_json(
+    out: &mut dyn Write,
+    problem: &Problem,
+    listing: &Listing,
+    families: Option<u32>,
+) -> Result<()> {
     let list = |names: &[String]| names.iter().map(|name| quoted(name)).collect::<Vec<_>>().join(", ");
-    let plan = |plan: &Vec<u8>| {
-        let pairs = plan.iter().zip(&problem.variables);
-        let pairs = pairs
-            .map(|(&duty, window)| format!("{}: {}", quoted(window), quoted(&problem.values[duty as usize])));
-        format!("    {{{}}}", pairs.collect::<Vec<_>>().join(", "))
-    };
-    let plans: Vec<String> = listing.plans.iter().map(plan).collect();
-    let plans = if plans.is_empty() { String::new() } else { format!("\n{}\n  ", plans.join(",\n")) };
-    format!(
-        "{{\n  \"windows\": [{}],\n  \"duties\": [{}],\n  \"ending\": \"{}\",\n  \"listed\": {},\n  \"trials\": {},\n  \"families\": {},\n  \"plans\": [{plans}]\n}}\n",
-        list(&problem.variables),
-        list(&problem.values),
-        listing.word(),
-        listing.plans.len(),
-        listing.trials,
-        families.map_or("null".to_string(), |count| count.to_string()),
-    )
+    writeln!(out, "{{\n  \"windows\": [{}],", list(&problem.variables))?;
+    writeln!(out, "  \"duties\": [{}],", list(&problem.values))?;
+    writeln!(out, "  \"ending\": \"{}\",", listing.word())?;
+    writeln!(out, "  \"listed\": {},\n  \"trials\": {},", listing.plans.len(), listing.trials)?;
+    let families = families.map_or("null".to_string(), |count| count.to_string());
+    write!(out, "  \"families\": {families},\n  \"plans\": [")?;
+    let mut gap = "\n";
+    for plan in listing.plans.iter() {
+        let pairs = problem.variables.iter().zip(names(problem, plan));
+        let pairs = pairs.map(|(window, duty)| format!("{}: {}", quoted(window), quoted(duty)));
+        write!(out, "{gap}    {{{}}}", pairs.collect::<Vec<_>>().join(", "))?;
+        gap = ",\n";
+    }
+    writeln!(out, "{}]\n}}", if listing.plans.is_empty() { "" } else { "\n  " })
 }
 
 /// A name as a JSON string; names have no control characters.

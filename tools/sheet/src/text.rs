@@ -11,6 +11,9 @@ pub struct Fault {
 
 pub type Parsed<T> = Result<T, Fault>;
 
+/// All faults of a text, by line.
+pub type Faults = Vec<Fault>;
+
 pub fn fault<T>(line: usize, text: impl Into<String>) -> Parsed<T> {
     Err(Fault { line, text: text.into() })
 }
@@ -39,6 +42,12 @@ pub struct Stated {
 pub enum Statement {
     /// `may`: a window and its set, bit v for value v.
     May(usize, u16),
+    /// `clerk`: a duty and the windows that may have it, bit w for window w.
+    Clerk(usize, u16),
+    /// `away`: a duty that no window may have.
+    Away(usize),
+    /// `fix`: a window and the duty that it has.
+    Fix(usize, usize),
     /// `rule` and its `rows`, with windows and columns as written.
     Rule(Constraint),
     /// `different`, `all different`: the windows ascending.
@@ -57,6 +66,15 @@ pub enum Statement {
     Before(usize, usize),
     /// `alike`: the first of neighbouring windows, and how many.
     Alike(usize, usize),
+    /// `prefer`, `avoid`: what a plan costs whose window lacks, or has, the duty.
+    Wish {
+        window: usize,
+        value: usize,
+        weight: u32,
+        wanted: bool,
+    },
+    /// `near`: a file with a plan, and what each window costs that differs from it.
+    Near(String, u32),
 }
 
 #[derive(Clone, Debug)]
@@ -69,9 +87,19 @@ pub enum Exchange {
 }
 
 impl Statement {
-    /// Does the statement say which plans there are (and is no exchange or order)?
+    /// Does the statement say which plans there are (and is no exchange, order or preference)?
     pub fn narrows(&self) -> bool {
-        !matches!(self, Statement::Before(..)) && !self.exchanges()
+        !matches!(self, Statement::Before(..)) && !self.exchanges() && !self.prefers()
+    }
+
+    /// Does it say which plans are better?
+    pub fn prefers(&self) -> bool {
+        matches!(self, Statement::Wish { .. } | Statement::Near(..))
+    }
+
+    /// Is it about one day: a fixed duty, or a duty that is away?
+    pub fn is_of_the_day(&self) -> bool {
+        matches!(self, Statement::Fix(..) | Statement::Away(_))
     }
 
     /// Does it say under what the hall looks the same?

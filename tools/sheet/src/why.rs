@@ -1,7 +1,7 @@
 //! `sheet why`: where there is no plan, lines of the text that already have none, none of which can be left out.
 
 use crate::command::{Arguments, Command, Outcome, Stop};
-use crate::input::{Input, BLOCK_OPTION, PAIRS_OPTION};
+use crate::input::{Input, BLOCK_OPTION, FIX_OPTION, PAIRS_OPTION, STRICT_OPTION};
 use crate::listing::{list_on_terminal, Limits, Listing, TRIALS_OPTION};
 use crate::make::make_stated;
 use crate::problem::Problem;
@@ -15,7 +15,7 @@ pub const COMMAND: Command = Command {
     usage: "TEXT",
     about: "shows a plan, or lines of the text that already have none",
     files: 1..=1,
-    options: &[TRIALS_OPTION, PAIRS_OPTION, BLOCK_OPTION],
+    options: &[FIX_OPTION, STRICT_OPTION, TRIALS_OPTION, PAIRS_OPTION, BLOCK_OPTION],
     asks: false,
     run,
 };
@@ -33,11 +33,11 @@ fn run(arguments: &Arguments) -> Result<Outcome, Stop> {
     let input = Input::read(&arguments.sources[0])?.lent(arguments)?;
     let listing = input.list(limits)?;
     let output = match listing.ending {
-        _ if !listing.plans.is_empty() => a_plan(&input.made.problem, &listing),
+        _ if listing.listed > 0 => a_plan(&input.made.problem, &listing),
         Ending::Finished => no_plan(&input, limits),
         _ => listing.ending() + listing.hint() + "\n",
     };
-    Ok(Outcome { output: output.into_bytes(), note: String::new(), status: listing.status() })
+    Ok(Outcome { output: output.into_bytes(), note: input.notes(), status: listing.status() })
 }
 
 fn a_plan(problem: &Problem, listing: &Listing) -> String {
@@ -54,18 +54,30 @@ fn no_plan(input: &Input, limits: Limits) -> String {
         words += &said(&input.source, stated);
     }
     if left.lines.len() > 1 {
-        words += "Without any one of them the others have a plan";
-        if !left.open.is_empty() {
-            let lines: Vec<String> = left.open.iter().map(|line| line.to_string()).collect();
-            words += &format!(
-                " (not known of line {}: without it the run stops short, or no sheet fits)",
-                listed(&lines)
-            );
-        }
-        words += ".\n";
+        words += &needed(&left);
     }
     words
 }
+
+/// Of which lines it is known that they are needed, and of which it isn't.
+fn needed(left: &Left) -> String {
+    let numbers = |lines: &[usize]| {
+        let names: Vec<String> = lines.iter().map(usize::to_string).collect();
+        format!("{} {}", if lines.len() == 1 { "line" } else { "lines" }, listed(&names))
+    };
+    let lines = left.lines.iter().map(|stated| stated.first);
+    let (open, known): (Vec<usize>, Vec<usize>) = lines.partition(|line| left.open.contains(line));
+    let known = match known.len() {
+        _ if open.is_empty() => return "Without any one of them the others have a plan.\n".to_string(),
+        0 => return format!("Whether each of them is needed isn't known: {SHORT}.\n"),
+        1 => numbers(&known),
+        _ => format!("any one of {}", numbers(&known)),
+    };
+    format!("Without {known} the others have a plan; of {} it isn't known: {SHORT}.\n", numbers(&open))
+}
+
+/// Why nothing is known of a line.
+const SHORT: &str = "without it the run stops short (--trials N allows more), or no sheet fits";
 
 /// A statement as it stands in the text, with its line.
 fn said(source: &str, stated: &Stated) -> String {
@@ -97,18 +109,28 @@ pub fn narrow(text: &Text, limits: Limits) -> Left {
 
 fn rest(text: &Text, order: &[usize], limits: Limits) -> Left {
     let mut kept = vec![true; text.statements.len()];
+    let open = tried(text, order, limits, &mut kept);
+    let open = tried(text, &open, limits, &mut kept);
+    let lines = part(text, &kept).statements;
+    Left {
+        lines: lines.into_iter().filter(|stated| stated.statement.narrows()).collect(),
+        open: open.into_iter().map(|statement| text.statements[statement].first).collect(),
+    }
+}
+
+/// Takes away each of some statements that isn't needed; those stay of which it isn't known, and are the answer.
+fn tried(text: &Text, order: &[usize], limits: Limits, kept: &mut [bool]) -> Vec<usize> {
     let mut open = Vec::new();
     for &statement in order {
         kept[statement] = false;
-        match ask(part(text, &kept), limits) {
+        match ask(part(text, kept), limits) {
             Known::None => continue,
             Known::Plan => {}
-            Known::Open => open.push(text.statements[statement].first),
+            Known::Open => open.push(statement),
         }
         kept[statement] = true;
     }
-    let lines = part(text, &kept).statements;
-    Left { lines: lines.into_iter().filter(|stated| stated.statement.narrows()).collect(), open }
+    open
 }
 
 /// The text with the kept statements alone.
@@ -123,9 +145,10 @@ fn ask(mut text: Text, limits: Limits) -> Known {
     loop {
         match make_stated(&text) {
             Ok(made) => return known(list_on_terminal(&made, limits)),
-            Err(fault) => {
+            Err(faults) => {
                 let before = text.statements.len();
-                text.statements.retain(|stated| stated.first != fault.line || stated.statement.narrows());
+                let wrong = |stated: &Stated| faults.iter().any(|fault| fault.line == stated.first);
+                text.statements.retain(|stated| !wrong(stated) || stated.statement.narrows());
                 if text.statements.len() == before {
                     return Known::Open;
                 }

@@ -23,6 +23,6 @@ fn the_first_plan() {
     let made = make("windows a b c\nduties 0 1 2 3\nall different a b c\nforbid a 0\n").unwrap();
     let all = list(&made, Limits { trials: 1000, plans: 100, first: false }, None).unwrap();
     let first = list(&made, Limits { trials: u32::MAX, plans: 1, first: true }, None).unwrap();
-    assert_eq!(first.plans, all.plans[..1]);
+    assert_eq!(first.plans.bytes(), all.plans.iter().next().unwrap());
     assert!(first.trials <= 1024);
 }

@@ -7,7 +7,7 @@ use std::path::Path;
 /// The sheet's text gives the sheet again, and the text again.
 fn round_trip(bytes: &[u8]) {
     let text = show(&Problem::decode(bytes));
-    let again = make(&text).unwrap_or_else(|fault| panic!("line {}: {}\n{text}", fault.line, fault.text));
+    let again = make(&text).unwrap_or_else(|faults| panic!("{faults:?}\n{text}"));
     assert_eq!(again.sheet, bytes, "{text}");
     assert_eq!(show(&Problem::decode(&again.sheet)), text);
 }

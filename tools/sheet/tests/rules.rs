@@ -19,7 +19,7 @@ fn planned(made: &Made) -> Vec<Vec<usize>> {
 }
 
 fn agree(text: &str) -> Made {
-    let made = make(text).unwrap_or_else(|fault| panic!("line {}: {}\n{text}", fault.line, fault.text));
+    let made = make(text).unwrap_or_else(|faults| panic!("{faults:?}\n{text}"));
     assert_eq!(planned(&made), enumerated(&parse(text).unwrap()), "{text}");
     made
 }
@@ -92,7 +92,7 @@ fn put_together() {
 
 /// The rules that a text needs.
 fn rules(text: &str) -> usize {
-    make(text).unwrap_or_else(|fault| panic!("line {}: {}", fault.line, fault.text)).problem.constraints.len()
+    make(text).unwrap_or_else(|faults| panic!("{faults:?}")).problem.constraints.len()
 }
 
 /// Twelve windows of seven duties: 66 pairs.
@@ -129,21 +129,22 @@ fn what_does_not_fit() {
         names('d', 10),
         names('w', 9)
     );
-    let fault = make(&nine).unwrap_err();
+    let fault = make(&nine).unwrap_err().remove(0);
     assert_eq!(
         (fault.line, fault.text.as_str()),
         (
             5,
             "the rules don't fit: 36 pairs of windows kept apart need 36 rules, and at most 32 are allowed. A rule on \
-             three windows says up to three pairs where at most 256 rows are left, here 0 threes of 84. Fewer duties by \
-             `may` lines make fewer rows"
+             three windows says up to three pairs where at most 256 rows are left, here 0 threes of 84. What fits: at \
+             most 6 duties at each of these windows (`may` or `clerk` lines make them fewer); or `all different` of at \
+             most 8 windows, with any duties"
         )
     );
-    let fault = make(&format!("{}exchange windows {}\n", twelve(), names('w', 11))).unwrap_err();
+    let fault = make(&format!("{}exchange windows {}\n", twelve(), names('w', 11))).unwrap_err().remove(0);
     assert!(fault.text.contains(" need 33 rules, and at most 32 are allowed."), "{}", fault.text);
     assert!(fault.text.contains("and needs those that the exchanges carry it to as well"), "{}", fault.text);
     let alone: String = (0..33).map(|_| "rule w0\nrows d0\n").collect();
-    let fault = make(&format!("windows w0 w1\nduties d0\n{alone}different w0 w1\n")).unwrap_err();
+    let fault = make(&format!("windows w0 w1\nduties d0\n{alone}different w0 w1\n")).unwrap_err().remove(0);
     assert_eq!((fault.line, fault.text.as_str()), (67, "33 rules, and at most 32 are allowed"));
 }
 
@@ -152,7 +153,7 @@ fn what_does_not_fit() {
 #[test]
 fn exchanges_of_rules_put_together() {
     let text = twelve() + "never together w0 d1 w1 d2\nexchange windows w0 w1\n";
-    let fault = make(&text).unwrap_err();
+    let fault = make(&text).unwrap_err().remove(0);
     assert_eq!(
         (fault.line, fault.text.as_str()),
         (
@@ -168,7 +169,7 @@ fn exchanges_of_rules_put_together() {
         names('d', 10),
         names('w', 8)
     );
-    let fault = make(&text).unwrap_err();
+    let fault = make(&text).unwrap_err().remove(0);
     assert_eq!(fault.line, 9);
     assert!(fault.text.starts_with("it doesn't respect the sheet: "), "{}", fault.text);
     let end = " is not, once rules are put together on three windows to fit into 32 (refused 16 0)";

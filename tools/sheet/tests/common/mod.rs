@@ -22,7 +22,12 @@ fn obeys(plan: &[usize], statement: &Statement) -> bool {
             let count = scope.iter().filter(|&&window| plan[window] == *value).count();
             (*least..=*most).contains(&count)
         }
-        Statement::Exchange(_) | Statement::Before(..) | Statement::Alike(..) => true,
+        Statement::Clerk(duty, windows) => {
+            plan.iter().enumerate().all(|(window, other)| other != duty || windows >> window & 1 == 1)
+        }
+        Statement::Away(duty) => !plan.contains(duty),
+        Statement::Fix(window, duty) => plan[*window] == *duty,
+        _ => true,
     }
 }
 

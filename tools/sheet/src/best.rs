@@ -1,0 +1,377 @@
+//! `sheet best`: the plans that cost least by the text's preferences, of all solutions.
+//!
+//! The sets of the windows are parted by what their duties cost beyond the cheapest. Halls of one duty class for each
+//! window are run in the order of their total, so that the first plans found are the best, and no list is longer than
+//! the plans asked for.
+
+use crate::command::{out, refuse, Arguments, Choice, Command, Out, Outcome, Source, Status, Stop};
+use crate::input::{Input, BLOCK_OPTION, FIX_OPTION, PAIRS_OPTION, STRICT_OPTION, WHERE_OPTION};
+use crate::listing::{Limits, Plans, TRIALS_OPTION};
+use crate::parts::{Parts, Read};
+use crate::plans::{as_csv, write_bom, BOM_OPTION, CSV_OPTION};
+use crate::score::Score;
+use crate::table::{write_counts, write_csv, write_table, Columns};
+use crate::words::{counted, grouped};
+use planner::{Ending, Refusal};
+
+pub const COMMAND: Command = Command {
+    name: "best",
+    usage: "[K] TEXT",
+    about:
+        "shows the K best plans by the text's preferences (without K one), what they cost, and who is free",
+    files: 1..=2,
+    options: &[
+        CSV_OPTION,
+        BOM_OPTION,
+        Choice {
+            name: "--near",
+            value: Some("FILE"),
+            about: "prefers the duties of a plan, as a `near` line does",
+        },
+        FIX_OPTION,
+        STRICT_OPTION,
+        WHERE_OPTION,
+        TRIALS_OPTION,
+        PAIRS_OPTION,
+        BLOCK_OPTION,
+    ],
+    asks: false,
+    run,
+};
+
+/// The most plans asked for.
+const MOST: usize = 100_000;
+
+/// The room of one run's list.
+const ROOM: usize = 4_096;
+
+fn run(arguments: &Arguments) -> Result<Outcome, Stop> {
+    let (count, source) = match &arguments.sources[..] {
+        [count, source] => (number(&count.0)?, source),
+        rest => (1, &rest[0]),
+    };
+    let limits = Limits::of(arguments)?;
+    let input = Input::read(source)?.lent(arguments)?;
+    let files: Vec<Source> = arguments.all("--near").cloned().map(Source).collect();
+    let score = Score::new(&input.text, source, &files)?;
+    let best = input.accepted(best(&input, &score, count, limits.trials))?;
+    let shown = Shown { input: &input, score: &score, best: &best, limits };
+    let mut out = out();
+    let ending = shown.ending();
+    let note = match as_csv(arguments) {
+        true => {
+            out.all(|out| write_bom(out, arguments))?;
+            out.all(|out| write_csv(out, &input.made.problem, &shown.plans()))?;
+            ending
+        }
+        false => {
+            shown.write(&mut out)?;
+            out.all(|out| write!(out, "{ending}"))?;
+            String::new()
+        }
+    };
+    out.end()?;
+    let status = if best.ending == Read::Done { Status::Finished } else { Status::Short };
+    Ok(Outcome { output: Vec::new(), note: input.notes() + &score.notes + &note, status })
+}
+
+fn number(word: &str) -> Result<usize, Stop> {
+    match word.replace([',', '_'], "").parse::<usize>() {
+        Ok(count) if (1..=MOST).contains(&count) => Ok(count),
+        _ => refuse(format!("best takes a number of plans from 1 to {MOST}, not `{word}`")),
+    }
+}
+
+/// The best plans, cheapest first, those that cost the same in reading order.
+#[derive(Debug)]
+pub struct Best {
+    pub plans: Vec<Vec<u8>>,
+    pub ending: Read,
+    /// Are these all plans there are?
+    pub all: bool,
+    /// No plan that isn't among them costs less.
+    pub cost: u64,
+    pub trials: u32,
+    /// How many exchanges keep every preference, and how many don't; alike windows count for one.
+    pub exchanges: [usize; 2],
+}
+
+/// The best plans of a hall, but those that exchanges which keep every preference make of earlier ones.
+pub fn best(input: &Input, score: &Score, count: usize, trials: u32) -> Result<Best, Refusal> {
+    let made = &input.made;
+    let same = Same::new(input, score);
+    let room = if same.is_empty() { count.min(ROOM) } else { ROOM };
+    let mut parts = Parts::new(&made.problem, &made.pairs, trials, room);
+    let mut best = Best {
+        plans: Vec::new(),
+        ending: Read::Done,
+        all: false,
+        cost: 0,
+        trials: 0,
+        exchanges: same.exchanges,
+    };
+    if has_none(input, &mut parts)? {
+        best.all = true;
+    } else {
+        let classes = Classes::new(input, score);
+        let mut total = Some(0);
+        while let Some(extra) = total.filter(|_| best.plans.len() < count && best.ending == Read::Done) {
+            best.cost = classes.least + extra;
+            total = cheapest(&mut best, &mut parts, &classes, &same, [count as u64, extra])?;
+        }
+        best.all = total.is_none() && best.ending == Read::Done && best.plans.len() < count;
+    }
+    best.trials = trials - parts.trials;
+    Ok(best)
+}
+
+/// Has the hall no plan, as the planner finds under all its exchanges with a part of the trials?
+fn has_none(input: &Input, parts: &mut Parts) -> Result<bool, Refusal> {
+    let made = &input.made;
+    let mut room = vec![0; made.problem.variables.len()];
+    let trials = parts.trials / 4;
+    let answer = planner::run_lent(&made.sheet, &made.pairs, &made.block, trials, &mut room)?.answer;
+    parts.trials -= answer.nodes;
+    Ok(answer.ending == Ending::Finished && answer.plans == 0)
+}
+
+/// Adds the plans of one total, as many as are wanted still; the answer is the next total.
+fn cheapest(
+    best: &mut Best,
+    parts: &mut Parts,
+    classes: &Classes,
+    same: &Same,
+    [count, extra]: [u64; 2],
+) -> Result<Option<u64>, Refusal> {
+    let wanted = count as usize - best.plans.len();
+    let order = parts.order.clone();
+    let reading = |plan: &Vec<u8>| order.iter().map(|&window| plan[window]).collect::<Vec<u8>>();
+    let (halls, next) = classes.halls(extra);
+    let mut found: Vec<Vec<u8>> = Vec::new();
+    for sets in halls {
+        let mut new = Vec::new();
+        let read = parts.each(sets, |plan| {
+            if same.is_first(plan, &order) {
+                new.push(plan.to_vec());
+            }
+            new.len() < wanted
+        })?;
+        found.append(&mut new);
+        found.sort_by_key(reading);
+        found.truncate(wanted);
+        if read == Read::Spent {
+            best.ending = Read::Spent;
+            break;
+        }
+    }
+    best.plans.append(&mut found);
+    Ok(next)
+}
+
+/// The duties of each window by what they cost beyond its cheapest, ascending.
+struct Classes {
+    least: u64,
+    by_window: Vec<Vec<(u64, u16)>>,
+}
+
+impl Classes {
+    fn new(input: &Input, score: &Score) -> Classes {
+        let problem = &input.made.problem;
+        let mut classes = Classes { least: 0, by_window: Vec::new() };
+        for window in 0..problem.variables.len() {
+            let cost = |value: usize| score.of(window, value);
+            let least = problem.values_of(window).map(cost).min().unwrap_or(0);
+            let mut costs: Vec<u64> = problem.values_of(window).map(|value| cost(value) - least).collect();
+            costs.sort();
+            costs.dedup();
+            let set = |extra: u64| {
+                let values = problem.values_of(window).filter(|&value| cost(value) - least == extra);
+                values.fold(0, |set, value| set | 1 << value)
+            };
+            classes.by_window.push(costs.into_iter().map(|extra| (extra, set(extra))).collect());
+            classes.least += least;
+        }
+        classes
+    }
+
+    /// The halls of one class for each window whose costs make a total, and the next total.
+    fn halls(&self, total: u64) -> (Vec<Vec<u16>>, Option<u64>) {
+        let mut halls = Halls { classes: self, total, found: Vec::new(), next: None };
+        halls.choose(&mut Vec::new(), 0);
+        (halls.found, halls.next)
+    }
+
+    /// The most that the windows from one on can cost beyond their cheapest.
+    fn most(&self, window: usize) -> u64 {
+        self.by_window[window..].iter().filter_map(|classes| classes.last()).map(|(extra, _)| extra).sum()
+    }
+}
+
+struct Halls<'a> {
+    classes: &'a Classes,
+    total: u64,
+    found: Vec<Vec<u16>>,
+    next: Option<u64>,
+}
+
+impl Halls<'_> {
+    /// Chooses a class for the next window, after those chosen that cost so much.
+    fn choose(&mut self, sets: &mut Vec<u16>, cost: u64) {
+        if sets.len() == self.classes.by_window.len() {
+            self.found.push(sets.clone());
+            return;
+        }
+        if cost + self.classes.most(sets.len()) < self.total {
+            return;
+        }
+        let is_last = sets.len() + 1 == self.classes.by_window.len();
+        for &(extra, set) in &self.classes.by_window[sets.len()] {
+            let cost = cost + extra;
+            if cost > self.total {
+                self.next = Some(self.next.map_or(cost, |next| next.min(cost)));
+                break;
+            }
+            if !is_last || cost == self.total {
+                sets.push(set);
+                self.choose(sets, cost);
+                sets.pop();
+            }
+        }
+    }
+}
+
+/// Exchanges that keep every preference: by them plans of one cost are made of one another.
+struct Same {
+    /// For each, the pair that is taken to a pair.
+    from: Vec<Vec<usize>>,
+    /// Windows that are alike.
+    alike: Vec<usize>,
+    values: usize,
+    exchanges: [usize; 2],
+}
+
+impl Same {
+    fn new(input: &Input, score: &Score) -> Same {
+        let problem = &input.made.problem;
+        let kept: Vec<&Vec<usize>> =
+            problem.symmetries.iter().filter(|images| score.is_kept_by(problem, images)).collect();
+        let block = match input.made.block[..] {
+            [first, count] => (first.into()..usize::from(first) + usize::from(count)).collect(),
+            _ => Vec::new(),
+        };
+        let costs = |window: usize| (0..problem.values.len()).map(move |value| score.of(window, value));
+        let is_kept = block.iter().all(|&window: &usize| costs(window).eq(costs(block[0])));
+        let both = [kept.len(), problem.symmetries.len() - kept.len()];
+        let exchanges = match (block.is_empty(), is_kept) {
+            (true, _) => both,
+            (false, true) => [both[0] + 1, both[1]],
+            (false, false) => [both[0], both[1] + 1],
+        };
+        let from = kept.into_iter().map(|images| inverse(images)).collect();
+        let alike = if is_kept { block } else { Vec::new() };
+        Same { from, alike, values: problem.values.len(), exchanges }
+    }
+
+    fn is_empty(&self) -> bool {
+        self.from.is_empty() && self.alike.is_empty()
+    }
+
+    /// Is there no earlier plan, read in an order, of which an exchange makes this one?
+    fn is_first(&self, plan: &[u8], order: &[usize]) -> bool {
+        let reading = |plan: &[u8]| order.iter().map(|&window| plan[window]).collect::<Vec<u8>>();
+        let source = |from: &Vec<usize>| {
+            let mut source = plan.to_vec();
+            for (window, &value) in plan.iter().enumerate() {
+                let pair = from[window * self.values + usize::from(value)];
+                source[pair / self.values] = (pair % self.values) as u8;
+            }
+            source
+        };
+        let alike = order.iter().filter(|window| self.alike.contains(window)).map(|&window| plan[window]);
+        alike.is_sorted() && self.from.iter().all(|from| reading(&source(from)) >= reading(plan))
+    }
+}
+
+fn inverse(images: &[usize]) -> Vec<usize> {
+    let mut from = vec![0; images.len()];
+    images.iter().enumerate().for_each(|(pair, &image)| from[image] = pair);
+    from
+}
+
+/// The best plans as they are shown.
+struct Shown<'a> {
+    input: &'a Input,
+    score: &'a Score,
+    best: &'a Best,
+    limits: Limits,
+}
+
+impl Shown<'_> {
+    /// The plans that `--where` chooses.
+    fn plans(&self) -> Plans {
+        let wanted = self.best.plans.iter().filter(|plan| self.input.is_wanted(plan));
+        let bytes: Vec<u8> = wanted.flatten().copied().collect();
+        Plans::new(self.input.made.problem.variables.len(), bytes, self.best.plans.len())
+    }
+
+    /// The table, what each plan costs, and how often each duty stands.
+    fn write(&self, out: &mut Out) -> Result<(), Stop> {
+        let (plans, problem) = (self.plans(), &self.input.made.problem);
+        let costs: Vec<u64> = plans.iter().map(|plan| self.score.of_plan(plan)).collect();
+        out.all(|out| write_table(out, problem, &plans, Columns { costs: Some(&costs), free: true }))?;
+        for (number, plan) in plans.iter().enumerate() {
+            let gap = if number == 0 { "\n" } else { "" };
+            let broken = match self.score.broken(plan) {
+                broken if broken.is_empty() => "nothing".to_string(),
+                broken => format!("{}: {}", costs[number], broken.join(", ")),
+            };
+            out.all(|out| writeln!(out, "{gap}plan {} costs {broken}", number + 1))?;
+        }
+        match plans.len() > 1 {
+            true => out.all(|out| write_counts(out, problem, &plans)),
+            false => Ok(()),
+        }
+    }
+
+    /// How it ended, and which exchanges were used.
+    fn ending(&self) -> String {
+        let count = self.best.plans.len();
+        let plans = if count == 0 { "no plan".to_string() } else { counted(count as u64, "plan") };
+        let trials = counted(self.best.trials, "trial");
+        let words = match self.best.ending {
+            Read::Spent => format!(
+                "stopped at the allowance of {}, {plans} so far: none costs less, but plans that cost {} or more may be \
+                 missing (--trials N allows more)",
+                counted(self.limits.trials, "trial"),
+                self.best.cost
+            ),
+            Read::Done if self.best.all && count > 0 => {
+                format!("finished: {plans} in all, best first, {trials}")
+            }
+            Read::Done if self.best.all => format!("finished: {plans}, {trials}"),
+            Read::Done if count == 1 => format!("finished: the best plan of all, {trials}"),
+            Read::Done => format!("finished: the {} best plans of all, {trials}", grouped(count as u64)),
+        };
+        let shown = match self.input.chooses() {
+            true => format!("; {}", self.input.shown(self.plans().len())),
+            false => String::new(),
+        };
+        format!("{words}{shown}\n{}", self.exchanges())
+    }
+
+    /// What is to be said of exchanges.
+    fn exchanges(&self) -> String {
+        let [kept, told_apart] = self.best.exchanges.map(|count| counted(count as u64, "exchange"));
+        let mut words = String::new();
+        if self.best.exchanges[1] > 0 {
+            words +=
+                &format!("({told_apart} not used: a preference tells apart what they make of one another)\n");
+        }
+        if self.best.exchanges[0] > 0 {
+            words += &format!(
+                "({kept} used, under which every plan costs the same: what they make of an earlier plan is left out)\n"
+            );
+        }
+        words
+    }
+}
