@@ -1,4 +1,7 @@
-//! `sheet page`: the hall and its plans as one page that needs nothing else.
+//! `sheet page`: the hall and its plans as one page that needs nothing else. It reads without script; with it, one
+//! chooses among the plans.
+
+mod tables;
 
 use crate::command::{Arguments, Command, Outcome, Stop};
 use crate::counts::share;
@@ -11,6 +14,7 @@ use crate::text::{Stated, Statement};
 use crate::why::narrow;
 use planner::Ending;
 use std::path::Path;
+use tables::Tables;
 
 pub const COMMAND: Command = Command {
     name: "page",
@@ -30,7 +34,12 @@ pub const COMMAND: Command = Command {
     run,
 };
 
-const STYLE: &str = include_str!("page.css");
+const STYLE: &str = include_str!("page/page.css");
+const SCRIPT: &str = include_str!("page/page.js");
+
+/// Nothing is fetched, and nothing is sent.
+const POLICY: &str = "default-src 'none'; style-src 'unsafe-inline'; script-src 'unsafe-inline'; \
+    base-uri 'none'; form-action 'none'";
 
 const PROOF: &str = "The plans were listed by a program that is proved, for every hall, to end, to list what its \
     definition says and nothing else, and to count its trials as defined; a finished list leaves out only plans that \
@@ -75,15 +84,20 @@ impl Page<'_> {
     pub fn html(&self) -> String {
         let title = escaped(&self.title);
         let parts =
-            [self.ending(), self.no_plan(), self.windows(), self.lines(), self.plans(), self.trials()]
+            [self.ending(), self.no_plan(), self.plans(), self.windows(), self.lines(), self.trials()]
                 .concat();
-        let wide = if self.problem().variables.len() > 8 { "@page { size: landscape; }\n" } else { "" };
+        let class = if self.problem().variables.len() > 8 { " class=\"broad\"" } else { "" };
+        let script = match self.listing.plans.is_empty() {
+            true => String::new(),
+            false => format!("<script>\n{SCRIPT}</script>\n"),
+        };
         format!(
             "<!DOCTYPE html>\n<html lang=\"en\">\n<head>\n<meta charset=\"utf-8\">\n\
              <meta name=\"viewport\" content=\"width=device-width, initial-scale=1\">\n\
-             <title>{title}</title>\n<style>\n{STYLE}{wide}</style>\n</head>\n<body>\n<h1>{title}</h1>\n\
-             {}{parts}<footer>\n<h2>How it was proved</h2>\n<p>{PROOF}</p>\n</footer>\n</body>\n</html>\n",
-            paragraph(&self.input.text.about)
+             <meta http-equiv=\"Content-Security-Policy\" content=\"{POLICY}\">\n\
+             <title>{title}</title>\n<style>\n{STYLE}</style>\n</head>\n<body{class}>\n<main>\n<h1>{title}</h1>\n\
+             {}{parts}</main>\n<footer>\n<h2>How it was proved</h2>\n<p>{PROOF}</p>\n</footer>\n{script}</body>\n</html>\n",
+            paragraph(&escaped(&self.input.text.about))
         )
     }
 
@@ -169,7 +183,7 @@ impl Page<'_> {
         }
     }
 
-    /// The plans, a column for each window.
+    /// The plans, and how often each window has each duty.
     fn plans(&self) -> String {
         if self.listing.plans.is_empty() {
             return String::new();
@@ -178,41 +192,26 @@ impl Page<'_> {
             true => "A plan that an exchange makes of an earlier one is left out.",
             false => "",
         };
-        let families: String =
-            words(self.listing, self.input).iter().map(|words| paragraph(&sentence(words))).collect();
+        let families: String = words(self.listing, self.input)
+            .iter()
+            .map(|words| paragraph(&marked(&sentence(words))))
+            .collect();
         let order = match settled(self.problem(), &self.input.made.pairs) {
             windows if windows.is_empty() => String::new(),
             windows => format!("Read in the order in which windows are settled: {}.", windows.join(", ")),
         };
-        let windows: String = self
-            .problem()
-            .variables
-            .iter()
-            .map(|window| format!("<th scope=\"col\">{}</th>", escaped(window)))
-            .collect();
-        let rows: String =
-            self.listing.plans.iter().enumerate().map(|(number, plan)| self.plan(number, plan)).collect();
+        let tables = Tables::new(self.problem(), &self.listing.plans);
         format!(
-            "<h2>The plans</h2>\n{}{}{}<div class=\"wide\" tabindex=\"0\"><table class=\"plans\">\n\
-             <thead><tr><td></td>{windows}</tr></thead>\n<tbody>\n{rows}</tbody>\n</table></div>\n",
+            "<section id=\"plans\" style=\"--duties:{}\">\n<h2>The plans</h2>\n{}{families}{}{}\
+             <h3>How many plans have a duty at a window</h3>\n{}</section>\n",
+            self.problem().values.len(),
             paragraph(left),
-            families,
-            paragraph(&order)
+            paragraph(&escaped(&order)),
+            tables.list(),
+            tables.counts()
         )
     }
 
-    fn plan(&self, number: usize, plan: &[u8]) -> String {
-        let d = self.problem().values.len();
-        let cell = |&duty: &u8| {
-            let hue = 360 * duty as usize / d;
-            format!("<td style=\"--hue:{hue}\">{}</td>", escaped(&self.problem().values[duty as usize]))
-        };
-        format!(
-            "<tr><th scope=\"row\">{}</th>{}</tr>\n",
-            number + 1,
-            plan.iter().map(cell).collect::<String>()
-        )
-    }
     /// Where the trials went: a bar for each window, the longest for the largest count.
     fn trials(&self) -> String {
         let windows = &self.problem().variables;
@@ -249,10 +248,20 @@ fn section(level: &str, title: &str, items: String) -> String {
     }
 }
 
-fn paragraph(text: &str) -> String {
-    match text.is_empty() {
+fn paragraph(html: &str) -> String {
+    match html.is_empty() {
         true => String::new(),
-        false => format!("<p class=\"soft\">{}</p>\n", escaped(text)),
+        false => format!("<p class=\"soft\">{html}</p>\n"),
+    }
+}
+
+/// A text inside HTML, with what stands between two backticks as code.
+fn marked(text: &str) -> String {
+    let parts: Vec<String> = text.split('`').map(escaped).collect();
+    let code = |part: &String| format!("<code>{part}</code>");
+    match parts.len() % 2 {
+        1 => parts.chunks(2).map(|two| two[0].clone() + &two.get(1).map_or(String::new(), code)).collect(),
+        _ => parts.join("`"),
     }
 }
 

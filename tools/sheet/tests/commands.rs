@@ -40,12 +40,24 @@ fn is(output: Output, status: i32, out: &str, err: &str) {
     assert_eq!(output.status.code(), Some(status));
 }
 
+/// A page without what its style and its script hold; other texts as they are.
+fn bare(text: &str) -> String {
+    ["style", "script"].iter().fold(text.to_string(), |text, tag| {
+        let [start, end] = [format!("<{tag}>\n"), format!("</{tag}>\n")];
+        match text.split_once(&start).and_then(|(front, rest)| Some((front, rest.split_once(&end)?.1))) {
+            Some((front, back)) => [front, &start, &end, back].concat(),
+            None => text,
+        }
+    })
+}
+
 fn golden(name: &str, output: Output, status: i32) {
     let file = Path::new(env!("CARGO_MANIFEST_DIR")).join("tests/golden").join(name);
+    let text = bare(said(&output.stdout));
     if std::env::var("GOLDEN").is_ok_and(|word| word == "write") {
-        std::fs::write(&file, &output.stdout).unwrap();
+        std::fs::write(&file, &text).unwrap();
     }
-    assert_eq!(said(&output.stdout), std::fs::read_to_string(&file).unwrap(), "{name}");
+    assert_eq!(text, std::fs::read_to_string(&file).unwrap(), "{name}");
     assert_eq!(output.status.code(), Some(status), "{name}");
 }
 
@@ -361,6 +373,25 @@ fn odd_names() {
         said(&page.stdout).contains("<th scope=\"col\">a&quot;b</th><th scope=\"col\">&lt;c&gt;&amp;</th>")
     );
     assert!(!said(&page.stdout).contains("<c>"));
+}
+
+/// The page's script is short, ends nowhere before its end, and makes no HTML of texts; names can't get into it.
+#[test]
+fn script() {
+    let script = include_str!("../src/page/page.js");
+    assert!(script.lines().count() <= 300);
+    for word in
+        ["</", "<!--", "innerHTML", "outerHTML", "insertAdjacentHTML", "document.write", "eval", "://"]
+    {
+        assert!(!script.contains(word), "{word}");
+    }
+    let text = "windows </script><script>alert(1)</script> b\nduties </style>x y\n".as_bytes();
+    let page = fed("page -", text);
+    let page = said(&page.stdout);
+    assert_eq!(["<script", "</script", "<style", "</style"].map(|tag| page.matches(tag).count()), [1; 4]);
+    assert!(page.ends_with(&format!("<script>\n{script}</script>\n</body>\n</html>\n")));
+    let none = fed("page -", b"windows a b\nduties x\ndifferent a b\n");
+    assert!(!said(&none.stdout).contains("<script"), "nothing to choose from");
 }
 
 /// What README shows is what the program prints.
