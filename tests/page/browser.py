@@ -48,13 +48,13 @@ class Browser:
         self.folder.cleanup()
 
     def message(self):
-        while b'\0' not in self.read:
-            piece = os.read(self.back, 1 << 16)
-            if not piece:
+        pieces = [self.read]
+        while b'\0' not in pieces[-1]:
+            pieces.append(os.read(self.back, 1 << 16))
+            if not pieces[-1]:
                 raise RuntimeError('Chromium ended')
-            self.read += piece
-        message, self.read = self.read.split(b'\0', 1)
-        return json.loads(message)
+        last, self.read = pieces[-1].split(b'\0', 1)
+        return json.loads(b''.join([*pieces[:-1], last]))
 
     def noted(self, event):
         method, about = event.get('method'), event.get('params', {})

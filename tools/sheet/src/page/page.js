@@ -33,7 +33,8 @@
   const tools = (...parts) => make('div', { className: 'tools' }, ...parts);
   const hint = text => make('p', { className: 'soft' }, text);
 
-  const find = make('input', { type: 'search', placeholder: 'names, or a number', oninput: search, onchange: () => change({}) });
+  const find = make('input', { type: 'search', placeholder: 'names, or a number', oninput: search,
+    onchange: () => change({}) });
   const clear = button('Show all', () => change({ choice: unchosen(), find: '' }));
   const status = make('p', { id: 'status', role: 'status', 'aria-live': 'polite' });
   const more = button('', drawMore, { id: 'more' });
@@ -205,10 +206,9 @@
   }
 
   function drawMore() {
-    const next = rows[shown[room]];
     room += ROOM;
     drawRows(room);
-    next.cells[0].firstElementChild.focus();
+    rows[shown[room - ROOM]].cells[0].firstElementChild.focus();
   }
 
   // What is chosen, in words.
@@ -280,12 +280,11 @@
   function rove(table) {
     table.addEventListener('focusin', event => enter(table, event.target));
     table.addEventListener('keydown', event => {
-      const arrow = ['ArrowUp', 'ArrowDown', 'ArrowLeft', 'ArrowRight'].indexOf(event.key);
-      if (arrow < 0) return;
-      const [down, across] = [[-1, 0], [1, 0], [0, -1], [0, 1]][arrow];
+      const step = { ArrowUp: [-1, 0], ArrowDown: [1, 0], ArrowLeft: [0, -1], ArrowRight: [0, 1] }[event.key];
+      if (!step) return;
       let cell = event.target.parentNode;
       do {
-        cell = table.rows[cell.parentNode.rowIndex + down]?.cells[cell.cellIndex + across];
+        cell = table.rows[cell.parentNode.rowIndex + step[0]]?.cells[cell.cellIndex + step[1]];
       } while (cell && !cell.firstElementChild);
       event.preventDefault();
       cell?.firstElementChild.focus();
@@ -295,6 +294,6 @@
   build();
   read();
   addEventListener('hashchange', read);
-  addEventListener('beforeprint', () => drawRows(shown.length));
+  addEventListener('beforeprint', () => drawRows(state.pin ? room : shown.length));
   addEventListener('afterprint', () => drawRows(room));
 })();
