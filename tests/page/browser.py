@@ -3,9 +3,13 @@ import base64
 import fcntl
 import json
 import os
+import select
 import shutil
 import subprocess
 import tempfile
+
+# How long an answer may take, in seconds.
+PATIENCE = 120
 
 NAMES = ['chromium', 'chromium-browser', 'google-chrome', 'google-chrome-stable']
 
@@ -50,6 +54,8 @@ class Browser:
     def message(self):
         pieces = [self.read]
         while b'\0' not in pieces[-1]:
+            if not select.select([self.back], [], [], PATIENCE)[0]:
+                raise RuntimeError('Chromium says nothing')
             pieces.append(os.read(self.back, 1 << 16))
             if not pieces[-1]:
                 raise RuntimeError('Chromium ended')

@@ -95,8 +95,8 @@ impl Page<'_> {
             "<!DOCTYPE html>\n<html lang=\"en\">\n<head>\n<meta charset=\"utf-8\">\n\
              <meta name=\"viewport\" content=\"width=device-width, initial-scale=1\">\n\
              <meta http-equiv=\"Content-Security-Policy\" content=\"{POLICY}\">\n\
-             <title>{title}</title>\n<style>\n{STYLE}</style>\n</head>\n<body{class}>\n<main>\n<h1>{title}</h1>\n\
-             {}{parts}</main>\n<footer>\n<h2>How it was proved</h2>\n<p>{PROOF}</p>\n</footer>\n{script}</body>\n</html>\n",
+             <title>{title}</title>\n<style>\n{STYLE}</style>\n{script}</head>\n<body{class}>\n<main>\n<h1>{title}</h1>\n\
+             {}{parts}</main>\n<footer>\n<h2>How it was proved</h2>\n<p>{PROOF}</p>\n</footer>\n</body>\n</html>\n",
             paragraph(&escaped(&self.input.text.about))
         )
     }

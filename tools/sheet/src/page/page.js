@@ -2,7 +2,9 @@
 // Choosing among the plans. What is chosen stands in the address, names percent-encoded: WINDOW=DUTY for a duty that the
 // window has to have (of several, one), WINDOW!=DUTY for one that it may not have, :any for the windows together, :find
 // for words, :pin for a plan, :with for the one that it is compared with, :day for the day of its duty sheet.
-(() => {
+document.documentElement.className = 'loading'; // a long list isn't laid out before it is read
+addEventListener('DOMContentLoaded', () => {
+  document.documentElement.className = '';
   const ROOM = 200; // rows that are drawn before more are asked for
   const [FREE, REQUIRED, EXCLUDED] = [0, 1, 2];
 
@@ -33,8 +35,8 @@
   const tools = (...parts) => make('div', { className: 'tools' }, ...parts);
   const hint = text => make('p', { className: 'soft' }, text);
 
-  const find = make('input', { type: 'search', placeholder: 'names, or a number', oninput: search,
-    onchange: () => change({}) });
+  const find = make('input', { type: 'search', placeholder: 'names, or a number',
+    oninput: () => { state.find = find.value; narrow(); }, onchange: () => change({}) });
   const clear = button('Show all', () => change({ choice: unchosen(), find: '' }));
   const status = make('p', { id: 'status', role: 'status', 'aria-live': 'polite' });
   const more = button('', drawMore, { id: 'more' });
@@ -52,12 +54,12 @@
   function build() {
     const [listed, counted] = [list, counts].map(table => table.parentNode);
     counted.previousElementSibling.remove();
+    const choosing = make('details', { open: true }, make('summary', {}, 'Choose duties by window'),
+      hint('A number says how many plans have the duty at the window, by what is chosen at the others. Press it to ' +
+        'require the duty there, again to exclude it, and again to leave it free. Arrow keys move.'), counted);
     const beside = make('div', { className: 'beside' });
-    listed.replaceWith(tools(make('label', {}, 'Find ', find), clear), make('details', { open: true },
-      make('summary', {}, 'Choose duties by window'),
-      hint('A number says how many plans have the duty at the window, by what is chosen at the others. ' +
-        'Press it to require the duty there, again to exclude it, and again to leave it free.'), counted),
-    status, hint('Press a plan’s number to pin the plan, and another’s to compare the two.'), beside);
+    listed.replaceWith(tools(make('label', {}, 'Find ', find), clear), choosing, status,
+      hint('Press a plan’s number to pin the plan, and another’s to compare the two.'), beside);
     beside.append(make('div', {}, listed, more), chosen);
     heading.after(printed);
     eachCount((cell, column, duty) => {
@@ -115,14 +117,9 @@
   function change(parts) {
     Object.assign(state, parts);
     unknown = [];
-    history.pushState(null, '', address());
     draw();
     if (document.activeElement.closest('[hidden]')) (chosen.hidden ? find : title).focus();
-  }
-
-  function search() {
-    state.find = find.value;
-    narrow();
+    history.pushState(null, '', address());
   }
 
   function press(column, duty) {
@@ -217,7 +214,7 @@
     const parts = windows.flatMap((window, column) => [[REQUIRED, 'has'], [EXCLUDED, 'hasn’t']].map(([kind, has]) =>
       some(column, kind) && `${window} ${has} ${some(column, kind)}`));
     duties.forEach((duty, number) =>
-      parts.push(['', `${duty} has a window`, `${duty} has none`][state.choice[ANY][number]]));
+      parts.push(['', `some window has ${duty}`, `no window has ${duty}`][state.choice[ANY][number]]));
     return [...parts, state.find.trim() && `“${state.find.trim()}” is found`].filter(Boolean).join(', ');
   }
 
@@ -229,15 +226,16 @@
       pin && `Plan ${pin} is pinned.`,
       other && `Compared with plan ${other}: ${counted(differ, 'window')} ${differ === 1 ? 'differs' : 'differ'}.`,
       unknown.length && `Not known here: ${unknown.join(', ')}.`].filter(Boolean).join(' ');
-    clear.disabled = !where;
   }
 
   // The pinned plan, and the one that it is compared with.
 
-  function dateInWords() {
+  function drawDay() {
     const now = new Date();
     day.value = state.day || new Date(now - now.getTimezoneOffset() * 60000).toISOString().slice(0, 10);
-    return new Date(`${day.value}T12:00`).toLocaleDateString('en-GB', { dateStyle: 'full' });
+    const words = new Date(`${day.value}T12:00`).toLocaleDateString('en-GB', { dateStyle: 'full' });
+    printed.textContent = words;
+    title.replaceChildren(heading.textContent, make('span', {}, words));
   }
 
   function dutySheet(numbers) {
@@ -265,9 +263,8 @@
     document.body.classList.toggle('pinned', state.pin > 0);
     swap.hidden = stop.hidden = !state.with;
     swap.textContent = `Pin plan ${state.with} instead`;
-    printed.textContent = dateInWords();
-    title.replaceChildren(heading.textContent, make('span', {}, dateInWords()));
     sheet.replaceChildren(...dutySheet(numbers));
+    drawDay();
   }
 
   // The keyboard: a table is one stop of the Tab key, and arrow keys move within it.
@@ -281,7 +278,7 @@
     table.addEventListener('focusin', event => enter(table, event.target));
     table.addEventListener('keydown', event => {
       const step = { ArrowUp: [-1, 0], ArrowDown: [1, 0], ArrowLeft: [0, -1], ArrowRight: [0, 1] }[event.key];
-      if (!step) return;
+      if (!step || event.altKey || event.ctrlKey || event.metaKey) return;
       let cell = event.target.parentNode;
       do {
         cell = table.rows[cell.parentNode.rowIndex + step[0]]?.cells[cell.cellIndex + step[1]];
@@ -294,6 +291,7 @@
   build();
   read();
   addEventListener('hashchange', read);
+  addEventListener('beforeprint', drawDay);
   addEventListener('beforeprint', () => drawRows(state.pin ? room : shown.length));
   addEventListener('afterprint', () => drawRows(room));
-})();
+});
