@@ -11,7 +11,8 @@ use crate::parts::{Parts, Read};
 use crate::plans::{as_csv, write_bom, BOM_OPTION, CSV_OPTION};
 use crate::score::Score;
 use crate::table::{write_counts, write_csv, write_table, Columns};
-use crate::words::{counted, grouped};
+use crate::text::{Stated, Statement};
+use crate::words::{counted, grouped, written};
 use planner::{Ending, Refusal};
 
 pub const COMMAND: Command = Command {
@@ -23,6 +24,11 @@ pub const COMMAND: Command = Command {
     options: &[
         CSV_OPTION,
         BOM_OPTION,
+        Choice {
+            name: FIXED,
+            value: None,
+            about: "writes the text with the best plan's duties fixed, for `sheet page -`",
+        },
         Choice {
             name: "--near",
             value: Some("FILE"),
@@ -38,6 +44,9 @@ pub const COMMAND: Command = Command {
     asks: false,
     run,
 };
+
+/// Writes a text of the best plan.
+const FIXED: &str = "--fixed";
 
 /// The most plans asked for.
 const MOST: usize = 100_000;
@@ -58,13 +67,18 @@ fn run(arguments: &Arguments) -> Result<Outcome, Stop> {
     let shown = Shown { input: &input, score: &score, best: &best, limits };
     let mut out = out();
     let ending = shown.ending();
-    let note = match as_csv(arguments) {
-        true => {
+    let note = match (as_csv(arguments), arguments.has(FIXED)) {
+        (true, true) => return refuse("best takes one of --csv and --fixed"),
+        (true, _) => {
             out.all(|out| write_bom(out, arguments))?;
             out.all(|out| write_csv(out, &input.made.problem, &shown.plans()))?;
             ending
         }
-        false => {
+        (_, true) => {
+            out.all(|out| write!(out, "{}", shown.fixed()))?;
+            ending
+        }
+        _ => {
             shown.write(&mut out)?;
             out.all(|out| write!(out, "{ending}"))?;
             String::new()
@@ -312,6 +326,24 @@ impl Shown<'_> {
         let wanted = self.best.plans.iter().filter(|plan| self.input.is_wanted(plan));
         let bytes: Vec<u8> = wanted.flatten().copied().collect();
         Plans::new(self.input.made.problem.variables.len(), bytes, self.best.plans.len())
+    }
+
+    /// The text with a `fix` line for each window of the best plan that has none yet.
+    fn fixed(&self) -> String {
+        let mut text = self.input.source.trim_end().to_string() + "\n";
+        let is_fixed = |window: usize| {
+            let fixes =
+                |stated: &Stated| matches!(stated.statement, Statement::Fix(other, _) if other == window);
+            self.input.text.statements.iter().any(fixes)
+        };
+        for (window, &value) in self.best.plans.iter().take(1).flatten().enumerate() {
+            let (windows, values) = (&self.input.text.variables, &self.input.text.values);
+            if !is_fixed(window) {
+                text +=
+                    &format!("fix {} {}\n", written(&windows[window]), written(&values[usize::from(value)]));
+            }
+        }
+        text
     }
 
     /// The table, what each plan costs, and how often each duty stands.

@@ -118,6 +118,9 @@ fn preferred() {
     let short = answer(&["best", "--trials", "1", "-"], &format!("{hall}prefer a y\n"));
     assert_eq!(short.0, 2);
     assert!(short.1.starts_with("stopped at the allowance of 1 trial, no plan so far: "), "{}", short.1);
+    let fixed = answer(&["best", "--fixed", "-"], &format!("{hall}prefer a y\n"));
+    assert_eq!(fixed.1, format!("{hall}prefer a y\nfix a y\nfix b x\n"));
+    assert!(answer(&["plans", "-"], &fixed.1).1.starts_with("a  b\ny  x\n\nfinished: 1 plan, "));
     let none = answer(&["best", "-"], "windows a b\nduties x\ndifferent a b\n");
     assert_eq!((none.0, none.1.as_str()), (0, "finished: no plan, 0 trials\n"));
     for (words, said) in [

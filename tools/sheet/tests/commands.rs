@@ -394,21 +394,48 @@ fn script() {
     assert!(!said(&none.stdout).contains("<script"), "nothing to choose from");
 }
 
-/// What README shows is what the program prints.
+/// A document's lines that stand as code.
+fn shows(document: &str, text: &str) {
+    let words = std::fs::read_to_string(root().join(document)).unwrap();
+    for line in text.lines() {
+        let indented = if line.is_empty() { "\n\n".to_string() } else { format!("\n    {line}\n") };
+        assert!(words.contains(&indented), "{document} lacks: {line}");
+    }
+}
+
+/// What the documents show is what the program prints.
 #[test]
-fn readme() {
-    let readme = std::fs::read_to_string(root().join("README.md")).unwrap();
-    let shown = |line: &str| assert!(readme.contains(&format!("\n    {line}\n")), "README lacks: {line}");
-    let stand = std::fs::read_to_string(root().join("examples/stand.txt")).unwrap();
-    let plans = output("plans examples/stand.txt");
-    let lines: Vec<&str> = said(&plans.stdout).lines().collect();
-    lines[..3].iter().chain(&lines[lines.len() - 2..]).for_each(|line| shown(line));
+fn documents() {
+    let text = said(&output("import examples/clerks.csv").stdout).to_string();
+    let ends = [&text.lines().collect::<Vec<_>>()[1..5], &text.lines().collect::<Vec<_>>()[14..]].concat();
+    shows("README.md", &ends.join("\n"));
+    let table = std::fs::read_to_string(root().join("examples/clerks.csv")).unwrap();
+    shows("README.md", &table.lines().take(4).collect::<Vec<_>>().join("\n"));
+    let plans = output_of("plans -", &text);
+    assert!(plans.contains("finished: 1,056 plans, 3,217 trials\n"), "{plans}");
+    let today =
+        "fix desk \"Cid Marsh\"\naway \"Gus Reed\"\nprefer pay \"Eve O'Hara\" 3\navoid win1 \"Jo B.\"\n\
+                 near examples/lastweek.csv\n";
+    shows("README.md", today);
+    let best = output_of("best 2 -", &(text + today));
+    let lines: Vec<&str> = best.lines().collect();
+    shows("README.md", &[&lines[..5], &lines[lines.len() - 1..]].concat().join("\n"));
     let cycle = output("plans --explain examples/cycle.txt");
-    said(&cycle.stdout).lines().skip(5).for_each(shown);
-    said(&output("enough 50 examples/stand.txt").stdout).lines().for_each(shown);
+    shows("README.md", &said(&cycle.stdout).lines().skip(5).collect::<Vec<_>>().join("\n"));
+    shows("README.md", said(&output("enough 50 examples/stand.txt").stdout));
+    shows("docs/OPERATING.md", said(&output("plans --by-window examples/a.txt").stdout));
     let desk = output("desk --every 1 examples/stand.txt examples/cycle.txt");
-    said(&desk.stderr).lines().for_each(shown);
-    stand.lines().filter(|line| !line.starts_with("may") && !line.starts_with("exchange")).for_each(shown);
+    shows("docs/OPERATING.md", said(&desk.stderr));
+}
+
+fn output_of(words: &str, text: &str) -> String {
+    said(&fed(words, text.as_bytes()).stdout).to_string()
+}
+
+/// README's day without a plan.
+#[test]
+fn a_day_without_a_plan() {
+    let stand = std::fs::read_to_string(root().join("examples/stand.txt")).unwrap();
     let today: String = stand
         .lines()
         .map(|line| match line.split_once(" finn gus hana ivo") {
@@ -416,5 +443,5 @@ fn readme() {
             None => format!("{line}\n"),
         })
         .collect();
-    said(&fed("why -", today.as_bytes()).stdout).lines().for_each(shown);
+    shows("README.md", &output_of("why -", &today));
 }

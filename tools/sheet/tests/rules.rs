@@ -110,6 +110,22 @@ fn twelve_windows() {
     assert_eq!(rules(&(twelve() + &six)), 32);
 }
 
+/// Up to twelve windows can differ where each may have at most six duties.
+#[test]
+fn six_duties_each() {
+    let mut rng = Rng::new(6);
+    for round in 0..24 {
+        let windows = 9 + round % 4;
+        let mut text = format!("windows {}\nduties {}\n", names('w', windows), names('d', 16));
+        for window in 0..windows {
+            let duties: Vec<String> =
+                (0..6).map(|i| format!("d{}", (window + i * (1 + rng.below(2))) % 16)).collect();
+            text += &format!("may w{window} {}\n", duties.join(" "));
+        }
+        assert!(rules(&format!("{text}all different {}\n", names('w', windows))) <= 32);
+    }
+}
+
 /// Lines about the same two windows are one rule where the lines don't fit.
 #[test]
 fn same_windows() {
