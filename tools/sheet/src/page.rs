@@ -46,6 +46,11 @@ const PROOF: &str = "The plans were listed by a program that is proved, for ever
     the exchanges make of listed ones. The proof covers the planner from the sheet's bytes to the list; reading the \
     text and writing this page are ordinary programs with tests.";
 
+/// What the list leaves out under exchanges, and so the counts too.
+const LEFT_OUT: &str =
+    "A plan that an exchange makes of an earlier one is left out: where no listed plan has a duty at \
+    a window, an exchange may still bring it there.";
+
 fn run(arguments: &Arguments) -> Result<Outcome, Stop> {
     let limits = Limits::of(arguments)?;
     let source = &arguments.sources[0];
@@ -188,10 +193,7 @@ impl Page<'_> {
         if self.listing.plans.is_empty() {
             return String::new();
         }
-        let left = match self.input.made.has_exchanges() {
-            true => "A plan that an exchange makes of an earlier one is left out.",
-            false => "",
-        };
+        let left = if self.input.made.has_exchanges() { LEFT_OUT } else { "" };
         let families: String = words(self.listing, self.input)
             .iter()
             .map(|words| paragraph(&marked(&sentence(words))))
