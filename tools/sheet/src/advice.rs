@@ -17,7 +17,7 @@ const LEAST: u64 = 1_000;
 /// So many percent of the trials say where they went.
 const MOST: u64 = 80;
 
-/// An order that was tried: the pairs that it adds, and the trials with which it finishes.
+/// An order that was tried: the pairs that it adds, and the trials after which it ends.
 struct Tried {
     pairs: Vec<[u8; 2]>,
     trials: u32,
@@ -40,10 +40,10 @@ pub fn advice(made: &Made, counts: &[u32; 12], limits: Limits) -> String {
     let tried = (1..ranked.len()).filter_map(|count| attempt(made, &ranked[..count], limits));
     match tried.min_by_key(|tried| tried.trials) {
         Some(tried) => {
-            format!("\n({went}; the run finishes in {} with {})", trials(tried.trials), lines(made, &tried))
+            format!("\n({went}; the run ends after {} with {})", trials(tried.trials), lines(made, &tried))
         }
         None => format!(
-            "\n({went}; settling some windows before others doesn't finish either, tried with {})",
+            "\n({went}; settling some windows before others doesn't end it either, tried with {})",
             trials(limits.trials.min(ATTEMPT))
         ),
     }
@@ -75,7 +75,7 @@ fn lines(made: &Made, tried: &Tried) -> String {
     listed(&tried.pairs.iter().map(line).collect::<Vec<_>>())
 }
 
-/// A run that settles some windows before all others, if it finishes. It is enough that those that stand before the last
+/// A run that settles some windows before all others, if it ends. It is enough that those that stand before the last
 /// of them wait for it.
 fn attempt(made: &Made, first: &[usize], limits: Limits) -> Option<Tried> {
     let windows = &made.problem.variables;
@@ -90,5 +90,6 @@ fn attempt(made: &Made, first: &[usize], limits: Limits) -> Option<Tried> {
     let mut room = vec![0; windows.len() * limits.plans as usize];
     let trials = limits.trials.min(ATTEMPT);
     let lent = planner::run_lent(&made.sheet, &pairs, &made.block, trials, &mut room).ok()?;
-    (lent.answer.ending == Ending::Finished).then_some(Tried { pairs: new, trials: lent.answer.nodes })
+    let ended = lent.answer.ending == Ending::Finished || limits.first && lent.answer.plans > 0;
+    ended.then_some(Tried { pairs: new, trials: lent.answer.nodes })
 }

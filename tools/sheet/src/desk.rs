@@ -2,7 +2,7 @@
 
 use crate::command::{print, refuse, say, Arguments, Choice, Command, Outcome, Source, Status, Stop};
 use crate::counts::share;
-use crate::input::Input;
+use crate::input::{Input, WHERE_OPTION};
 use crate::listing::{Limits, Listing, TRIALS_OPTION};
 use crate::plans::{ended, EXPLAIN_OPTION};
 use crate::table::table;
@@ -24,6 +24,7 @@ pub const COMMAND: Command = Command {
             about: "after every N turns of each seat, says on standard error how it stands",
         },
         EXPLAIN_OPTION,
+        WHERE_OPTION,
     ],
     asks: false,
     run,
@@ -40,7 +41,8 @@ fn run(arguments: &Arguments) -> Result<Outcome, Stop> {
     if every == Some(0) {
         return refuse("--every takes a number from 1 on");
     }
-    let halls = arguments.sources.iter().map(read).collect::<Result<Vec<Input>, Stop>>()?;
+    let halls = arguments.sources.iter().map(|source| read(source, arguments));
+    let halls = halls.collect::<Result<Vec<Input>, Stop>>()?;
     let mut halls = halls.iter();
     let explain = arguments.has(EXPLAIN_OPTION.name);
     let mut day = Day { desk: Desk::new(), seats: [None; SEATS as usize], limits, explain };
@@ -62,8 +64,8 @@ fn run(arguments: &Arguments) -> Result<Outcome, Stop> {
 }
 
 /// A text for a seat, which has no room for pairs and block.
-fn read(source: &Source) -> Result<Input, Stop> {
-    let input = Input::read(source)?;
+fn read(source: &Source, arguments: &Arguments) -> Result<Input, Stop> {
+    let input = Input::read(source)?.lent(arguments)?;
     say(&input.notes());
     match (&input.made.pairs[..], &input.made.block[..]) {
         ([], []) => Ok(input),
@@ -108,7 +110,7 @@ impl<'a> Day<'a> {
         let answer = Answer { ending: ending.expect("a run that has ended"), plans, nodes };
         let mut list = vec![0; hall.made.problem.variables.len() * plans as usize];
         hall.accepted(self.desk.leave(seat, &mut list))?;
-        let listing = hall.accepted(Listing::alone(&hall.made, answer, list, self.limits))?;
+        let listing = hall.chosen(hall.accepted(Listing::alone(&hall.made, answer, list, self.limits))?);
         let hint = match listing.ending {
             Ending::Full => " (a seat has room for so many)",
             _ => listing.hint(),

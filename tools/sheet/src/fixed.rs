@@ -4,50 +4,63 @@ use crate::alike;
 use crate::compose::{as_written, sets, table};
 use crate::explain::broken;
 use crate::problem::Problem;
-use crate::text::{Exchange, Fault, Faults, Stated, Statement, Text};
+use crate::text::{Exchange, Faults, Stated, Statement, Text};
 use crate::words::listed;
 
-/// A text with the exchanges that hold beside its fixed duties, and a line for each that doesn't.
+/// A text with the exchanges that hold beside its fixed duties, and what is said of each that doesn't.
 pub struct Kept {
     pub text: Text,
-    pub left_out: Vec<Fault>,
+    pub broken: Vec<Broken>,
+}
+
+/// An exchange or alike windows that fixed duties break: the line, why, and what becomes of it.
+pub struct Broken {
+    pub line: usize,
+    pub why: String,
+    pub left: String,
 }
 
 /// Keeps what the fixed duties don't break. An exchange that doesn't hold without them either stays, for the planner to
 /// refuse.
 pub fn kept(text: &Text) -> Result<Kept, Faults> {
     if !text.statements.iter().any(|stated| stated.statement.is_of_the_day()) {
-        return Ok(Kept { text: text.clone(), left_out: Vec::new() });
+        return Ok(Kept { text: text.clone(), broken: Vec::new() });
     }
     let mut base = text.clone();
     base.statements.retain(|stated| !stated.statement.is_of_the_day());
     let (usual, today) = (sets(&base)?.0, sets(text)?.0);
     let rules = as_written(&base, &usual).into_iter().map(|(rule, _)| rule).collect();
     let day = Day { text, usual: Problem { constraints: rules, ..usual }, today };
-    let mut kept = Kept { text: Text { statements: Vec::new(), ..text.clone() }, left_out: Vec::new() };
+    let mut kept = Kept { text: Text { statements: Vec::new(), ..text.clone() }, broken: Vec::new() };
     for stated in &text.statements {
-        let (statement, why) = day.judged(stated);
-        kept.left_out.extend(why.map(|text| Fault { line: stated.first, text }));
+        let (statement, broken) = day.judged(stated);
+        kept.broken.extend(broken.map(|broken| Broken { line: stated.first, ..broken }));
         kept.text.statements.extend(statement.map(|statement| Stated { statement, ..stated.clone() }));
     }
     Ok(kept)
 }
 
-/// A lent block of two bytes as far as it holds beside the fixed duties, and what is to be said of it.
-pub fn kept_block(text: &Text, block: Vec<u8>) -> (Vec<u8>, Option<String>) {
+/// A lent block of two bytes as far as it holds beside the fixed duties, and how it is broken.
+pub fn kept_block(text: &Text, block: Vec<u8>) -> (Vec<u8>, Option<Broken>) {
     let [first, count] = block[..] else { return (block, None) };
     let [start, windows] = [first, count].map(usize::from);
     if windows < 2 || start + windows > text.variables.len() {
         return (block, None);
     }
-    let alike =
-        Stated { first: 0, last: 0, comment: String::new(), statement: Statement::Alike(start, windows) };
+    let statement = Statement::Alike(start, windows);
+    let alike = Stated { first: 0, last: 0, comment: String::new(), statement };
     let day = Text { statements: [&text.statements[..], &[alike]].concat(), ..text.clone() };
-    let Ok(Kept { text: kept, left_out }) = kept(&day) else { return (block, None) };
-    (
-        alike::stated(&kept),
-        left_out.into_iter().next_back().filter(|left| left.line == 0).map(|left| left.text),
-    )
+    let Ok(Kept { text: kept, broken }) = kept(&day) else { return (block, None) };
+    (alike::stated(&kept), broken.into_iter().find(|broken| broken.line == 0))
+}
+
+/// What stays of a statement, and how it is broken.
+type Judged = (Option<Statement>, Option<Broken>);
+
+const LEFT_OUT: &str = "it is left out";
+
+fn breaks(why: String, left: String) -> Option<Broken> {
+    Some(Broken { line: 0, why, left })
 }
 
 /// A hall as it usually is, and with a day's sets.
@@ -59,7 +72,7 @@ struct Day<'a> {
 
 impl Day<'_> {
     /// What stays of a statement, and what is to be said of it.
-    fn judged(&self, stated: &Stated) -> (Option<Statement>, Option<String>) {
+    fn judged(&self, stated: &Stated) -> Judged {
         match &stated.statement {
             Statement::Exchange(exchange) => self.exchange(exchange),
             Statement::Alike(first, count) => self.alike(*first, *count),
@@ -68,7 +81,7 @@ impl Day<'_> {
     }
 
     /// An exchange stays where it takes today's pairs to today's pairs.
-    fn exchange(&self, exchange: &Exchange) -> (Option<Statement>, Option<String>) {
+    fn exchange(&self, exchange: &Exchange) -> Judged {
         let stays = |exchange: &Exchange| (Some(Statement::Exchange(exchange.clone())), None);
         let images = match table(&self.usual, exchange) {
             Ok(images) if self.usual.permutes_pairs(&images) && broken(&self.usual, &images).is_none() => {
@@ -78,7 +91,7 @@ impl Day<'_> {
         };
         let pairs = self.today.pairs();
         match pairs.iter().find(|&&pair| !self.today.is_pair(images[pair])) {
-            Some(&pair) => (None, Some(self.breaks(pair, images[pair]))),
+            Some(&pair) => (None, breaks(self.taken_to(pair, images[pair]), LEFT_OUT.to_string())),
             None => {
                 let image = |pair: usize| if self.today.is_pair(pair) { images[pair] } else { pair };
                 stays(&Exchange::Table((0..images.len()).map(image).collect()))
@@ -87,10 +100,10 @@ impl Day<'_> {
     }
 
     /// Why a pair can't go to another today.
-    fn breaks(&self, from: usize, to: usize) -> String {
+    fn taken_to(&self, from: usize, to: usize) -> String {
         let names = [from, to].map(|pair| self.usual.pair_name(pair));
         let d = self.usual.values.len();
-        format!("is left out: it takes {} to {}, and {}", names[0], names[1], self.not_today(to / d, to % d))
+        format!("it takes {} to {}, and {}", names[0], names[1], self.not_today(to / d, to % d))
     }
 
     /// Why a window doesn't have a duty today.
@@ -107,7 +120,7 @@ impl Day<'_> {
     }
 
     /// Of alike windows the longest row stays in which they may have the same today.
-    fn alike(&self, first: usize, count: usize) -> (Option<Statement>, Option<String>) {
+    fn alike(&self, first: usize, count: usize) -> Judged {
         let set = |window: usize| self.today.initial[window];
         let row =
             |start: usize| (start..first + count).take_while(|&window| set(window) == set(start)).count();
@@ -123,10 +136,10 @@ impl Day<'_> {
         let stays: Vec<String> =
             (start..start + longest).map(|window| format!("`{}`", self.usual.variables[window])).collect();
         match longest {
-            1 => (None, Some(format!("is left out: the windows aren't alike today, as {why}"))),
+            1 => (None, breaks(why, LEFT_OUT.to_string())),
             _ => {
-                let words = format!("holds in part: {} stay alike, and {why}", listed(&stays));
-                (Some(Statement::Alike(start, longest)), Some(words))
+                let left = format!("only {} stay alike", listed(&stays));
+                (Some(Statement::Alike(start, longest)), breaks(why, left))
             }
         }
     }

@@ -2,7 +2,7 @@
 
 use crate::advice::advice;
 use crate::command::{refuse, Arguments, Choice, Source, Status, Stop};
-use crate::fixed::{kept, kept_block};
+use crate::fixed::{kept, kept_block, Broken};
 use crate::listing::{at_least, list_on_terminal, Limits, Listing};
 use crate::make::{make_all, of_block, Made};
 use crate::parse::parse;
@@ -48,8 +48,8 @@ pub struct Input {
     pub source: String,
     pub text: Text,
     pub made: Made,
-    /// What is left out of the text, a line for each.
-    left_out: Vec<String>,
+    /// What fixed duties break, a line for each, and what becomes of it.
+    broken: Vec<[String; 2]>,
     /// The windows' duties by which plans are chosen.
     wanted: Vec<(usize, usize)>,
 }
@@ -73,16 +73,16 @@ impl Input {
         let kept = parse(&source).and_then(|text| kept(&text)).map_err(stop)?;
         let made = make_all(&kept.text).map_err(stop)?;
         let line = |line: usize| source.lines().nth(line - 1).unwrap_or("").trim();
-        let left_out = kept.left_out.iter();
-        let left_out =
-            left_out.map(|left| format!("{name}:{}: `{}` {}", left.line, line(left.line), left.text));
-        let left_out = left_out.collect();
-        Ok(Input { name: name.to_string(), text: kept.text, made, left_out, wanted: Vec::new(), source })
+        let told = |Broken { line: at, why, left }: Broken| {
+            [format!("{name}:{at}: `{}` doesn't hold today: {why}", line(at)), left]
+        };
+        let broken = kept.broken.into_iter().map(told).collect();
+        Ok(Input { name: name.to_string(), text: kept.text, made, broken, wanted: Vec::new(), source })
     }
 
     /// What is to be said beside the answer: what is left out of the text.
     pub fn notes(&self) -> String {
-        self.left_out.iter().map(|line| format!("{line}\n")).collect()
+        self.broken.iter().map(|broken| broken.join("; ") + "\n").collect()
     }
 
     /// The same with what the options say: fixed duties, the duties by which plans are chosen, and the pairs and the
@@ -101,8 +101,8 @@ impl Input {
         let wanted = arguments.all(WHERE_OPTION.name).map(|option| self.pair(WHERE_OPTION.name, option));
         self.wanted = wanted.collect::<Result<_, Stop>>()?;
         self.files(arguments)?;
-        match arguments.has(STRICT_OPTION.name) && !self.left_out.is_empty() {
-            true => refuse(self.notes()),
+        match arguments.has(STRICT_OPTION.name) && !self.broken.is_empty() {
+            true => refuse(self.broken.iter().map(|[why, _]| why.as_str()).collect::<Vec<_>>().join("\n")),
             false => Ok(self),
         }
     }
@@ -137,8 +137,11 @@ impl Input {
             if !self.made.block.is_empty() {
                 return refuse(format!("{} has an `alike` line, and so takes no --block", self.name));
             }
-            let (kept, left) = kept_block(&self.text, file.bytes()?);
-            self.left_out.extend(left.map(|left| format!("{}: the block {left}", file.name())));
+            let (kept, broken) = kept_block(&self.text, file.bytes()?);
+            let told = |broken: Broken| {
+                [format!("{}: the block doesn't hold today: {}", file.name(), broken.why), broken.left]
+            };
+            self.broken.extend(broken.map(told));
             self.made.block = kept;
         }
         match planner::question_lent(&self.made.sheet, &self.made.pairs, &self.made.block) {
@@ -160,11 +163,16 @@ impl Input {
         if listing.ending == Ending::Spent {
             listing.hint += &advice(&self.made, &listing.counts, limits);
         }
+        Ok(self.chosen(listing))
+    }
+
+    /// A listing with the plans that `--where` chooses.
+    pub fn chosen(&self, mut listing: Listing) -> Listing {
         if self.chooses() {
             listing.plans = listing.plans.filtered(|plan| self.is_wanted(plan));
             listing.shown = Some(self.shown(listing.plans.len()));
         }
-        Ok(listing)
+        listing
     }
 
     /// Are only some of the listed plans to be shown?

@@ -31,8 +31,8 @@ fn answer(words: &[&str], input: &str) -> (i32, String, String) {
 fn fixed_by_option() {
     let left = |line: usize, exchange: &str, from: &str| {
         format!(
-            "examples/stand.txt:{line}: `exchange windows {exchange}` is left out: it takes {from}.eve to win1.eve, and \
-             `win1` is fixed to `cid`\n"
+            "examples/stand.txt:{line}: `exchange windows {exchange}` doesn't hold today: it takes {from}.eve to \
+             win1.eve, and `win1` is fixed to `cid`; it is left out\n"
         )
     };
     let lines = [
@@ -45,7 +45,7 @@ fn fixed_by_option() {
     assert_eq!((status, err), (0, lines.concat()));
     assert!(out.contains("\nfinished: 31 plans, 31 families, 135 trials\n"), "{out}");
     let strict = answer(&["plans", "--strict", "--fix", "win1=cid", STAND], "");
-    assert_eq!(strict, (1, String::new(), lines.concat()));
+    assert_eq!(strict, (1, String::new(), lines.concat().replace("; it is left out", "")));
     assert_eq!(answer(&["enough", "31", "--fix=win1=cid", STAND], "").0, 0);
     assert_eq!(answer(&["enough", "32", "--fix=win1=cid", STAND], "").0, 1);
     let why = answer(&["why", "--fix", "win1=finn", "--fix", "win2=finn", STAND], "");
@@ -70,15 +70,15 @@ fn fixed_in_the_text() {
     let text = "windows a b c d\nduties x y z\nalike a b c\nexchange duties x y\nfix b z\naway x\n";
     let (status, out, err) = answer(&["plans", "-"], text);
     assert_eq!(status, 0);
-    assert!(out.ends_with("finished: 8 plans, 12 trials\n") || out.contains("finished: 8 plans"), "{out}");
-    let notes = "standard input:3: `alike a b c` is left out: the windows aren't alike today, as `b` is fixed to `z`\n\
-                 standard input:4: `exchange duties x y` is left out: it takes a.y to a.x, and `x` is away\n";
+    assert!(out.contains("\nfinished: 8 plans, "), "{out}");
+    let notes = "standard input:3: `alike a b c` doesn't hold today: `b` is fixed to `z`; it is left out\n\
+                 standard input:4: `exchange duties x y` doesn't hold today: it takes a.y to a.x, and `x` is away; it is \
+                 left out\n";
     assert_eq!(err, notes);
     let text = "windows a b c d\nduties x y z\nalike a b c\nfix c z\n";
-    let part =
-        "standard input:3: `alike a b c` holds in part: `a` and `b` stay alike, and `c` is fixed to `z`\n";
-    assert_eq!(answer(&["plans", "-"], text).2, part);
-    assert_eq!(answer(&["plans", "--strict", "-"], text), (1, String::new(), part.to_string()));
+    let part = "standard input:3: `alike a b c` doesn't hold today: `c` is fixed to `z`";
+    assert_eq!(answer(&["plans", "-"], text).2, format!("{part}; only `a` and `b` stay alike\n"));
+    assert_eq!(answer(&["plans", "--strict", "-"], text), (1, String::new(), format!("{part}\n")));
     let names = "windows \"a=b\" c\nduties \"x=y\" z\n";
     assert!(answer(&["plans", "--fix", "a=b=x=y", "-"], names).1.contains("finished: 2 plans"));
 }
@@ -96,6 +96,9 @@ fn chosen_by_where() {
     assert!(none.2.ends_with("216 trials; of those listed, none with win1=jo shown\n"), "{}", none.2);
     let none = answer(&["plans", "--csv", "--where", "win1=jo", STAND], "");
     assert_eq!((none.0, none.1.lines().count()), (0, 1));
+    let desk = answer(&["desk", "--where", "left=pay", "examples/a.txt"], "");
+    let words = "left  right\npay   count\n\nfinished: 3 plans, 3 families, 6 trials; of those listed, 1 plan with left=pay shown";
+    assert!(desk.1.contains(words), "{}", desk.1);
     let best = answer(&["best", "9", "--where", "win2=eve", STAND], "");
     assert!(best.1.contains("finished: the 9 best plans of all, "), "{}", best.1);
 }
@@ -207,7 +210,7 @@ fn tables_out() {
 #[test]
 fn what_helps() {
     let hard = "tools/sheet/tests/golden/hard.txt";
-    let help = "the run finishes in 9 trials with `before j a`, `before j b`, `before j c`, `before j d`, `before j e`, \
+    let help = "the run ends after 9 trials with `before j a`, `before j b`, `before j c`, `before j d`, `before j e`, \
                 `before j f`, `before j g` and `before j h`)\n";
     for words in [vec!["plans", hard], vec!["why", hard], vec!["enough", "1", hard]] {
         let (status, out, _) = answer(&words, "");
@@ -223,7 +226,7 @@ fn what_helps() {
     assert!(!out.contains("went to"), "{out}");
     let (_, out, _) = answer(&["plans", "--trials", "2000", "-"], free);
     assert!(
-        out.contains("settling some windows before others doesn't finish either, tried with 2,000 trials)")
+        out.contains("settling some windows before others doesn't end it either, tried with 2,000 trials)")
     );
 }
 

@@ -104,7 +104,7 @@ fn fixed_duties() {
             new.extend(images.filter(|image| made_of.insert(image.clone())).collect::<Vec<_>>());
         }
         assert_eq!(made_of.into_iter().collect::<Vec<_>>(), enumerated(&text));
-        left_out += kept.left_out.len();
+        left_out += kept.broken.len();
         stay += made.problem.symmetries.len();
     }
     assert!(left_out > 200 && stay > 200, "{left_out} left out, {stay} stay");
