@@ -5,8 +5,8 @@
 //! the plans asked for.
 
 use crate::command::{out, refuse, Arguments, Choice, Command, Out, Outcome, Source, Status, Stop};
-use crate::input::{Input, BLOCK_OPTION, FIX_OPTION, PAIRS_OPTION, STRICT_OPTION, WHERE_OPTION};
-use crate::listing::{Limits, Plans, TRIALS_OPTION};
+use crate::input::{Input, HALL_OPTIONS, WHERE_OPTION};
+use crate::listing::{Limits, Plans};
 use crate::parts::{Parts, Read};
 use crate::plans::{as_csv, write_bom, BOM_OPTION, CSV_OPTION};
 use crate::score::Score;
@@ -22,24 +22,22 @@ pub const COMMAND: Command = Command {
         "shows the K best plans by the text's preferences (without K one), what they cost, and who is free",
     files: 1..=2,
     options: &[
-        CSV_OPTION,
-        BOM_OPTION,
-        Choice {
-            name: FIXED,
-            value: None,
-            about: "writes the text with the best plan's duties fixed, for `sheet page -`",
-        },
-        Choice {
-            name: "--near",
-            value: Some("FILE"),
-            about: "prefers the duties of a plan, as a `near` line does",
-        },
-        FIX_OPTION,
-        STRICT_OPTION,
-        WHERE_OPTION,
-        TRIALS_OPTION,
-        PAIRS_OPTION,
-        BLOCK_OPTION,
+        &[
+            CSV_OPTION,
+            BOM_OPTION,
+            Choice {
+                name: FIXED,
+                value: None,
+                about: "writes the text with the best plan's duties fixed, for `sheet page -`",
+            },
+            Choice {
+                name: "--near",
+                value: Some("FILE"),
+                about: "prefers the duties of a plan, as a `near` line does",
+            },
+            WHERE_OPTION,
+        ],
+        HALL_OPTIONS,
     ],
     asks: false,
     run,

@@ -52,13 +52,18 @@ pub struct Command {
     pub about: &'static str,
     /// How many words it takes, files and others.
     pub files: RangeInclusive<usize>,
-    pub options: &'static [Choice],
+    /// Its own, and those that it shares with others.
+    pub options: &'static [&'static [Choice]],
     /// Does its status answer yes or no?
     pub asks: bool,
     pub run: fn(&Arguments) -> Result<Outcome, Stop>,
 }
 
 impl Command {
+    fn choices(&self) -> impl Iterator<Item = &'static Choice> {
+        self.options.iter().flat_map(|group| group.iter())
+    }
+
     fn answer(&self, words: &[String]) -> Result<Outcome, Stop> {
         let answer = Arguments::new(self, words).and_then(|arguments| (self.run)(&arguments));
         answer.map_err(|stop| match self.asks {
@@ -107,7 +112,7 @@ impl Arguments {
                 Some((name, value)) if word.starts_with("--") => (name, Some(value.to_string())),
                 _ => (word.as_str(), None),
             };
-            match command.options.iter().find(|choice| choice.name == name) {
+            match command.choices().find(|choice| choice.name == name) {
                 Some(Choice { name, value: Some(kind), .. }) => match given.or_else(|| words.next().cloned())
                 {
                     Some(value) => options.push((*name, value)),
@@ -271,8 +276,8 @@ fn help() -> String {
 fn command_help(command: &Command) -> String {
     let mut text = format!("sheet {} {}\n{}\n", command.name, command.usage, command.about);
     let name = |choice: &Choice| [choice.name, choice.value.unwrap_or("")].join(" ").trim_end().to_string();
-    let width = command.options.iter().map(|choice| name(choice).len() + 2).max().unwrap_or(0).max(14);
-    for choice in command.options {
+    let width = command.choices().map(|choice| name(choice).len() + 2).max().unwrap_or(0).max(14);
+    for choice in command.choices() {
         text += &format!("  {:width$}{}\n", name(choice), choice.about);
     }
     text

@@ -16,7 +16,7 @@ pub const COMMAND: Command = Command {
     usage: "TEXT ..",
     about: "runs several halls by turns, eight at a time, and shows each one's plans as it ends",
     files: 1..=usize::MAX,
-    options: &[
+    options: &[&[
         TRIALS_OPTION,
         Choice {
             name: EVERY,
@@ -25,7 +25,7 @@ pub const COMMAND: Command = Command {
         },
         EXPLAIN_OPTION,
         WHERE_OPTION,
-    ],
+    ]],
     asks: false,
     run,
 };

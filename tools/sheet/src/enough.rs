@@ -2,8 +2,8 @@
 
 use crate::advice::advice_of;
 use crate::command::{refuse, Arguments, Command, Outcome, Status, Stop};
-use crate::input::{Input, BLOCK_OPTION, FIX_OPTION, PAIRS_OPTION, STRICT_OPTION};
-use crate::listing::{Limits, TRIALS_OPTION};
+use crate::input::{Input, HALL_OPTIONS};
+use crate::listing::Limits;
 use crate::words::counted;
 use planner::Enough;
 
@@ -12,7 +12,7 @@ pub const COMMAND: Command = Command {
     usage: "M TEXT",
     about: "says whether there are at least M plans, also by its status: 0 yes, 1 no, 2 not known",
     files: 2..=2,
-    options: &[FIX_OPTION, STRICT_OPTION, TRIALS_OPTION, PAIRS_OPTION, BLOCK_OPTION],
+    options: &[HALL_OPTIONS],
     asks: true,
     run,
 };

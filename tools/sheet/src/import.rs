@@ -12,11 +12,11 @@ pub const COMMAND: Command = Command {
     usage: "TABLE.csv > TEXT",
     about: "makes a text of a table: clerks down, windows across, a mark where a clerk may stand",
     files: 1..=1,
-    options: &[Choice {
+    options: &[&[Choice {
         name: "--by",
         value: Some("windows"),
         about: "the other way round: windows down, clerks across",
-    }],
+    }]],
     asks: false,
     run,
 };

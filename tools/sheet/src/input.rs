@@ -3,7 +3,7 @@
 use crate::advice::advice;
 use crate::command::{refuse, Arguments, Choice, Source, Status, Stop};
 use crate::fixed::{kept, kept_block, Broken};
-use crate::listing::{at_least, list_on_terminal, Limits, Listing};
+use crate::listing::{at_least, list_on_terminal, Limits, Listing, TRIALS_OPTION};
 use crate::make::{make_all, of_block, Made};
 use crate::parse::parse;
 use crate::text::{Fault, Text};
@@ -11,29 +11,32 @@ use crate::words::{counted, name_of, nearest, written};
 use crate::{alike, pairs};
 use planner::{Ending, Enough, Refusal};
 
-pub const PAIRS_OPTION: Choice = Choice {
+const PAIRS_OPTION: Choice = Choice {
     name: "--pairs",
     value: Some("FILE"),
     about: "settles windows in the order of a file of pairs, as `sheet make --pairs` writes it",
 };
 
-pub const BLOCK_OPTION: Choice = Choice {
+const BLOCK_OPTION: Choice = Choice {
     name: "--block",
     value: Some("FILE"),
     about: "takes windows for alike by a file, as `sheet make --block` writes it",
 };
 
-pub const FIX_OPTION: Choice = Choice {
+const FIX_OPTION: Choice = Choice {
     name: "--fix",
     value: Some("WINDOW=DUTY"),
     about: "the window has that duty, as by a `fix` line; may stand several times",
 };
 
-pub const STRICT_OPTION: Choice = Choice {
+const STRICT_OPTION: Choice = Choice {
     name: "--strict",
     value: None,
     about: "refuses exchanges that fixed duties break, rather than leaving them out",
 };
+
+/// What every command takes that runs a hall.
+pub const HALL_OPTIONS: &[Choice] = &[FIX_OPTION, STRICT_OPTION, TRIALS_OPTION, PAIRS_OPTION, BLOCK_OPTION];
 
 pub const WHERE_OPTION: Choice = Choice {
     name: "--where",

@@ -17,7 +17,7 @@ pub const COMMAND: Command = Command {
     usage: "TEXT > SHEET",
     about: "makes the sheet; a fault is said with its line, and nothing is written",
     files: 1..=1,
-    options: &[
+    options: &[&[
         Choice {
             name: "--pairs",
             value: Some("FILE"),
@@ -28,7 +28,7 @@ pub const COMMAND: Command = Command {
             value: Some("FILE"),
             about: "writes the `alike` line to a file, two bytes: its first window and how many",
         },
-    ],
+    ]],
     asks: false,
     run,
 };

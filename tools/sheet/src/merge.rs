@@ -10,11 +10,11 @@ pub const COMMAND: Command = Command {
     usage: "PLACES FIRST SECOND > ROWS",
     about: "makes one file of two: the rows of either, ascending, each once",
     files: 3..=3,
-    options: &[Choice {
+    options: &[&[Choice {
         name: "--pairs",
         value: Some("FILE"),
         about: "compares rows in the order of a file of pairs, as the runs that listed them",
-    }],
+    }]],
     asks: false,
     run,
 };

@@ -6,8 +6,8 @@ mod tables;
 use crate::command::{Arguments, Command, Outcome, Stop};
 use crate::counts::share;
 use crate::families::words;
-use crate::input::{Input, BLOCK_OPTION, FIX_OPTION, PAIRS_OPTION, STRICT_OPTION, WHERE_OPTION};
-use crate::listing::{Limits, Listing, PLANS_OPTION, TRIALS_OPTION};
+use crate::input::{Input, HALL_OPTIONS, WHERE_OPTION};
+use crate::listing::{Limits, Listing, PLANS_OPTION};
 use crate::pairs::settled;
 use crate::problem::Problem;
 use crate::text::{Stated, Statement};
@@ -21,15 +21,7 @@ pub const COMMAND: Command = Command {
     usage: "TEXT > hall.html",
     about: "writes the hall and its plans as a page",
     files: 1..=1,
-    options: &[
-        FIX_OPTION,
-        STRICT_OPTION,
-        WHERE_OPTION,
-        TRIALS_OPTION,
-        PLANS_OPTION,
-        PAIRS_OPTION,
-        BLOCK_OPTION,
-    ],
+    options: &[&[WHERE_OPTION, PLANS_OPTION], HALL_OPTIONS],
     asks: false,
     run,
 };

@@ -4,8 +4,8 @@ use crate::command::{out, refuse, Arguments, Choice, Command, Out, Outcome, Stop
 use crate::counts::drawn;
 use crate::csv::BOM;
 use crate::families::{closed, not_counted, number};
-use crate::input::{Input, BLOCK_OPTION, FIX_OPTION, PAIRS_OPTION, STRICT_OPTION, WHERE_OPTION};
-use crate::listing::{Limits, Listing, PLANS_OPTION, TRIALS_OPTION};
+use crate::input::{Input, HALL_OPTIONS, WHERE_OPTION};
+use crate::listing::{Limits, Listing, PLANS_OPTION};
 use crate::pairs::settled;
 use crate::table::{write_counts, write_csv, write_json, write_table, Columns};
 use std::io::Write;
@@ -16,33 +16,31 @@ pub const COMMAND: Command = Command {
     about: "lists the plans by name, then says how the run ended",
     files: 1..=1,
     options: &[
-        CSV_OPTION,
-        BOM_OPTION,
-        Choice { name: "--json", value: None, about: "as one JSON object" },
-        Choice {
-            name: "--rows",
-            value: None,
-            about: "as plain bytes, a number for each window's duty; the ending goes to standard error",
-        },
-        Choice { name: "--first", value: None, about: "one plan is enough" },
-        Choice {
-            name: FREE,
-            value: None,
-            about: "with each plan who is free, and after the plans how often each stands and is free",
-        },
-        Choice {
-            name: BY_WINDOW,
-            value: None,
-            about: "after the ending, a line for each window: its trials, their share and a bar",
-        },
-        EXPLAIN_OPTION,
-        FIX_OPTION,
-        STRICT_OPTION,
-        WHERE_OPTION,
-        TRIALS_OPTION,
-        PLANS_OPTION,
-        PAIRS_OPTION,
-        BLOCK_OPTION,
+        &[
+            CSV_OPTION,
+            BOM_OPTION,
+            Choice { name: "--json", value: None, about: "as one JSON object" },
+            Choice {
+                name: "--rows",
+                value: None,
+                about: "as plain bytes, a number for each window's duty; the ending goes to standard error",
+            },
+            Choice { name: "--first", value: None, about: "one plan is enough" },
+            Choice {
+                name: FREE,
+                value: None,
+                about: "with each plan who is free, and after the plans how often each stands and is free",
+            },
+            Choice {
+                name: BY_WINDOW,
+                value: None,
+                about: "after the ending, a line for each window: its trials, their share and a bar",
+            },
+            EXPLAIN_OPTION,
+            WHERE_OPTION,
+            PLANS_OPTION,
+        ],
+        HALL_OPTIONS,
     ],
     asks: false,
     run,

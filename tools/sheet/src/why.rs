@@ -1,8 +1,8 @@
 //! `sheet why`: where there is no plan, lines of the text that already have none, none of which can be left out.
 
 use crate::command::{Arguments, Command, Outcome, Stop};
-use crate::input::{Input, BLOCK_OPTION, FIX_OPTION, PAIRS_OPTION, STRICT_OPTION};
-use crate::listing::{list_on_terminal, Limits, Listing, TRIALS_OPTION};
+use crate::input::{Input, HALL_OPTIONS};
+use crate::listing::{list_on_terminal, Limits, Listing};
 use crate::make::make_stated;
 use crate::problem::Problem;
 use crate::table::table;
@@ -15,7 +15,7 @@ pub const COMMAND: Command = Command {
     usage: "TEXT",
     about: "shows a plan, or lines of the text that already have none",
     files: 1..=1,
-    options: &[FIX_OPTION, STRICT_OPTION, TRIALS_OPTION, PAIRS_OPTION, BLOCK_OPTION],
+    options: &[HALL_OPTIONS],
     asks: false,
     run,
 };

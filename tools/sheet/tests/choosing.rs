@@ -1,28 +1,15 @@
 //! The program for an office: fixed duties, chosen plans, tables in and out, and its bounds.
 
-use std::io::Write;
-use std::path::Path;
-use std::process::{Command, Output, Stdio};
+use std::process::{Command, Output};
+
+mod program;
+use program::{fed, root};
 
 const STAND: &str = "examples/stand.txt";
 
-/// The program at the repository's root, with a text on standard input.
-fn fed(words: &[&str], input: &str) -> Output {
-    let mut child = Command::new(env!("CARGO_BIN_EXE_sheet"))
-        .current_dir(Path::new(env!("CARGO_MANIFEST_DIR")).join("../.."))
-        .args(words)
-        .stdin(Stdio::piped())
-        .stdout(Stdio::piped())
-        .stderr(Stdio::piped())
-        .spawn()
-        .unwrap();
-    child.stdin.take().unwrap().write_all(input.as_bytes()).unwrap();
-    child.wait_with_output().unwrap()
-}
-
 /// Status, standard output and standard error.
 fn answer(words: &[&str], input: &str) -> (i32, String, String) {
-    let output = fed(words, input);
+    let output = fed(words, input.as_bytes());
     let text = |bytes: &[u8]| String::from_utf8(bytes.to_vec()).unwrap();
     (output.status.code().unwrap(), text(&output.stdout), text(&output.stderr))
 }
@@ -218,8 +205,8 @@ fn what_helps() {
         assert!(out.contains(help), "{out}");
     }
     let before: String = "abcdefgh".chars().map(|window| format!("before j {window}\n")).collect();
-    let root = Path::new(env!("CARGO_MANIFEST_DIR")).join("../..").join(hard);
-    let helped = answer(&["plans", "-"], &(std::fs::read_to_string(root).unwrap() + &before));
+    let text = std::fs::read_to_string(root().join(hard)).unwrap();
+    let helped = answer(&["plans", "-"], &(text + &before));
     assert!(helped.1.starts_with("finished: no plan, 9 trials\n"), "{}", helped.1);
     let free = "windows a b c d e f g h\nduties 0 1 2 3 4 5 6 7\n";
     let (_, out, _) = answer(&["plans", "--trials", "2000", "--plans", "1", "-"], free);
@@ -248,8 +235,7 @@ fn why_claims() {
 
 /// A shell's line at the repository's root, with the program as `$0`.
 fn shell(line: &str) -> Output {
-    let root = Path::new(env!("CARGO_MANIFEST_DIR")).join("../..");
-    Command::new("sh").current_dir(root).args(["-c", line, env!("CARGO_BIN_EXE_sheet")]).output().unwrap()
+    Command::new("sh").current_dir(root()).args(["-c", line, env!("CARGO_BIN_EXE_sheet")]).output().unwrap()
 }
 
 #[test]

@@ -1,22 +1,10 @@
 //! Rows to stores and back through the program: what it writes, and its words and exit status for each refusal.
 
-use std::io::{ErrorKind, Write};
-use std::process::{Command, Stdio};
+mod program;
 
 /// The program's standard output, or what it says where its exit status is 1.
 fn sheet(words: &[&str], input: &[u8]) -> Result<Vec<u8>, String> {
-    let mut program = Command::new(env!("CARGO_BIN_EXE_sheet"))
-        .args(words)
-        .stdin(Stdio::piped())
-        .stdout(Stdio::piped())
-        .stderr(Stdio::piped())
-        .spawn()
-        .unwrap();
-    // where its words are wrong it ends without reading
-    if let Err(fault) = program.stdin.take().unwrap().write_all(input) {
-        assert_eq!(fault.kind(), ErrorKind::BrokenPipe);
-    }
-    let done = program.wait_with_output().unwrap();
+    let done = program::fed(words, input);
     if done.status.success() {
         return Ok(done.stdout);
     }

@@ -3,12 +3,11 @@
 
 use std::fs::File;
 use std::io::Write;
-use std::path::{Path, PathBuf};
+use std::path::Path;
 use std::process::{Command, Output, Stdio};
 
-fn root() -> PathBuf {
-    Path::new(env!("CARGO_MANIFEST_DIR")).join("../..")
-}
+mod program;
+use program::root;
 
 /// The program at the repository's root, with words parted by spaces.
 fn sheet(words: &str) -> Command {
@@ -23,10 +22,7 @@ fn output(words: &str) -> Output {
 
 /// What the program prints for a text on standard input.
 fn fed(words: &str, input: &[u8]) -> Output {
-    let mut child =
-        sheet(words).stdin(Stdio::piped()).stdout(Stdio::piped()).stderr(Stdio::piped()).spawn().unwrap();
-    child.stdin.take().unwrap().write_all(input).unwrap();
-    child.wait_with_output().unwrap()
+    program::fed(&words.split(' ').collect::<Vec<_>>(), input)
 }
 
 fn said(bytes: &[u8]) -> &str {
