@@ -104,7 +104,7 @@ pub struct Best {
     /// No plan that isn't among them costs less.
     pub cost: u64,
     pub trials: u32,
-    /// How many exchanges keep every preference, and how many don't; alike windows count for one.
+    /// How many exchanges keep every preference, and how many don't; alike windows count for one, or for one of each.
     pub exchanges: [usize; 2],
 }
 
@@ -256,8 +256,8 @@ impl Halls<'_> {
 struct Same {
     /// For each, the pair that is taken to a pair.
     from: Vec<Vec<usize>>,
-    /// Windows that are alike.
-    alike: Vec<usize>,
+    /// Windows that are alike and cost the same.
+    alike: Vec<Vec<usize>>,
     values: usize,
     exchanges: [usize; 2],
 }
@@ -267,20 +267,11 @@ impl Same {
         let problem = &input.made.problem;
         let kept: Vec<&Vec<usize>> =
             problem.symmetries.iter().filter(|images| score.is_kept_by(problem, images)).collect();
-        let block = match input.made.block[..] {
-            [first, count] => (first.into()..usize::from(first) + usize::from(count)).collect(),
-            _ => Vec::new(),
-        };
-        let costs = |window: usize| (0..problem.values.len()).map(move |value| score.of(window, value));
-        let is_kept = block.iter().all(|&window: &usize| costs(window).eq(costs(block[0])));
-        let both = [kept.len(), problem.symmetries.len() - kept.len()];
-        let exchanges = match (block.is_empty(), is_kept) {
-            (true, _) => both,
-            (false, true) => [both[0] + 1, both[1]],
-            (false, false) => [both[0], both[1] + 1],
-        };
+        let alike = alike(input, score);
+        let [one, several] = [alike.iter().any(|group| group.len() > 1), alike.len() > 1];
+        let exchanges =
+            [kept.len() + usize::from(one), problem.symmetries.len() - kept.len() + usize::from(several)];
         let from = kept.into_iter().map(|images| inverse(images)).collect();
-        let alike = if is_kept { block } else { Vec::new() };
         Same { from, alike, values: problem.values.len(), exchanges }
     }
 
@@ -299,9 +290,27 @@ impl Same {
             }
             source
         };
-        let alike = order.iter().filter(|window| self.alike.contains(window)).map(|&window| plan[window]);
-        alike.is_sorted() && self.from.iter().all(|from| reading(&source(from)) >= reading(plan))
+        let in_order = |group: &Vec<usize>| {
+            order.iter().filter(|window| group.contains(window)).map(|&window| plan[window]).is_sorted()
+        };
+        self.alike.iter().all(in_order)
+            && self.from.iter().all(|from| reading(&source(from)) >= reading(plan))
     }
+}
+
+/// The alike windows in groups of which every duty costs the same.
+fn alike(input: &Input, score: &Score) -> Vec<Vec<usize>> {
+    let [first, count] = input.made.block[..] else { return Vec::new() };
+    let values = input.made.problem.values.len();
+    let costs = |window: usize| (0..values).map(|value| score.of(window, value)).collect::<Vec<u64>>();
+    let mut groups: Vec<Vec<usize>> = Vec::new();
+    for window in usize::from(first)..usize::from(first) + usize::from(count) {
+        match groups.iter_mut().find(|group| costs(group[0]) == costs(window)) {
+            Some(group) => group.push(window),
+            None => groups.push(vec![window]),
+        }
+    }
+    groups
 }
 
 fn inverse(images: &[usize]) -> Vec<usize> {

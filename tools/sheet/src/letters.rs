@@ -75,7 +75,7 @@ pub fn odd(word: &str) -> Option<String> {
                 "a mark that can't be seen (U+{number:04X}, {}) in `{word}`; take it out",
                 if is_direction(letter) { "a direction mark" } else { "without width" }
             )),
-            '“' | '”' | '„' | '‟' | '«' | '»' => {
+            '“' | '”' | '„' | '‟' | '«' | '»' if !word.contains('"') => {
                 Some(format!("`{letter}` in `{word}`; names stand in plain quotation marks, \"Anna Smith\""))
             }
             _ => None,

@@ -6,6 +6,7 @@ use crate::problem::Constraint;
 use crate::text::{fault, Exchange, Fault, Faults, Parsed, Stated, Statement, Text};
 use crate::words::{counted, halves, name_of, nearest, nearest_name, words, LONGEST_NAME};
 use std::cell::RefCell;
+use std::collections::BTreeSet;
 
 /// The words that start a line.
 const STARTS: [&str; 21] = [
@@ -38,6 +39,9 @@ pub const MOST: [usize; 2] = [12, 16];
 /// The most that a preference costs.
 const MOST_WEIGHT: u32 = 1_000;
 
+/// So many faults are told; with more the reading ends.
+const MOST_FAULTS: usize = 100;
+
 /// What a text states, or all its faults. A fault in one line leaves the others to be read, as long as windows and duties
 /// are known.
 pub fn parse(text: &str) -> Result<Text, Faults> {
@@ -49,7 +53,7 @@ pub fn parse(text: &str) -> Result<Text, Faults> {
     for line in text.lines() {
         parser.line += 1;
         parser.read(line);
-        if parser.lost {
+        if parser.lost || parser.faults.borrow().len() > MOST_FAULTS {
             break;
         }
     }
@@ -101,7 +105,14 @@ impl Parser {
 
     /// Notes a fault and goes on.
     fn note(&self, fault: Fault) {
-        self.faults.borrow_mut().push(fault);
+        let mut faults = self.faults.borrow_mut();
+        match faults.len() {
+            count if count < MOST_FAULTS => faults.push(fault),
+            MOST_FAULTS => {
+                faults.push(Fault { text: "the faults from here on aren't told".to_string(), ..fault })
+            }
+            _ => {}
+        }
     }
 
     /// All of them, or the last fault; the others are noted.
@@ -228,7 +239,7 @@ impl Parser {
     /// New names: at least one, each once, and none that the text uses for itself. Faults are noted, and the names kept.
     fn new_names(&self, kind: &str, words: &[&str], most: usize) -> Parsed<Vec<String>> {
         let mut names: Vec<String> = Vec::new();
-        for word in words {
+        for word in words.iter().take(MOST_FAULTS) {
             let name = name_of(word);
             if let Some(wrong) = wrong_name(kind, word, &name, &names) {
                 self.note(Fault { line: self.line, text: wrong });
@@ -241,6 +252,7 @@ impl Parser {
             0 => self.fault(format!("`{kind}` takes at least one name")),
             count => {
                 if count > most {
+                    let count = count + words.len().saturating_sub(MOST_FAULTS);
                     let text = format!("{count} {kind}, and at most {most} are allowed");
                     self.note(Fault { line: self.line, text });
                 }
@@ -281,11 +293,12 @@ impl Parser {
 
     /// Windows, each once, as written.
     fn windows(&self, words: &[&str]) -> Parsed<Vec<usize>> {
-        let once = |(i, word): (usize, &&str)| match *word != "," && words[..i].contains(word) {
-            true => self.fault(format!("`{}` stands twice", name_of(word))),
-            false => self.window(word),
+        let mut seen = BTreeSet::new();
+        let once = |word: &&str| match *word == "," || seen.insert(word.to_string()) {
+            true => self.window(word),
+            false => self.fault(format!("`{}` stands twice", name_of(word))),
         };
-        self.all(words.iter().enumerate().map(once))
+        self.all(words.iter().map(once))
     }
 
     /// Notes that a word is said of a window or duty, which may be said once.

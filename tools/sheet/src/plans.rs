@@ -8,6 +8,7 @@ use crate::input::{Input, HALL_OPTIONS, WHERE_OPTION};
 use crate::listing::{Limits, Listing, PLANS_OPTION};
 use crate::pairs::settled;
 use crate::table::{write_counts, write_csv, write_json, write_table, Columns};
+use crate::words::written_all;
 use std::io::Write;
 
 pub const COMMAND: Command = Command {
@@ -155,6 +156,6 @@ pub fn ended(input: &Input, listing: &Listing, hint: &str, explain: bool) -> Str
 fn in_order(input: &Input) -> String {
     match settled(&input.made.problem, &input.made.pairs) {
         windows if windows.is_empty() => String::new(),
-        windows => format!("(windows settled in the order {})\n", windows.join(" ")),
+        windows => format!("(windows settled in the order {})\n", written_all(windows)),
     }
 }

@@ -287,6 +287,17 @@ fn all_at_once() {
     );
 }
 
+/// A flood of faults ends.
+#[test]
+fn many_faults() {
+    let lines = all(&format!("{START}{}", "nonsense\n".repeat(1_000)));
+    assert_eq!((lines.len(), lines[100].as_str()), (101, "104: the faults from here on aren't told"));
+    let words: Vec<String> = (0..200_000).map(|i| format!("n{i}")).collect();
+    assert_eq!(all(&format!("{START}all different {}", words.join(" "))).len(), 101);
+    let names = format!("windows {}\nduties x", words.join(" "));
+    assert_eq!(all(&names), ["1: 200000 windows, and at most 12 are allowed"]);
+}
+
 #[test]
 fn names_of_two_words() {
     let made = make("windows \"win, 1\" pay\nduties \"Anna S.\" Bob \"duties\" \"a \"\"b\"\"\"\nmay pay \"Anna S.\" Bob\n\
@@ -321,6 +332,7 @@ fn names_of_two_words() {
     assert_eq!(names("\"a\".b"), "2: `\"a\".b` is two words: a name in quotes has nothing beside them");
     assert_eq!(names("Zo\u{eb} Zoe\u{308}"), "2: the name `Zo\u{eb}` stands twice");
     assert!(make("windows a\nduties Zo\u{eb} x\nmay a Zoe\u{308}\n").is_ok());
+    assert!(make("windows a\nduties \"Jo “J” Smith\" x\n").is_ok());
     let long = "a".repeat(65_536);
     assert_eq!(names(&long), "2: a name of 65,536 characters, and at most 64 are allowed");
     assert_eq!(names(&"ä".repeat(65)), "2: a name of 65 characters, and at most 64 are allowed");

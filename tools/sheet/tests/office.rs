@@ -7,6 +7,7 @@ use sheet::fixed::kept;
 use sheet::input::Input;
 use sheet::listing::{list, Limits};
 use sheet::make::{make_all, Made};
+use sheet::pairs::order;
 use sheet::parse::parse;
 use sheet::parts::{Parts, Read};
 use sheet::problem::Problem;
@@ -33,7 +34,6 @@ fn hall(rng: &mut Rng) -> String {
         "exchange duties w x\n",
         "exchange windows a b duties w x\n",
         "exchange pairs a.w b.w, a.x b.x, a.y b.y, a.z b.z\n",
-        "alike a b\n",
     ];
     let mut text = "windows a b c d\nduties w x y z\n".to_string() + rng.pick(&rules);
     for exchange in exchanges {
@@ -41,7 +41,11 @@ fn hall(rng: &mut Rng) -> String {
             text += exchange;
         }
     }
-    text
+    match rng.below(4) {
+        0 => text + "alike a b\n",
+        1 if !text.contains("\ndifferent") => text + "alike b c d\n",
+        _ => text,
+    }
 }
 
 /// Some lines of the day.
@@ -68,14 +72,17 @@ fn image(problem: &Problem, table: &[usize], plan: &[usize]) -> Plan {
     image
 }
 
-/// The tables of the exchanges, and of the trades of the alike windows.
+/// The tables of the exchanges, and of the trades of any two alike windows.
 fn tables(made: &Made) -> Vec<Vec<usize>> {
     let d = made.problem.values.len();
     let mut tables = made.problem.symmetries.clone();
     if let [first, count] = made.block[..] {
-        for window in usize::from(first)..usize::from(first + count) - 1 {
+        let windows = usize::from(first)..usize::from(first + count);
+        for (one, other) in
+            windows.clone().flat_map(|one| (one + 1..windows.end).map(move |other| (one, other)))
+        {
             let mut table: Vec<usize> = (0..d * made.problem.variables.len()).collect();
-            (0..d).for_each(|value| table.swap(window * d + value, (window + 1) * d + value));
+            (0..d).for_each(|value| table.swap(one * d + value, other * d + value));
             tables.push(table);
         }
     }
@@ -138,15 +145,25 @@ fn by_hand(input: &Input, score: &Score) -> Vec<Plan> {
         .into_iter()
         .filter(|table| problem.pairs().iter().all(|pair| cost(pair) == cost(&table[*pair])))
         .collect();
+    let order = order(4, &input.made.pairs);
+    let reading = |plan: &Plan| order.iter().map(|&window| plan[window]).collect::<Plan>();
     let is_made = |plan: &Plan| {
-        let earlier = plans.iter().take_while(|other| *other < plan);
-        earlier.into_iter().any(|other| kept.iter().any(|table| image(problem, table, other) == *plan))
+        let mut earlier = plans.iter().filter(|other| reading(other) < reading(plan));
+        earlier.any(|other| kept.iter().any(|table| image(problem, table, other) == *plan))
     };
     let mut first: Vec<Plan> = plans.iter().filter(|plan| !is_made(plan)).cloned().collect();
     let total =
         |plan: &Plan| plan.iter().enumerate().map(|(window, &value)| score.of(window, value)).sum::<u64>();
-    first.sort_by_key(|plan| (total(plan), plan.clone()));
+    first.sort_by_key(|plan| (total(plan), reading(plan)));
     first
+}
+
+fn before(rng: &mut Rng) -> &'static str {
+    if rng.chance(40) {
+        "before d a\nbefore c b\n"
+    } else {
+        ""
+    }
 }
 
 #[test]
@@ -154,7 +171,7 @@ fn best_plans() {
     let mut rng = Rng::new(5);
     let (mut told_apart, mut kept) = (0, 0);
     for _ in 0..400 {
-        let (input, source) = input("best", &(hall(&mut rng) + &wishes(&mut rng)));
+        let (input, source) = input("best", &(hall(&mut rng) + &wishes(&mut rng) + before(&mut rng)));
         let score = Score::new(&input.text, &source, &[]).unwrap();
         let count = 1 + rng.below(12);
         let found = best(&input, &score, count, 1_000_000).unwrap();
@@ -196,8 +213,7 @@ fn stopped_short() {
 fn parts() {
     let mut rng = Rng::new(7);
     for round in 0..200 {
-        let before = if rng.chance(50) { "before d a\nbefore c b\n" } else { "" };
-        let text = parse(&(hall(&mut rng) + before)).unwrap();
+        let text = parse(&(hall(&mut rng) + before(&mut rng))).unwrap();
         let Text { statements, .. } = &text;
         let bare = statements.iter().filter(|stated| !stated.statement.exchanges()).cloned().collect();
         let made = make_all(&Text { statements: bare, ..text.clone() }).unwrap();
