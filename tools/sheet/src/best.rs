@@ -355,9 +355,11 @@ impl Shown<'_> {
 
     /// The table, what each plan costs, and how often each duty stands.
     fn write(&self, out: &mut Out) -> Result<(), Stop> {
-        let (plans, problem) = (self.plans(), &self.input.made.problem);
+        let (plans, problem, present) = (self.plans(), &self.input.made.problem, self.input.present());
         let costs: Vec<u64> = plans.iter().map(|plan| self.score.of_plan(plan)).collect();
-        out.all(|out| write_table(out, problem, &plans, Columns { costs: Some(&costs), free: true }))?;
+        out.all(|out| {
+            write_table(out, problem, &plans, Columns { costs: Some(&costs), free: Some(present) })
+        })?;
         for (number, plan) in plans.iter().enumerate() {
             let gap = if number == 0 { "\n" } else { "" };
             let broken = match self.score.broken(plan) {
@@ -367,7 +369,7 @@ impl Shown<'_> {
             out.all(|out| writeln!(out, "{gap}plan {} costs {broken}", number + 1))?;
         }
         match plans.len() > 1 {
-            true => out.all(|out| write_counts(out, problem, &plans)),
+            true => out.all(|out| write_counts(out, problem, &plans, present)),
             false => Ok(()),
         }
     }

@@ -120,7 +120,8 @@ impl Sets {
     }
 }
 
-fn full_set(values: usize) -> u16 {
+/// The set of so many values.
+pub fn full_set(values: usize) -> u16 {
     (0..values).fold(0, |set, value| set | 1 << value)
 }
 

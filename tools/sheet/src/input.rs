@@ -2,11 +2,12 @@
 
 use crate::advice::advice;
 use crate::command::{refuse, Arguments, Choice, Source, Status, Stop};
+use crate::compose::full_set;
 use crate::fixed::{kept, kept_block, Broken};
 use crate::listing::{at_least, list_on_terminal, Limits, Listing, TRIALS_OPTION};
 use crate::make::{make_all, of_block, Made};
 use crate::parse::parse;
-use crate::text::{Fault, Text};
+use crate::text::{Fault, Stated, Statement, Text};
 use crate::words::{counted, name_of, nearest, written};
 use crate::{alike, pairs};
 use planner::{Ending, Enough, Refusal};
@@ -176,6 +177,16 @@ impl Input {
             listing.shown = Some(self.shown(listing.plans.len()));
         }
         listing
+    }
+
+    /// The duties that aren't away.
+    pub fn present(&self) -> u16 {
+        let away = |stated: &Stated| match stated.statement {
+            Statement::Away(value) => 1 << value,
+            _ => 0,
+        };
+        let all = full_set(self.text.values.len());
+        self.text.statements.iter().map(away).fold(all, |set, away: u16| set & !away)
     }
 
     /// Are only some of the listed plans to be shown?

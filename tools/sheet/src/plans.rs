@@ -129,13 +129,13 @@ pub fn write_bom(out: &mut dyn Write, arguments: &Arguments) -> std::io::Result<
 /// The table, the ending, and what the options ask for.
 fn write_shown(out: &mut Out, input: &Input, listing: &Listing, arguments: &Arguments) -> Result<(), Stop> {
     let problem = &input.made.problem;
-    let columns = Columns { costs: None, free: arguments.has(FREE) };
+    let columns = Columns { costs: None, free: arguments.has(FREE).then(|| input.present()) };
     out.all(|out| write_table(out, problem, &listing.plans, columns))?;
     out.all(|out| {
         write!(out, "{}", ended(input, listing, listing.hint(), arguments.has(EXPLAIN_OPTION.name)))?;
         write!(out, "{}", in_order(input))?;
-        if columns.free {
-            write_counts(out, problem, &listing.plans)?;
+        if let Some(present) = columns.free {
+            write_counts(out, problem, &listing.plans, present)?;
         }
         let by_window = arguments.has(BY_WINDOW).then(|| drawn(&problem.variables, &listing.counts));
         write!(out, "{}", by_window.unwrap_or_default())

@@ -11,15 +11,14 @@ fn names<'a>(problem: &'a Problem, plan: &'a [u8]) -> impl Iterator<Item = &'a s
     plan.iter().map(|&duty| problem.values[duty as usize].as_str())
 }
 
-/// The duties that no window of a plan has.
-pub fn free(problem: &Problem, plan: &[u8]) -> Vec<usize> {
-    (0..problem.values.len()).filter(|&duty| !plan.contains(&(duty as u8))).collect()
+/// The duties of a set that no window of a plan has.
+fn free(plan: &[u8], present: u16) -> impl Iterator<Item = usize> + '_ {
+    (0..16).filter(move |duty| present >> duty & 1 == 1 && !plan.contains(&(*duty as u8)))
 }
 
 /// Who is free, in words.
-fn free_words(problem: &Problem, plan: &[u8]) -> String {
-    let names: Vec<&str> = free(problem, plan).iter().map(|&duty| problem.values[duty].as_str()).collect();
-    names.join(", ")
+fn free_words(problem: &Problem, plan: &[u8], present: u16) -> String {
+    free(plan, present).map(|duty| problem.values[duty].as_str()).collect::<Vec<_>>().join(", ")
 }
 
 /// What a table shows of plans beside a column for each window.
@@ -27,8 +26,8 @@ fn free_words(problem: &Problem, plan: &[u8]) -> String {
 pub struct Columns<'a> {
     /// What each plan costs, before the windows.
     pub costs: Option<&'a [u64]>,
-    /// Who is free, after the windows.
-    pub free: bool,
+    /// Who of a set of duties is free, after the windows.
+    pub free: Option<u16>,
 }
 
 /// A column for each window; nothing where no plan is listed.
@@ -59,9 +58,9 @@ pub fn write_table(out: &mut dyn Write, problem: &Problem, plans: &Plans, column
     };
     let head = |shown: bool, word: &str| shown.then(|| word.to_string());
     let windows = &mut problem.variables.iter().map(String::as_str);
-    line(head(columns.costs.is_some(), "cost"), windows, head(columns.free, "free"))?;
+    line(head(columns.costs.is_some(), "cost"), windows, head(columns.free.is_some(), "free"))?;
     for (row, plan) in plans.iter().enumerate() {
-        let free = columns.free.then(|| free_words(problem, plan));
+        let free = columns.free.map(|present| free_words(problem, plan, present));
         line(cost(row), &mut names(problem, plan), free)?;
     }
     Ok(())
@@ -74,19 +73,22 @@ pub fn table(problem: &Problem, listing: &Listing) -> String {
     String::from_utf8(bytes).expect("names are texts")
 }
 
-/// A line for each duty: at how many windows of all plans it stands, and in how many plans it is free.
-pub fn write_counts(out: &mut dyn Write, problem: &Problem, plans: &Plans) -> Result<()> {
+/// A line for each duty: at how many windows of all plans it stands and in how many plans it is free, or that it is away.
+pub fn write_counts(out: &mut dyn Write, problem: &Problem, plans: &Plans, present: u16) -> Result<()> {
     let mut counts = vec![[0u64; 2]; problem.values.len()];
     for plan in plans.iter() {
         plan.iter().for_each(|&duty| counts[duty as usize][0] += 1);
-        free(problem, plan).into_iter().for_each(|duty| counts[duty][1] += 1);
+        free(plan, present).for_each(|duty| counts[duty][1] += 1);
     }
     let names = problem.values.iter().map(|name| width(name)).max().unwrap_or(0);
     let digits = |of: usize| counts.iter().map(|count| count[of].to_string().len()).max().unwrap_or(0);
     let [stands, free] = [digits(0), digits(1)];
-    for (name, count) in problem.values.iter().zip(&counts) {
+    for (duty, (name, count)) in problem.values.iter().zip(&counts).enumerate() {
         let gap = " ".repeat(names - width(name));
-        writeln!(out, "{name}{gap}  stands {:>stands$}  free {:>free$}", count[0], count[1])?;
+        match present >> duty & 1 {
+            1 => writeln!(out, "{name}{gap}  stands {:>stands$}  free {:>free$}", count[0], count[1])?,
+            _ => writeln!(out, "{name}{gap}  away")?,
+        }
     }
     Ok(())
 }

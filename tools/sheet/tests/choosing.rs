@@ -111,6 +111,10 @@ fn preferred() {
     let fixed = answer(&["best", "--fixed", "-"], &format!("{hall}prefer a y\n"));
     assert_eq!(fixed.1, format!("{hall}prefer a y\nfix a y\nfix b x\n"));
     assert!(answer(&["plans", "-"], &fixed.1).1.starts_with("a  b\ny  x\n\nfinished: 1 plan, "));
+    let away = answer(&["best", "2", "-"], "windows a\nduties x y z\naway y\nfix a x\n").1;
+    assert!(away.starts_with("cost  a  free\n0     x  z\n"), "{away}");
+    let away = answer(&["plans", "--free", "-"], "windows a\nduties x y z\naway y\n").1;
+    assert!(away.ends_with("\nx  stands 1  free 1\ny  away\nz  stands 1  free 1\n"), "{away}");
     let none = answer(&["best", "-"], "windows a b\nduties x\ndifferent a b\n");
     assert_eq!((none.0, none.1.as_str()), (0, "finished: no plan, 0 trials\n"));
     for (words, said) in [
