@@ -74,6 +74,31 @@ fn by_rules_on_three_windows() {
     assert!(said > 100 && not > 50, "{said} said, {not} not");
 }
 
+/// Counts that make more than 32 rules of two windows are put together, and mean the same.
+#[test]
+fn put_together() {
+    let mut rng = Rng::new(9);
+    let windows: Vec<String> = (0..9).map(|i| format!("w{i}")).collect();
+    let mut plans = 0;
+    for _ in 0..20 {
+        let mut source = format!("windows {}\nduties d0 d1 d2 d3 d4\n", windows.join(" "));
+        for window in &windows {
+            let duties: Vec<String> = (0..3).map(|i| format!("d{}", (i + rng.below(3)) % 5)).collect();
+            source += &format!("may {window} {}\n", duties.join(" "));
+        }
+        for duty in 0..4 {
+            source += &format!("at most 1 d{duty} {}\n", windows[..7 + rng.below(3)].join(" "));
+        }
+        let made = make(&source).unwrap_or_else(|faults| panic!("{faults:?}\n{source}"));
+        let listing = list(&made, ALL, None).unwrap();
+        let listed = listing.plans.iter().map(|plan| plan.iter().map(|&duty| duty.into()).collect());
+        assert_eq!(listed.collect::<Vec<Plan>>(), enumerated(&parse(&source).unwrap()), "{source}");
+        assert!(made.problem.constraints.len() <= 32);
+        plans += listing.plans.len();
+    }
+    assert!(plans > 0);
+}
+
 /// Counts beside `all different` are put together with it, and exchanges find their rules again.
 #[test]
 fn beside_other_rules() {
