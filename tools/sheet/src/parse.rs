@@ -564,7 +564,11 @@ fn wrong_name(kind: &str, word: &str, name: &str, before: &[String]) -> Option<S
             Some(format!("`{word}` is two words: a name in quotes has nothing beside them"))
         }
         _ if spaced => Some(format!("the name `{name}` has a space at an end, or two together")),
-        _ if before.iter().any(|other| other == name) => Some(format!("the name `{name}` stands twice")),
+        _ if before.iter().any(|other| other == name) => {
+            let two =
+                if composed(word) == word { "" } else { ", here with letter and accent as two characters" };
+            Some(format!("the name `{name}` stands twice{two}"))
+        }
         _ => None,
     }
 }

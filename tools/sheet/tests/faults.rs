@@ -330,7 +330,10 @@ fn names_of_two_words() {
     );
     assert_eq!(names("\"\" x"), "2: a name in quotes has at least one letter");
     assert_eq!(names("\"a\".b"), "2: `\"a\".b` is two words: a name in quotes has nothing beside them");
-    assert_eq!(names("Zo\u{eb} Zoe\u{308}"), "2: the name `Zo\u{eb}` stands twice");
+    assert_eq!(
+        names("Zo\u{eb} Zoe\u{308}"),
+        "2: the name `Zo\u{eb}` stands twice, here with letter and accent as two characters"
+    );
     assert!(make("windows a\nduties Zo\u{eb} x\nmay a Zoe\u{308}\n").is_ok());
     assert!(make("windows a\nduties \"Jo “J” Smith\" x\n").is_ok());
     let long = "a".repeat(65_536);
