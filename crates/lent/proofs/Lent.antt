@@ -20,7 +20,8 @@ use Rattle.model.proofs.Demands.{listed-back}
 use Rattle.order.specs.Order.{Ordering, settlingOrder, orderVerdict}
 use Rattle.order.specs.Reordered.{write, reordered, ChainBy}
 use Rattle.order.specs.RunBy.{resultBy, leadersBy}
-use Rattle.order.proofs.Order.{OrderPassed, order-passed}
+use Rattle.order.specs.Claims.{OrderPassed}
+use Rattle.order.proofs.Order.{order-passed}
 use Rattle.order.proofs.SetsBy.{largest-by}
 use Rattle.order.proofs.RunBy.{sublist-map, leadersBy-ascend, leadersBy-hold, chainsBy, rows-sized-by, rows-counted-by, finished-lists, first-lists, none-lists, counts-by, fewer-by}
 use Rattle.sheet.specs.Meaning.{andThen}

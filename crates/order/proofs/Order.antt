@@ -15,8 +15,10 @@ use Rattle.model.specs.Lists.{all, any, keep, below, upFrom, at, both}
 use Rattle.model.specs.ValueSets.{least}
 use Rattle.model.specs.Problem.{within}
 use Rattle.model.specs.Sheet.{distinct}
-use Rattle.model.specs.Verdict.{Verdict, accepted, refused, ask, isAccepted}
+use Rattle.model.specs.Verdict.{Verdict, refused, ask}
+use Rattle.model.specs.Examples.{Each}
 use Rattle.order.specs.Order.{pairsIn, Before, Path, one, more, Circle, forerunners, canFollow, settledFirst, settlingOrder, settlesAll, orderVerdict, Settling}
+use Rattle.order.specs.Claims.{Order-passed, Question-30, Settling-unique, Same-pairs, testsOrder}
 use Rattle.model.proofs.Lists.{both-i, both-l, both-r, T-dec, T-of, of-T, not-of, of-not, stable, T-ext, all-cons, all-i, all-e, keep-i, keep-e, among-i, among-e, below-i, below-e, length-below, at-below, upFrom-add, at-seam, at-ext, mem-at, at-mem, at-take}
 use Rattle.model.proofs.Masks.{least-at, least-below, least-is}
 use Rattle.model.proofs.Counting.{distinct-below, no-more, onto, twice}
@@ -297,22 +299,18 @@ module _ (n : ℕ) (pairs : List ℕ) (few : length pairs ≤ 128) (whole : leng
   no-circle-passes h = only-30 ∙ asks (settlesAll n pairs) 30 later (stable (settlesAll n pairs) (λ f. h (circle-found n pairs inside-test f)))
 
   -- so 30 is given exactly for a circle, if what is asked later does not give it
-  pub question-30 : (later ≡ refused 30 0 → ⊥) → (orderVerdict n pairs later ≡ refused 30 0) ↔ Circle pairs
-  question-30 other = (λ e. go e (T-dec (settlesAll n pairs)), circle-refused)
+  thirty : (later ≡ refused 30 0 → ⊥) → (orderVerdict n pairs later ≡ refused 30 0) ↔ Circle pairs
+  thirty other = (λ e. go e (T-dec (settlesAll n pairs)), circle-refused)
     where
       go : orderVerdict n pairs later ≡ refused 30 0 → T (settlesAll n pairs) ⊎ (T (settlesAll n pairs) → ⊥) → Circle pairs
       go e (inl s) = absurd (other (sym (only-30 ∙ asks (settlesAll n pairs) 30 later s) ∙ e))
       go e (inr s) = circle-found n pairs inside-test s
 
--- pairs that pass all three: the order is the paper's
-pub record OrderPassed (n : ℕ) (pairs : List ℕ) : Type 0 where
-  pub few : length pairs ≤ 128
-  pub whole : length pairs % 2 ≡ 0
-  pub inside : (x : ℕ) → List·Memᴰ x pairs → x < n
-  pub settled : Settling n pairs (settlingOrder n pairs)
-  pub acyclic : Circle pairs → ⊥
+pub question-30 : Question-30
+question-30 n pairs few whole inside later = thirty n pairs few whole inside later
 
-pub order-passed : (n : ℕ) (pairs : List ℕ) (later : Verdict) → T (isAccepted (orderVerdict n pairs later)) → OrderPassed n pairs × T (isAccepted later)
+-- pairs that pass all three
+pub order-passed : Order-passed
 unfolding orderVerdict
 order-passed n pairs later t =
     let q = both (leb (length pairs) 128) (eqb (length pairs % 2) 0) in
@@ -359,7 +357,7 @@ no-pairs-asked n later = no-circle-passes n [] (omega arith) refl (λ x m. absur
 
 -- ---- what determines the order
 -- the order in the paper's words is one list
-pub settling-unique : (n : ℕ) (pairs a b : List ℕ) → Settling n pairs a → Settling n pairs b → a ≡ b
+pub settling-unique : Settling-unique
 unfolding at
 settling-unique n pairs a b s t =
     let la = s .ordering .sized in
@@ -383,7 +381,7 @@ settling-unique n pairs a b s t =
         take-suc a k 0 (omega arith) ∙ ap₂ (λ (f : List ℕ) (x : ℕ). f ++ (x ∷ [])) e (next-same k h e) ∙ sym (take-suc b k 0 (omega arith))
 
 -- only which pairs there are counts: repeats and their order do not
-pub same-pairs : (n : ℕ) (pairs others : List ℕ) → ((x y : ℕ) → Before pairs x y ↔ Before others x y) → settlingOrder n pairs ≡ settlingOrder n others
+pub same-pairs : Same-pairs
 unfolding settlingOrder
 same-pairs n pairs others h = all-of n
   where
@@ -402,20 +400,6 @@ same-pairs n pairs others h = all-of n
         ∙ sym (first-suc n others k)
 
 -- ---- examples, by computation
--- 2 before 0 and 3 before 1, of four places
-example-order : settlingOrder 4 (2 ∷ 0 ∷ 3 ∷ 1 ∷ []) ≡ 2 ∷ 0 ∷ 3 ∷ 1 ∷ []
-unfolding settlingOrder settledFirst canFollow forerunners pairsIn keep any all within least
-example-order = refl
-
--- repeats are harmless
-example-repeat : settlingOrder 3 (1 ∷ 0 ∷ 1 ∷ 0 ∷ []) ≡ 1 ∷ 0 ∷ 2 ∷ []
-unfolding settlingOrder settledFirst canFollow forerunners pairsIn keep any all within least
-example-repeat = refl
-
--- 28 for half a pair, 29 for a place not below n, 30 for a circle and for a place before itself
-example-verdicts :
-    (orderVerdict 3 (0 ∷ []) accepted ≡ refused 28 0) × (orderVerdict 3 (0 ∷ 3 ∷ []) accepted ≡ refused 29 0)
-    × (orderVerdict 3 (0 ∷ 1 ∷ 1 ∷ 2 ∷ 2 ∷ 0 ∷ []) accepted ≡ refused 30 0) × (orderVerdict 3 (1 ∷ 1 ∷ []) accepted ≡ refused 30 0)
-    × (orderVerdict 3 (0 ∷ 1 ∷ 1 ∷ 2 ∷ 0 ∷ 2 ∷ []) accepted ≡ accepted)
+pub examples-order : Each testsOrder
 unfolding orderVerdict settlesAll settlingOrder settledFirst canFollow forerunners pairsIn keep any all within least
-example-verdicts = (refl, refl, refl, refl, refl)
+examples-order = (refl, (refl, (refl, (refl, (refl, (refl, (refl, tt)))))))

@@ -3,13 +3,14 @@ use mathlib.Core.Path.{_≡_, refl, sym, ap, ap₂, _∙_, subst}
 use mathlib.Core.Bool.{Bool, true, false}
 use mathlib.Core.Logic.{_⊎_, inl, inr}
 use mathlib.Core.List.{List, [], _∷_, _++_, List·Memᴰ, List·Memᴰ·head, List·Memᴰ·tail, List·Memᴰ·not-nil}
-use Prim.Native.Nat.{ℕ, zero, suc, _+_, _*_, _/_, _%_, _^_, _≤_, _<_}
+use Prim.Native.Nat.{ℕ, zero, suc, _+_, _-_, _*_, _/_, _%_, _^_, _≤_, _<_}
 use native.Mathlib.Nat.{not-suc-le-zero}
 use native.Mathlib.Decide.{ℕ-discrete}
 use native.Mathlib.Omega.{arith}
 use lib.Bits.{bitOr, or-lt}
 use lib.Dec.{T, ltb, eqb, ltb→lt, lt→ltb, eqb-refl}
-use lib.ListN.{length, take, set, length-set}
+use lib.ListN.{length, take, drop, set, length-set, length-take, length-drop}
+use lib.Seq.{getD-drop}
 use borrow.Author.Tests.{le-leb, lt-leb, eq-eqb, ne-eqb, eqb-true}
 use Rattle.model.specs.Lists.{all, any, at, both, either}
 use Rattle.model.specs.ValueSets.{has, least}
@@ -211,18 +212,20 @@ module _ (n : ℕ) (pairs : List ℕ) where
   pub record Placing (k settled : ℕ) (old new : List ℕ) : Type 0 where
     pub holds : Holds settled (settledFirst n pairs k)
     pub placed : (i : ℕ) → i < k → at new i ≡ nextOf i
+    pub others : (i : ℕ) → k ≤ i → at new i ≡ at old i
     pub small : (i : ℕ) → i < k → nextOf i < n
     pub size : length new ≡ length old
 
   pub placing-begin : (l : List ℕ) → Placing 0 0 l l
   unfolding settledFirst any
-  placing-begin l = record { holds = λ x. has-none x; placed = λ i h. absurd (not-suc-le-zero h); small = λ i h. absurd (not-suc-le-zero h); size = refl }
+  placing-begin l = record { holds = λ x. has-none x; placed = λ i h. absurd (not-suc-le-zero h); others = λ i h. refl; small = λ i h. absurd (not-suc-le-zero h); size = refl }
 
   pub placing-turn : (k settled x one : ℕ) (old new : List ℕ) → Placing k settled old new → k < length old → x ≡ nextOf k → x < n → ((y : ℕ) → has one y ≡ eqb y x) →
       Placing (k + 1) (bitOr settled one) old (set new k x)
   placing-turn k settled x one old new r h e l o = record {
     holds = λ y. has-or settled one y ∙ ap₂ either (r .holds y) (o y ∙ ap (eqb y) e) ∙ sym (any-append y (settledFirst n pairs k) (nextOf k)) ∙ ap (any (eqb y)) (sym step);
     placed = λ i m. placed i m (ℕ-discrete i k);
+    others = λ i m. at-set-other new k x i (λ q. omega arith) ∙ r .others i (omega arith);
     small = λ i m. small i m (ℕ-discrete i k);
     size = length-set new k x ∙ r .size;
   }
@@ -243,6 +246,7 @@ module _ (n : ℕ) (pairs : List ℕ) where
   placing-stuck k settled x old new r h e l = record {
     answer = below-not (settledFirst n pairs n) n k (omega (arith, first-length n pairs n)) (subst (λ (z : ℕ). n ≤ z) (e ∙ sym (first-at n pairs n k h)) l);
     places = λ t i m. absurd t;
+    others = λ t i m. absurd t;
     size = r .size;
   }
 
@@ -251,6 +255,7 @@ module _ (n : ℕ) (pairs : List ℕ) where
   placing-end k settled old new r h l = record {
     answer = below-all (settledFirst n pairs n) n (λ i m. let q : i < n = omega (arith, first-length n pairs n) in subst (λ (z : ℕ). z < n) (sym (first-at n pairs n i q)) (r .small i (omega arith)));
     places = λ t i m. r .placed i (omega arith) ∙ sym (first-at n pairs n i m);
+    others = λ t i m. r .others i (omega arith);
     size = r .size;
   }
 
@@ -265,6 +270,7 @@ module _ (n : ℕ) (pairs old : List ℕ) where
   many h = record {
     answer = λ later. ap (λ (b : Bool). ask (both b (eqb (length pairs % 2) 0)) 28 0 (ask (all (λ x. ltb x n) pairs) 29 0 (ask (settlesAll n pairs) 30 0 later))) (lt-leb (length pairs) 128 h);
     settled = λ e. absurd (omega arith);
+    rest = λ e. absurd (omega arith);
     kept = λ e. refl;
     size = refl;
   }
@@ -275,6 +281,7 @@ module _ (n : ℕ) (pairs old : List ℕ) where
     odd h = record {
       answer = λ later. ap₂ (λ (b c : Bool). ask (both b c) 28 0 (ask (all (λ x. ltb x n) pairs) 29 0 (ask (settlesAll n pairs) 30 0 later))) (le-leb (length pairs) 128 few) (ne-eqb (length pairs % 2) 0 h);
       settled = λ e. absurd (omega arith);
+      rest = λ e. absurd (omega arith);
       kept = λ e. refl;
       size = refl;
     }
@@ -288,6 +295,7 @@ module _ (n : ℕ) (pairs old : List ℕ) where
       outside h = record {
         answer = λ later. first-asked later ∙ ap (λ (b : Bool). ask b 29 0 (ask (settlesAll n pairs) 30 0 later)) h;
         settled = λ e. absurd (omega arith);
+        rest = λ e. absurd (omega arith);
         kept = λ e. refl;
         size = refl;
       }
@@ -297,23 +305,31 @@ module _ (n : ℕ) (pairs old : List ℕ) where
         circle mid new r s e = record {
           answer = λ later. first-asked later ∙ ap₂ (λ (b c : Bool). ask b 29 0 (ask c 30 0 later)) inside (sym (s .answer) ∙ e);
           settled = λ z. absurd (omega arith);
+          rest = λ z. absurd (omega arith);
           kept = λ z. refl;
           size = refl;
         }
 
         pub ordered : (new : List ℕ) (r : Bool) → n ≤ length old → Settled n pairs old new r → r ≡ true → Ordered n pairs old new 0
+        unfolding at
         ordered new r long s e = record {
           answer = λ later. first-asked later ∙ ap₂ (λ (b c : Bool). ask b 29 0 (ask c 30 0 later)) inside (sym (s .answer) ∙ e);
           settled = λ z. take-is;
+          rest = λ z. drop-is;
           kept = λ z. absurd (z refl);
           size = s .size;
         }
           where
             take-long : length (take n new) ≡ n
-            take-long = lib.ListN.length-take n new ∙ (let e = s .size in omega arith)
+            take-long = length-take n new ∙ (let e = s .size in omega arith)
 
             take-is : take n new ≡ settlingOrder n pairs
             take-is = at-ext (take n new) (settlingOrder n pairs) (take-long ∙ sym (order-long n pairs)) (λ i h. let l : i < n = omega (arith, take-long) in at-take n new i l ∙ s .places (T-of r e) i l)
+
+            drop-is : drop n new ≡ drop n old
+            drop-is =
+                at-ext (drop n new) (drop n old) (length-drop n new ∙ ap (λ (k : ℕ). k - n) (s .size) ∙ sym (length-drop n old))
+                (λ i h. getD-drop n new i 0 ∙ s .others (T-of r e) (n + i) (omega arith) ∙ sym (getD-drop n old i 0))
 
 -- ---- for callers: the bytes are the settling order in the paper's words
 pub settling-of : (n : ℕ) (pairs old new : List ℕ) (r : ℕ) → Ordered n pairs old new r → r ≡ 0 → Settling n pairs (take n new)

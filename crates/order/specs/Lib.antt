@@ -1,5 +1,6 @@
 -- The settling order, a problem with its variables in another order, and what the code answers.
 pub mod Order
+pub mod Claims
 pub mod Reordered
 pub mod RunBy
 pub mod Settled

@@ -52,7 +52,7 @@ settlesAll n pairs = all (λ x. ltb x n) (settlingOrder n pairs)
 
 -- ---- the questions
 -- 28: at most 64 pairs and no half pair. 29: every place is below n. 30: the pairs do not go round in a circle,
--- which is so exactly if the order settles every place (proofs/Order, `circle-refused` and `no-circle-passes`)
+-- which is so exactly if the order settles every place (specs/Claims, `Question-30`)
 unfoldable pub orderVerdict : ℕ → List ℕ → Verdict → Verdict
 orderVerdict n pairs later =
     ask (both (leb (length pairs) 128) (eqb (length pairs % 2) 0)) 28 0

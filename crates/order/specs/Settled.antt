@@ -2,18 +2,20 @@
 use mathlib.Core.Path.{_≡_}
 use mathlib.Core.Bool.{Bool}
 use mathlib.Core.List.{List}
-use Prim.Native.Nat.{ℕ, _+_, _*_, _^_, _<_}
+use Prim.Native.Nat.{ℕ, _+_, _*_, _^_, _≤_, _<_}
 use lib.Dec.{T, eqb}
-use lib.ListN.{length, take}
+use lib.ListN.{length, take, drop}
 use Rattle.model.specs.Lists.{any, at}
 use Rattle.model.specs.ValueSets.{has}
 use Rattle.model.specs.Verdict.{Verdict, ask}
 use Rattle.order.specs.Order.{settlingOrder, settlesAll, orderVerdict}
 
--- the answer r to the questions 28 to 30, 0 where there is no "no"; the order stands in the first n bytes, and after a "no" the bytes are as they were
+-- the answer r to the questions 28 to 30, 0 where there is no "no"; the order stands in the first n bytes, those after it are as they were, and after a "no"
+-- all are
 pub record Ordered (n : ℕ) (pairs old new : List ℕ) (r : ℕ) : Type 0 where
   pub answer : (later : Verdict) → orderVerdict n pairs later ≡ ask (eqb r 0) r 0 later
   pub settled : r ≡ 0 → take n new ≡ settlingOrder n pairs
+  pub rest : r ≡ 0 → drop n new ≡ drop n old
   pub kept : (r ≡ 0 → ⊥) → new ≡ old
   pub size : length new ≡ length old
 
@@ -32,4 +34,5 @@ pub record Befores (pairs : List ℕ) (count : ℕ) (befores : List ℕ) : Type 
 pub record Settled (n : ℕ) (pairs old new : List ℕ) (r : Bool) : Type 0 where
   pub answer : r ≡ settlesAll n pairs
   pub places : T r → (i : ℕ) → i < n → at new i ≡ at (settlingOrder n pairs) i
+  pub others : T r → (i : ℕ) → n ≤ i → at new i ≡ at old i
   pub size : length new ≡ length old
