@@ -1,26 +1,24 @@
 -- The table of orderings: 600 numbers whose rows of five are orderings and ascend are all orderings in order. Assumes nothing.
-use mathlib.Core.Path.{_≡_, refl, sym, ap, ap₂, _∙_}
-use mathlib.Core.Bool.{Bool}
+use mathlib.Core.Path.{_≡_, refl, sym, ap, ap₂, _∙_, subst}
 use mathlib.Core.List.{List, [], _∷_, _++_, List·Memᴰ, List·Memᴰ·head, List·Memᴰ·tail}
 use Prim.Native.Nat.{ℕ, zero, suc, _+_, _*_, _<_}
 use native.Mathlib.Nat.{not-suc-le-zero, le-of-suc-le-suc}
 use native.Mathlib.Omega.{arith}
-use lib.Dec.{T, eqb, ltb, eqb→eq, ltb→lt}
+use lib.Dec.{T, eqb, ltb, eqb→eq, ltb→lt, lt→ltb}
 use lib.ListN.{length, getD, take, drop, length-drop, take-append-drop}
 use lib.Seq.{getD-drop, take-at, drop-at}
+use borrow.Author.Tests.{eq-eqb}
 use Rattle.model.specs.Lists.{both, all, flat, at, earlier, rowsAscend}
 use Rattle.model.specs.Sheet.{distinct}
 use Rattle.order.specs.Order.{Ordering}
 use Rattle.block.specs.Block.{orderings, ordering}
-use Rattle.model.proofs.Lists.{both-l, both-r, all-e, earlier-asym, at-take}
+use Rattle.block.specs.BlockClaims.{fives, isOrdering, isTable, TableRows, Table-rows, Table-passes}
+use Rattle.model.proofs.Lists.{T-of, both-i, both-l, both-r, all-i, all-e, earlier-asym, at-take}
+use Rattle.order.proofs.Reordered.{apart-distinct}
 use Rattle.block.proofs.Ascending.{rowsAscend-sorted, sorted-all}
-use Rattle.block.proofs.Orderings.{ordering-of, ordering-row, row-ordering, orderings-sorted, count}
+use Rattle.block.proofs.Orderings.{ordering-of, ordering-row, row-ordering, orderings-sorted, orderings-ascend, count}
 
 -- ---- rows of five
-unfoldable pub fives : ℕ → List ℕ → List (List ℕ)
-fives zero l = []
-fives (suc k) l = take 5 l ∷ fives k (drop 5 l)
-
 length-fives : (k : ℕ) (l : List ℕ) → length (fives k l) ≡ k
 unfolding fives
 length-fives zero l = refl
@@ -48,20 +46,12 @@ fives-flat (l ∷ ls) h =
     ap₂ (λ (r : List ℕ) (rs : List (List ℕ)). r ∷ rs) (take-at l (flat ls) 5 e) (ap (fives (length ls)) (drop-at l (flat ls) 5 e) ∙ fives-flat ls (λ r m. h r (List·Memᴰ·tail m)))
 
 -- ---- the test
--- five numbers below five, no two of them equal
-unfoldable pub isOrdering : List ℕ → Bool
-isOrdering e = both (eqb (length e) 5) (both (all (λ v. ltb v 5) e) (distinct e))
-
 is-ordering : (e : List ℕ) → T (isOrdering e) → Ordering 5 e
 unfolding isOrdering
 is-ordering e t =
     let sized = eqb→eq (length e) 5 (both-l (eqb (length e) 5) _ t) in
     let u = both-r (eqb (length e) 5) _ t in
     ordering-of 5 e sized (λ x m. ltb→lt x 5 (all-e (λ v. ltb v 5) e (both-l (all (λ v. ltb v 5) e) (distinct e) u) x m)) (both-r (all (λ v. ltb v 5) e) (distinct e) u)
-
--- each row is an ordering, and the rows ascend
-unfoldable pub isTable : List ℕ → Bool
-isTable l = both (all isOrdering (fives 120 l)) (rowsAscend (fives 120 l))
 
 module _ (l : List ℕ) (t : T (isTable l)) where
   each-ordering : (e : List ℕ) → List·Memᴰ e (fives 120 l) → Ordering 5 e
@@ -78,12 +68,36 @@ module _ (l : List ℕ) (t : T (isTable l)) where
       sorted-all (λ (x y : List ℕ). T (earlier x y)) earlier-asym (fives 120 l) orderings (rowsAscend-sorted (fives 120 l) ascend) orderings-sorted
       (λ e m. ordering-row e (each-ordering e m)) (omega (arith, count, length-fives 120 l))
 
-  pub table-flat : length l ≡ 600 → l ≡ flat orderings
-  table-flat n = sym (flat-fives 120 l n) ∙ ap flat rows-all
+  table-is : TableRows l
+  table-is = record {
+    each = each-ordering;
+    ascend = ascend;
+    all-there = λ e o. subst (λ (ls : List (List ℕ)). List·Memᴰ e ls) (sym rows-all) (ordering-row e o);
+    rows = rows-all;
+    numbers = λ n. sym (flat-fives 120 l n) ∙ ap flat rows-all;
+  }
+
+pub table-rows : Table-rows
+table-rows = table-is
+
+flat-rows : fives 120 (flat orderings) ≡ orderings
+flat-rows = ap (λ (k : ℕ). fives k (flat orderings)) (sym count) ∙ fives-flat orderings (λ e m. row-ordering e m .sized)
+
+ordering-is : (e : List ℕ) → Ordering 5 e → T (isOrdering e)
+unfolding isOrdering
+ordering-is e o =
+    both-i (eqb (length e) 5) (both (all (λ v. ltb v 5) e) (distinct e)) (T-of (eqb (length e) 5) (eq-eqb (length e) 5 (o .sized)))
+    (both-i (all (λ v. ltb v 5) e) (distinct e) (all-i (λ v. ltb v 5) e (λ x m. lt→ltb x 5 (o .inside x m))) (apart-distinct e (λ i j h k. o .once i j (omega (arith, o .sized)) (omega (arith, o .sized)))))
+
+pub table-passes : Table-passes
+unfolding isTable
+table-passes =
+    subst (λ (ls : List (List ℕ)). T (both (all isOrdering ls) (rowsAscend ls))) (sym flat-rows)
+    (both-i (all isOrdering orderings) (rowsAscend orderings) (all-i isOrdering orderings (λ e m. ordering-is e (row-ordering e m))) orderings-ascend)
 
 -- number i of a row
 pub table-at : (row i : ℕ) → row < 120 → i < 5 → at (flat orderings) (5 * row + i) ≡ at (ordering row) i
 unfolding ordering
 table-at row i h u =
     sym (at-fives 120 (flat orderings) row i h u)
-    ∙ ap (λ (ls : List (List ℕ)). at (getD ls row []) i) (ap (λ (k : ℕ). fives k (flat orderings)) (sym count) ∙ fives-flat orderings (λ e m. row-ordering e m .sized))
+    ∙ ap (λ (ls : List (List ℕ)). at (getD ls row []) i) flat-rows

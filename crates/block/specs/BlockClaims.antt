@@ -1,12 +1,13 @@
 -- What paper 02 asks of a block's orderings (#111), and what #112 needs of them. The proofs are in proofs/Claimed.antt.
 use mathlib.Core.Path.{_≡_}
-use mathlib.Core.Bool.{false}
+use mathlib.Core.Bool.{Bool, false}
 use mathlib.Core.Logic.{_↔_}
-use mathlib.Core.List.{List, [], List·Memᴰ}
-use Prim.Native.Nat.{ℕ, _-_, _*_, _≤_, _<_}
-use lib.ListN.{length}
-use lib.Dec.{T}
-use Rattle.model.specs.Lists.{at, rowsAscend}
+use mathlib.Core.List.{List, [], _∷_, List·Memᴰ}
+use Prim.Native.Nat.{ℕ, zero, suc, _-_, _*_, _≤_, _<_}
+use lib.ListN.{length, take, drop}
+use lib.Dec.{T, eqb, ltb}
+use Rattle.model.specs.Lists.{all, both, at, flat, rowsAscend}
+use Rattle.model.specs.Sheet.{distinct}
 use Rattle.model.specs.ValueSets.{anyEmpty}
 use Rattle.model.specs.Problem.{Problem}
 use Rattle.model.specs.Verdict.{accepted}
@@ -22,6 +23,32 @@ use Rattle.block.specs.BlockSets.{Ascends}
 -- 120 rows, ascending; each is an ordering, and none is absent
 abbrev pub Rows-all : Type 0
 Rows-all = (length orderings ≡ 120) × T (rowsAscend orderings) × ((e : List ℕ) → List·Memᴰ e orderings ↔ Ordering 5 e)
+
+-- any 600 numbers as 120 rows of five, and the one test over the whole table: each row is five numbers below five, no two of them equal, and the rows ascend
+unfoldable pub fives : ℕ → List ℕ → List (List ℕ)
+fives zero l = []
+fives (suc k) l = take 5 l ∷ fives k (drop 5 l)
+
+unfoldable pub isOrdering : List ℕ → Bool
+isOrdering e = both (eqb (length e) 5) (both (all (λ v. ltb v 5) e) (distinct e))
+
+unfoldable pub isTable : List ℕ → Bool
+isTable l = both (all isOrdering (fives 120 l)) (rowsAscend (fives 120 l))
+
+-- numbers that pass it: each row is an ordering, the rows ascend, and they are all orderings; `block::rows` hands out 600 that do, which are `flat orderings`
+pub record TableRows (l : List ℕ) : Type 0 where
+  pub each : (e : List ℕ) → List·Memᴰ e (fives 120 l) → Ordering 5 e
+  pub ascend : T (rowsAscend (fives 120 l))
+  pub all-there : (e : List ℕ) → Ordering 5 e → List·Memᴰ e (fives 120 l)
+  pub rows : fives 120 l ≡ orderings
+  pub numbers : length l ≡ 600 → l ≡ flat orderings
+
+abbrev pub Table-rows : Type 0
+Table-rows = (l : List ℕ) → T (isTable l) → TableRows l
+
+-- the orderings one after another are such numbers
+abbrev pub Table-passes : Type 0
+Table-passes = T (isTable (flat orderings))
 
 -- the first m! rows are those that move only the last m entries
 abbrev pub First-rows : Type 0
