@@ -21,7 +21,7 @@ use Rattle.block.specs.Block.{factorial, orderingTable, blockTables, tablesLent
 use Rattle.block.proofs.Orderings.{factorial-le}
 use Rattle.block.proofs.Block.{block-e}
 use Rattle.block.proofs.BlockLent.{is-accepted}
-use Rattle.orderings.specs.Asked.{Imaged, Put, withLent}
+use Rattle.orderings.specs.Asked.{Imaged, PutOn, withLent}
 use Rattle.lent.specs.Lent.{verdictLent, problemWith}
 use Rattle.lent.specs.Compile.{AskedLent}
 use Rattle.lent.proofs.Lent.{passed-all, lent-passed, well-sheet, well-lent}
@@ -73,12 +73,12 @@ module _ (b pairs block numbers images : List ℕ) (h : Passed b pairs block num
   pub block-passed : blockLent (problemOf b) block ≡ accepted
   block-passed = is-accepted (blockLent (problemOf b) block) (lent-passed b pairs block good .blocked)
 
-  pub held-of : (images′ : List ℕ) (n : ℕ) → Put (withLent block (problemOf b)) images′ n → Held (problemWith b block) images′ (getD numbers 64 0) (getD numbers 65 0)
+  pub held-of : (images′ : List ℕ) (n : ℕ) → PutOn (withLent block (problemOf b)) images images′ n → Held (problemWith b block) images′ (getD numbers 64 0) (getD numbers 65 0)
   unfolding at
   held-of images′ n t = record {
     good = well-lent b pairs block good;
-    some = let e = t .all in let l = t .few in omega arith;
-    imaged = t .imaged;
+    some = let e = t .put .all in let l = t .put .few in omega arith;
+    imaged = t .put .imaged;
     variables-is = h .numbered .variables;
     values-is = h .numbered .values;
   }

@@ -3,7 +3,7 @@ use mathlib.Core.Path.{_≡_, refl, sym, ap, ap₂, _∙_, subst}
 use mathlib.Core.Bool.{Bool, true, false}
 use mathlib.Core.List.{List, [], _∷_, _++_, append-nil}
 use Prim.Native.Nat.{ℕ, _+_, _*_, _/_, _%_, _≤_, _<_}
-use native.Mathlib.Nat.{mul-le-mul-right}
+use native.Mathlib.Nat.{mul-le-mul-right, div-lt-iff-lt-mul}
 use native.Mathlib.Decide.{decLt}
 use native.Mathlib.Omega.{arith}
 use lib.Dec.{T}
@@ -15,7 +15,7 @@ use Rattle.model.specs.Filling.{Filled}
 use Rattle.model.specs.Verdict.{accepted}
 use Rattle.layout.specs.Layout.{symmetryAt, pairCode, imageCode}
 use Rattle.block.specs.Block.{orderings, ordering, factorial, variableTable, imageOf, orderingTable, blockTables, withBlock, isBlock, tablesLent, blockLent}
-use Rattle.orderings.specs.Asked.{BlockRow, RowPut, Imaged, Put, withLent}
+use Rattle.orderings.specs.Asked.{BlockRow, RowPut, Imaged, PutOn, withLent}
 use Rattle.model.proofs.Lists.{T-of, of-not, length-below}
 use Rattle.model.proofs.Pairs as P
 use Rattle.model.proofs.More.{withSymmetries}
@@ -70,17 +70,19 @@ module _ (p : Problem) (first m : ℕ) where
   abbrev g : ℕ
   g = length (p .symmetries)
 
-  -- the first n symmetries of the problem with the block have their images
-  pub record PutTo (n : ℕ) (images : List ℕ) : Type 0 where
+  -- the first n symmetries of the problem with the block have their images, and nothing else changed
+  pub record PutTo (n : ℕ) (start images : List ℕ) : Type 0 where
     pub sized : length images ≡ 26112
+    pub others : (j : ℕ) → ((e x v : ℕ) → e < n → x < p .variables → v < p .values → 192 * e + 16 * x + v ≡ j → ⊥) → at images j ≡ at start j
     pub imaged : (e x v : ℕ) → e < n → x < p .variables → v < p .values → at images (192 * e + 16 * x + v) ≡ imageCode p (symmetryAt (withBlock first m p) e) x v
 
-  pub put-to : (n k : ℕ) (images : List ℕ) → n ≡ k → PutTo n images → PutTo k images
-  put-to n k images e t = subst (λ (i : ℕ). PutTo i images) e t
+  pub put-to : (n k : ℕ) (start images : List ℕ) → n ≡ k → PutTo n start images → PutTo k start images
+  put-to n k start images e t = subst (λ (i : ℕ). PutTo i start images) e t
 
-  pub put-own : (numbers images : List ℕ) → Imaged p numbers images → PutTo g images
+  pub put-own : (numbers images : List ℕ) → Imaged p numbers images → PutTo g images images
   put-own numbers images i = record {
     sized = i .sized;
+    others = λ j h. refl;
     imaged = λ e x v l h k. i .imaged e x v l h k ∙ ap (λ (t : List ℕ). imageCode p t x v) (sym (List·getD-append (p .symmetries) (blockTables p first m) [] e l));
   }
 
@@ -104,9 +106,16 @@ module _ (p : Problem) (first m : ℕ) where
     unfolding blockTables
     table-is row u = getD-append-add (p .symmetries) (blockTables p first m) row [] ∙ getD-below (orderingTable p first m) (factorial m) row [] u
 
-    pub put-more : (n row : ℕ) (old new : List ℕ) → n ≡ g + row → row < factorial m → PutTo n old → RowPut p first m row (192 * n) old new → PutTo (n + 1) new
-    put-more n row old new en u t r = record { sized = r .size ∙ t .sized; imaged = λ e x v l h k. go e x v l h k (decLt e n) }
+    pub put-more : (n row : ℕ) (old new : List ℕ) → n ≡ g + row → row < factorial m → PutTo n images₀ old → RowPut p first m row (192 * n) old new → PutTo (n + 1) images₀ new
+    put-more n row old new en u t r = record {
+      sized = r .size ∙ t .sized;
+      others = λ j h. r .other j (λ q l z. row-slot j q h l z) ∙ t .others j (λ e x v l. h e x v (omega arith));
+      imaged = λ e x v l h k. go e x v l h k (decLt e n);
+    }
       where
+        row-slot : (j q : ℕ) → ((e x v : ℕ) → e < n + 1 → x < p .variables → v < p .values → 192 * e + 16 * x + v ≡ j → ⊥) → q < p .variables * p .values → 192 * n + pairCode (p .values) q ≡ j → ⊥
+        row-slot j q h l z = h n (q / p .values) (q % p .values) (omega arith) (div-lt-iff-lt-mul (i .wellFormed .one) .1 l) (P.mod-small p (i .wellFormed) q) (omega arith)
+
         go : (e x v : ℕ) → e < n + 1 → x < p .variables → v < p .values → Dec (e < n) → at new (192 * e + 16 * x + v) ≡ imageCode p (symmetryAt (withBlock first m p) e) x v
         go e x v l h k (yes s) =
             let a = i .wellFormed .few in
@@ -124,15 +133,18 @@ module _ (p : Problem) (first m : ℕ) where
     unfolding blockTables
     tables-count = length-below (orderingTable p first m) (factorial m)
 
-    pub put-all : (n : ℕ) (images : List ℕ) → n ≡ g + factorial m → PutTo n images → Put (withBlock first m p) images n
+    pub put-all : (n : ℕ) (images : List ℕ) → n ≡ g + factorial m → PutTo n images₀ images → PutOn (withBlock first m p) images₀ images n
     unfolding pair
     put-all n images e t =
         let all : n ≡ length (withBlock first m p .symmetries) = e ∙ sym (length-append (p .symmetries) (blockTables p first m) ∙ ap (λ (k : ℕ). g + k) tables-count) in
         record {
-          imaged = λ f x v l h k. t .imaged f x v (omega arith) h k;
-          sized = t .sized;
-          all = all;
-          few = let l = factorial-le m (block-is p first m is .0) in let s = i .symmetries in omega arith;
+          put = record {
+            imaged = λ f x v l h k. t .imaged f x v (omega arith) h k;
+            sized = t .sized;
+            all = all;
+            few = let l = factorial-le m (block-is p first m is .0) in let s = i .symmetries in omega arith;
+          };
+          others = t .others;
         }
 
 -- ---- as it is lent
@@ -144,12 +156,12 @@ none-lent p (x ∷ []) n = append-nil (p .symmetries)
 none-lent p (x ∷ y ∷ []) n = absurd (n refl)
 none-lent p (x ∷ y ∷ z ∷ l) n = append-nil (p .symmetries)
 
-pub put-none : (p : Problem) (numbers images block : List ℕ) → Imaged p numbers images → (length block ≡ 2 → ⊥) → Put (withLent block p) images (getD numbers 67 0)
+pub put-none : (p : Problem) (numbers images block : List ℕ) → Imaged p numbers images → (length block ≡ 2 → ⊥) → PutOn (withLent block p) images images (getD numbers 67 0)
 unfolding at
 put-none p numbers images block i n =
     let s : length (p .symmetries) ≤ 16 = i .symmetries in
     let e : getD numbers 67 0 ≡ length (p .symmetries) = i .framed .numbered .symmetries in
-    subst (λ (gs : List (List ℕ)). Put (withSymmetries p gs) images (getD numbers 67 0)) (sym (none-lent p block n)) (record { imaged = i .imaged; sized = i .sized; all = e; few = omega arith })
+    subst (λ (gs : List (List ℕ)). PutOn (withSymmetries p gs) images images (getD numbers 67 0)) (sym (none-lent p block n)) (record { put = record { imaged = i .imaged; sized = i .sized; all = e; few = omega arith }; others = λ j h. refl })
 
 -- two are those of a block
 pub two-is : (p : Problem) (numbers images block : List ℕ) → Imaged p numbers images → length block ≡ 2 → blockLent p block ≡ accepted → T (isBlock p (getD block 0 0) (getD block 1 0))
@@ -159,9 +171,9 @@ two-is p numbers images block i e h =
     let q = block-e p (i .wellFormed) first m (lent-two p block e ∙ h) in
     is-block p first m (q .few) (q .inside)
 
-pub put-two : (p : Problem) (images block : List ℕ) (n : ℕ) → length block ≡ 2 → Put (withBlock (getD block 0 0) (getD block 1 0) p) images n → Put (withLent block p) images n
+pub put-two : (p : Problem) (old images block : List ℕ) (n : ℕ) → length block ≡ 2 → PutOn (withBlock (getD block 0 0) (getD block 1 0) p) old images n → PutOn (withLent block p) old images n
 unfolding tablesLent
-put-two p images [] n e t = absurd (omega arith)
-put-two p images (x ∷ []) n e t = absurd (omega arith)
-put-two p images (x ∷ y ∷ []) n e t = t
-put-two p images (x ∷ y ∷ z ∷ l) n e t = absurd (omega arith)
+put-two p old images [] n e t = absurd (omega arith)
+put-two p old images (x ∷ []) n e t = absurd (omega arith)
+put-two p old images (x ∷ y ∷ []) n e t = t
+put-two p old images (x ∷ y ∷ z ∷ l) n e t = absurd (omega arith)

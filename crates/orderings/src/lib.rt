@@ -9,7 +9,7 @@ ghost use Rattle.model.specs.Problem.{Problem};
 ghost use Rattle.model.specs.Verdict.{accepted};
 ghost use Rattle.sheet.specs.Meaning.{means};
 ghost use Rattle.block.specs.Block.{ordering, factorial, inBlock, imageOf, orderingTable, withBlock, isBlock, blockVerdict, blockLent, inLent};
-ghost use Rattle.orderings.specs.Asked.{Held, Row, BlockRow, TableBytes, rowAnswer, RowPut, Imaged, Put, withLent};
+ghost use Rattle.orderings.specs.Asked.{Held, Row, BlockRow, TableBytes, rowAnswer, RowPut, Imaged, PutOn, withLent};
 use layout::SYMMETRIES;
 use layout::VALUES;
 use layout::VARIABLES;
@@ -227,10 +227,10 @@ fn row_count(m: usize) -> usize
     count
 }
 
-// Writes the images of a block's tables after the problem's own; how many there are then.
+// Writes the images of a block's tables after the problem's own, and nothing else; how many there are then.
 fn put_rows(first: usize, m: usize, numbers: &Numbers, images: &mut [u8; 26112]) -> usize
     requires { ⌜ ((p : Problem) × Imaged p (now numbers) (now images) × T (isBlock p first m)) ⌝ }
-    ensures { λ r. ⌜ ((p : Problem) → Imaged p (now (numbers .entry)) (now (images .entry)) → T (isBlock p first m) → Put (withBlock first m p) (now (images .exit)) r) ⌝ }
+    ensures { λ r. ⌜ ((p : Problem) → Imaged p (now (numbers .entry)) (now (images .entry)) → T (isBlock p first m) → PutOn (withBlock first m p) (now (images .entry)) (now (images .exit)) r) ⌝ }
 {
     let rows = block::rows();
     let g = numbers[SYMMETRIES] as usize;
@@ -246,7 +246,7 @@ fn put_rows(first: usize, m: usize, numbers: &Numbers, images: &mut [u8; 26112])
 // The same of a block as it is lent, of which the questions are passed.
 pub fn put_images(block: &[u8], numbers: &Numbers, images: &mut [u8; 26112]) -> usize
     requires { ⌜ ((p : Problem) × Imaged p (now numbers) (now images) × (blockLent p (now block) ≡ accepted)) ⌝ }
-    ensures { λ r. ⌜ ((p : Problem) → Imaged p (now (numbers .entry)) (now (images .entry)) → blockLent p (now (block .entry)) ≡ accepted → Put (withLent (now (block .entry)) p) (now (images .exit)) r) ⌝ }
+    ensures { λ r. ⌜ ((p : Problem) → Imaged p (now (numbers .entry)) (now (images .entry)) → blockLent p (now (block .entry)) ≡ accepted → PutOn (withLent (now (block .entry)) p) (now (images .entry)) (now (images .exit)) r) ⌝ }
 {
     if block.len() != 2 {
         return numbers[SYMMETRIES] as usize;

@@ -19,18 +19,18 @@ first-missing-requires : tie.Need-first-missing-requires
 first-missing-requires c κs =
     let a = c .before .before .before .before .before .before .pre in
     let t = c .before .before .before .put-images .ensures (problemOf (a .0)) (imaged-of _ _ _ _ _ (a .2)) (block-passed _ _ _ _ _ (a .2)) in
-    (problemWith (a .0) _, held-of _ _ _ _ _ (a .2) _ _ t, t .all)
+    (problemWith (a .0) _, held-of _ _ _ _ _ (a .2) _ _ t, t .put .all)
 
 two-of-requires : tie.Need-two-of-requires
 two-of-requires c κs =
     let a = c .before .before .before .before .before .before .before .pre in
-    c .before .before .before .before .put-images .ensures (problemOf (a .0)) (imaged-of _ _ _ _ _ (a .2)) (block-passed _ _ _ _ _ (a .2)) .few
+    c .before .before .before .before .put-images .ensures (problemOf (a .0)) (imaged-of _ _ _ _ _ (a .2)) (block-passed _ _ _ _ _ (a .2)) .put .few
 
 returns : tie.Need-returns
 returns c = λ b pairs h.
     let t = c .before .before .before .before .before .put-images .ensures (problemOf b) (imaged-of _ _ _ _ _ h) (block-passed _ _ _ _ _ h) in
     let p = problemWith b _ in
-    c .two-of .ensures p (t .all) (c .before .first-missing .ensures p (held-of _ _ _ _ _ h _ _ t) (t .all))
+    c .two-of .ensures p (t .put .all) (c .before .first-missing .ensures p (held-of _ _ _ _ _ h _ _ t) (t .put .all))
 
 pub test-spec : {M : Type 1} → statement M
 test-spec =

@@ -40,7 +40,7 @@ reorder-requires c κs =
     let r = o .before .before in
     let v = r .before .before .before .before .before .before .before .pre .0 in
     let a = asked-lent _ _ _ _ _ _ _ v (r .recompile .ensures) _ _ _ refl (o .settling-order .ensures) in
-    (_, movable _ _ _ _ _ _ _ a _ _ (p .put-images .ensures _ (lent-images _ _ _ _ _ _ _ a) (lent-block _ _ _ _ _ _ _ a)))
+    (_, movable _ _ _ _ _ _ _ a _ _ (p .put-images .ensures _ (lent-images _ _ _ _ _ _ _ a) (lent-block _ _ _ _ _ _ _ a) .put))
 
 returns : tie.Need-returns
 unfolding at
@@ -50,7 +50,7 @@ returns c =
     let r = o .before .before in
     let v = r .before .before .before .before .before .before .before .pre .0 in
     let a = asked-lent _ _ _ _ _ _ _ v (r .recompile .ensures) _ _ _ refl (o .settling-order .ensures) in
-    let t = p .put-images .ensures _ (lent-images _ _ _ _ _ _ _ a) (lent-block _ _ _ _ _ _ _ a) in
+    let t = p .put-images .ensures _ (lent-images _ _ _ _ _ _ _ a) (lent-block _ _ _ _ _ _ _ a) .put in
     put-moved _ _ _ _ _ _ _ a _ _ t _ _ _ (c .reorder .ensures _ (movable _ _ _ _ _ _ _ a _ _ t))
 
 returns-2 : tie.Need-returns-2
@@ -61,7 +61,7 @@ returns-2 c =
     let r = o .before .before in
     let v = r .before .before .before .before .before .before .before .pre .0 in
     let a = asked-lent _ _ _ _ _ _ _ v (r .recompile .ensures) _ _ _ refl (o .settling-order .ensures) in
-    let t = p .put-images .ensures _ (lent-images _ _ _ _ _ _ _ a) (lent-block _ _ _ _ _ _ _ a) in
+    let t = p .put-images .ensures _ (lent-images _ _ _ _ _ _ _ a) (lent-block _ _ _ _ _ _ _ a) .put in
     put-same _ _ _ _ _ _ _ a _ _ t (search needs)
 
 pub put-images-spec : {M : Type 1} → statement M

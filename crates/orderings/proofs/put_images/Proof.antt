@@ -27,7 +27,7 @@ put-rows-requires : tie.Need-put-rows-requires
 put-rows-requires c κs = let a = c .before .before .before .before .before .pre in (a .0, a .1, two-is (a .0) _ _ _ (a .1) (c .before .before .before .if1 .left) (a .2))
 
 returns-2 : tie.Need-returns-2
-returns-2 c = λ p i h. let e = c .before .before .before .before .if1 .left in put-two p _ _ _ e (c .put-rows .ensures p i (two-is p _ _ _ i e h))
+returns-2 c = λ p i h. let e = c .before .before .before .before .if1 .left in put-two p _ _ _ _ e (c .put-rows .ensures p i (two-is p _ _ _ i e h))
 
 pub put-images-spec : {M : Type 1} → statement M
 put-images-spec =

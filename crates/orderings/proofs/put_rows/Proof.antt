@@ -15,7 +15,7 @@ use Rattle.orderings.proofs.put_rows.Statement.{statement}
 use Rattle.orderings.proofs.put_rows.Tie as tie
 
 abbrev Inv-loop : tie.InvT-loop
-Inv-loop first m numbers images₀ rows g count row₀ images row = (row ≤ count) × ((p : Problem) → Imaged p numbers images₀ → T (isBlock p first m) → PutTo p first m (g + row) images)
+Inv-loop first m numbers images₀ rows g count row₀ images row = (row ≤ count) × ((p : Problem) → Imaged p numbers images₀ → T (isBlock p first m) → PutTo p first m (g + row) images₀ images)
 
 abbrev μ-loop : tie.MeasureT-loop
 μ-loop first m numbers images₀ rows g count row₀ images row = count - row
@@ -30,7 +30,7 @@ row-count-requires : tie.Need-row-count-requires Inv-loop μ-loop
 row-count-requires c κs = let a = c .before .before .pre in block-is (a .0) _ _ (a .2) .0
 
 loop-holds : tie.Need-loop-holds Inv-loop μ-loop
-loop-holds c = (omega arith, λ p i is. put-to p _ _ _ _ _ (let e = own-are p _ _ _ _ i is in omega arith) (put-own p _ _ _ _ i))
+loop-holds c = (omega arith, λ p i is. put-to p _ _ _ _ _ _ (let e = own-are p _ _ _ _ i is in omega arith) (put-own p _ _ _ _ i))
 
 -- a row of the loop
 used : (c : tie.In-loop Inv-loop μ-loop) → c .before .loop .row < factorial (c .before .before .before .before .before .args .m)
@@ -64,7 +64,7 @@ loop-again c =
     let row = l .before .loop .row in (
       omega (arith, l .loop-test .taken),
       λ p i is.
-          put-to p _ _ ((g + row) + 1) (g + (row + 1)) _ (omega arith)
+          put-to p _ _ ((g + row) + 1) (g + (row + 1)) _ _ (omega arith)
           (put-more p _ _ _ _ i is (g + row) row _ _ (ap (λ (k : ℕ). k + row) (own-are p _ _ _ _ i is)) (used l) (l .before .loop .inv .1 p i is)
           (c .put-row .ensures p (row-of p _ _ _ _ i is _ _ (l .before .before .before .before .rows .ensures) (used l)))),
     )
@@ -77,7 +77,7 @@ returns c = λ p i is.
     let t = c .before .before .row-count in
     let g = getD (now (c .before .before .before .before .before .args .numbers)) 67 0 in
     put-all p _ _ _ _ i is _ _ (let o = own-are p _ _ _ _ i is in let e = t .ensures .0 in omega arith)
-    (put-to p _ _ (g + c .before .loop .row) (g + t .result) _ (omega (arith, c .loop-test .left, c .before .loop .inv .0)) (c .before .loop .inv .1 p i is))
+    (put-to p _ _ (g + c .before .loop .row) (g + t .result) _ _ (omega (arith, c .loop-test .left, c .before .loop .inv .0)) (c .before .loop .inv .1 p i is))
 
 pub put-rows-spec : {M : Type 1} → statement M
 put-rows-spec =
