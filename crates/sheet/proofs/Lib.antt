@@ -20,3 +20,5 @@ pub mod TablesTurn
 pub mod DecodeTurn
 pub mod Whole
 pub mod Compilable
+pub mod Calls
+pub mod Tied

@@ -1,8 +1,7 @@
 // Questions put to a sheet (paper 01), and the compiled problem of an accepted one.
 ghost use mathlib.Core.Path.{_≡_};
 ghost use lib.ListN.{length};
-ghost use Rattle.model.specs.Sheet.{verdictOf};
-ghost use Rattle.sheet.specs.Meaning.{means};
+ghost use Rattle.sheet.specs.Calls.{CallQuestion};
 ghost use Rattle.sheet.specs.Form.{Zeros, Compilation, Recompilation};
 
 mod constraints; // questions 9 to 13
@@ -22,7 +21,7 @@ pub enum Answer {
 
 // All questions, in their order, to any bytes.
 pub fn question(sheet: &[u8]) -> Answer
-    ensures { λ r. ⌜ means r ≡ verdictOf (now (sheet .entry)) ⌝ }
+    ensures { λ r. ⌜ CallQuestion (now (sheet .entry)) r ⌝ }
 {
     let mut numbers = [0u64; 2432];
     let mut supports = [0u16; 8192];
