@@ -5,3 +5,5 @@ pub mod LentTally
 pub mod Compiling
 pub mod Blocked
 pub mod LentExamples
+pub mod Calls
+pub mod Tied

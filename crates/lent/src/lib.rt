@@ -3,9 +3,8 @@ ghost use mathlib.Core.Path.{_≡_};
 ghost use lib.ListN.{length};
 ghost use Rattle.model.specs.Problem.{Problem};
 ghost use Rattle.sheet.specs.Form.{Zeros};
-ghost use Rattle.sheet.specs.Meaning.{means};
 ghost use Rattle.orderings.specs.Asked.{Held};
-ghost use Rattle.lent.specs.Lent.{verdictLent};
+ghost use Rattle.lent.specs.Calls.{CallQuestionLent};
 ghost use Rattle.lent.specs.Compile.{Lendings, AskedLent, CompiledLent};
 use layout::VARIABLES;
 use sheet::Answer;
@@ -50,7 +49,7 @@ pub fn ask(
 
 // All questions, in their order, to any bytes.
 pub fn question(sheet: &[u8], pairs: &[u8], block: &[u8]) -> Answer
-    ensures { λ r. ⌜ means r ≡ verdictLent (now (sheet .entry)) (now (pairs .entry)) (now (block .entry)) ⌝ }
+    ensures { λ r. ⌜ CallQuestionLent (now (sheet .entry)) (now (pairs .entry)) (now (block .entry)) r ⌝ }
 {
     let mut numbers = [0u64; 2432];
     let mut supports = [0u16; 8192];
