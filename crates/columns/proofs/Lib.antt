@@ -4,4 +4,6 @@ pub mod Cells
 pub mod Copying
 pub mod Storing
 pub mod Back
+pub mod Calls
+pub mod Tied
 pub mod Examples

@@ -2,4 +2,5 @@
 pub mod Columns
 pub mod Claims
 pub mod Meaning
+pub mod Calls
 pub mod Steps

@@ -5,12 +5,12 @@ ghost use lib.ListN.{length};
 ghost use Rattle.model.specs.Lists.{flat};
 ghost use Rattle.model.specs.Run.{listedPlans};
 ghost use Rattle.model.specs.Sheet.{«word» as wordOf};
-ghost use Rattle.model.specs.Room.{outcomeOf, roomAfter, numbered};
+ghost use Rattle.model.specs.Room.{numbered};
 ghost use Rattle.model.specs.Bytes.{twoBytes};
 ghost use Rattle.model.specs.Written.{placed, Written};
-ghost use Rattle.columns.specs.Columns.{transposed, heading, columnsOf, rowsOf, smallValues, bytesVerdict, columnsVerdict, isStore, rowsVerdict};
+ghost use Rattle.columns.specs.Columns.{transposed, heading, smallValues, bytesVerdict, isStore};
 ghost use Rattle.columns.specs.Steps.{Inside, Copied};
-ghost use Rattle.columns.specs.Meaning.{means};
+ghost use Rattle.columns.specs.Calls.{CallColumns, CallRows};
 
 pub enum Answer {
     Written(usize),
@@ -128,8 +128,7 @@ fn put_rows(out: &mut [u8], columns: &[u8], variables: usize, plans: usize)
 
 // Writes rows of n bytes as columns, behind a header of four numbers.
 pub fn to_columns(n: usize, rows: &[u8], room: &mut [u8]) -> Answer
-    ensures { λ r. ⌜ means r ≡ outcomeOf (columnsVerdict n (now (rows .entry)) (length (now (room .entry)))) (columnsOf n (now (rows .entry))) ⌝ }
-    ensures { λ _. ⌜ now (room .exit) ≡ roomAfter (columnsVerdict n (now (rows .entry)) (length (now (room .entry)))) (columnsOf n (now (rows .entry))) (now (room .entry)) ⌝ }
+    ensures { λ r. ⌜ CallColumns n (now (rows .entry)) (now (room .entry)) r (now (room .exit)) ⌝ }
 {
     let number = question(n, rows, 8, room.len());
     if number != 0 {
@@ -175,8 +174,7 @@ fn is_store(store: &[u8]) -> bool
 
 // Turns a store back into rows.
 pub fn to_rows(store: &[u8], room: &mut [u8]) -> Answer
-    ensures { λ r. ⌜ means r ≡ outcomeOf (rowsVerdict (now (store .entry)) (length (now (room .entry)))) (rowsOf (now (store .entry))) ⌝ }
-    ensures { λ _. ⌜ now (room .exit) ≡ roomAfter (rowsVerdict (now (store .entry)) (length (now (room .entry)))) (rowsOf (now (store .entry))) (now (room .entry)) ⌝ }
+    ensures { λ r. ⌜ CallRows (now (store .entry)) (now (room .entry)) r (now (room .exit)) ⌝ }
 {
     if !is_store(store) {
         return Answer::Refused {
