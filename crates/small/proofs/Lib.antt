@@ -12,3 +12,5 @@ pub mod RowSets
 pub mod Reading
 pub mod Claims
 pub mod Bounds
+pub mod Calls
+pub mod Tied

@@ -2,4 +2,5 @@
 pub mod Small
 pub mod Claims
 pub mod Answers
+pub mod Calls
 pub mod Inner

@@ -5,7 +5,7 @@ ghost use Prim.Native.Nat.{_+_, _*_, _/_, _≤_, _<_};
 ghost use lib.ListN.{length};
 ghost use Rattle.model.specs.Written.{Fronted};
 ghost use Rattle.small.specs.Small.{isSheet};
-ghost use Rattle.small.specs.Answers.{means, smallOutcome, smallRoom};
+ghost use Rattle.small.specs.Calls.{CallSmall};
 ghost use Rattle.small.specs.Inner.{secondNo, thirdNo, fourthNo, IsTable, withRows, endAt, withHead, withTable, draftBytes, movedBy, candidate, Drafts, At};
 
 // The room that every small sheet fits.
@@ -198,8 +198,7 @@ fn copy(sheet: &[u8], room: &mut [u8]) -> usize
 
 // Writes the small sheet at position k, from 0, to the front of the room.
 pub fn small_sheet(k: usize, room: &mut [u8]) -> Answer
-    ensures { λ r. ⌜ means r ≡ smallOutcome k (now (room .entry)) ⌝ }
-    ensures { λ _. ⌜ now (room .exit) ≡ smallRoom k (now (room .entry)) ⌝ }
+    ensures { λ r. ⌜ CallSmall k (now (room .entry)) r (now (room .exit)) ⌝ }
 {
     let d = find(k);
     let size = d.size;
