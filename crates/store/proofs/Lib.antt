@@ -6,3 +6,5 @@ pub mod Free
 pub mod Calls
 pub mod Answers
 pub mod Sheets
+pub mod Examples
+pub mod Tied

@@ -3,3 +3,5 @@ pub mod Store
 pub mod Layout
 pub mod Meaning
 pub mod Claims
+pub mod Calls
+pub mod Examples

@@ -5,9 +5,8 @@ ghost use Prim.Native.Nat.{_+_, _≤_, _<_, min};
 ghost use lib.ListN.{length};
 ghost use Rattle.model.specs.Sheet.{«word»};
 ghost use Rattle.model.specs.Written.{placed};
-ghost use Rattle.store.specs.Store.{call, put, fetch, remove, storeAfter};
-ghost use Rattle.store.specs.Layout.{size, slotAt, holds, slotWith, isFree, firstOf, slotFor, slotBytes, freed, storeOf, replyOn, bytesAfter};
-ghost use Rattle.store.specs.Meaning.{means};
+ghost use Rattle.store.specs.Layout.{size, slotAt, holds, slotWith, isFree, firstOf, slotFor, slotBytes, freed};
+ghost use Rattle.store.specs.Calls.{CallPut, CallFetch, CallRemove};
 
 // The store's size in bytes.
 pub const STORE_BYTES: usize = 32832;
@@ -155,9 +154,7 @@ fn table_length(store: &[u8], p: usize) -> usize
 
 // Puts a table under an owner and a key, in place of the one there.
 pub fn put(store: &mut [u8], owner: u32, key: u8, table: &[u8]) -> Answer
-    ensures { λ r. ⌜ means r ≡ replyOn (now (store .entry)) (call owner key (put (now (table .entry)))) .outcome ⌝ }
-    ensures { λ _. ⌜ now (store .exit) ≡ bytesAfter (now (store .entry)) (call owner key (put (now (table .entry)))) ⌝ }
-    ensures { λ _. ⌜ (length (now (store .entry)) ≡ size → storeOf (now (store .exit)) ≡ storeAfter (storeOf (now (store .entry))) (call owner key (put (now (table .entry))))) ⌝ }
+    ensures { λ r. ⌜ CallPut (now (store .entry)) owner key (now (table .entry)) r (now (store .exit)) ⌝ }
 {
     if store.len() != STORE_BYTES {
         return Answer::Refused {
@@ -190,8 +187,7 @@ pub fn put(store: &mut [u8], owner: u32, key: u8, table: &[u8]) -> Answer
 
 // Copies the table under an owner and a key to the front of the room.
 pub fn fetch(store: &[u8], owner: u32, key: u8, room: &mut [u8]) -> Answer
-    ensures { λ r. ⌜ means r ≡ replyOn (now (store .entry)) (call owner key (fetch (now (room .entry)))) .outcome ⌝ }
-    ensures { λ _. ⌜ now (room .exit) ≡ replyOn (now (store .entry)) (call owner key (fetch (now (room .entry)))) .room ⌝ }
+    ensures { λ r. ⌜ CallFetch (now (store .entry)) owner key (now (room .entry)) r (now (room .exit)) ⌝ }
 {
     if store.len() != STORE_BYTES {
         return Answer::Refused {
@@ -227,9 +223,7 @@ pub fn fetch(store: &[u8], owner: u32, key: u8, room: &mut [u8]) -> Answer
 
 // Removes (the paper's drop) the table under an owner and a key.
 pub fn remove(store: &mut [u8], owner: u32, key: u8) -> Answer
-    ensures { λ r. ⌜ means r ≡ replyOn (now (store .entry)) (call owner key remove) .outcome ⌝ }
-    ensures { λ _. ⌜ now (store .exit) ≡ bytesAfter (now (store .entry)) (call owner key remove) ⌝ }
-    ensures { λ _. ⌜ (length (now (store .entry)) ≡ size → storeOf (now (store .exit)) ≡ storeAfter (storeOf (now (store .entry))) (call owner key remove)) ⌝ }
+    ensures { λ r. ⌜ CallRemove (now (store .entry)) owner key r (now (store .exit)) ⌝ }
 {
     if store.len() != STORE_BYTES {
         return Answer::Refused {
