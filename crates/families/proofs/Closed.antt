@@ -10,8 +10,8 @@ use borrow.Author.Tests.{eq-eqb}
 use Rattle.model.specs.Lists.{both, either, all, any, below, at, earlier}
 use Rattle.model.specs.Problem.{Problem, pair, pairsOf, within, takes, isSolution, assignments}
 use Rattle.model.specs.Claims.{Leader, isLeader, leaders}
-use Rattle.families.specs.Families.{Joined, alone, further, solutionsOf, isEarliest, earliestOf, familiesOf, Makes, MovesNothing, Closed, makes, movesNothing, isClosed, OneLeaderEach}
-use Rattle.families.specs.FamilyClaims.{Closed-tested, One-leader-each}
+use Rattle.families.specs.Families.{Joined, alone, further, solutionsOf, isEarliest, earliestOf, familiesOf, Makes, MovesNothing, Closed, makes, movesNothing, OneLeaderEach}
+use Rattle.families.specs.FamilyClaims.{One-leader-each}
 use Rattle.model.specs.WellFormed.{WellFormed, Respected}
 use Rattle.model.proofs.Lists.{earlier-asym, T-of, T-ext, both-i, both-l, both-r, either-l, either-r, either-e, all-i, all-e, any-i, any-e, keep-ext, below-i, below-e, at-ext}
 use Rattle.model.proofs.Tree.{solution-e}
@@ -20,7 +20,7 @@ use Rattle.model.proofs.Pairs as P
 use Rattle.families.proofs.Joined.{joined-from, joined-to, joined-one, joined-trans, joined-sym}
 use Rattle.families.proofs.FamilyCount.{row-order, keep-keep, earliest-i, earliest-e, earliest-of}
 
--- ---- the test
+-- ---- the tests of two symmetries
 module _ (p : Problem) where
   abbrev size : ℕ
   size = p .variables * p .values
@@ -40,27 +40,6 @@ module _ (p : Problem) where
   pub nothing-e : (f g : List ℕ) → T (movesNothing p f g) → MovesNothing p f g
   unfolding movesNothing
   nothing-e f g t q l = eqb→eq (at g (at f q)) q (all-e (λ q. eqb (at g (at f q)) q) (below size) t q (below-i size q l))
-
-  abbrev inside : List ℕ → List ℕ → Bool
-  inside f g = either (any (makes p f g) (p .symmetries)) (movesNothing p f g)
-
-  pub closed-i : Closed p → T (isClosed p)
-  unfolding isClosed
-  closed-i c =
-      all-i (λ f. all (inside f) (p .symmetries)) (p .symmetries) (λ f m. all-i (inside f) (p .symmetries) (λ g k.
-      ⊎-elim {C = T (inside f g)} (λ r. either-l (any (makes p f g) (p .symmetries)) (movesNothing p f g) (any-i (makes p f g) (p .symmetries) (r .0) (r .1) (makes-i f g (r .0) (r .2))))
-      (λ e. either-r (any (makes p f g) (p .symmetries)) (movesNothing p f g) (nothing-i f g e)) (c f g m k)))
-
-  pub closed-e : T (isClosed p) → Closed p
-  unfolding isClosed
-  closed-e t f g m k =
-      ⊎-elim {C = ((h : List ℕ) × List·Memᴰ h (p .symmetries) × Makes p f g h) ⊎ MovesNothing p f g}
-      (λ r. let q = any-e (makes p f g) (p .symmetries) r in inl (q .0, q .1, makes-e f g (q .0) (q .2)))
-      (λ r. inr (nothing-e f g r))
-      (either-e (any (makes p f g) (p .symmetries)) (movesNothing p f g) (all-e (inside f) (p .symmetries) (all-e (λ f. all (inside f) (p .symmetries)) (p .symmetries) t f m) g k))
-
-  pub closed-is : T (isClosed p) ↔ Closed p
-  closed-is = (closed-e, closed-i)
 
   pub takes-i : (g t s : List ℕ) → ((q : ℕ) → List·Memᴰ q (pairsOf p t) → List·Memᴰ (at g q) (pairsOf p s)) → ((q : ℕ) → List·Memᴰ q (pairsOf p s) → (r : ℕ) × List·Memᴰ r (pairsOf p t) × (at g r ≡ q)) → T (takes p g t s)
   unfolding takes
@@ -147,9 +126,6 @@ module _ (p : Problem) where
           only m l lm ll j =
               ⊎-elim {C = m ≡ l} (λ e. absurd (leader-earliest closed l ll m (joined-sym p w respected m l j) e))
               (⊎-elim {C = m ≡ l} (λ e. absurd (leader-earliest closed m lm l j e)) (λ e. e)) (row-order m l (solution-e p m (lm .solves) .sized ∙ sym (solution-e p l (ll .solves) .sized)))
-
-pub closed-tested : Closed-tested
-closed-tested = closed-is
 
 pub one-leader-each : One-leader-each
 one-leader-each = one-of-each

@@ -1,17 +1,16 @@
 -- The families of paper 01's examples, by computation. Assumes nothing.
 use mathlib.Core.Path.{_≡_, refl}
-use mathlib.Core.Bool.{true, false}
 use Prim.Native.Nat.{ℕ}
 use Rattle.model.specs.Lists.{all, any, keep, flat, tabulate, upFrom, below, at, same, earlier}
 use Rattle.model.specs.ValueSets.{has, members, least}
 use Rattle.model.specs.Problem.{valuesAt, satisfies, isSolution, assignments, pair, pairsOf, within, takes}
 use Rattle.model.specs.Sheet.{word, words, headerOf, scopeAt, rowsAt, afterAt, constraintsFrom, tableAt, problemOf}
 use Rattle.model.specs.Examples.{sheetA, sheetA0, sheetR}
-use Rattle.families.specs.Families.{solutionsOf, widened, reachedIn, familyOf, isEarliest, earliestOf, familiesOf, makes, movesNothing, isClosed}
+use Rattle.families.specs.Families.{solutionsOf, widened, reachedIn, familyOf, isEarliest, earliestOf, familiesOf}
 use Rattle.families.specs.Walk.{solutionAt, imageAt}
 
 opened : ℕ
-unfolding all any keep flat tabulate upFrom below at same earlier has members least valuesAt satisfies isSolution assignments pair pairsOf within takes word words headerOf scopeAt rowsAt afterAt constraintsFrom tableAt problemOf solutionsOf widened reachedIn familyOf isEarliest earliestOf familiesOf makes movesNothing isClosed solutionAt imageAt
+unfolding all any keep flat tabulate upFrom below at same earlier has members least valuesAt satisfies isSolution assignments pair pairsOf within takes word words headerOf scopeAt rowsAt afterAt constraintsFrom tableAt problemOf solutionsOf widened reachedIn familyOf isEarliest earliestOf familiesOf solutionAt imageAt
 opened = 0
 
 -- A: 3 families; without its symmetry each of its 6 solutions is one
@@ -27,15 +26,6 @@ families-a0 = refl
 pub families-r : familiesOf (problemOf sheetR) ≡ 2
 unfolding opened
 families-r = refl
-
--- A's symmetries are closed, the rotation's are not
-pub closed-a : isClosed (problemOf sheetA) ≡ true
-unfolding opened
-closed-a = refl
-
-pub closed-r : isClosed (problemOf sheetR) ≡ false
-unfolding opened
-closed-r = refl
 
 -- the rotation takes 012, solution 0, to 201, solution 4
 pub image-r : imageAt (problemOf sheetR) 0 0 ≡ 4

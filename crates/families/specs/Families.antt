@@ -84,9 +84,6 @@ makes p f g h = all (λ q. eqb (at g (at f q)) (at h q)) (below (p .variables * 
 unfoldable pub movesNothing : Problem → List ℕ → List ℕ → Bool
 movesNothing p f g = all (λ q. eqb (at g (at f q)) q) (below (p .variables * p .values))
 
-unfoldable pub isClosed : Problem → Bool
-isClosed p = all (λ f. all (λ g. either (any (makes p f g) (p .symmetries)) (movesNothing p f g)) (p .symmetries)) (p .symmetries)
-
 -- what closed symmetries give: the leaders are the earliest of their families, each family has exactly one, and there are as many as families
 pub record OneLeaderEach (p : Problem) : Type 0 where
   pub earliest : (s : List ℕ) → Leader p s ↔ (T (isSolution p s) × ((t : List ℕ) → Joined p s t → T (earlier t s) → ⊥))

@@ -1,12 +1,11 @@
 -- What families are, said of every problem that the questions can pass, with the exchanges of a block or without (paper 02, #104 and #112).
 -- The proofs are in proofs/Joined, FamilyCount and Closed.
-use mathlib.Core.Logic.{_↔_}
 use mathlib.Core.List.{List}
 use Prim.Native.Nat.{ℕ}
 use lib.Dec.{T}
 use Rattle.model.specs.Problem.{Problem, isSolution}
 use Rattle.model.specs.WellFormed.{WellFormed, Respected}
-use Rattle.families.specs.Families.{Joined, FamilyCount, Closed, isClosed, OneLeaderEach}
+use Rattle.families.specs.Families.{Joined, FamilyCount, Closed, OneLeaderEach}
 
 -- a solution is joined to itself, to whatever is joined to it, and to what that is joined to; only solutions are joined
 pub record Equivalence (p : Problem) : Type 0 where
@@ -21,10 +20,6 @@ Joined-equivalence = (p : Problem) → WellFormed p → Respected p → Equivale
 -- `familiesOf` is the number of families
 abbrev pub Families-counted : Type 0
 Families-counted = (p : Problem) → WellFormed p → Respected p → FamilyCount p
-
--- the test says whether the symmetries are closed
-abbrev pub Closed-tested : Type 0
-Closed-tested = (p : Problem) → T (isClosed p) ↔ Closed p
 
 -- closed symmetries leave exactly the earliest of each family
 abbrev pub One-leader-each : Type 0
