@@ -104,10 +104,6 @@ module _ (p : Problem) where
             let z : k ≡ N = omega arith in
             least-none N hit (λ j i. lt-leb m (plansAmong p j) (f j (omega arith))) ∙ sym z
 
-    pub to-inside : nodesTo p m ≤ length (nodes p)
-    unfolding nodesTo
-    to-inside = least-le N hit
-
     pub to-before : (j : ℕ) → j < nodesTo p m → plansAmong p j < m
     unfolding nodesTo
     to-before j l = leb-false m (plansAmong p j) (least-below N hit j l)

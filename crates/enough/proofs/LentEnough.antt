@@ -5,29 +5,26 @@ use Prim.Native.Nat.{ℕ, _*_, _≤_, _<_}
 use native.Mathlib.Omega.{arith}
 use lib.Dec.{T}
 use lib.ListN.{length, length-map}
-use lib.Seq.{length-take-le}
-use Rattle.model.specs.Lists.{keep, at, total}
+use Rattle.model.specs.Lists.{keep}
 use Rattle.model.specs.Problem.{Problem}
 use Rattle.model.specs.Verdict.{Verdict, accepted, refused, isAccepted}
 use Rattle.model.specs.Sheet.{problemOf}
-use Rattle.model.specs.WellFormed.{WellFormed}
 use Rattle.model.specs.Search.{nodes, isPlan}
 use Rattle.model.specs.Run.{Ending, finished, spent, resultOf, ended}
 use Rattle.model.specs.Claims.{plansAmong, leaders}
 use Rattle.model.proofs.Runs.{finished-rows, finishes}
 use Rattle.model.proofs.Demands.{same-test}
 use Rattle.model.proofs.Tree.{plans-of-tree}
-use Rattle.order.specs.Order.{Ordering}
 use Rattle.order.specs.Reordered.{write}
-use Rattle.order.specs.RunBy.{resultBy, leadersBy, placeCounts}
+use Rattle.order.specs.RunBy.{resultBy, leadersBy}
 use Rattle.order.proofs.Reordered.{respected-reordered}
-use Rattle.order.proofs.RunBy.{w2, leadersBy-is, places-twelve, places-total, places-none}
+use Rattle.order.proofs.RunBy.{w2, leadersBy-is}
 use Rattle.lent.specs.Lent.{verdictLent, problemWith, orderLent, problemLent, answerLentFor, answerLent, plansLent}
 use Rattle.lent.proofs.Lent.{passed-all, well-lent, respected-lent, ordering-lent, ran-lent, held-lent}
-use Rattle.enough.specs.AtLeast.{Enough, enough, tooFew, unknown, nodesSaid, nodesTo, enoughOf}
-use Rattle.enough.specs.Lent.{EnoughAnswer, answered, enoughLentFor, enoughLent, enoughTallyFor, enoughTally}
-use Rattle.enough.specs.LentClaims.{Enough-refused-lent, Enough-none-lent, AgreesLent, Enough-agrees-lent, Enough-figures-lent, Enough-more-lent, Enough-tally-lent}
-use Rattle.enough.proofs.AtLeast.{Said, said, spends, among-all, among-most, is-enough, to-limit, to-count, to-before, to-inside, enough-none, enough-more}
+use Rattle.enough.specs.AtLeast.{Enough, enough, tooFew, unknown, nodesTo, enoughOf}
+use Rattle.enough.specs.Lent.{answered, enoughLentFor, enoughLent}
+use Rattle.enough.specs.LentClaims.{Enough-refused-lent, Enough-none-lent, AgreesLent, Enough-agrees-lent, Enough-figures-lent, Enough-more-lent}
+use Rattle.enough.proofs.AtLeast.{Said, said, spends, among-all, among-most, is-enough, to-limit, to-count, to-before, enough-none, enough-more}
 
 of-answer : (b pairs block : List ℕ) (limit m : ℕ) (e : Enough) → enoughLent b pairs block limit m ≡ answered e → (verdictLent b pairs block ≡ accepted) × (enoughOf (problemLent b pairs block) limit m ≡ e)
 unfolding enoughLent enoughLentFor
@@ -42,7 +39,7 @@ unfolding answerLent answerLentFor resultBy
 run-of b pairs block limit out e h q = ap (λ (v : Verdict). answerLentFor v b pairs block limit (length out)) h ∙ ap ended q
 
 -- as many plans in the tree as leaders in the order
-tree-leaders : (b pairs block : List ℕ) → verdictLent b pairs block ≡ accepted → length (keep (isPlan (problemLent b pairs block)) (nodes (problemLent b pairs block))) ≡ length (leadersBy (orderLent b pairs) (problemWith b block))
+pub tree-leaders : (b pairs block : List ℕ) → verdictLent b pairs block ≡ accepted → length (keep (isPlan (problemLent b pairs block)) (nodes (problemLent b pairs block))) ≡ length (leadersBy (orderLent b pairs) (problemWith b block))
 tree-leaders b pairs block h =
     let p = problemWith b block in
     let order = orderLent b pairs in
@@ -55,10 +52,8 @@ tree-leaders b pairs block h =
     ap length (plans-of-tree p2 v ∙ same-test p2 v (respected-reordered p order o w r)) ∙ sym (length-map (leaders p2) (write order)) ∙ ap length (leadersBy-is p w r order o)
 
 pub enough-refused-lent : Enough-refused-lent
-unfolding enoughLent enoughLentFor enoughTally
-enough-refused-lent b pairs block limit m tally number item h =
-    let a = ap (λ (v : Verdict). enoughLentFor v b pairs block limit m) h in
-    (a, ap (λ (x : EnoughAnswer). enoughTallyFor x b pairs block tally) a)
+unfolding enoughLent enoughLentFor
+enough-refused-lent b pairs block limit m number item h = ap (λ (v : Verdict). enoughLentFor v b pairs block limit m) h
 
 pub enough-none-lent : Enough-none-lent
 unfolding enoughLent enoughLentFor
@@ -140,37 +135,3 @@ enough-more-lent b pairs block limit limit′ m l h = go (verdictLent b pairs bl
     go : (v : Verdict) → verdictLent b pairs block ≡ v → enoughLentFor v b pairs block limit′ m ≡ enoughLentFor v b pairs block limit m
     go accepted q = ap answered (enough-more (problemLent b pairs block) limit limit′ m l (λ k t e. h k t (ap (λ (v : Verdict). enoughLentFor v b pairs block limit m) q ∙ ap answered e)))
     go (refused number item) q = refl
-
-said-inside : (p : Problem) (limit m : ℕ) (e : Enough) → Said p limit m e → nodesSaid e ≤ length (nodes p)
-said-inside p limit m (enough k t) s = subst (λ (n : ℕ). n ≤ length (nodes p)) (sym (s .1)) (to-inside p m)
-said-inside p limit m (tooFew k t) s = omega (arith, s .1)
-said-inside p limit m (unknown k t) s = omega (arith, s .1, s .3)
-
-pub enough-tally-lent : Enough-tally-lent
-unfolding enoughTally
-enough-tally-lent b pairs block limit m tally e h = (
-  ap (λ (a : EnoughAnswer). enoughTallyFor a b pairs block tally .nodes) h,
-  c,
-  ap length c ∙ places-twelve (problemWith b block) order (nodesSaid e),
-  ap total c ∙ places-total (problemWith b block) w order o (nodesSaid e) ∙ length-take-le (nodesSaid e) (nodes q) (said-inside q limit m e (of-said b pairs block limit m e h))
-      ∙ sym (ap (λ (a : EnoughAnswer). enoughTallyFor a b pairs block tally .nodes) h),
-  λ x l. ap (λ (cs : List ℕ). at cs x) c ∙ places-none (problemWith b block) w order o (nodesSaid e) x l,
-)
-  where
-    q : Problem
-    q = problemLent b pairs block
-
-    order : List ℕ
-    order = orderLent b pairs
-
-    good : T (isAccepted (verdictLent b pairs block))
-    good = passed-all (verdictLent b pairs block) (of-answer b pairs block limit m e h .0)
-
-    w : WellFormed (problemWith b block)
-    w = well-lent b pairs block good
-
-    o : Ordering (problemOf b .variables) (orderLent b pairs)
-    o = ordering-lent b pairs block good
-
-    c : enoughTallyFor (enoughLent b pairs block limit m) b pairs block tally .counts ≡ placeCounts (orderLent b pairs) (problemWith b block) (nodesSaid e)
-    c = ap (λ (a : EnoughAnswer). enoughTallyFor a b pairs block tally .counts) h

@@ -17,11 +17,6 @@ pub data Enough : Type 0 where
   tooFew : ℕ → ℕ → Enough
   unknown : ℕ → ℕ → Enough
 
-abbrev pub nodesSaid : Enough → ℕ
-nodesSaid (enough plans made) = made
-nodesSaid (tooFew plans made) = made
-nodesSaid (unknown plans made) = made
-
 -- the number of nodes up to the m-th plan: the first that m plans are among
 unfoldable pub nodesTo : Problem → ℕ → ℕ
 nodesTo p m = least (length (nodes p)) (λ k. leb m (plansAmong p k))

@@ -2,10 +2,8 @@
 use mathlib.Core.List.{List}
 use Prim.Native.Nat.{ℕ}
 use Rattle.model.specs.Verdict.{Verdict, accepted, refused}
-use Rattle.model.specs.Run.{Tally}
-use Rattle.order.specs.RunBy.{placeCounts}
-use Rattle.lent.specs.Lent.{verdictLent, problemWith, orderLent, problemLent}
-use Rattle.enough.specs.AtLeast.{Enough, nodesSaid, enoughOf}
+use Rattle.lent.specs.Lent.{verdictLent, problemLent}
+use Rattle.enough.specs.AtLeast.{Enough, enoughOf}
 
 pub data EnoughAnswer : Type 0 where
   refusal : ℕ → ℕ → EnoughAnswer
@@ -18,11 +16,3 @@ enoughLentFor (refused number item) b pairs block limit m = refusal number item
 
 unfoldable pub enoughLent : List ℕ → List ℕ → List ℕ → ℕ → ℕ → EnoughAnswer
 enoughLent b pairs block limit m = enoughLentFor (verdictLent b pairs block) b pairs block limit m
-
--- the caller's tally: the nodes made, by the place that each settles; as it came after a refusal
-abbrev pub enoughTallyFor : EnoughAnswer → List ℕ → List ℕ → List ℕ → Tally → Tally
-enoughTallyFor (refusal number item) b pairs block tally = tally
-enoughTallyFor (answered e) b pairs block tally = record { nodes = nodesSaid e; counts = placeCounts (orderLent b pairs) (problemWith b block) (nodesSaid e) }
-
-unfoldable pub enoughTally : List ℕ → List ℕ → List ℕ → ℕ → ℕ → Tally → Tally
-enoughTally b pairs block limit m tally = enoughTallyFor (enoughLent b pairs block limit m) b pairs block tally

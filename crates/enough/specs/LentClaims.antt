@@ -4,32 +4,29 @@ use mathlib.Core.Logic.{_↔_}
 use mathlib.Core.List.{List}
 use Prim.Native.Nat.{ℕ, _*_, _≤_, _<_}
 use lib.ListN.{length}
-use Rattle.model.specs.Lists.{at, total}
 use Rattle.model.specs.Verdict.{accepted, refused}
 use Rattle.model.specs.Sheet.{problemOf}
-use Rattle.model.specs.Run.{finished, spent, ended, Tally}
+use Rattle.model.specs.Run.{finished, spent, ended}
 use Rattle.model.specs.Claims.{plansAmong}
-use Rattle.order.specs.RunBy.{leadersBy, placeCounts}
+use Rattle.order.specs.RunBy.{leadersBy}
 use Rattle.lent.specs.Lent.{verdictLent, problemWith, orderLent, problemLent, answerLent, plansLent}
-use Rattle.enough.specs.AtLeast.{Enough, enough, tooFew, unknown, nodesSaid}
-use Rattle.enough.specs.Lent.{EnoughAnswer, refusal, answered, enoughLent, enoughTally}
+use Rattle.enough.specs.AtLeast.{enough, tooFew, unknown}
+use Rattle.enough.specs.Lent.{EnoughAnswer, refusal, answered, enoughLent}
 
--- a refusal makes no node and writes nothing
+-- a refusal is answered with its number and item
 abbrev pub Enough-refused-lent : Type 0
-Enough-refused-lent =
-    (b pairs block : List ℕ) (limit m : ℕ) (tally : Tally) (number item : ℕ) → verdictLent b pairs block ≡ refused number item →
-    (enoughLent b pairs block limit m ≡ refusal number item) × (enoughTally b pairs block limit m tally ≡ tally)
+Enough-refused-lent = (b pairs block : List ℕ) (limit m number item : ℕ) → verdictLent b pairs block ≡ refused number item → enoughLent b pairs block limit m ≡ refusal number item
 
 -- m = 0: yes without a node, once every question is passed, whatever the limit
 abbrev pub Enough-none-lent : Type 0
 Enough-none-lent = (b pairs block : List ℕ) (limit : ℕ) → verdictLent b pairs block ≡ accepted → enoughLent b pairs block limit 0 ≡ answered (enough 0 0)
 
--- what was said, where the complete run is finished with `count` plans in its list, after `total` nodes: yes and no agree with the list; yes or no is said where the limit allows its nodes
-pub record AgreesLent (said : EnoughAnswer) (limit m total count : ℕ) : Type 0 where
+-- what was said, where the complete run is finished with `count` plans in its list, after so many nodes: yes and no agree with the list; yes or no is said where the limit allows its nodes
+pub record AgreesLent (said : EnoughAnswer) (limit m nodes count : ℕ) : Type 0 where
   pub yes-so : (plans made : ℕ) → said ≡ answered (enough plans made) → m ≤ count
-  pub no-so : (plans made : ℕ) → said ≡ answered (tooFew plans made) → (count < m) × (plans ≡ count) × (made ≡ total)
-  pub decided : total ≤ limit → (plans made : ℕ) → said ≡ answered (unknown plans made) → ⊥
-  pub yes-exactly : total ≤ limit → ((plans : ℕ) × (made : ℕ) × (said ≡ answered (enough plans made))) ↔ (m ≤ count)
+  pub no-so : (plans made : ℕ) → said ≡ answered (tooFew plans made) → (count < m) × (plans ≡ count) × (made ≡ nodes)
+  pub decided : nodes ≤ limit → (plans made : ℕ) → said ≡ answered (unknown plans made) → ⊥
+  pub yes-exactly : nodes ≤ limit → ((plans : ℕ) × (made : ℕ) × (said ≡ answered (enough plans made))) ↔ (m ≤ count)
 
 abbrev pub Enough-agrees-lent : Type 0
 Enough-agrees-lent =
@@ -53,11 +50,3 @@ abbrev pub Enough-more-lent : Type 0
 Enough-more-lent =
     (b pairs block : List ℕ) (limit limit′ m : ℕ) → limit ≤ limit′ → ((plans made : ℕ) → enoughLent b pairs block limit m ≡ answered (unknown plans made) → ⊥) →
     enoughLent b pairs block limit′ m ≡ enoughLent b pairs block limit m
-
--- the tally (#107): twelve counts, whose sum is the number of nodes made; for places from n up they are 0
-abbrev pub Enough-tally-lent : Type 0
-Enough-tally-lent =
-    (b pairs block : List ℕ) (limit m : ℕ) (tally : Tally) (e : Enough) → enoughLent b pairs block limit m ≡ answered e →
-    let after = enoughTally b pairs block limit m tally in
-    (after .nodes ≡ nodesSaid e) × (after .counts ≡ placeCounts (orderLent b pairs) (problemWith b block) (nodesSaid e)) × (length (after .counts) ≡ 12) × (total (after .counts) ≡ after .nodes)
-    × ((x : ℕ) → problemOf b .variables ≤ x → at (after .counts) x ≡ 0)
