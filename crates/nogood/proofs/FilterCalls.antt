@@ -157,6 +157,13 @@ is-declined (Refused m j) n i e = cc
 asked-no : (c : Bool) (number item : ℕ) (later : Verdict) → (T c → ⊥) → ask c number item later ≡ refused number item
 asked-no c number item later n = ap (λ (b : Bool). ask b number item later) (not-of c n)
 
+-- right lists are not refused
+pub right-accepted : (ds xs es us : List ℕ) → ListsRight ds xs es us → filterVerdict ds xs es us ≡ accepted
+right-accepted ds xs es us right =
+    let m = length xs in
+    let ok : (j : ℕ) → j < length xs → entryOk (length ds) (at xs j) (at es j) (at us j) ≡ true = λ j l. (let q = right .entry j l in ok-i (length ds) (at xs j) (at es j) (at us j) (q .0) (q .1)) in
+    sym (all-right ds xs es us (right .sets .0) (right .sets .1) (right .lengths .0) (right .lengths .1) (right .lengths .2) m (wrong-none (length ds) xs es us m (omega arith) (omega arith) ok) refl)
+
 module _ (ds xs es us : List ℕ) (r : Answer) (rs : List ℕ) (small : (x : ℕ) → at ds x < 2 ^ 16) (c : CallFilter ds xs es us r rs) where
   abbrev es′ : List Entry
   es′ = entries xs es us
@@ -195,11 +202,8 @@ module _ (ds xs es us : List ℕ) (r : Answer) (rs : List ℕ) (small : (x : ℕ
   after-sized (refused number item) = refl
 
   module _ (right : ListsRight ds xs es us) where
-    accepted-so : filterVerdict ds xs es us ≡ accepted
-    accepted-so =
-        let m = length xs in
-        let ok : (j : ℕ) → j < length xs → entryOk (length ds) (at xs j) (at es j) (at us j) ≡ true = λ j l. (let q = right .entry j l in ok-i (length ds) (at xs j) (at es j) (at us j) (q .0) (q .1)) in
-        sym (all-right ds xs es us (right .sets .0) (right .sets .1) (right .lengths .0) (right .lengths .1) (right .lengths .2) m (wrong-none (length ds) xs es us m (omega arith) (omega arith) ok) refl)
+    abbrev accepted-so : filterVerdict ds xs es us ≡ accepted
+    accepted-so = right-accepted ds xs es us right
 
     left : rs ≡ filtered ds (entries xs es us)
     unfolding setsAfter

@@ -33,11 +33,10 @@ use Rattle.families.specs.Families.{Joined, familiesOf}
 use Rattle.families.proofs.Joined.{joined-one}
 use Rattle.families.proofs.FewerFamilies.{joined-more, joined-fewer, families-same}
 use Rattle.figure.specs.Figure.{problemBare, figureFor, familiesLent}
-use Rattle.enough.specs.AtLeast.{enough, tooFew, unknown, nodesSaid, nodesTo, enoughOf}
-use Rattle.enough.specs.Lent.{EnoughAnswer, answered, enoughLentFor, enoughLent, enoughTallyFor, enoughTally}
-use Rattle.enough.specs.Lent as E
+use Rattle.enough.specs.AtLeast.{enough, tooFew, unknown, nodesTo, enoughOf}
+use Rattle.enough.specs.Lent.{answered, enoughLentFor, enoughLent}
 use Rattle.retyped.specs.Retyped.{SameSymmetries, SameSearch, SameButOrder}
-use Rattle.retyped.specs.LentClaims.{SameRunsLent, Retyped-lent, Retyped-accepted-lent, Retyped-enough, Retyped-families}
+use Rattle.retyped.specs.LentClaims.{SameRunsLent, Retyped-lent, Retyped-accepted-lent, Retyped-exactly, Retyped-enough, Retyped-families}
 use Rattle.retyped.proofs.SameSearch.{same-search}
 use Rattle.retyped.proofs.Retyped.{same-symmetries, retyped-accepted}
 
@@ -145,6 +144,9 @@ retyped-accepted-lent b c pairs block hb s =
     let sb = is-accepted (verdictOf b) (both-passed (verdictOf b) (orderVerdict (p .variables) pairs (blockLent p block)) (passed-all (verdictLent b pairs block) hb) .0) in
     ap₂ andThen (retyped-accepted b c sb s ∙ sym sb) (ap₂ (λ (n : ℕ) (u : Verdict). orderVerdict n pairs u) (same .variables) (kc ∙ sym kb)) ∙ hb
 
+pub retyped-exactly : Retyped-exactly
+retyped-exactly b c pairs block s t = (λ h. retyped-accepted-lent b c pairs block h s, λ h. retyped-accepted-lent c b pairs block h t)
+
 -- ---- at least m plans
 enough-same : (p q : Problem) → SameSearch p q → (limit m : ℕ) → enoughOf q limit m ≡ enoughOf p limit m
 unfolding enoughOf nodesTo
@@ -158,21 +160,14 @@ enough-same p q s limit m = ap₂ (λ (f : List ℕ → Bool) (ns : List (List �
     plans = λ i node. s .plans node i
 
 pub retyped-enough : Retyped-enough
-unfolding enoughLent enoughLentFor enoughTally
-retyped-enough b c pairs block hb s limit m tally = (answers, ap (λ (a : EnoughAnswer). enoughTallyFor a c pairs block tally) answers ∙ tallied (enoughLent b pairs block limit m))
-  where
-    ok : Passed b
-    ok = lent-passed b pairs block (passed-all (verdictLent b pairs block) hb) .sheet
-
-    answers : enoughLent c pairs block limit m ≡ enoughLent b pairs block limit m
-    answers =
-        ap (λ (v : Verdict). enoughLentFor v c pairs block limit m) (retyped-accepted-lent b c pairs block hb s)
-        ∙ ap answered (enough-same (problemLent b pairs block) (problemLent c pairs block) (same-search (problemLent b pairs block) (problemLent c pairs block) (same-lent b c pairs block ok s)) limit m)
-        ∙ sym (ap (λ (v : Verdict). enoughLentFor v b pairs block limit m) hb)
-
-    tallied : (a : EnoughAnswer) → enoughTallyFor a c pairs block tally ≡ enoughTallyFor a b pairs block tally
-    tallied (E.refusal number item) = refl
-    tallied (answered e) = ap (λ (cs : List ℕ). record { nodes = nodesSaid e; counts = cs }) (places b c pairs block ok s (nodesSaid e))
+unfolding enoughLent enoughLentFor
+retyped-enough b c pairs block hb s limit m =
+    let ok = lent-passed b pairs block (passed-all (verdictLent b pairs block) hb) .sheet in
+    let p = problemLent b pairs block in
+    let q = problemLent c pairs block in
+    ap (λ (v : Verdict). enoughLentFor v c pairs block limit m) (retyped-accepted-lent b c pairs block hb s)
+    ∙ ap answered (enough-same p q (same-search p q (same-lent b c pairs block ok s)) limit m)
+    ∙ sym (ap (λ (v : Verdict). enoughLentFor v b pairs block limit m) hb)
 
 -- ---- families
 pub retyped-families : Retyped-families

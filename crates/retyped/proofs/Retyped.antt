@@ -11,7 +11,7 @@ use Rattle.model.specs.Lists.{all, both, at, below, ascending, rowsAscend}
 use Rattle.model.specs.Problem.{Problem, respects}
 use Rattle.model.specs.Verdict.{Verdict, accepted, ask, isAccepted}
 use Rattle.model.specs.Sheet.{Header, word, words, headerOf, scopeAt, rowsAt, afterAt, constraintsFrom, tableAt, problemOf, setsVerdict, constraintVerdict, constraintsVerdict, headerVerdict, formVerdict, permutesPairs, symmetriesVerdict, verdictOf}
-use Rattle.retyped.specs.Retyped.{SameSymmetries, blockSize, blocks, SameButOrder, Retyped-accepted}
+use Rattle.retyped.specs.Retyped.{SameSymmetries, blockSize, blocks, SameButOrder, Retyped-accepted, Retyped-back}
 use Rattle.model.proofs.Lists.{at-take, below-e, map-ext}
 use Rattle.model.proofs.Accepted.{Passed, passed, asked}
 use Rattle.model.specs.WellFormed.{WellFormed, Respected}
@@ -224,3 +224,12 @@ retyped-accepted b c hb s =
   where
     ok : Passed b
     ok = passed b (subst (λ (v : Verdict). T (isAccepted v)) (sym hb) tt)
+
+pub retyped-back : Retyped-back
+retyped-back b c hb s =
+    let e = same-header b c (passed b (subst (λ (v : Verdict). T (isAccepted v)) (sym hb) tt)) s in
+    record {
+      long = sym (s .long);
+      front = subst (λ (h : Header). take (h .third) b ≡ take (h .third) c) (sym e) (sym (s .front));
+      permuted = subst (λ (h : Header). List·Permᴰ (blocks h c) (blocks h b)) (sym e) (Permᴰ·symm (s .permuted));
+    }

@@ -10,7 +10,7 @@ use borrow.Author.Tests.{ltb-true, ltb-false}
 use Rattle.model.specs.Lists.{at, same}
 use Rattle.model.specs.ValueSets.{has}
 use Rattle.model.specs.Nogood.{Entry, filtered}
-use Rattle.retyped.specs.Retyped.{Within, Filter-twice, Filter-within, turns, byTurns, Applied, none, first, second, LargestLeft, Turns-largest, Turns-either, Turns-any}
+use Rattle.retyped.specs.Retyped.{Within, Filter-twice, Filter-within, turns, byTurns, Applied, none, first, second, LargestLeft, Turns-largest, Turns-either, Turns-any, Turns-applied}
 use Rattle.model.proofs.Lists.{T-of, of-not, same-eq, same-refl}
 use Rattle.model.specs.Pruning.{Sets, Inside}
 use Rattle.model.proofs.Sets.{inside-refl, inside-trans, inside-antisym, size, size-le, size-strict}
@@ -145,3 +145,7 @@ turns-any es fs ds rs a e f =
       above = λ ts w g h. applied-above es fs ds ts w g h a;
     }
     (turns-largest es fs ds)
+
+pub turns-applied : Turns-applied
+unfolding byTurns
+turns-applied es fs ds = turns-ind es fs (Applied es fs ds) (λ rs a. second (first a)) (suc (length ds * 16)) ds none

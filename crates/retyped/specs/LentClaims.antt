@@ -10,7 +10,7 @@ use Rattle.order.specs.RunBy.{setsBy}
 use Rattle.lent.specs.Lent.{verdictLent, problemWith, orderLent, problemLent, answerLent, listLent, tallyLent}
 use Rattle.families.specs.Families.{Joined, familiesOf}
 use Rattle.figure.specs.Figure.{familiesLent}
-use Rattle.enough.specs.Lent.{enoughLent, enoughTally}
+use Rattle.enough.specs.Lent.{enoughLent}
 use Rattle.retyped.specs.Retyped.{SameSearch, SameButOrder}
 
 -- no run can tell them apart: the same sets, by place number, at every prefix, the same tree, and under one limit and room the same answer, list and tally
@@ -28,11 +28,14 @@ Retyped-lent = (b c pairs block : List ℕ) → verdictLent b pairs block ≡ ac
 abbrev pub Retyped-accepted-lent : Type 0
 Retyped-accepted-lent = (b c pairs block : List ℕ) → verdictLent b pairs block ≡ accepted → SameButOrder b c → verdictLent c pairs block ≡ accepted
 
+-- so of two that differ only so, seen from either, one is accepted exactly if the other is
+abbrev pub Retyped-exactly : Type 0
+Retyped-exactly = (b c pairs block : List ℕ) → SameButOrder b c → SameButOrder c b → (verdictLent b pairs block ≡ accepted) ↔ (verdictLent c pairs block ≡ accepted)
+
 -- the same answer to "at least m plans?" (#101)
 abbrev pub Retyped-enough : Type 0
 Retyped-enough =
-    (b c pairs block : List ℕ) → verdictLent b pairs block ≡ accepted → SameButOrder b c → (limit m : ℕ) (tally : Tally) →
-    (enoughLent c pairs block limit m ≡ enoughLent b pairs block limit m) × (enoughTally c pairs block limit m tally ≡ enoughTally b pairs block limit m tally)
+    (b c pairs block : List ℕ) → verdictLent b pairs block ≡ accepted → SameButOrder b c → (limit m : ℕ) → enoughLent c pairs block limit m ≡ enoughLent b pairs block limit m
 
 -- the same families, and the same figure (#104)
 abbrev pub Retyped-families : Type 0

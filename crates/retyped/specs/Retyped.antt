@@ -65,6 +65,10 @@ Turns-either = (es fs : List Entry) (ds : List ℕ) → byTurns es fs ds ≡ byT
 abbrev pub Turns-any : Type 0
 Turns-any = (es fs : List Entry) (ds rs : List ℕ) → Applied es fs ds rs → filtered rs es ≡ rs → filtered rs fs ≡ rs → rs ≡ byTurns es fs ds
 
+-- such an order is by turns
+abbrev pub Turns-applied : Type 0
+Turns-applied = (es fs : List Entry) (ds : List ℕ) → Applied es fs ds (byTurns es fs ds)
+
 -- ---- problems that differ only in the order of their symmetries
 -- Neither the order nor the number of times that one is named matters, so each is among the others' is all that is asked.
 pub record SameSymmetries (p q : Problem) : Type 0 where
@@ -103,3 +107,7 @@ pub record SameButOrder (b c : List ℕ) : Type 0 where
 -- where one is accepted, the other is too; that no run can tell them apart is stated in specs/LentClaims (Retyped-lent), of the run that is lent pairs and a block
 abbrev pub Retyped-accepted : Type 0
 Retyped-accepted = (b c : List ℕ) → verdictOf b ≡ accepted → SameButOrder b c → verdictOf c ≡ accepted
+
+-- and differs from it only so
+abbrev pub Retyped-back : Type 0
+Retyped-back = (b c : List ℕ) → verdictOf b ≡ accepted → SameButOrder b c → SameButOrder c b
