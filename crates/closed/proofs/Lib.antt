@@ -2,3 +2,6 @@
 pub mod Open
 pub mod Codes
 pub mod Testing
+pub mod Calls
+pub mod ClosedExamples
+pub mod Tied

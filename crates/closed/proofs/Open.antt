@@ -82,6 +82,9 @@ module _ (p : Problem) where
       let l = pair-below (a .0) (b .0) (a .1) (b .1) in
       subst₂ Product (a .2) (b .2) (made-e (a .0) (b .0) (made-below (a .0) (b .0) (a .1) (b .1) (omega arith)))
 
+  pub all-made : Closed p → (a b : ℕ) → a < length (p .symmetries) → b < length (p .symmetries) → T (made p a b)
+  all-made closed a b l k = made-i a b (closed (symmetryAt p a) (symmetryAt p b) (mem-getD (p .symmetries) a [] l) (mem-getD (p .symmetries) b [] k))
+
   missing-none : Closed p → firstMissing p ≡ g * g
   unfolding firstMissing
   missing-none closed = least-none (g * g) missing (λ k l. go k l)
@@ -89,7 +92,7 @@ module _ (p : Problem) where
       go : (k : ℕ) → k < g * g → missing k ≡ false
       go k l =
           let c = pair-parts g k l in
-          ap not (of-T (made p (k / g) (k % g)) (made-i (k / g) (k % g) (closed (symmetryAt p (k / g)) (symmetryAt p (k % g)) (mem-getD (p .symmetries) (k / g) [] (c .1)) (mem-getD (p .symmetries) (k % g) [] (c .2)))))
+          ap not (of-T (made p (k / g) (k % g)) (all-made closed (k / g) (k % g) (c .1) (c .2)))
 
   missing-at : firstMissing p < g * g → missing (firstMissing p) ≡ true
   unfolding firstMissing

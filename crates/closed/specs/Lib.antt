@@ -2,3 +2,5 @@
 pub mod Open
 pub mod Held
 pub mod Lent
+pub mod Calls
+pub mod ClosedExamples

@@ -10,7 +10,8 @@ ghost use mathlib.Core.List.{List};
 ghost use Rattle.lent.specs.Lent.{problemWith};
 ghost use Rattle.closed.specs.Open.{made, firstMissing, firstOpen};
 ghost use Rattle.closed.specs.Held.{Held, Passed};
-ghost use Rattle.closed.specs.Lent.{told, closedLent, means};
+ghost use Rattle.closed.specs.Lent.{told, means};
+ghost use Rattle.closed.specs.Calls.{CallClosed};
 use layout::VALUES;
 use layout::VARIABLES;
 
@@ -104,12 +105,7 @@ fn is_made(
 }
 
 // The number k of the first two symmetries, by k / g and then k % g for g symmetries, that make none of them one after the other; g * g where there are none.
-pub fn first_missing(
-    images: &[u8; 26112],
-    variables: usize,
-    values: usize,
-    symmetries: usize,
-) -> usize
+fn first_missing(images: &[u8; 26112], variables: usize, values: usize, symmetries: usize) -> usize
     requires { ⌜ ((p : Problem) × Held p (now images) variables values × (symmetries ≡ length (p .symmetries))) ⌝ }
     ensures { λ r. ⌜ ((p : Problem) → Held p (now (images .entry)) variables values → symmetries ≡ length (p .symmetries) → r ≡ firstMissing p) ⌝ }
 {
@@ -159,7 +155,7 @@ fn test(block: &[u8], numbers: &[u64; 2432], images: &mut [u8; 26112]) -> Answer
 
 // The exchanges of a run that is lent a sheet, pairs and a block: the sheet's own, then the block's rows.
 pub fn closed(sheet: &[u8], pairs: &[u8], block: &[u8]) -> Answer
-    ensures { λ r. ⌜ means r ≡ closedLent (now (sheet .entry)) (now (pairs .entry)) (now (block .entry)) ⌝ }
+    ensures { λ r. ⌜ CallClosed (now (sheet .entry)) (now (pairs .entry)) (now (block .entry)) r ⌝ }
 {
     let mut numbers = [0u64; 2432];
     let mut supports = [0u16; 8192];
