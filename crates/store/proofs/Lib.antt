@@ -6,5 +6,6 @@ pub mod Free
 pub mod Calls
 pub mod Answers
 pub mod Sheets
+pub mod Isolated
 pub mod Examples
 pub mod Tied

@@ -1,12 +1,15 @@
 -- Calls of `put`, `fetch` and `remove`: the store's bytes, owner and key, the table or the room as it came, the answer, and the bytes at the end. Each is
--- the function's contract; specs/Claims says what calls one after another come to.
+-- the function's contract. And paper 02, #110, of what the owners hold who make calls one after another; proofs/Isolated has the theorem.
 use mathlib.Core.Path.{_≡_}
-use mathlib.Core.List.{List}
+use mathlib.Core.List.{List, [], _∷_}
 use Prim.Native.Nat.{ℕ}
 use lib.ListN.{length}
-use Rattle.store.specs.Store.{call, put, fetch, remove, storeAfter}
+use lib.Dec.{eqb}
+use Rattle.model.specs.Lists.{choose}
+use Rattle.store.specs.Store.{Call, call, put, fetch, remove, storeAfter, callsOf}
 use Rattle.store.specs.Layout.{size, storeOf, replyOn, bytesAfter}
 use Rattle.store.specs.Meaning.{means}
+use Rattle.store.specs.Claims.{StoreBytes, ByteCalls}
 use Rattle.store.specs.declared.Answer.{Answer}
 
 abbrev pub CallPut : List ℕ → ℕ → ℕ → List ℕ → Answer → List ℕ → Type 0
@@ -21,3 +24,30 @@ abbrev pub CallRemove : List ℕ → ℕ → ℕ → Answer → List ℕ → Typ
 CallRemove b owner key r b′ =
     (means r ≡ replyOn b (call owner key remove) .outcome)
     × ((b′ ≡ bytesAfter b (call owner key remove)) × (length b ≡ size → storeOf b′ ≡ storeAfter (storeOf b) (call owner key remove)))
+
+-- ---- calls one after another, of any owners
+-- what a call handed back: its answer, and the room at the end; none is lent to put and remove
+pub record Got : Type 0 where
+  pub answer : Answer
+  pub room : List ℕ
+
+-- one more that owner o got, if the call was its own
+abbrev pub own : ℕ → ℕ → Got → List Got → List Got
+own o owner g gs = choose (eqb owner o) (g ∷ gs) gs
+
+-- from the bytes b on these calls were made, and o got this back
+pub data Called (o : ℕ) : List ℕ → List Call → List Got → Type 0 where
+  none : (b : List ℕ) → Called o b [] []
+  puts : (b b′ : List ℕ) (owner key : ℕ) (t : List ℕ) (r : Answer) (xs : List Call) (gs : List Got) → CallPut b owner key t r b′ → Called o b′ xs gs →
+      Called o b (call owner key (put t) ∷ xs) (own o owner (record { answer = r; room = [] }) gs)
+  fetches : (b : List ℕ) (owner key : ℕ) (room : List ℕ) (r : Answer) (room′ : List ℕ) (xs : List Call) (gs : List Got) → CallFetch b owner key room r room′ → Called o b xs gs →
+      Called o b (call owner key (fetch room) ∷ xs) (own o owner (record { answer = r; room = room′ }) gs)
+  removes : (b b′ : List ℕ) (owner key : ℕ) (r : Answer) (xs : List Call) (gs : List Got) → CallRemove b owner key r b′ → Called o b′ xs gs →
+      Called o b (call owner key remove ∷ xs) (own o owner (record { answer = r; room = [] }) gs)
+
+-- what an owner gets back depends only on its own calls: two sequences with the same calls of one owner, all else changed at will, on the bytes of any two
+-- stores in which it has the same entries
+abbrev pub Isolated-calls : Type 0
+Isolated-calls =
+    (o : ℕ) (b b′ : List ℕ) (xs ys : List Call) (gs hs : List Got) → StoreBytes b → StoreBytes b′ → ByteCalls xs → ByteCalls ys →
+    Called o b xs gs → Called o b′ ys hs → storeOf b o ≡ storeOf b′ o → callsOf o xs ≡ callsOf o ys → gs ≡ hs
