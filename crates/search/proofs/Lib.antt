@@ -5,5 +5,6 @@ pub mod Demands
 pub mod DemandsLent
 pub mod RetypedCalls
 pub mod EnoughCalls
+pub mod Counted
 pub mod Tied
 pub mod Moments

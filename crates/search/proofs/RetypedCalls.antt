@@ -32,7 +32,7 @@ ending-known (Full a b) (Finished x y) h = absurd (let z : _≡_ {A = ℕ} 0 1 =
 ending-known (Full a b) (Spent x y) h = absurd (let z : _≡_ {A = ℕ} 0 1 = cc in omega arith)
 ending-known (Full a b) (Full x y) h = cc
 
-answer-known : (q r : Answer) → means q ≡ means r → q ≡ r
+pub answer-known : (q r : Answer) → means q ≡ means r → q ≡ r
 answer-known (Refused a b) (Refused x y) h = cc
 answer-known (Refused a b) (Ended y) h = absurd (let z : _≡_ {A = ℕ} 0 1 = cc in omega arith)
 answer-known (Ended d) (Refused x y) h = absurd (let z : _≡_ {A = ℕ} 0 1 = cc in omega arith)

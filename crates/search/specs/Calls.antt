@@ -1,14 +1,19 @@
--- A call of `run`, `run_with`, `run_lent`: what it was lent, what it answered, and what the lent bytes are at the end. Each is the function's contract;
+-- A call of `run`, `run_with`, `run_lent`, `run_counted` and `at_least`: what it was lent, what it answered, and what the lent bytes are at the end. Each is the function's contract;
 -- `Demands` and its like say what a caller may rely on.
 use mathlib.Core.Path.{_≡_}
 use mathlib.Core.List.{List}
 use Prim.Native.Nat.{ℕ}
+use lib.ListN.{replicate}
 use Rattle.model.specs.Run.{answerOf, listOf, tallyOf}
 use Rattle.lent.specs.Lent.{answerLent, listLent, tallyLent}
+use Rattle.enough.specs.Lent.{enoughLent}
+use Rattle.walk.specs.Walk.{noNodes}
 use Rattle.walk.specs.Meaning.{tallyIn}
-use Rattle.search.specs.Meaning.{means}
+use Rattle.search.specs.Meaning.{means, saidEnough}
 use Rattle.walk.specs.declared.Tally.{Tally}
 use Rattle.search.specs.declared.Answer.{Answer}
+use Rattle.search.specs.declared.CountedRun.{CountedRun}
+use Rattle.search.specs.declared.Enough.{Enough}
 
 -- `run`: sheet b, node limit, list `out` as it came, answer r, list `after` at the end
 pub record Call (b : List ℕ) (limit : ℕ) (out : List ℕ) (r : Answer) (after : List ℕ) : Type 0 where
@@ -25,3 +30,21 @@ pub record CallLent (b pairs block : List ℕ) (limit : ℕ) (out : List ℕ) (t
   pub answers : means r ≡ answerLent b pairs block limit out
   pub leaves : after ≡ listLent b pairs block limit out
   pub counts : tallyIn tally′ ≡ tallyLent b pairs block limit out (tallyIn tally)
+
+-- `run_counted`, whose tally begins at nothing and is handed out in r
+abbrev pub CallCounted : List ℕ → List ℕ → List ℕ → ℕ → List ℕ → CountedRun → List ℕ → Type 0
+CallCounted b pairs block limit out r after =
+    (means (r .answer) ≡ answerLent b pairs block limit out) × (after ≡ listLent b pairs block limit out) × (tallyIn (r .tally) ≡ tallyLent b pairs block limit out noNodes)
+
+-- so all that is said of a call of `run_lent` holds of it: `demands-lent` and its like
+abbrev pub noTally : Tally
+noTally = record { nodes = 0; counts = replicate 12 0 }
+
+abbrev pub Counted-calls : Type 0
+Counted-calls =
+    (b pairs block : List ℕ) (limit : ℕ) (out : List ℕ) (r : CountedRun) (after : List ℕ) → CallCounted b pairs block limit out r after →
+    CallLent b pairs block limit out noTally (r .answer) after (r .tally)
+
+-- `at_least`: r comes back
+abbrev pub CallEnough : List ℕ → List ℕ → List ℕ → ℕ → ℕ → Enough → Type 0
+CallEnough b pairs block limit m r = saidEnough r ≡ enoughLent b pairs block limit m

@@ -8,13 +8,9 @@ use layout::SPENT;
 use walk::Tally;
 ghost use mathlib.Core.Path.{_≡_};
 ghost use lib.ListN.{length};
-ghost use Rattle.lent.specs.Lent.{answerLent, listLent, tallyLent};
-ghost use Rattle.walk.specs.Walk.{noNodes};
-ghost use Rattle.walk.specs.Meaning.{tallyIn};
 ghost use Rattle.search.specs.Meaning.{means, saidEnough};
-ghost use Rattle.search.specs.Calls.{Call, CallWith, CallLent};
+ghost use Rattle.search.specs.Calls.{Call, CallWith, CallLent, CallCounted, CallEnough};
 ghost use Rattle.search.specs.Tasks.{answerBare, listBare, enoughNone, enoughFor};
-ghost use Rattle.enough.specs.Lent.{enoughLent};
 ghost use Rattle.search.specs.Whole.{Stopped, Answered, Done};
 
 // How a run ends; each ending carries the plans listed and the nodes made.
@@ -151,7 +147,7 @@ pub fn run_counted(
     limit: u32,
     list: &mut [u8],
 ) -> CountedRun
-    ensures { λ r. ⌜ (means (r .answer) ≡ answerLent (now (sheet .entry)) (now (pairs .entry)) (now (block .entry)) limit (now (list .entry))) × (now (list .exit) ≡ listLent (now (sheet .entry)) (now (pairs .entry)) (now (block .entry)) limit (now (list .entry))) × (tallyIn (r .tally) ≡ tallyLent (now (sheet .entry)) (now (pairs .entry)) (now (block .entry)) limit (now (list .entry)) noNodes) ⌝ }
+    ensures { λ r. ⌜ CallCounted (now (sheet .entry)) (now (pairs .entry)) (now (block .entry)) limit (now (list .entry)) r (now (list .exit)) ⌝ }
 {
     let mut tally = walk::no_nodes();
     let answer = run_lent(sheet, pairs, block, limit, list, &mut tally);
@@ -206,7 +202,7 @@ fn judged(answer: Answer, m: usize) -> Enough
 
 // Are there at least m plans (paper 02, #101)? No list is lent.
 pub fn at_least(sheet: &[u8], pairs: &[u8], block: &[u8], m: usize, limit: u32) -> Enough
-    ensures { λ r. ⌜ saidEnough r ≡ enoughLent (now (sheet .entry)) (now (pairs .entry)) (now (block .entry)) limit m ⌝ }
+    ensures { λ r. ⌜ CallEnough (now (sheet .entry)) (now (pairs .entry)) (now (block .entry)) limit m r ⌝ }
 {
     if m == 0 {
         return asked_for_none(sheet, pairs, block);
