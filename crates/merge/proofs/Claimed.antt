@@ -1,6 +1,6 @@
 -- The claims of paper 02, #106. Assumes nothing.
 use mathlib.Core.Path.{_≡_, refl, sym, ap, _∙_, subst}
-use mathlib.Core.Logic.{_⊎_, _↔_, inl, inr, ⊎-elim}
+use mathlib.Core.Logic.{_⊎_, inl, inr, ⊎-elim}
 use mathlib.Core.List.{List, [], _∷_, map, List·Memᴰ, List·Memᴰ·head, List·Memᴰ·not-nil}
 use Prim.Native.Nat.{ℕ, _≤_}
 use native.Mathlib.Omega.{arith}
@@ -8,22 +8,17 @@ use lib.Dec.{T}
 use lib.ListN.{length}
 use Rattle.model.specs.Lists.{flat, below, rowsAscend}
 use Rattle.model.specs.Room.{rowsIn}
-use Rattle.model.specs.Sheet.{verdictOf, problemOf}
 use Rattle.model.specs.Verdict.{Verdict, accepted, isAccepted}
 use Rattle.model.proofs.Lists.{T-of, of-T, earlier-asym, Sorted, sorted-ext}
 use Rattle.model.proofs.Accepted.{asked}
 use Rattle.model.proofs.Room.{Wide, wide-tail, rows-wide, rows-none, rows-back}
-use Rattle.model.specs.Run.{finished}
 use Rattle.order.specs.Order.{settlingOrder, orderVerdict, Ordering}
-use Rattle.order.specs.Reordered.{read, LeaderBy}
-use Rattle.order.specs.RunBy.{resultBy, leadersBy}
+use Rattle.order.specs.Reordered.{read}
 use Rattle.order.proofs.Order.{order-passed}
 use Rattle.order.proofs.Order as O
-use Rattle.order.proofs.RunBy as R
-use Rattle.model.proofs.Demands.{of-accepted}
 use Rattle.merge.specs.Inner.{Places}
 use Rattle.merge.specs.Merge.{ascends, union, mergedBy, merged, wholeLists, orderedVerdict, mergeVerdict}
-use Rattle.merge.specs.Claims.{Holds, Ascends, Itself, Empty, Swapped, Nothing-lent, plansOf, Plans-of-either}
+use Rattle.merge.specs.Claims.{Holds, Ascends, Itself, Empty, Swapped, Nothing-lent}
 use Rattle.merge.proofs.Reading.{Earlier, read-below, ascends-none, sorted-of, ascends-of}
 use Rattle.merge.proofs.Union.{union-e, union-i, union-wide, union-sorted}
 use Rattle.merge.proofs.Asking.{rows-bytes, Whole, whole-e}
@@ -145,35 +140,3 @@ empty n pairs a room e =
 pub swapped : Swapped
 unfolding merged mergedBy
 swapped n pairs a b room e = ap flat (union-swapped n pairs a b (accepted-of n pairs a b room e))
-
--- ---- the plans of two runs
-⊎-map : {A B C D : Type 0} → (A → C) → (B → D) → A ⊎ B → C ⊎ D
-⊎-map f g (inl a) = inl (f a)
-⊎-map f g (inr b) = inr (g b)
-
--- a finished run's rows are the leaders in the order
-listed : (b pairs : List ℕ) (n : ℕ) → verdictOf b ≡ accepted → problemOf b .variables ≡ n → Ordering n (settlingOrder n pairs) → (limit room plans made : ℕ) →
-    resultBy (settlingOrder n pairs) (problemOf b) limit room .ending ≡ finished plans made →
-    1 ≤ n → (r : List ℕ) → List·Memᴰ r (rowsIn n (plansOf b pairs limit room)) ↔ LeaderBy (settlingOrder n pairs) (problemOf b) r
-listed b pairs n h e o limit room plans made f some r =
-    let p = problemOf b in
-    let q = of-accepted b h in
-    let order = settlingOrder n pairs in
-    let o′ : Ordering (p .variables) order = subst (λ (k : ℕ). Ordering k order) (sym e) o in
-    let rows = resultBy order p limit room .rows in
-    let bytes : plansOf b pairs limit room ≡ flat rows = ap (λ (k : ℕ). flat (resultBy (settlingOrder k pairs) p limit room .rows)) e in
-    let back : rowsIn n (plansOf b pairs limit room) ≡ leadersBy order p =
-    ap (rowsIn n) bytes ∙ rows-back n rows some (λ s m. R.rows-sized-by p (q .well) (q .respected) order o′ limit room s m ∙ e)
-    ∙ R.finished-lists p (q .well) (q .respected) order o′ limit room plans made f in
-    let hold = R.leadersBy-hold p (q .well) (q .respected) order o′ r in
-    (λ m. hold .0 (subst (List·Memᴰ r) back m), λ l. subst (List·Memᴰ r) (sym back) (hold .1 l))
-
-pub plans-of-either : Plans-of-either
-plans-of-either b c pairs n hb hc eb ec limit room limit′ room′ plans made plans′ made′ free fb fc v r =
-    let k = accepted-of n pairs (plansOf b pairs limit room) (plansOf c pairs limit′ room′) free v in
-    let x = listed b pairs n hb eb (k .ordering) limit room plans made fb (k .whole .some) r in
-    let y = listed c pairs n hc ec (k .ordering) limit′ room′ plans′ made′ fc (k .whole .some) r in
-    let z = holds n pairs (plansOf b pairs limit room) (plansOf c pairs limit′ room′) free v r in (
-      λ m. ⊎-map (x .0) (y .0) (z .0 m),
-      λ l. z .1 (⊎-map (x .1) (y .1) l),
-    )

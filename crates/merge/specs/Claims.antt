@@ -1,20 +1,15 @@
--- The claims of paper 02, #106, as statements about the definitions; proofs/Claimed has the proofs.
+-- The claims of paper 02, #106, as statements about the definitions; proofs/Claimed has the proofs. That the merge of two runs' lists has the plans of
+-- either, crate either says of what callers hold.
 use mathlib.Core.Path.{_≡_}
 use mathlib.Core.Logic.{_⊎_, _↔_}
 use mathlib.Core.List.{List, [], List·Memᴰ}
-use Prim.Native.Nat.{ℕ, _%_}
+use Prim.Native.Nat.{ℕ}
 use lib.Dec.{T}
-use lib.ListN.{length}
-use Rattle.model.specs.Lists.{flat, below, rowsAscend}
-use Rattle.model.specs.Problem.{Problem}
+use Rattle.model.specs.Lists.{below, rowsAscend}
 use Rattle.model.specs.Verdict.{accepted}
-use Rattle.model.specs.Sheet.{verdictOf, problemOf}
 use Rattle.model.specs.Room.{rowsIn}
-use Rattle.model.specs.Run.{finished}
 use Rattle.order.specs.Order.{settlingOrder}
-use Rattle.order.specs.Reordered.{LeaderBy}
-use Rattle.order.specs.RunBy.{resultBy}
-use Rattle.merge.specs.Merge.{ascends, mergedBy, merged, orderedVerdict, mergeVerdict}
+use Rattle.merge.specs.Merge.{ascends, mergedBy, merged, mergeVerdict}
 
 -- the merged list holds exactly the rows of either
 abbrev pub Holds : Type 0
@@ -45,17 +40,3 @@ pub record NothingLent (n : ℕ) (a b : List ℕ) : Type 0 where
 
 abbrev pub Nothing-lent : Type 0
 Nothing-lent = (n : ℕ) (a b : List ℕ) → NothingLent n a b
-
--- the plans that a run of an accepted sheet in the settling order of the pairs lists, as bytes
-abbrev pub plansOf : List ℕ → List ℕ → ℕ → ℕ → List ℕ
-plansOf b pairs limit room = flat (resultBy (settlingOrder (problemOf b .variables) pairs) (problemOf b) limit room .rows)
-
--- where two runs of sheets for the same n, with the same pairs, are finished, the merge of their lists has exactly the plans of at least one of the two sheets
-abbrev pub Plans-of-either : Type 0
-Plans-of-either =
-    (b c pairs : List ℕ) (n : ℕ) → verdictOf b ≡ accepted → verdictOf c ≡ accepted → problemOf b .variables ≡ n → problemOf c .variables ≡ n →
-    (limit room limit′ room′ plans made plans′ made′ free : ℕ) →
-    resultBy (settlingOrder n pairs) (problemOf b) limit room .ending ≡ finished plans made → resultBy (settlingOrder n pairs) (problemOf c) limit′ room′ .ending ≡ finished plans′ made′ →
-    mergeVerdict n pairs (plansOf b pairs limit room) (plansOf c pairs limit′ room′) free ≡ accepted →
-    (r : List ℕ) → List·Memᴰ r (rowsIn n (merged n pairs (plansOf b pairs limit room) (plansOf c pairs limit′ room′))) ↔
-    (LeaderBy (settlingOrder n pairs) (problemOf b) r ⊎ LeaderBy (settlingOrder n pairs) (problemOf c) r)
