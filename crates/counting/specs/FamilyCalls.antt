@@ -1,18 +1,16 @@
--- Families (paper 02, #104) and one plan of each (#112), of what callers hold: of `families`, and of `run_lent` and `closed` with the same sheet, pairs
--- and block. proofs/FamilyCalls has the theorems.
+-- Families (paper 02, #104) and one plan of each (#112), of what callers hold: of `families`, and of `run_lent` with the same sheet, pairs and block.
+-- proofs/FamilyCalls has the theorems.
 use mathlib.Core.Path.{_≡_}
 use mathlib.Core.Logic.{_↔_}
-use mathlib.Core.List.{List}
+use mathlib.Core.List.{List, []}
 use Prim.Native.Nat.{ℕ, _*_}
+use lib.ListN.{length}
 use Rattle.model.specs.Verdict.{accepted, refused}
 use Rattle.model.specs.Sheet.{headerOf, problemOf}
 use Rattle.lent.specs.Lent.{verdictLent, problemWith}
 use Rattle.families.specs.Families.{Closed, FamilyCount, familiesOf}
-use Rattle.figure.specs.FigureClaims.{ranBare, Finished, OneListedEach}
-use Rattle.closed.specs.Lent.{closedLent}
-use Rattle.closed.specs.Lent as L
-use Rattle.closed.specs.declared.Answer as CA
-use Rattle.closed.specs.declared.Answer.the-variants as CV
+use Rattle.figure.specs.Figure.{bareSheet}
+use Rattle.figure.specs.FigureClaims.{OneListedEach}
 use Rattle.search.specs.Demands.{plansFrom}
 use Rattle.search.specs.Calls.{CallLent}
 use Rattle.walk.specs.declared.Tally.{Tally}
@@ -33,8 +31,12 @@ pub record FamiliesHeld (b pairs block : List ℕ) (limit : ℕ) (r : Answer) : 
   pub refuses : (n i : ℕ) → verdictLent b pairs block ≡ refused n i → r ≡ Refused n i
   -- a number is that of the families
   pub counts : (k : ℕ) → r ≡ Number k → (k ≡ familiesOf (problemWith b block)) × FamilyCount (problemWith b block)
-  -- the dash is told exactly where the run without exchanges isn't finished, with this limit and room for 4,096 plans
-  pub dashed : verdictLent b pairs block ≡ accepted → (r ≡ Dash) ↔ (Finished (ranBare b pairs limit (4096 * problemOf b .variables)) → ⊥)
+  -- beside a run of the sheet without exchanges, with the same pairs, this limit and room for 4,096 plans: a number is told where it is finished, and the
+  -- dash exactly where it isn't
+  pub numbered : verdictLent b pairs block ≡ accepted → (out : List ℕ) (tally : Tally) (a : SA.Answer) (after : List ℕ) (tally′ : Tally) → CallLent (bareSheet b) pairs [] limit out tally a after tally′ →
+      length out ≡ 4096 * problemOf b .variables → (plans nodes : ℕ) → a ≡ Ended (Done plans nodes) → r ≡ Number (familiesOf (problemWith b block))
+  pub dashed : verdictLent b pairs block ≡ accepted → (out : List ℕ) (tally : Tally) (a : SA.Answer) (after : List ℕ) (tally′ : Tally) → CallLent (bareSheet b) pairs [] limit out tally a after tally′ →
+      length out ≡ 4096 * problemOf b .variables → (r ≡ Dash) ↔ ((plans nodes : ℕ) → a ≡ Ended (Done plans nodes) → ⊥)
 
 abbrev pub Families-calls : Type 0
 Families-calls = (b pairs block : List ℕ) (limit : ℕ) (r : Answer) → CallFamilies b pairs block limit r → FamiliesHeld b pairs block limit r
@@ -46,15 +48,7 @@ One-of-each-calls =
     (b pairs block : List ℕ) (limit : ℕ) (out : List ℕ) (tally : Tally) (r : SA.Answer) (after : List ℕ) (tally′ : Tally) → CallLent b pairs block limit out tally r after tally′ →
     (plans nodes : ℕ) → r ≡ Ended (Done plans nodes) → Closed (problemWith b block) → OneListedEach b pairs block plans (plansFrom b plans after)
 
--- a call of `closed`: r comes back
-abbrev pub CallClosed : List ℕ → List ℕ → List ℕ → CA.Answer → Type 0
-CallClosed b pairs block r = L.means r ≡ closedLent b pairs block
-
--- closed they are where `closed` says so ..
-abbrev pub Closed-calls : Type 0
-Closed-calls = (b pairs block : List ℕ) (r : CA.Answer) → CallClosed b pairs block r → r ≡ CV.Closed → Closed (problemWith b block)
-
--- .. and where a block is used with no exchanges of the sheet
+-- closed they are where `closed` says so (crate closed's `Closed-calls`), and where a block is used with no exchanges of the sheet
 abbrev pub Block-calls : Type 0
 Block-calls =
     (b pairs block : List ℕ) (limit : ℕ) (out : List ℕ) (tally : Tally) (r : SA.Answer) (after : List ℕ) (tally′ : Tally) → CallLent b pairs block limit out tally r after tally′ →
