@@ -1,4 +1,4 @@
--- What a caller of planner_run holds (specs/Exported), from its contract and search's `demands`. Assumes nothing.
+-- What callers of planner_question and planner_run hold (specs/Exported), from the contracts and search's `demands`. Assumes nothing.
 use mathlib.Core.Path.{_≡_, refl, sym, ap, _∙_, subst}
 use mathlib.Core.Bool.{Bool, true, false, not}
 use mathlib.Core.List.{List, [], _∷_}
@@ -22,9 +22,9 @@ use Rattle.search.specs.declared.Ending.the-variants.{Finished, Spent, Full}
 use Rattle.search.specs.declared.Answer.{Answer}
 use Rattle.search.specs.declared.Answer.the-variants.{Ended}
 use Rattle.search.proofs.Demands.{demands}
-use Rattle.wire.specs.Wire.{wrongLength, threeNumbers}
-use Rattle.export_run.specs.Run.{endingBytes, answerCode, answerBytes, runCode, runList, runAnswer}
-use Rattle.export_run.specs.Exported.{CallExported, fourAt, Tells, Exported}
+use Rattle.wire.specs.Wire.{codeOf, wrongLength, threeNumbers}
+use Rattle.export_run.specs.Run.{questionCode, endingBytes, answerCode, answerBytes, runCode, runList, runAnswer}
+use Rattle.export_run.specs.Exported.{Question-code, CallExported, fourAt, Tells, Exported}
 use Rattle.export_run.proofs.Ran.{wrong-answer}
 
 -- ---- no question has the number 0
@@ -102,38 +102,49 @@ verdict-named b =
     (constraints-named b h (h .constraints) 0 (h .second) v14
     (ask-named (tablesFit h) 14 0 v (omega arith) (symmetries-named (problemOf b) 0 (problemOf b .symmetries)))))
 
+pub question-code : Question-code
+unfolding questionCode
+question-code b code c = record {
+  accepts = (λ z. go (verdictOf b) refl (sym c ∙ z), λ e. c ∙ ap codeOf e);
+  refuses = λ number item e. c ∙ ap codeOf e;
+}
+  where
+    go : (v : Verdict) → verdictOf b ≡ v → codeOf (verdictOf b) ≡ 0 → verdictOf b ≡ accepted
+    go accepted e z = e
+    go (refused number item) e z = let n : 0 < number = subst Named e (verdict-named b) in let y : number * 256 + item ≡ 0 = sym (ap codeOf e) ∙ z in absurd (omega arith)
+
 -- ---- the three numbers
-first-of : (k a b : ℕ) → fourAt (threeNumbers k a b) 0 ≡ k
+pub first-of : (k a b : ℕ) → fourAt (threeNumbers k a b) 0 ≡ k
 unfolding threeNumbers fourBytes at
 first-of k a b = omega arith
 
-second-of : (k a b : ℕ) → fourAt (threeNumbers k a b) 4 ≡ a
+pub second-of : (k a b : ℕ) → fourAt (threeNumbers k a b) 4 ≡ a
 unfolding threeNumbers fourBytes at
 second-of k a b = omega arith
 
-third-of : (k a b : ℕ) → fourAt (threeNumbers k a b) 8 ≡ b
+pub third-of : (k a b : ℕ) → fourAt (threeNumbers k a b) 8 ≡ b
 unfolding threeNumbers fourBytes at
 third-of k a b = omega arith
 
-endingAs : R.Ending → Ending
+pub endingAs : R.Ending → Ending
 endingAs (finished plans nodes) = Finished plans nodes
 endingAs (spent plans nodes) = Spent plans nodes
 endingAs (full plans nodes) = Full plans nodes
 
-ending-as : (e : R.Ending) → endingOf (endingAs e) ≡ e
+pub ending-as : (e : R.Ending) → endingOf (endingAs e) ≡ e
 unfolding endingAs
 ending-as (finished plans nodes) = refl
 ending-as (spent plans nodes) = refl
 ending-as (full plans nodes) = refl
 
-told : (e : R.Ending) → Tells (endingBytes e) (endingAs e)
+pub told : (e : R.Ending) → Tells (endingBytes e) (endingAs e)
 unfolding endingAs
 told (finished plans nodes) = (first-of 1 plans nodes, second-of 1 plans nodes, third-of 1 plans nodes)
 told (spent plans nodes) = (first-of 2 plans nodes, second-of 2 plans nodes, third-of 2 plans nodes)
 told (full plans nodes) = (first-of 3 plans nodes, second-of 3 plans nodes, third-of 3 plans nodes)
 
 -- an ending whose first number is 1 is finished, with the second number of plans
-is-finish : (l : List ℕ) (e : Ending) → Tells l e → fourAt l 0 ≡ 1 → (nodes : ℕ) × (e ≡ Finished (fourAt l 4) nodes)
+pub is-finish : (l : List ℕ) (e : Ending) → Tells l e → fourAt l 0 ≡ 1 → (nodes : ℕ) × (e ≡ Finished (fourAt l 4) nodes)
 is-finish l (Finished plans nodes) t h = (nodes, ap (λ (p : ℕ). Finished p nodes) (sym (t .1)))
 is-finish l (Spent plans nodes) t h = absurd (let q = t .0 in omega arith)
 is-finish l (Full plans nodes) t h = absurd (let q = t .0 in omega arith)

@@ -1,6 +1,7 @@
--- What a caller of planner_run holds: the code that comes back, the list and the twelve bytes of the answer, as they came and at the end.
--- proofs/Exported has the theorem.
+-- What callers of planner_question and planner_run hold: the code that comes back, the list and the twelve bytes of the answer, as they came and at the
+-- end. proofs/Exported has the theorems.
 use mathlib.Core.Path.{_≡_}
+use mathlib.Core.Logic.{_↔_}
 use mathlib.Core.List.{List}
 use Prim.Native.Nat.{ℕ, _+_, _*_}
 use lib.ListN.{length}
@@ -13,7 +14,19 @@ use Rattle.search.specs.declared.Ending.{Ending}
 use Rattle.search.specs.declared.Ending.the-variants.{Finished, Spent, Full}
 use Rattle.search.specs.declared.Answer.the-variants.{Ended}
 use Rattle.wire.specs.Wire.{wrongLength}
-use Rattle.export_run.specs.Run.{runCode, runList, runAnswer}
+use Rattle.export_run.specs.Run.{questionCode, runCode, runList, runAnswer}
+
+-- a call of `question`: bytes b, the code that comes back. It is the function's contract.
+abbrev pub CallCode : List ℕ → ℕ → Type 0
+CallCode b code = code ≡ questionCode b
+
+-- 0 exactly for an accepted sheet, else the number and item of the first "no"
+pub record CodeHeld (b : List ℕ) (code : ℕ) : Type 0 where
+  pub accepts : (code ≡ 0) ↔ (verdictOf b ≡ accepted)
+  pub refuses : (number item : ℕ) → verdictOf b ≡ refused number item → code ≡ number * 256 + item
+
+abbrev pub Question-code : Type 0
+Question-code = (b : List ℕ) (code : ℕ) → CallCode b code → CodeHeld b code
 
 -- a call of `run`: sheet b, limit, list and answer as they came, the code that comes back, list and answer at the end. It is the function's contract.
 pub record CallExported (b : List ℕ) (limit : ℕ) (list answer : List ℕ) (code : ℕ) (list′ answer′ : List ℕ) : Type 0 where

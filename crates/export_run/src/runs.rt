@@ -5,13 +5,13 @@ use wire::three;
 ghost use mathlib.Core.Path.{_≡_};
 ghost use lib.ListN.{length};
 ghost use Rattle.search.specs.Meaning.{endingOf};
-ghost use Rattle.export_run.specs.Run.{questionCode, endingBytes};
-ghost use Rattle.export_run.specs.Exported.{CallExported};
+ghost use Rattle.export_run.specs.Run.{endingBytes};
+ghost use Rattle.export_run.specs.Exported.{CallCode, CallExported};
 ghost use Rattle.export_run.specs.Inner.{Counted};
 
 // Puts the questions to a sheet: 0 where it is accepted, else the number of the first "no" times 256, plus its item.
 pub fn question(sheet: &[u8]) -> u32
-    ensures { λ r. ⌜ r ≡ questionCode (now (sheet .entry)) ⌝ }
+    ensures { λ r. ⌜ CallCode (now (sheet .entry)) r ⌝ }
 {
     let answer = sheet::question(sheet);
     match answer {
