@@ -2,3 +2,5 @@ pub mod Tallied
 pub mod Lent
 pub mod Closed
 pub mod AtLeast
+pub mod Exported
+pub mod Tied

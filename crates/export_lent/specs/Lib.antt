@@ -4,3 +4,5 @@ pub mod Lent
 pub mod Closed
 pub mod Enough
 pub mod Inner
+pub mod Calls
+pub mod Exported

@@ -5,7 +5,8 @@ use wire::three;
 ghost use mathlib.Core.Path.{_≡_};
 ghost use lib.ListN.{length};
 ghost use Rattle.search.specs.Meaning.{saidEnough};
-ghost use Rattle.export_lent.specs.Enough.{saidCode, saidBytes, enoughCode, enoughBytes};
+ghost use Rattle.export_lent.specs.Enough.{saidCode, saidBytes};
+ghost use Rattle.export_lent.specs.Calls.{CallEnoughBytes};
 ghost use Rattle.export_lent.specs.Inner.{SmallSaid};
 
 // What was said, as three numbers; a refusal leaves the answer.
@@ -40,8 +41,7 @@ pub fn at_least(
     limit: u32,
     answer: &mut [u8],
 ) -> u32
-    ensures { λ r. ⌜ r ≡ enoughCode (now (sheet .entry)) (now (pairs .entry)) (now (block .entry)) plans limit (now (answer .entry)) ⌝ }
-    ensures { λ _. ⌜ now (answer .exit) ≡ enoughBytes (now (sheet .entry)) (now (pairs .entry)) (now (block .entry)) plans limit (now (answer .entry)) ⌝ }
+    ensures { λ r. ⌜ CallEnoughBytes (now (sheet .entry)) (now (pairs .entry)) (now (block .entry)) plans limit (now (answer .entry)) r (now (answer .exit)) ⌝ }
 {
     if answer.len() != 12 {
         return 65280;

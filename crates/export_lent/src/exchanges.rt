@@ -2,15 +2,13 @@
 use closed::Answer;
 use wire::code;
 use wire::three;
-ghost use mathlib.Core.Path.{_≡_};
-ghost use Rattle.export_lent.specs.Closed.{closedCode, closedAnswer};
+ghost use Rattle.export_lent.specs.Calls.{CallClosedBytes};
 
 // The exchanges of a run that is lent a sheet, pairs and a block: the sheet's own, then the block's rows. The answer has 12 bytes, three numbers of
 // four bytes, low byte first: 1, 0, 0 where they are closed; else 2 and the first two, by number, whose product is missing. Returns 0; or a refusal, and
 // then the answer is as it came; or, asked first, 255 times 256 where the answer has not 12 bytes.
 pub fn closed(sheet: &[u8], pairs: &[u8], block: &[u8], answer: &mut [u8]) -> u32
-    ensures { λ r. ⌜ r ≡ closedCode (now (sheet .entry)) (now (pairs .entry)) (now (block .entry)) (now (answer .entry)) ⌝ }
-    ensures { λ _. ⌜ now (answer .exit) ≡ closedAnswer (now (sheet .entry)) (now (pairs .entry)) (now (block .entry)) (now (answer .entry)) ⌝ }
+    ensures { λ r. ⌜ CallClosedBytes (now (sheet .entry)) (now (pairs .entry)) (now (block .entry)) (now (answer .entry)) r (now (answer .exit)) ⌝ }
 {
     if answer.len() != 12 {
         return 65280;

@@ -1,12 +1,11 @@
 // Calls that are lent a sheet, pairs and a block (paper 02, #108 and #111). Pairs: two bytes each, "this place before that place".
 use crate::counts::ending;
 use wire::code;
-ghost use mathlib.Core.Path.{_≡_};
-ghost use Rattle.export_lent.specs.Lent.{lentQuestionCode, lentRunCode, lentRunList, lentRunAnswer};
+ghost use Rattle.export_lent.specs.Calls.{CallQuestionCode, CallRunBytes};
 
 // Puts all questions of a run that is lent pairs and a block: 0, or the number of the first "no" times 256, plus its item.
 pub fn question_lent(sheet: &[u8], pairs: &[u8], block: &[u8]) -> u32
-    ensures { λ r. ⌜ r ≡ lentQuestionCode (now (sheet .entry)) (now (pairs .entry)) (now (block .entry)) ⌝ }
+    ensures { λ r. ⌜ CallQuestionCode (now (sheet .entry)) (now (pairs .entry)) (now (block .entry)) r ⌝ }
 {
     let answer = lent::question(sheet, pairs, block);
     match answer {
@@ -25,9 +24,7 @@ pub fn run_lent(
     list: &mut [u8],
     answer: &mut [u8],
 ) -> u32
-    ensures { λ r. ⌜ r ≡ lentRunCode (now (sheet .entry)) (now (pairs .entry)) (now (block .entry)) limit (now (list .entry)) (now (answer .entry)) ⌝ }
-    ensures { λ _. ⌜ now (list .exit) ≡ lentRunList (now (sheet .entry)) (now (pairs .entry)) (now (block .entry)) limit (now (list .entry)) (now (answer .entry)) ⌝ }
-    ensures { λ _. ⌜ now (answer .exit) ≡ lentRunAnswer (now (sheet .entry)) (now (pairs .entry)) (now (block .entry)) limit (now (list .entry)) (now (answer .entry)) ⌝ }
+    ensures { λ r. ⌜ CallRunBytes (now (sheet .entry)) (now (pairs .entry)) (now (block .entry)) limit (now (list .entry)) (now (answer .entry)) r (now (list .exit)) (now (answer .exit)) ⌝ }
 {
     if answer.len() != 60 {
         return 65280;
