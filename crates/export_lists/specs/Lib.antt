@@ -2,3 +2,4 @@
 pub mod Merged
 pub mod Stored
 pub mod SmallSheets
+pub mod Calls

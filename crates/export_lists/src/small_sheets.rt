@@ -2,16 +2,13 @@
 use small::Answer;
 use wire::code;
 use wire::three;
-ghost use mathlib.Core.Path.{_≡_};
-ghost use Rattle.export_lists.specs.SmallSheets.{smallCode, smallOut, smallAnswer};
+ghost use Rattle.export_lists.specs.Calls.{CallSmallBytes};
 
 // Writes the small sheet at position k, from 0, to the front of the room. The answer has 12 bytes, three numbers of four bytes, low byte
 // first: 1, the number of bytes written, 0. Answers 0; or a refusal, and then both buffers are as they came; or, asked first, 255 times
 // 256 where the answer has not 12 bytes.
 pub fn small_sheet(k: u32, out: &mut [u8], answer: &mut [u8]) -> u32
-    ensures { λ r. ⌜ r ≡ smallCode k (now (out .entry)) (now (answer .entry)) ⌝ }
-    ensures { λ _. ⌜ now (out .exit) ≡ smallOut k (now (out .entry)) (now (answer .entry)) ⌝ }
-    ensures { λ _. ⌜ now (answer .exit) ≡ smallAnswer k (now (out .entry)) (now (answer .entry)) ⌝ }
+    ensures { λ r. ⌜ CallSmallBytes k (now (out .entry)) (now (answer .entry)) r (now (out .exit)) (now (answer .exit)) ⌝ }
 {
     if answer.len() != 12 {
         return 65280;

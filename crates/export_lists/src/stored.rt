@@ -6,10 +6,10 @@ use wire::code;
 use wire::three;
 ghost use mathlib.Core.Path.{_≡_};
 ghost use lib.ListN.{length};
-ghost use Rattle.store.specs.Store.{call, put, fetch, remove};
 ghost use Rattle.store.specs.Meaning.{means};
 ghost use Rattle.wire.specs.Outcomes.{outcomeCode, outcomeAnswer};
-ghost use Rattle.export_lists.specs.Stored.{storedCode, storedAnswer, storedBytes, storedRoom, Holds};
+ghost use Rattle.export_lists.specs.Stored.{Holds};
+ghost use Rattle.export_lists.specs.Calls.{CallPutBytes, CallFetchBytes, CallDropBytes};
 
 // An outcome as the returned number and the answer.
 fn told(answer: &mut [u8], r: Answer) -> u32
@@ -28,9 +28,7 @@ fn told(answer: &mut [u8], r: Answer) -> u32
 
 // Puts a table in place of the one there.
 pub fn store_put(store: &mut [u8], owner: u32, key: u8, table: &[u8], answer: &mut [u8]) -> u32
-    ensures { λ r. ⌜ r ≡ storedCode (now (store .entry)) (call owner key (put (now (table .entry)))) (now (answer .entry)) ⌝ }
-    ensures { λ _. ⌜ now (store .exit) ≡ storedBytes (now (store .entry)) (call owner key (put (now (table .entry)))) (now (answer .entry)) ⌝ }
-    ensures { λ _. ⌜ now (answer .exit) ≡ storedAnswer (now (store .entry)) (call owner key (put (now (table .entry)))) (now (answer .entry)) ⌝ }
+    ensures { λ r. ⌜ CallPutBytes (now (store .entry)) owner key (now (table .entry)) (now (answer .entry)) r (now (store .exit)) (now (answer .exit)) ⌝ }
 {
     if answer.len() != 12 {
         return 65280;
@@ -41,9 +39,7 @@ pub fn store_put(store: &mut [u8], owner: u32, key: u8, table: &[u8], answer: &m
 
 // Copies a table to the front of the room.
 pub fn store_fetch(store: &[u8], owner: u32, key: u8, room: &mut [u8], answer: &mut [u8]) -> u32
-    ensures { λ r. ⌜ r ≡ storedCode (now (store .entry)) (call owner key (fetch (now (room .entry)))) (now (answer .entry)) ⌝ }
-    ensures { λ _. ⌜ now (room .exit) ≡ storedRoom (now (store .entry)) owner key (now (room .entry)) (now (answer .entry)) ⌝ }
-    ensures { λ _. ⌜ now (answer .exit) ≡ storedAnswer (now (store .entry)) (call owner key (fetch (now (room .entry)))) (now (answer .entry)) ⌝ }
+    ensures { λ r. ⌜ CallFetchBytes (now (store .entry)) owner key (now (room .entry)) (now (answer .entry)) r (now (room .exit)) (now (answer .exit)) ⌝ }
 {
     if answer.len() != 12 {
         return 65280;
@@ -54,9 +50,7 @@ pub fn store_fetch(store: &[u8], owner: u32, key: u8, room: &mut [u8], answer: &
 
 // Removes a table; its room is used again.
 pub fn store_drop(store: &mut [u8], owner: u32, key: u8, answer: &mut [u8]) -> u32
-    ensures { λ r. ⌜ r ≡ storedCode (now (store .entry)) (call owner key remove) (now (answer .entry)) ⌝ }
-    ensures { λ _. ⌜ now (store .exit) ≡ storedBytes (now (store .entry)) (call owner key remove) (now (answer .entry)) ⌝ }
-    ensures { λ _. ⌜ now (answer .exit) ≡ storedAnswer (now (store .entry)) (call owner key remove) (now (answer .entry)) ⌝ }
+    ensures { λ r. ⌜ CallDropBytes (now (store .entry)) owner key (now (answer .entry)) r (now (store .exit)) (now (answer .exit)) ⌝ }
 {
     if answer.len() != 12 {
         return 65280;

@@ -4,16 +4,11 @@
 use columns::Answer;
 use wire::code;
 use wire::three;
-ghost use mathlib.Core.Path.{_≡_};
-ghost use lib.ListN.{length};
-ghost use Rattle.columns.specs.Columns.{columnsOf, rowsOf, columnsVerdict, rowsVerdict};
-ghost use Rattle.wire.specs.Outcomes.{lentCode, lentRoom, lentAnswer};
+ghost use Rattle.export_lists.specs.Calls.{CallColumnsBytes, CallRowsBytes};
 
 // Writes rows as columns, behind a header of four numbers.
 pub fn columns(variables: u32, rows: &[u8], out: &mut [u8], answer: &mut [u8]) -> u32
-    ensures { λ r. ⌜ r ≡ lentCode (columnsVerdict variables (now (rows .entry)) (length (now (out .entry)))) (columnsOf variables (now (rows .entry))) (now (answer .entry)) ⌝ }
-    ensures { λ _. ⌜ now (out .exit) ≡ lentRoom (columnsVerdict variables (now (rows .entry)) (length (now (out .entry)))) (columnsOf variables (now (rows .entry))) (now (answer .entry)) (now (out .entry)) ⌝ }
-    ensures { λ _. ⌜ now (answer .exit) ≡ lentAnswer (columnsVerdict variables (now (rows .entry)) (length (now (out .entry)))) (columnsOf variables (now (rows .entry))) (now (answer .entry)) ⌝ }
+    ensures { λ r. ⌜ CallColumnsBytes variables (now (rows .entry)) (now (out .entry)) (now (answer .entry)) r (now (out .exit)) (now (answer .exit)) ⌝ }
 {
     if answer.len() != 12 {
         return 65280;
@@ -30,9 +25,7 @@ pub fn columns(variables: u32, rows: &[u8], out: &mut [u8], answer: &mut [u8]) -
 
 // Turns a store back into rows.
 pub fn rows(store: &[u8], out: &mut [u8], answer: &mut [u8]) -> u32
-    ensures { λ r. ⌜ r ≡ lentCode (rowsVerdict (now (store .entry)) (length (now (out .entry)))) (rowsOf (now (store .entry))) (now (answer .entry)) ⌝ }
-    ensures { λ _. ⌜ now (out .exit) ≡ lentRoom (rowsVerdict (now (store .entry)) (length (now (out .entry)))) (rowsOf (now (store .entry))) (now (answer .entry)) (now (out .entry)) ⌝ }
-    ensures { λ _. ⌜ now (answer .exit) ≡ lentAnswer (rowsVerdict (now (store .entry)) (length (now (out .entry)))) (rowsOf (now (store .entry))) (now (answer .entry)) ⌝ }
+    ensures { λ r. ⌜ CallRowsBytes (now (store .entry)) (now (out .entry)) (now (answer .entry)) r (now (out .exit)) (now (answer .exit)) ⌝ }
 {
     if answer.len() != 12 {
         return 65280;
