@@ -14,7 +14,7 @@ use Rattle.model.specs.Nogood.{obeysFrom, obeying, used, filtered, entri
 use Rattle.model.specs.Search.{entriesAt, nogoodsOf, rowWith, supported, pruned, narrowed, rounds, setsAt, isLive, nodesBelow, nodes, isPlan}
 use Rattle.model.specs.Run.{search, resultOf, answerFor, answerOf, written, listFor, listOf, tallyOf, listedPlans}
 use Rattle.model.specs.Claims.{leaders}
-use Rattle.model.specs.Examples.{filterOf, sheetF, tests, testsMore, Each}
+use Rattle.model.specs.Examples.{filterOf, sheetF, tests, testsMore, testsBeside, Each}
 use Rattle.model.specs.Verdict.{Verdict, accepted, ask}
 use Rattle.model.proofs.Filter.{filtered-none}
 
@@ -45,3 +45,8 @@ free-rotation = refl
 pub examples-more : Each testsMore
 unfolding opened
 examples-more = ((omega arith, refl, refl), ((omega arith, refl, refl), (refl, (refl, (refl, (refl, tt))))))
+
+-- and more rounds than one, and a run that is spent
+pub examples-beside : Each testsBeside
+unfolding opened
+examples-beside = (refl, (refl, (refl, tt)))

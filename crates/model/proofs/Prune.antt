@@ -14,7 +14,7 @@ use Rattle.model.specs.Lists.{both, all, any, at, same}
 use Rattle.model.specs.ValueSets.{has, maskOf, anyEmpty}
 use Rattle.model.specs.Problem.{Problem, Constraint}
 use Rattle.model.specs.Nogood.{filtered}
-use Rattle.model.specs.Search.{nogoodsOf, rowWith, supported, pruned, narrowed, rounds, setsAt, isLive}
+use Rattle.model.specs.Search.{nogoodsOf, rowWith, supported, leftBy, keptBy, pruned, narrowed, rounds, roundsEnough, setsAt, isLive}
 use Rattle.model.proofs.Lists.{T-of, of-T, not-of, of-not, both-i, both-l, both-r, all-i, all-e, any-i, any-e, at-tabulate, length-tabulate, at-out, same-eq, same-refl}
 use Rattle.model.proofs.Sets.{has-lt, has-none, mask-i, mask-e, mask-lt, inside-refl, inside-antisym, has-at-lt, size, size-le, size-strict, empty-inside, at-zeros, zeros-empty, zeros-replicate}
 use Rattle.model.specs.Pruning.{Sets, Inside, closed, Way}
@@ -64,15 +64,9 @@ pub record Kept (p : Problem) (prefix ds : List ℕ) (x v : ℕ) : Type 0 where
   pub filters : (g : List ℕ) → List·Memᴰ g (p .symmetries) → T (has (at (filtered ds (nogoodsOf p g prefix)) x) v)
 
 module _ (p : Problem) (prefix : List ℕ) where
-  abbrev leftBy : List ℕ → List (List ℕ)
-  leftBy ds = map (λ g. filtered ds (nogoodsOf p g prefix)) (p .symmetries)
-
-  abbrev keptBy : List ℕ → ℕ → ℕ → Bool
-  keptBy ds x v = both (has (at ds x) v) (both (all (supported ds x v) (p .constraints)) (all (λ f. has (at f x) v) (leftBy ds)))
-
-  at-pruned : (ds : List ℕ) (x : ℕ) → x < p .variables → at (pruned p prefix ds) x ≡ maskOf (keptBy ds x)
+  at-pruned : (ds : List ℕ) (x : ℕ) → x < p .variables → at (pruned p prefix ds) x ≡ maskOf (keptBy p ds (leftBy p prefix ds) x)
   unfolding pruned
-  at-pruned ds x h = at-tabulate (p .variables) (λ y. maskOf (keptBy ds y)) x h
+  at-pruned ds x h = at-tabulate (p .variables) (λ y. maskOf (keptBy p ds (leftBy p prefix ds) y)) x h
 
   pub length-pruned : (ds : List ℕ) → length (pruned p prefix ds) ≡ p .variables
   unfolding pruned
@@ -81,23 +75,23 @@ module _ (p : Problem) (prefix : List ℕ) where
   pub pruned-i : (ds : List ℕ) (x v : ℕ) → x < p .variables → v < 16 → Kept p prefix ds x v → T (has (at (pruned p prefix ds) x) v)
   pruned-i ds x v l b k =
       subst (λ (s : ℕ). T (has s v)) (sym (at-pruned ds x l))
-      (mask-i (keptBy ds x) v b
-      (both-i (has (at ds x) v) (both (all (supported ds x v) (p .constraints)) (all (λ f. has (at f x) v) (leftBy ds))) (k .member)
-      (both-i (all (supported ds x v) (p .constraints)) (all (λ f. has (at f x) v) (leftBy ds)) (all-i (supported ds x v) (p .constraints) (k .rows))
-      (all-i (λ f. has (at f x) v) (leftBy ds)
+      (mask-i (keptBy p ds (leftBy p prefix ds) x) v b
+      (both-i (has (at ds x) v) (both (all (supported ds x v) (p .constraints)) (all (λ f. has (at f x) v) (leftBy p prefix ds))) (k .member)
+      (both-i (all (supported ds x v) (p .constraints)) (all (λ f. has (at f x) v) (leftBy p prefix ds)) (all-i (supported ds x v) (p .constraints) (k .rows))
+      (all-i (λ f. has (at f x) v) (leftBy p prefix ds)
       (λ f m. let r = Memᴰ·of-map (λ g. filtered ds (nogoodsOf p g prefix)) (p .symmetries) m in subst (λ (e : List ℕ). T (has (at e x) v)) (r .2) (k .filters (r .0) (r .1)))))))
 
   pub pruned-e : (ds : List ℕ) (x v : ℕ) → T (has (at (pruned p prefix ds) x) v) → (x < p .variables) × (v < 16) × Kept p prefix ds x v
   pruned-e ds x v t =
       let l : x < p .variables = subst (λ (n : ℕ). x < n) (length-pruned ds) (has-at-lt (pruned p prefix ds) x v t) in
-      let m = mask-e (keptBy ds x) v (subst (λ (s : ℕ). T (has s v)) (at-pruned ds x l) t) in
-      let q = both-r (has (at ds x) v) (both (all (supported ds x v) (p .constraints)) (all (λ f. has (at f x) v) (leftBy ds))) (m .1) in (
+      let m = mask-e (keptBy p ds (leftBy p prefix ds) x) v (subst (λ (s : ℕ). T (has s v)) (at-pruned ds x l) t) in
+      let q = both-r (has (at ds x) v) (both (all (supported ds x v) (p .constraints)) (all (λ f. has (at f x) v) (leftBy p prefix ds))) (m .1) in (
         l,
         m .0,
         record {
-          member = both-l (has (at ds x) v) (both (all (supported ds x v) (p .constraints)) (all (λ f. has (at f x) v) (leftBy ds))) (m .1);
-          rows = all-e (supported ds x v) (p .constraints) (both-l (all (supported ds x v) (p .constraints)) (all (λ f. has (at f x) v) (leftBy ds)) q);
-          filters = λ g i. all-e (λ f. has (at f x) v) (leftBy ds) (both-r (all (supported ds x v) (p .constraints)) (all (λ f. has (at f x) v) (leftBy ds)) q)
+          member = both-l (has (at ds x) v) (both (all (supported ds x v) (p .constraints)) (all (λ f. has (at f x) v) (leftBy p prefix ds))) (m .1);
+          rows = all-e (supported ds x v) (p .constraints) (both-l (all (supported ds x v) (p .constraints)) (all (λ f. has (at f x) v) (leftBy p prefix ds)) q);
+          filters = λ g i. all-e (λ f. has (at f x) v) (leftBy p prefix ds) (both-r (all (supported ds x v) (p .constraints)) (all (λ f. has (at f x) v) (leftBy p prefix ds)) q)
               (filtered ds (nogoodsOf p g prefix)) (Memᴰ·map (λ h. filtered ds (nogoodsOf p h prefix)) i);
         },
       )
@@ -217,14 +211,17 @@ fixed-below p prefix es l e ds s h x v t = pruned-mono p prefix es ds (l ∙ sym
 
 pub largest : (p : Problem) (prefix : List ℕ) → Sized p → Largest p prefix (closed p prefix)
 largest p prefix s = record {
-  sets = rounds-ind p prefix (Sets (p .variables)) (λ ds d. pruned-sets p prefix ds) (p .variables * 16) start (start-sets p prefix s);
-  inside = rounds-ind p prefix (λ ds. Inside ds start) (λ ds d x v t. d x v (pruned-inside p prefix ds x v t)) (p .variables * 16) start (inside-refl start);
-  fixed = rounds-fixed p prefix (p .variables * 16) start (start-sets p prefix s) (subst (λ (n : ℕ). size start ≤ n * 16) (start-sets p prefix s .0) (size-le start));
-  above = λ es l h e. rounds-ind p prefix (λ ds. Sets (p .variables) ds × Inside es ds) (λ ds d. (pruned-sets p prefix ds, fixed-below p prefix es l e ds (d .0) (d .1))) (p .variables * 16) start (start-sets p prefix s, h) .1;
+  sets = rounds-ind p prefix (Sets (p .variables)) (λ ds d. pruned-sets p prefix ds) (roundsEnough p) start (start-sets p prefix s);
+  inside = rounds-ind p prefix (λ ds. Inside ds start) (λ ds d x v t. d x v (pruned-inside p prefix ds x v t)) (roundsEnough p) start (inside-refl start);
+  fixed = rounds-fixed p prefix (roundsEnough p) start (start-sets p prefix s) enough;
+  above = λ es l h e. rounds-ind p prefix (λ ds. Sets (p .variables) ds × Inside es ds) (λ ds d. (pruned-sets p prefix ds, fixed-below p prefix es l e ds (d .0) (d .1))) (roundsEnough p) start (start-sets p prefix s, h) .1;
 }
   where
     start : List ℕ
     start = narrowed prefix (p .initial)
+
+    enough : size start ≤ roundsEnough p
+    enough = let l : size start ≤ p .variables * 16 = subst (λ (n : ℕ). size start ≤ n * 16) (start-sets p prefix s .0) (size-le start) in omega (arith, l)
 
 -- and there is only one such list of sets
 pub largest-unique : (p : Problem) (prefix ds es : List ℕ) → Largest p prefix ds → Largest p prefix es → ds ≡ es

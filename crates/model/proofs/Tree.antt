@@ -14,7 +14,7 @@ use Rattle.model.specs.Lists.{both, all, any, keep, flat, below, upFrom,
 use Rattle.model.specs.ValueSets.{has, members, anyEmpty}
 use Rattle.model.specs.Problem.{Problem, Constraint, assignments, valuesAt, satisfies, isSolution}
 use Rattle.model.specs.Nogood.{Entry, obeys}
-use Rattle.model.specs.Search.{entriesAt, nogoodsOf, rowWith, supported, pruned, narrowed, setsAt, isLive, nodesBelow, nodes, isPlan}
+use Rattle.model.specs.Search.{entriesAt, nogoodsOf, rowWith, supported, pruned, narrowed, roundsEnough, setsAt, isLive, nodesBelow, nodes, isPlan}
 use Rattle.model.specs.WellFormed.{WellFormed, GoodConstraint}
 use Rattle.model.proofs.Lists.{map-flat-map, drop-at, not-of, of-not, T-ext, both-i, both-l, both-r, all-i, all-e, any-i, any-e, keep-no, keep-none, keep-ext, keep-flat-map, flat-pick, below-i, below-e, upFrom-add, flat-append, map-append, map-ext, at-ext, at-out, at-append, at-seam, same-eq, same-refl}
 use Rattle.model.proofs.Sets.{has-lt, has-none, has-at-lt, member, empty-i, empty-e}
@@ -122,7 +122,7 @@ module _ (p : Problem) (w : WellFormed p) where
   -- so it is drawn from the sets at each of its prefixes
   pub closed-drawn : (a b : List ℕ) → Solution p (a ++ b) → T (unbroken p (a ++ b)) → Drawn (closed p a) (a ++ b)
   closed-drawn a b h u =
-      rounds-ind p a (λ ds. Sets (p .variables) ds × Drawn ds (a ++ b)) (λ ds d. (pruned-sets p a ds, pruned-drawn a (a ++ b) h o ds (d .0) (d .1))) (p .variables * 16) (narrowed a (p .initial)) (start-sets p a z, start) .1
+      rounds-ind p a (λ ds. Sets (p .variables) ds × Drawn ds (a ++ b)) (λ ds d. (pruned-sets p a ds, pruned-drawn a (a ++ b) h o ds (d .0) (d .1))) (roundsEnough p) (narrowed a (p .initial)) (start-sets p a z, start) .1
     where
       z : Sized p
       z = well-sized p w

@@ -11,7 +11,7 @@ use Rattle.model.specs.ValueSets.{anyEmpty}
 use Rattle.model.specs.Verdict.{Verdict, accepted}
 use Rattle.model.specs.Nogood.{entries, filterVerdict, setsAfter}
 use Rattle.model.specs.Sheet.{verdictOf, problemOf}
-use Rattle.model.specs.Search.{nodes, isLive}
+use Rattle.model.specs.Search.{setsAt, nodes, isLive}
 use Rattle.model.specs.Run.{Answer, refusal, ended, finished, spent, full, answerOf, listOf}
 use Rattle.model.specs.Claims.{plansHeld, OneMore}
 
@@ -25,13 +25,13 @@ abbrev pub filterOf : List ℕ → List ℕ → List ℕ → List ℕ → Verdic
 filterOf ds xs es us = (filterVerdict ds xs es us, setsAfter (filterVerdict ds xs es us) ds (entries xs es us))
 
 -- 001's four nogoods: x1 ≠ 2; x2 = 1 ⇒ x3 ≠ 1; x2 = x4 = x5 = 1 ⇒ x3 ≠ 2; those and x6 = 2 ⇒ x1 ≠ 1
-abbrev index4 : List ℕ
+abbrev pub index4 : List ℕ
 index4 = 0 ∷ 1 ∷ 2 ∷ 3 ∷ 4 ∷ 2 ∷ 5 ∷ 0 ∷ []
 
-abbrev equal4 : List ℕ
+abbrev pub equal4 : List ℕ
 equal4 = 255 ∷ 1 ∷ 255 ∷ 1 ∷ 1 ∷ 255 ∷ 2 ∷ 255 ∷ []
 
-abbrev unequal4 : List ℕ
+abbrev pub unequal4 : List ℕ
 unequal4 = 2 ∷ 255 ∷ 1 ∷ 255 ∷ 255 ∷ 2 ∷ 255 ∷ 1 ∷ []
 
 -- ---- sheets, from their 16-bit numbers
@@ -142,4 +142,16 @@ testsMore =
     ∷ (verdictOf sheetA3 ≡ accepted)
     ∷ (answerOf sheetA2 1000000 (room 12) ≡ ended (finished 3 6))
     ∷ (answerOf sheetA3 1000000 (room 12) ≡ ended (finished 2 5))
+    ∷ []
+
+-- three places, of which the first has one value; the others follow from it one by one, so the sets take more rounds than one
+abbrev pub sheetC : List ℕ
+sheetC = bytes ((3 ∷ 3 ∷ 2 ∷ 0 ∷ 16 ∷ 22 ∷ 86 ∷ 86 ∷ 1 ∷ 3 ∷ 3 ∷ []) ++ differ 0 1 ++ differ 1 2)
+
+-- and a run that is spent before its first plan, of a sheet that has plans
+abbrev pub testsBeside : List (Type 0)
+testsBeside =
+    (verdictOf sheetC ≡ accepted)
+    ∷ (setsAt (problemOf sheetC) [] ≡ 1 ∷ 2 ∷ 1 ∷ [])
+    ∷ (answerOf sheetA 1 (room 8) ≡ ended (spent 0 1))
     ∷ []

@@ -2,12 +2,19 @@
 use mathlib.Core.Path.{_≡_}
 use mathlib.Core.List.{List, [], _∷_}
 use lib.ListN.{replicate}
+use Rattle.model.specs.Nogood.{failed, entailed, consistent, entries, filterEnding}
 use Rattle.model.specs.Run.{tallyOf}
-use Rattle.model.specs.Examples.{sheetA}
+use Rattle.model.specs.Examples.{index4, equal4, unequal4, sheetA}
 
 abbrev pub tests02 : List (Type 0)
 tests02 =
+    -- #102: 001's four nogoods are entailed by what the filter leaves of the first example's sets, not by the second's; "not 0" fails the set {0}
+    (filterEnding (6 ∷ 6 ∷ 6 ∷ 2 ∷ 2 ∷ 6 ∷ []) (entries index4 equal4 unequal4) ≡ entailed)
+    ∷ (filterEnding (6 ∷ 6 ∷ 6 ∷ 2 ∷ 6 ∷ 6 ∷ []) (entries index4 equal4 unequal4) ≡ consistent)
+    ∷ (filterEnding (1 ∷ []) (entries (0 ∷ []) (255 ∷ []) (0 ∷ [])) ≡ failed)
     -- #107: for sheet A the trials by place are 3 and 3
-    (tallyOf sheetA 1000000 (replicate 8 9) (record { nodes = 5; counts = replicate 12 7 })
+    ∷ (tallyOf sheetA 1000000 (replicate 8 9) (record { nodes = 5; counts = replicate 12 7 })
     ≡ record { nodes = 6; counts = 3 ∷ 3 ∷ 0 ∷ 0 ∷ 0 ∷ 0 ∷ 0 ∷ 0 ∷ 0 ∷ 0 ∷ 0 ∷ 0 ∷ [] })
+    -- a refusal leaves it as it came
+    ∷ (tallyOf [] 1000000 [] (record { nodes = 5; counts = replicate 12 7 }) ≡ record { nodes = 5; counts = replicate 12 7 })
     ∷ []

@@ -1,13 +1,13 @@
 -- Lists of sets, and what pruning in any order says of them. No reader has to believe this: it stands between proved functions.
 use mathlib.Core.Path.{_≡_}
 use mathlib.Core.List.{List}
-use Prim.Native.Nat.{ℕ, _*_, _^_, _<_}
+use Prim.Native.Nat.{ℕ, _^_, _<_}
 use lib.Dec.{T}
 use lib.ListN.{length}
 use Rattle.model.specs.Lists.{at}
 use Rattle.model.specs.ValueSets.{has}
 use Rattle.model.specs.Problem.{Problem}
-use Rattle.model.specs.Search.{pruned, narrowed, rounds}
+use Rattle.model.specs.Search.{pruned, narrowed, largestAt}
 
 -- n sets, each of sixteen bits
 abbrev pub Sets : ℕ → List ℕ → Type 0
@@ -19,7 +19,7 @@ Inside ds es = (x v : ℕ) → T (has (at ds x) v) → T (has (at es x) v)
 
 -- the sets at a prefix, before the rule that one empty set empties all
 abbrev pub closed : Problem → List ℕ → List ℕ
-closed p prefix = rounds p prefix (p .variables * 16) (narrowed prefix (p .initial))
+closed p prefix = largestAt p prefix
 
 -- sets on the way from the given ones to those
 pub record Way (p : Problem) (prefix es : List ℕ) : Type 0 where

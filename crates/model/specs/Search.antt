@@ -34,11 +34,16 @@ rowWith ds x v (y ∷ ys) (w ∷ ws) =
 unfoldable pub supported : List ℕ → ℕ → ℕ → Constraint → Bool
 supported ds x v c = elim (any (eqb x) (c .scope)) [ true ↦ any (rowWith ds x v (c .scope)) (c .rows) | false ↦ true ]
 
--- one round: the values that have a row of every constraint, and that the filter of every symmetry's list leaves
+-- what the filter of every symmetry's list leaves
+abbrev pub leftBy : Problem → List ℕ → List ℕ → List (List ℕ)
+leftBy p prefix ds = map (λ g. filtered ds (nogoodsOf p g prefix)) (p .symmetries)
+
+-- one round, where `left` is what the filters leave: the values that have a row of every constraint, and that every filter leaves
+abbrev pub keptBy : Problem → List ℕ → List (List ℕ) → ℕ → ℕ → Bool
+keptBy p ds left x v = both (has (at ds x) v) (both (all (supported ds x v) (p .constraints)) (all (λ f. has (at f x) v) left))
+
 unfoldable pub pruned : Problem → List ℕ → List ℕ → List ℕ
-pruned p prefix ds =
-    let left = map (λ g. filtered ds (nogoodsOf p g prefix)) (p .symmetries) in
-    tabulate (p .variables) (λ x. maskOf (λ v. both (has (at ds x) v) (both (all (supported ds x v) (p .constraints)) (all (λ f. has (at f x) v) left))))
+pruned p prefix ds = let left = leftBy p prefix ds in tabulate (p .variables) (λ x. maskOf (keptBy p ds left x))
 
 -- the sets with the variables of the prefix fixed
 unfoldable pub narrowed : List ℕ → List ℕ → List ℕ
@@ -53,12 +58,17 @@ rounds p prefix (suc k) ds =
     let next = pruned p prefix ds in
     elim (same ds next) [ true ↦ ds | false ↦ rounds p prefix k next ]
 
--- the sets at a prefix: the largest sets that a round leaves as they are (proofs/Prune, `largest`); if one is empty, all are.
--- Each round but the last takes a value away, so as many rounds as there are values are enough.
+-- each round but the last takes a value away, so as many rounds as there are values are enough
+abbrev pub roundsEnough : Problem → ℕ
+roundsEnough p = p .variables * 16
+
+-- the largest sets that a round leaves as they are, with the variables of the prefix fixed (proofs/Prune, `largest`)
+abbrev pub largestAt : Problem → List ℕ → List ℕ
+largestAt p prefix = rounds p prefix (roundsEnough p) (narrowed prefix (p .initial))
+
+-- the sets at a prefix: these; if one is empty, all are
 unfoldable pub setsAt : Problem → List ℕ → List ℕ
-setsAt p prefix =
-    let ds = rounds p prefix (p .variables * 16) (narrowed prefix (p .initial)) in
-    elim (anyEmpty ds) [ true ↦ map (λ s. 0) ds | false ↦ ds ]
+setsAt p prefix = let ds = largestAt p prefix in elim (anyEmpty ds) [ true ↦ map (λ s. 0) ds | false ↦ ds ]
 
 -- the prefix is not dead
 unfoldable pub isLive : Problem → List ℕ → Bool
