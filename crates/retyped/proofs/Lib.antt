@@ -3,5 +3,5 @@ pub mod Turns
 pub mod FilterAgain
 pub mod SameSearch
 pub mod Retyped
-pub mod LentRetyped
 pub mod RetypedExamples
+pub mod LentRetyped
