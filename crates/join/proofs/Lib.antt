@@ -1,0 +1,5 @@
+pub mod Orders
+pub mod Questions
+pub mod Turns
+pub mod Sums
+pub mod Said

@@ -1,0 +1,71 @@
+-- What the functions inside the crate say to each other. No reader has to believe this: it stands between proved functions.
+use mathlib.Core.Path.{_≡_}
+use mathlib.Core.Bool.{true}
+use mathlib.Core.List.{List, [], _∷_}
+use Prim.Native.Nat.{ℕ, _+_, _*_, _^_, _≤_, _<_}
+use lib.ListN.{length}
+use Rattle.model.specs.Lists.{at, choose, same}
+use Rattle.model.specs.Verdict.{Verdict, accepted, refused}
+use Rattle.parts.specs.Parts.{after}
+use Rattle.join.specs.declared.Answer.{Answer}
+use Rattle.join.specs.declared.Answer.the-variants.{Joined, Missing}
+use Rattle.join.specs.Join.{fourAt, pathShaped, headShaped, headsIn, standPath, nearestOf, stands, plansOf, nodesOf, countOf}
+
+-- a path stands at an offset
+pub record Path (l : List ℕ) (o : ℕ) : Type 0 where
+  pub fits : o + 13 ≤ length l
+  pub shaped : pathShaped l o ≡ true
+
+-- the first n heads are heads
+pub record Heads (l : List ℕ) (n : ℕ) : Type 0 where
+  pub fits : 115 * n ≤ length l
+  pub shaped : (k : ℕ) → k < n → headShaped l k ≡ true
+
+-- 0 where two paths are the same, 1 where the second comes after the first, else 2
+abbrev pub orderOf : List ℕ → List ℕ → ℕ
+orderOf a b = choose (same a b) 0 (choose (after a b) 1 2)
+
+-- a path stands at an offset, and head k of the first n is looked at, with the best of the heads before it
+pub record AtHead (here : List ℕ) (o : ℕ) (l : List ℕ) (n best k : ℕ) : Type 0 where
+  pub path : Path here o
+  pub heads : Heads l n
+  pub earlier : best ≤ k
+  pub inside : k < n
+
+-- the number of a refusal, 0 for none
+abbrev pub numberIn : Verdict → ℕ
+numberIn accepted = 0
+numberIn (refused number item) = number
+
+-- sums that have room for another head's figures
+pub record Room (p m : ℕ) (cs : List ℕ) : Type 0 where
+  pub plans : p < 2 ^ 63
+  pub nodes : m < 2 ^ 63
+  pub counts : (x : ℕ) → x < 12 → at cs x < 2 ^ 63
+
+-- the counts with those of head k
+pub record AddedCounts (counts l : List ℕ) (k : ℕ) (sums : List ℕ) : Type 0 where
+  pub each : (x : ℕ) → x < 12 → at sums x ≡ at counts x + fourAt l (115 * k + 12 + 4 * x)
+  pub few : (x : ℕ) → x < 12 → at sums x < at counts x + 2 ^ 32
+
+-- the sums with the figures of head k
+pub record AddedHead (p m : ℕ) (cs l : List ℕ) (k stand p′ m′ : ℕ) (cs′ : List ℕ) : Type 0 where
+  pub at-head : stand ≡ k + 1
+  pub plans : p′ ≡ p + fourAt l (115 * k + 4)
+  pub nodes : m′ ≡ m + fourAt l (115 * k + 8)
+  pub fewPlans : p′ < p + 2 ^ 32
+  pub fewNodes : m′ < m + 2 ^ 32
+  pub counts : AddedCounts cs l k cs′
+
+-- where one stands behind the heads taken, and their sums
+pub record Summed (l : List ℕ) (stand p m : ℕ) (cs : List ℕ) : Type 0 where
+  pub behind : stand ≡ stands l
+  pub inside : stand ≤ headsIn l
+  pub plans : p ≡ plansOf l
+  pub nodes : m ≡ nodesOf l
+  pub counts : (x : ℕ) → x < 12 → at cs x ≡ countOf l x
+
+-- the answer of heads that are not refused, from where one stands
+pub record Said (l : List ℕ) (stand : ℕ) (r : Answer) : Type 0 where
+  pub answers : r ≡ choose (same (standPath l stand) (255 ∷ [])) Joined (Missing stand (nearestOf l (standPath l stand) (headsIn l)))
+  pub near : nearestOf l (standPath l stand) (headsIn l) ≤ headsIn l
