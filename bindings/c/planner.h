@@ -188,10 +188,10 @@ uint32_t planner_rows(const uint8_t *store, size_t store_len, uint8_t *out, size
 
 /* Writes the rows of either list, ascending, each once, to the front of out; bytes after them are unchanged. Rows have
  * `places` bytes, any value, and are compared in the settling order of the pairs (two bytes each, "this place before
- * that place": always the lowest place whose forerunners are all settled), without pairs by place. The answer is 1, the
- * number of bytes written (its lowest 32 bits), 0. Refusals: 24 (1 to 12 places, both lists whole rows), 28 (at most 64
- * pairs and no half pair), 29 (places below `places`), 30 (no circle), 25 and 26 (the first and the second list
- * strictly ascending), 27 (out holds the merged list). */
+ * that place": always the lowest place whose forerunners are all settled), without pairs by place. The answer is 1,
+ * then the number of bytes written, its low half and its high half. Refusals: 24 (1 to 12 places, both lists whole rows),
+ * 28 (at most 64 pairs and no half pair), 29 (places below `places`), 30 (no circle), 25 and 26 (the first and the second
+ * list strictly ascending), 27 (out holds the merged list). */
 uint32_t planner_merge(uint32_t places, const uint8_t *pairs, size_t pairs_len, const uint8_t *first, size_t first_len,
                        const uint8_t *second, size_t second_len, uint8_t *out, size_t out_len, uint8_t *answer,
                        size_t answer_len);

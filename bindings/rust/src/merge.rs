@@ -47,5 +47,6 @@ pub fn merge(
             answer.len(),
         )
     })?;
-    Ok(number(&answer, 1) as usize)
+    let [low, high] = [1, 2].map(|half| number(&answer, half) as u64);
+    Ok((low | high << 32) as usize)
 }

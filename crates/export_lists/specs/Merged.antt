@@ -1,17 +1,27 @@
--- planner_merge (paper 02, #106): its answer. A merged list may take more bytes than 32 bits count: then their lowest 32 bits stand in the answer.
+-- planner_merge (paper 02, #106): its answer, and a call. The number of bytes written takes two of the answer's numbers: a merged list may have more
+-- bytes than 32 bits count.
+use mathlib.Core.Path.{_≡_}
 use mathlib.Core.List.{List}
-use Prim.Native.Nat.{ℕ, _%_}
+use Prim.Native.Nat.{ℕ, _%_, _/_, _^_}
 use lib.Dec.{eqb}
 use lib.ListN.{length}
 use Rattle.model.specs.Lists.{choose}
 use Rattle.model.specs.Verdict.{Verdict}
 use Rattle.model.specs.Room.{Outcome, wrote, refusal, outcomeOf}
+use Rattle.merge.specs.Merge.{merged, mergeVerdict}
 use Rattle.wire.specs.Wire.{threeNumbers}
+use Rattle.wire.specs.Outcomes.{lentCode, lentRoom}
 
--- kind 1, the number of bytes written, 0; after a refusal the answer is as it came
+-- kind 1, the number of bytes written, its low half and its high half; after a refusal the answer is as it came
 abbrev pub mergeOutcome : Outcome → List ℕ → List ℕ
-mergeOutcome (wrote k) answer = threeNumbers 1 (k % 4294967296) 0
+mergeOutcome (wrote k) answer = threeNumbers 1 (k % 2 ^ 32) (k / 2 ^ 32)
 mergeOutcome (refusal number item) answer = answer
 
 unfoldable pub mergeAnswer : Verdict → List ℕ → List ℕ → List ℕ
 mergeAnswer v text answer = choose (eqb (length answer) 12) (mergeOutcome (outcomeOf v text) answer) answer
+
+-- a call: what it was lent, the code that comes back, room and answer at the end. It is the function's contract.
+pub record CallMerged (n : ℕ) (pairs a b room answer : List ℕ) (code : ℕ) (room′ answer′ : List ℕ) : Type 0 where
+  pub returns : code ≡ lentCode (mergeVerdict n pairs a b (length room)) (merged n pairs a b) answer
+  pub leaves : room′ ≡ lentRoom (mergeVerdict n pairs a b (length room)) (merged n pairs a b) answer room
+  pub tells : answer′ ≡ mergeAnswer (mergeVerdict n pairs a b (length room)) (merged n pairs a b) answer

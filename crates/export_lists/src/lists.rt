@@ -1,13 +1,9 @@
-// One list from two (paper 02, #106). The answer has 12 bytes, three numbers of four bytes, low byte first: 1, the number of bytes written (its
-// lowest 32 bits), 0.
+// One list from two (paper 02, #106). The answer has 12 bytes, three numbers of four bytes, low byte first: 1, then the number of bytes
+// written, its low half and its high half.
 use merge::Answer;
 use wire::code;
 use wire::three;
-ghost use mathlib.Core.Path.{_≡_};
-ghost use lib.ListN.{length};
-ghost use Rattle.merge.specs.Merge.{merged, mergeVerdict};
-ghost use Rattle.wire.specs.Outcomes.{lentCode, lentRoom};
-ghost use Rattle.export_lists.specs.Merged.{mergeAnswer};
+ghost use Rattle.export_lists.specs.Merged.{CallMerged};
 
 // Writes the rows of either list, ascending, each once. Returns 0; or a refusal, and then every buffer is as it came; or, asked first, 255 times
 // 256 where the answer has not 12 bytes.
@@ -19,9 +15,7 @@ pub fn merge<'a>(
     out: &mut [u8],
     answer: &mut [u8],
 ) -> u32
-    ensures { λ r. ⌜ r ≡ lentCode (mergeVerdict variables (now (pairs .entry)) (now (first .entry)) (now (second .entry)) (length (now (out .entry)))) (merged variables (now (pairs .entry)) (now (first .entry)) (now (second .entry))) (now (answer .entry)) ⌝ }
-    ensures { λ _. ⌜ now (out .exit) ≡ lentRoom (mergeVerdict variables (now (pairs .entry)) (now (first .entry)) (now (second .entry)) (length (now (out .entry)))) (merged variables (now (pairs .entry)) (now (first .entry)) (now (second .entry))) (now (answer .entry)) (now (out .entry)) ⌝ }
-    ensures { λ _. ⌜ now (answer .exit) ≡ mergeAnswer (mergeVerdict variables (now (pairs .entry)) (now (first .entry)) (now (second .entry)) (length (now (out .entry)))) (merged variables (now (pairs .entry)) (now (first .entry)) (now (second .entry))) (now (answer .entry)) ⌝ }
+    ensures { λ r. ⌜ CallMerged variables (now (pairs .entry)) (now (first .entry)) (now (second .entry)) (now (out .entry)) (now (answer .entry)) r (now (out .exit)) (now (answer .exit)) ⌝ }
 {
     if answer.len() != 12 {
         return 65280;
@@ -30,7 +24,7 @@ pub fn merge<'a>(
     match r {
         Answer::Refused { number, item } => code(number, item),
         Answer::Written(count) => {
-            three(answer, 1, count % 4294967296, 0);
+            three(answer, 1, count % 4294967296, count / 4294967296);
             0
         }
     }

@@ -2,10 +2,9 @@
 ghost use mathlib.Core.Path.{_≡_};
 ghost use lib.ListN.{length};
 ghost use Rattle.columns.specs.Columns.{columnsOf, rowsOf, columnsVerdict, rowsVerdict};
-ghost use Rattle.merge.specs.Merge.{merged, mergeVerdict};
 ghost use Rattle.store.specs.Store.{call, put, fetch, remove};
 ghost use Rattle.wire.specs.Outcomes.{lentCode, lentRoom, lentAnswer};
-ghost use Rattle.export_lists.specs.Merged.{mergeAnswer};
+ghost use Rattle.export_lists.specs.Merged.{CallMerged};
 ghost use Rattle.export_lists.specs.Stored.{storedCode, storedAnswer, storedBytes, storedRoom};
 ghost use Rattle.export_lists.specs.SmallSheets.{smallCode, smallOut, smallAnswer};
 
@@ -44,9 +43,7 @@ pub extern "C" fn planner_merge<'a>(
     out: &mut [u8],
     answer: &mut [u8],
 ) -> u32
-    ensures { λ r. ⌜ r ≡ lentCode (mergeVerdict variables (now (pairs .entry)) (now (first .entry)) (now (second .entry)) (length (now (out .entry)))) (merged variables (now (pairs .entry)) (now (first .entry)) (now (second .entry))) (now (answer .entry)) ⌝ }
-    ensures { λ _. ⌜ now (out .exit) ≡ lentRoom (mergeVerdict variables (now (pairs .entry)) (now (first .entry)) (now (second .entry)) (length (now (out .entry)))) (merged variables (now (pairs .entry)) (now (first .entry)) (now (second .entry))) (now (answer .entry)) (now (out .entry)) ⌝ }
-    ensures { λ _. ⌜ now (answer .exit) ≡ mergeAnswer (mergeVerdict variables (now (pairs .entry)) (now (first .entry)) (now (second .entry)) (length (now (out .entry)))) (merged variables (now (pairs .entry)) (now (first .entry)) (now (second .entry))) (now (answer .entry)) ⌝ }
+    ensures { λ r. ⌜ CallMerged variables (now (pairs .entry)) (now (first .entry)) (now (second .entry)) (now (out .entry)) (now (answer .entry)) r (now (out .exit)) (now (answer .exit)) ⌝ }
 {
     export_lists::lists::merge(variables, pairs, first, second, out, answer)
 }

@@ -80,7 +80,7 @@ fn compare(lent: &Lent, room: usize, rng: &mut Rng, tally: &mut Tally) {
     let (mut expected_out, mut expected_answer) = (out.clone(), answer.clone());
     let expected = lent.oracle(expected_out.lent());
     if let Ok(written) = expected {
-        let words = [1, written as u32, 0].map(u32::to_le_bytes).concat();
+        let words = [1, written as u32, (written as u64 >> 32) as u32].map(u32::to_le_bytes).concat();
         expected_answer.lent().copy_from_slice(&words);
     }
     let after = lent.clone();

@@ -15,7 +15,7 @@ use Rattle.export_lists.proofs.lists.merge.Tie as tie
 returns : tie.Need-returns
 returns c =
     let a = c .before .before .before .before .before .before .args in
-    wrong-answer (mergeVerdict (a .variables) (a .pairs .now) (a .first .now) (a .second .now) (length (a .out .now))) (merged (a .variables) (a .pairs .now) (a .first .now) (a .second .now)) (a .out .now) (a .answer .now) (c .if1 .taken)
+    wrong-answer (a .variables) (a .pairs .now) (a .first .now) (a .second .now) (a .out .now) (a .answer .now) (c .if1 .taken)
 
 merge-requires : tie.Need-merge-requires
 merge-requires c κs = search needs
@@ -25,10 +25,8 @@ enum-known-r c = search needs
 
 code-requires : tie.Need-code-requires
 code-requires c κs =
-    let a = c .before .before .before .before .before .before .before .before .before .before .before .before .before .args in
     let g = c .before .r .given in
-    let v = refused-is (mergeVerdict (a .variables) (a .pairs .now) (a .first .now) (a .second .now) (length (a .out .now))) (merged (a .variables) (a .pairs .now) (a .first .now) (a .second .now)) (g .0 .0) (g .0 .1 .0) (sym (ap means (g .1)) ∙ c .before .before .before .before .before .merge .ensures .answers) in
-    omega (arith, merge-item (a .variables) (a .pairs .now) (a .first .now) (a .second .now) (length (a .out .now)) (g .0 .0) (g .0 .1 .0) v)
+    omega (arith, merge-item _ _ _ _ _ (g .0 .0) (g .0 .1 .0) (refused-is _ _ (g .0 .0) (g .0 .1 .0) (sym (ap means (g .1)) ∙ c .before .before .before .before .before .merge .ensures .answers)))
 
 enum-known-r-2 : tie.Need-enum-known-r-2
 enum-known-r-2 c = search needs
@@ -44,7 +42,7 @@ returns-2 c =
     let a = c .before .before .before .before .before .before .before .before .before .before .before .before .before .before .args in
     let g = c .before .before .r .given in
     let f = c .before .before .before .before .before .before .merge in
-    right-answer (mergeVerdict (a .variables) (a .pairs .now) (a .first .now) (a .second .now) (length (a .out .now))) (merged (a .variables) (a .pairs .now) (a .first .now) (a .second .now)) (a .out .now) (a .answer .now) (refusal (g .0 .0) (g .0 .1 .0)) (c .code .result) (f .last .1 .1 .1 .1 .0) (a .answer .now) (c .before .before .before .before .before .before .before .before .if1 .left) (sym (ap means (g .1)) ∙ f .ensures .answers) (c .code .ensures) (f .ensures .leaves) refl
+    right-answer (a .variables) (a .pairs .now) (a .first .now) (a .second .now) (a .out .now) (a .answer .now) (refusal (g .0 .0) (g .0 .1 .0)) (c .code .result) (f .last .1 .1 .1 .1 .0) (a .answer .now) (c .before .before .before .before .before .before .before .before .if1 .left) (sym (ap means (g .1)) ∙ f .ensures .answers) (c .code .ensures) (f .ensures .leaves) refl
 
 same-length-2 : tie.Need-same-length-2
 same-length-2 c = search needs
@@ -58,7 +56,7 @@ returns-3 c =
     let g = c .before .before .before .before .before .r2 .given in
     let f = c .before .before .before .before .before .before .before .before .before .merge in
     let t = c .before .before .three in
-    right-answer (mergeVerdict (a .variables) (a .pairs .now) (a .first .now) (a .second .now) (length (a .out .now))) (merged (a .variables) (a .pairs .now) (a .first .now) (a .second .now)) (a .out .now) (a .answer .now) (wrote (g .0 .0)) 0 (f .last .1 .1 .1 .1 .0) (t .last .0) (c .before .before .before .before .before .before .before .before .before .before .before .if1 .left) (sym (ap means (g .1)) ∙ f .ensures .answers) refl (f .ensures .leaves) (t .ensures)
+    right-answer (a .variables) (a .pairs .now) (a .first .now) (a .second .now) (a .out .now) (a .answer .now) (wrote (g .0 .0)) 0 (f .last .1 .1 .1 .1 .0) (t .last .0) (c .before .before .before .before .before .before .before .before .before .before .before .if1 .left) (sym (ap means (g .1)) ∙ f .ensures .answers) refl (f .ensures .leaves) (t .ensures)
 
 pub merge-spec : {M : Type 1} → statement M
 merge-spec =
