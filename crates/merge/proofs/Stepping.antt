@@ -14,8 +14,8 @@ use Rattle.model.specs.Lists.{choose, both, either, flat, same}
 use Rattle.model.specs.Room.{rowsIn}
 use Rattle.model.proofs.Lists.{T-of, of-T, not-of, of-not, same-eq, same-refl, earlier-asym, earlier-trans, Sorted}
 use Rattle.model.proofs.Room.{Wide, wide-tail, rows-wide, rows-none, rows-cons}
-use Rattle.merge.specs.Merge.{ascends, union, mergedBy}
-use Rattle.merge.specs.Inner.{Places, wayOf, Rests, Sorts, fromFirst, nextRow, ofFirst, taken}
+use Rattle.merge.specs.Merge.{ascends, union, mergedBy, fromFirst, nextRow}
+use Rattle.merge.specs.Inner.{Places, wayOf, Rests, Sorts, ofFirst, taken}
 use Rattle.order.specs.Reordered.{read, earlierBy}
 use Rattle.merge.specs.declared.Way.{Way}
 use Rattle.merge.specs.declared.Way.the-variants.{Before, Same, After}

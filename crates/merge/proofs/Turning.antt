@@ -10,10 +10,10 @@ use lib.Seq.{length-take-le, take-all, take-nil}
 use borrow.Author.Tests.{leb-true, leb-false, eq-eqb, ne-eqb, eqb-true, eqb-false}
 use Rattle.model.specs.Room.{rowsIn}
 use Rattle.model.proofs.Room.{rows-none, rows-cons}
-use Rattle.merge.specs.Merge.{ascends, mergedBy}
+use Rattle.merge.specs.Merge.{ascends, mergedBy, fromFirst, nextRow}
 use Rattle.order.specs.Reordered.{earlierBy}
 use Rattle.model.specs.Lists.{choose}
-use Rattle.merge.specs.Inner.{wayOf, Rests, Sorts, fromFirst, nextRow, stands, ofFirst, Fronts, takenFirst, takenSecond, taken}
+use Rattle.merge.specs.Inner.{wayOf, Rests, Sorts, stands, ofFirst, Fronts, takenFirst, takenSecond, taken}
 use Rattle.merge.specs.declared.Way.{Way}
 use Rattle.merge.specs.declared.Way.the-variants.{Before, Same, After}
 use Rattle.merge.proofs.Reading.{rows-equal, ascends-yes, ascends-no, ascends-none, ascends-one}
@@ -58,10 +58,13 @@ module _ (n : ℕ) (order a b : List ℕ) (d : Rests n order a b) (w : Way) (e :
   unfolding nextRow
   next-is = ap (λ (t : Bool). take n (choose t a b)) chosen
 
+  pub which-is : {A : Type 0} (x y : A) → choose (ofFirst w) x y ≡ choose (fromFirst n order a b) x y
+  which-is x y = ap (λ (t : Bool). choose t x y) chosen
+
   pub fronts : Fronts n w a b
   fronts =
       split (λ (v : Way). Fronts n v a b) (λ hb h. some-row n a (d .first) h) (λ hb ha. some-row n b (d .second) hb) (λ hb ha q. some-row n b (d .second) hb) (λ hb ha q z h. some-row n a (d .first) h)
-      (λ hb ha q z. some-row n a (d .first) ha)
+      (λ hb ha q z. (some-row n a (d .first) ha, some-row n b (d .second) hb))
 
   module _ (row : List ℕ) (k : row ≡ nextRow n order a b) (full : length row ≡ 0 → ⊥) where
     is-first : fromFirst n order a b ≡ true → take n a ≡ row

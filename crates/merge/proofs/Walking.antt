@@ -10,8 +10,8 @@ use lib.ListN.{length, drop, length-append}
 use Rattle.model.specs.Room.{wrote, refusal}
 use Rattle.model.specs.Written.{Written}
 use Rattle.model.proofs.Written.{written-none, written-then, written-length}
-use Rattle.merge.specs.Merge.{mergedBy}
-use Rattle.merge.specs.Inner.{Sorts, nextRow, taken, Walked}
+use Rattle.merge.specs.Merge.{mergedBy, nextRow}
+use Rattle.merge.specs.Inner.{Sorts, taken, Walked}
 use Rattle.merge.proofs.Turning.{row-width, row-fits, sorts, text-is, room-for, at-end}
 
 -- what is left of the lists, and what stands in the buffer d, which is `out` now

@@ -5,7 +5,7 @@ use mathlib.Core.List.{List, List·Memᴰ}
 use Prim.Native.Nat.{ℕ, _+_, _*_, _%_, _≤_, _<_}
 use lib.ListN.{length, take, getD}
 use lib.Dec.{T, eqb}
-use Rattle.model.specs.Lists.{choose, both, either, same, below}
+use Rattle.model.specs.Lists.{both, same, below}
 use Rattle.model.specs.Written.{Written}
 use Rattle.model.specs.Room.{rowsIn, Outcome, wrote, refusal}
 use Rattle.order.specs.Reordered.{earlierBy}
@@ -76,14 +76,6 @@ pub record Sorts (n : ℕ) (order a b : List ℕ) : Type 0 where
   pub first : T (ascends order (rowsIn n a))
   pub second : T (ascends order (rowsIn n b))
 
--- the next row is the first list's: the second has none, or the first has one and the second's does not read earlier
-unfoldable pub fromFirst : ℕ → List ℕ → List ℕ → List ℕ → Bool
-fromFirst n order a b = either (eqb (length b) 0) (both (not (eqb (length a) 0)) (not (earlierBy order (take n b) (take n a))))
-
--- the next row: the front of one of the two lists, and of the first where both are at their end
-unfoldable pub nextRow : ℕ → List ℕ → List ℕ → List ℕ → List ℕ
-nextRow n order a b = take n (choose (fromFirst n order a b) a b)
-
 -- how the second list's next row stands to the first's; a list at its end comes after the other
 unfoldable pub stands : ℕ → List ℕ → List ℕ → List ℕ → Way
 stands n order a b = elim (eqb (length b) 0) [ true ↦ After | false ↦ elim (eqb (length a) 0) [ true ↦ Before | false ↦ wayOf (earlierBy order (take n b) (take n a)) (earlierBy order (take n a) (take n b)) ] ]
@@ -94,10 +86,10 @@ ofFirst Before = false
 ofFirst Same = true
 ofFirst After = true
 
--- the list that the next row is of has one, or is the first at its end
+-- the list that the next row is of has one, or is the first at its end; where the rows are equal both have one
 abbrev pub Fronts : ℕ → Way → List ℕ → List ℕ → Type 0
 Fronts n Before a b = n ≤ length b
-Fronts n Same a b = n ≤ length a
+Fronts n Same a b = (n ≤ length a) × (n ≤ length b)
 Fronts n After a b = (length a ≡ 0 → ⊥) → n ≤ length a
 
 -- how many bytes the next row takes of each list

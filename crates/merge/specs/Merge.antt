@@ -1,11 +1,11 @@
 -- One list from two (paper 02, #106): the rows of either list, ascending, each once, and the questions put to the two lists.
 -- Rows are compared in the settling order of the lent pairs (#108); without pairs that is by variable.
-use mathlib.Core.Bool.{Bool, true, false}
+use mathlib.Core.Bool.{Bool, true, false, not}
 use mathlib.Core.List.{List, [], _∷_, map}
 use Prim.Native.Nat.{ℕ, _%_}
-use lib.ListN.{length}
+use lib.ListN.{length, take}
 use lib.Dec.{leb, eqb}
-use Rattle.model.specs.Lists.{both, flat, same, rowsAscend}
+use Rattle.model.specs.Lists.{choose, both, either, flat, same, rowsAscend}
 use Rattle.model.specs.Room.{rowsIn}
 use Rattle.model.specs.Verdict.{Verdict, accepted, ask}
 use Rattle.order.specs.Order.{settlingOrder, orderVerdict}
@@ -32,6 +32,15 @@ mergedBy n order a b = flat (union order (rowsIn n a) (rowsIn n b))
 
 unfoldable pub merged : ℕ → List ℕ → List ℕ → List ℕ → List ℕ
 merged n pairs a b = mergedBy n (settlingOrder n pairs) a b
+
+-- ---- the next row: a part of one of the two lists, not a copy
+-- it is the first list's: the second has none left, or the first has one and the second's does not come before it; so it is the first's where both are equal
+unfoldable pub fromFirst : ℕ → List ℕ → List ℕ → List ℕ → Bool
+fromFirst n order a b = either (eqb (length b) 0) (both (not (eqb (length a) 0)) (not (earlierBy order (take n b) (take n a))))
+
+-- the front of that list; at the end of both the first's empty rest
+unfoldable pub nextRow : ℕ → List ℕ → List ℕ → List ℕ → List ℕ
+nextRow n order a b = take n (choose (fromFirst n order a b) a b)
 
 -- ---- the questions
 -- 24: n is 1 to 12 and both lists are whole rows

@@ -9,10 +9,10 @@ ghost use Rattle.model.specs.Lists.{choose, earlier};
 ghost use Rattle.model.specs.Room.{rowsIn, refusal, outcomeOf, roomAfter};
 ghost use Rattle.model.specs.Written.{placed, Written};
 ghost use Rattle.order.specs.Reordered.{earlierBy};
-ghost use Rattle.merge.specs.Merge.{ascends, mergedBy, wholeLists, orderedVerdict};
+ghost use Rattle.merge.specs.Merge.{ascends, mergedBy, fromFirst, nextRow, wholeLists, orderedVerdict};
 ghost use Rattle.merge.specs.Meaning.{means};
 ghost use Rattle.merge.specs.Calls.{CallMerge};
-ghost use Rattle.merge.specs.Inner.{Places, Kind, wayOf, Number, eightOf, wordOf, Long, Decides, Rests, Sorts, stands, ofFirst, Fronts, takenFirst, takenSecond, Walked};
+ghost use Rattle.merge.specs.Inner.{Places, Kind, wayOf, Number, eightOf, wordOf, Long, Decides, Rests, Sorts, stands, takenFirst, takenSecond, Walked};
 
 pub enum Answer {
     Written(usize),
@@ -170,11 +170,11 @@ fn stand(n: usize, plain: bool, order: &[u8], first: &[u8], second: &[u8]) -> Wa
 }
 
 // The next row: the front of what is left of one of the two lists, and not a copy. For equal rows it is the first list's, and at the end
-// the first's empty rest.
-fn next<'a>(n: usize, way: Way, first: &'a [u8], second: &'a [u8]) -> &'a [u8]
-    requires { ⌜ Fronts n way (now first) (now second) ⌝ }
-    ensures { λ r. ⌜ now r ≡ take n (choose (ofFirst way) (now (first .entry)) (now (second .entry))) ⌝ }
-    ensures { λ r. ⌜ r .ptr ≡ choose (ofFirst way) (first .entry .ptr) (second .entry .ptr) ⌝ }
+// the first's empty rest. `way` is how the second's next row stands to the first's in the order.
+fn next<'a>(n: usize, order: &[u8], way: Way, first: &'a [u8], second: &'a [u8]) -> &'a [u8]
+    requires { ⌜ Rests n (now order) (now first) (now second) × (way ≡ stands n (now order) (now first) (now second)) ⌝ }
+    ensures { λ r. ⌜ now r ≡ nextRow n (now (order .entry)) (now (first .entry)) (now (second .entry)) ⌝ }
+    ensures { λ r. ⌜ r .ptr ≡ choose (fromFirst n (now (order .entry)) (now (first .entry)) (now (second .entry))) (first .entry .ptr) (second .entry .ptr) ⌝ }
 {
     match way {
         Way::Before => &second[..n],
@@ -268,7 +268,7 @@ fn walk<'a>(
     let mut at = 0;
     loop {
         let way = stand(n, plain, order, a, b);
-        let row = next(n, way, a, b);
+        let row = next(n, order, way, a, b);
         if row.len() == 0 {
             return Answer::Written(at);
         }

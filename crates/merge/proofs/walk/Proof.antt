@@ -6,11 +6,11 @@ use Prim.Native.Nat.{ℕ, _+_, _-_, _≤_}
 use native.Mathlib.Omega.{arith}
 use borrow.Author.Needs.{needs}
 use lib.ListN.{length, take, drop}
-use Rattle.merge.specs.Merge.{mergedBy}
+use Rattle.merge.specs.Merge.{mergedBy, nextRow}
 use Rattle.model.specs.Room.{Outcome}
 use Rattle.model.specs.Written.{Written}
-use Rattle.merge.specs.Inner.{nextRow, taken, Walked}
-use Rattle.merge.proofs.Turning.{part-is, next-is, fronts, first-taken, second-taken, left, right, fewer}
+use Rattle.merge.specs.Inner.{taken, Walked}
+use Rattle.merge.proofs.Turning.{part-is, first-taken, second-taken, left, right, fewer}
 use Rattle.merge.proofs.Walking.{Walking, walking, Put, walked, has-room, width, lacks, on}
 use Rattle.merge.proofs.walk.Statement.{statement}
 use Rattle.merge.proofs.walk.Tie as tie
@@ -28,14 +28,14 @@ stand-requires : tie.Need-stand-requires Inv-loop μ-loop
 stand-requires c κs = (c .loop .inv .rests .rests, c .before .before .before .before .before .pre .1)
 
 next-requires : tie.Need-next-requires Inv-loop μ-loop
-next-requires c κs = let l = c .before in fronts (l .before .before .before .before .before .args .n) (l .before .before .before .before .before .args .order .now) (l .loop .a .now) (l .loop .b .now) (l .loop .inv .rests .rests) (c .stand .result) (c .stand .ensures)
+next-requires c κs = (c .before .loop .inv .rests .rests, c .stand .ensures)
 
 same-length : tie.Need-same-length Inv-loop μ-loop
 same-length c = c .before .before .before .loop .inv .size
 
 -- the next row, and what it takes of each list
 row-is : (c : tie.After-next Inv-loop μ-loop) → c .next .result .now ≡ nextRow (c .before .before .before .before .before .before .before .args .n) (c .before .before .before .before .before .before .before .args .order .now) (c .before .before .loop .a .now) (c .before .before .loop .b .now)
-row-is c = let l = c .before .before in let s = l .before .before .before .before .before in c .next .ensures .0 ∙ next-is (s .args .n) (s .args .order .now) (l .loop .a .now) (l .loop .b .now) (l .loop .inv .rests .rests) (c .before .stand .result) (c .before .stand .ensures)
+row-is c = c .next .ensures .0
 
 of-first : (c : tie.After-past-first Inv-loop μ-loop) → c .past-first .result ≡ taken (c .before .before .before .before .before .before .before .before .before .before .args .n) (c .before .before .before .before .before .loop .a .now) (c .before .before .before .next .result .now)
 of-first c =
