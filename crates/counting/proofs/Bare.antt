@@ -1,11 +1,13 @@
 -- The figure from a bare run. Assumes nothing.
 use mathlib.Core.Path.{_≡_, refl, sym, ap, _∙_, subst}
-use mathlib.Core.Logic.{inl}
-use mathlib.Core.List.{List, [], map}
+use mathlib.Core.Logic.{inl, ⊎-elim}
+use mathlib.Core.List.{List, [], _∷_, map}
 use Prim.Native.Nat.{ℕ, _+_, _*_, _≤_, _<_}
 use native.Mathlib.Omega.{arith}
 use lib.Dec.{T}
 use lib.ListN.{length}
+use types.Run.{OneOf}
+use denote.Enum.Declared.{tagOf}
 use Rattle.model.specs.Lists.{at, below, upFrom}
 use Rattle.model.specs.Problem.{Problem}
 use Rattle.model.specs.Verdict.{Verdict, accepted, refused, isAccepted}
@@ -24,6 +26,10 @@ use Rattle.figure.specs.Figure.{Figure, number, dash, familiesLent, reportFigur
 use Rattle.figure.proofs.FamiliesLent.{families-lent}
 use Rattle.figure.proofs.Counting.{figure-counted, figure-number, figure-none, figure-dash, figure-few}
 use Rattle.search.specs.Tasks.{bareLent, answerBareFor, answerBare, listBareFor, listBare}
+use Rattle.search.specs.Meaning.{endingOf}
+use Rattle.search.specs.declared.Ending as S
+use Rattle.search.specs.declared.Ending.the-variants.{Finished, Spent, Full}
+use Rattle.search.proofs.Ending.{the-type}
 use Rattle.counting.specs.Told.{Told, told, toldFor, countedLent}
 use Rattle.counting.specs.Told as T
 use Rattle.counting.specs.Held.{Sized, Solved, Ran}
@@ -106,6 +112,12 @@ module _ (b pairs block : List ℕ) (limit n : ℕ) (list : List ℕ) (size : Si
 
     pub bare-number : (k : ℕ) → k ≡ familiesOf (problemLent b pairs block) → told (number k) ≡ countedLent b pairs block limit
     bare-number k q = figured done h (number k) (figure-number b pairs block limit (4096 * n) (ran done h .0) solutions nodes (ran-so done h) k q)
+
+-- an ending whose tag is that of the second or the third case is not a finished run
+pub stopped : (e : S.Ending) → OneOf (1 ∷ 2 ∷ []) (tagOf the-type e) → (plans nodes : ℕ) → endingOf e ≡ finished plans nodes → ⊥
+stopped (Finished plans nodes) k p m q = ⊎-elim {C = ⊥} (λ z. omega arith) (λ z. omega arith) k
+stopped (Spent plans nodes) k p m q = let z : _≡_ {A = ℕ} 0 1 = cc in omega arith
+stopped (Full plans nodes) k p m q = let z : _≡_ {A = ℕ} 0 1 = cc in omega arith
 
 -- ---- the figure of a report
 module _ (b : List ℕ) (limit : ℕ) (e : Ending) (f : Ran b limit e) where

@@ -86,13 +86,12 @@ fn counted(
     let answer = search::run_bare(sheet, pairs, block, limit, list);
     match answer {
         search::Answer::Refused { number, item } => Answer::Refused { number, item },
-        search::Answer::Ended(e) => match e {
-            Ending::Finished(solutions, _) => {
-                Answer::Number(count(sheet, pairs, block, list, n, solutions))
-            }
-            Ending::Spent(_, _) => Answer::Dash,
-            Ending::Full(_, _) => Answer::Dash,
-        },
+        search::Answer::Ended(e) => {
+            let Ending::Finished(solutions, _) = e else {
+                return Answer::Dash;
+            };
+            Answer::Number(count(sheet, pairs, block, list, n, solutions))
+        }
     }
 }
 

@@ -1,13 +1,11 @@
 -- `ending_report`: a finished run is taken apart, the two others are a stop. Assumes nothing.
-use mathlib.Core.Path.{sym, subst}
-use mathlib.Core.Logic.{⊎-elim}
+use mathlib.Core.Path.{refl, sym, subst}
 use mathlib.Core.List.{[], _∷_}
-use native.Mathlib.Omega.{arith}
 use types.Run.{OneOf}
 use denote.Enum.Declared.{tagOf}
 use Rattle.figure.specs.Figure.{Figure, reportFigure}
 use Rattle.counting.specs.Held.{Ran}
-use Rattle.counting.proofs.Bare.{report-dash}
+use Rattle.counting.proofs.Bare.{report-dash, stopped}
 use Rattle.report.specs.Text.{endedText}
 use Rattle.model.specs.Written.{Fronted}
 use Rattle.search.specs.declared.Ending.{Ending}
@@ -22,14 +20,13 @@ use Rattle.export_report.proofs.text.ending_report.Tie as tie
 enum-known-e : tie.Need-enum-known-e
 enum-known-e c = search needs
 
--- an ending whose tag is that of the second or the third case is a stop
-stopped : (e : Ending) → OneOf (1 ∷ 2 ∷ []) (tagOf the-type e) → Stop (endingOf e)
-stopped (Finished plans nodes) k = ⊎-elim {C = ⊥} (λ z. omega arith) (λ z. omega arith) k
-stopped (Spent plans nodes) k = tt
-stopped (Full plans nodes) k = tt
+stop-is : (e : Ending) → OneOf (1 ∷ 2 ∷ []) (tagOf the-type e) → Stop (endingOf e)
+stop-is (Finished plans nodes) k = stopped (Finished plans nodes) k plans nodes refl
+stop-is (Spent plans nodes) k = tt
+stop-is (Full plans nodes) k = tt
 
 stop-report-requires : tie.Need-stop-report-requires
-stop-report-requires c κs = let s = c .before .before .before .before .before in (stopped (s .args .e) (c .before .match .keys2), s .pre .1, s .pre .2)
+stop-report-requires c κs = let s = c .before .before .before .before .before in (stop-is (s .args .e) (c .before .match .keys2), s .pre .1, s .pre .2)
 
 same-length : tie.Need-same-length
 same-length c = search needs
@@ -37,7 +34,7 @@ same-length c = search needs
 returns : tie.Need-returns
 returns c =
     let s = c .before .before .before .before .before .before .before .before in
-    let n = report-dash _ _ _ (s .pre .0) (λ plans nodes q. subst Stop q (stopped (s .args .e) (c .before .before .before .before .match .keys2))) in
+    let n = report-dash _ _ _ (s .pre .0) (stopped (s .args .e) (c .before .before .before .before .match .keys2)) in
     let r = c .before .before .stop-report in
     subst (λ (f : Figure). Fronted (s .args .out .now) (endedText (endingOf (s .args .e)) f (s .args .n) (s .args .list .now)) (r .last .1 .1 .1 .0) (r .result)) (sym n) (r .ensures)
 
