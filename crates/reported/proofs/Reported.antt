@@ -202,17 +202,23 @@ module _ (input : List ℕ) where
     ends = let c = D.counts b 1000000 room e (ran .1) in record { lines-are = lines; allowed = c .0; counts = c .1 }
 
     -- an ending that is finished
-    whole : (plans made : ℕ) → ran .0 ≡ finished plans made → (ls : List (List ℕ)) → ls ≡ map (line planWord) (take (plansIn (ran .0)) (leaders (problemOf (sheetIn input)))) → ReportFinished (sheetIn input) ls
+    whole : (plans made : ℕ) → ran .0 ≡ finished plans made → (ls : List (List ℕ)) →
+        ls ≡ map (line planWord) (take (plansIn (ran .0)) (leaders (problemOf (sheetIn input)))) → ReportFinished (sheetIn input) ls
     whole plans made f ls q =
         let a : answerOf b 1000000 room ≡ ended (finished plans made) = ran .1 ∙ ap ended f in
-        let all : take (plansIn e) (leaders (problemOf b)) ≡ leaders (problemOf b) = ap (λ (x : Ending). take (plansIn x) (leaders (problemOf b))) f ∙ sym (D.first-part b 1000000 room (finished plans made) a) ∙ D.lists-leaders b 1000000 room plans made a in
+        let first = sym (D.first-part b 1000000 room (finished plans made) a) in
+        let lists = D.lists-leaders b 1000000 room plans made a in
+        let all : take (plansIn e) (leaders (problemOf b)) ≡ leaders (problemOf b) = ap (λ (x : Ending). take (plansIn x) (leaders (problemOf b))) f ∙ first ∙ lists in
         let is : ls ≡ map (line planWord) (leaders (problemOf b)) = q ∙ ap (map (line planWord)) all in
-        let some : length (leaders (problemOf b)) ≡ plans = ap length (sym (D.lists-leaders b 1000000 room plans made a) ∙ D.held b 1000000 room (finished plans made) a) ∙ sym (R.rows-counted (problemOf b) 1000000 (length room)) ∙ ap plansIn (D.ran b 1000000 room (finished plans made) a .so) in
+        let counted = sym (R.rows-counted (problemOf b) 1000000 (length room)) ∙ ap plansIn (D.ran b 1000000 room (finished plans made) a .so) in
+        let some : length (leaders (problemOf b)) ≡ plans = ap length (sym lists ∙ D.held b 1000000 room (finished plans made) a) ∙ counted in
         let n = D.nothing-listed b 1000000 room plans made a in
         record {
           accepts = good;
           all-leaders = is;
-          chains = λ s l. subst (λ (ls : List (List ℕ)). T (isSolution (problemOf b) s) ↔ ∥ ((x : List ℕ) × List·Memᴰ x ls × Chain (problemOf b) x s) ∥₁) (D.lists-leaders b 1000000 room plans made a) (D.chains b 1000000 room plans made a s l);
+          chains = λ s l.
+              subst (λ (ls : List (List ℕ)). T (isSolution (problemOf b) s) ↔ ∥ ((x : List ℕ) × List·Memᴰ x ls × Chain (problemOf b) x s) ∥₁) lists
+              (D.chains b 1000000 room plans made a s l);
           nothing = (
             λ z. n .0 (sym some ∙ sym (length-map (leaders (problemOf b)) (line planWord)) ∙ sym (ap length is) ∙ ap length z),
             λ none. is ∙ empty (map (line planWord) (leaders (problemOf b))) (length-map (leaders (problemOf b)) (line planWord) ∙ some ∙ n .1 none),
@@ -237,7 +243,8 @@ module _ (input : List ℕ) where
     finished = λ before last h w. go before last h w (verdictOf b) refl;
   }
     where
-      go : (before : List (List ℕ)) (last : List ℕ) → linesIn (reportOf input) ≡ before ++ (last ∷ []) → SaysFinished last → (v : Verdict) → verdictOf (sheetIn input) ≡ v → ReportFinished (sheetIn input) before
+      go : (before : List (List ℕ)) (last : List ℕ) → linesIn (reportOf input) ≡ before ++ (last ∷ []) → SaysFinished last →
+          (v : Verdict) → verdictOf (sheetIn input) ≡ v → ReportFinished (sheetIn input) before
       go before last h w accepted q = says q before last h w
       go before last h w (refused n i) q =
           absurd (not-refused (n ∷ i ∷ []) (subst SaysFinished (last-same before [] last (line refusedWord (n ∷ i ∷ [])) (sym h ∙ refuses n i q) .1) w))
