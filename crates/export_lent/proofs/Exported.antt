@@ -1,21 +1,26 @@
 -- What callers of planner_run_lent, planner_at_least and planner_closed hold (specs/Exported), from the contracts and the theorems about the calls inside.
 -- Assumes nothing.
 use mathlib.Core.Path.{_≡_, refl, sym, ap, _∙_, subst, subst₂}
-use mathlib.Core.Bool.{Bool, true}
+use mathlib.Core.Bool.{Bool, true, false}
 use mathlib.Core.List.{List, [], _∷_, _++_}
-use Prim.Native.Nat.{ℕ, zero, suc, _+_, _*_, _<_}
+use Prim.Native.Nat.{ℕ, zero, suc, _+_, _*_, _%_, _<_}
 use native.Mathlib.Nat.{not-suc-le-zero}
 use native.Mathlib.Omega.{arith}
-use lib.Dec.{eqb}
+use lib.Dec.{leb, ltb, eqb}
 use lib.ListN.{length}
 use lib.Seq.{getD-append-add}
-use borrow.Author.Tests.{eq-eqb, ne-eqb}
-use Rattle.model.specs.Lists.{choose, at}
+use borrow.Author.Tests.{eq-eqb, ne-eqb, eqb-true, eqb-false}
+use Rattle.model.specs.Lists.{choose, all, both, at}
 use Rattle.model.specs.Bytes.{fourBytes}
-use Rattle.model.specs.Verdict.{Verdict, accepted, refused}
+use Rattle.model.specs.Problem.{Problem, respects}
+use Rattle.model.specs.Verdict.{Verdict, accepted, refused, ask}
+use Rattle.model.specs.Sheet.{problemOf, permutesPairs, symmetriesVerdict, verdictOf}
 use Rattle.model.specs.Run as R
 use Rattle.model.specs.Run.{ended, finished, spent, full, nodesIn}
+use Rattle.order.specs.Order.{settlesAll, orderVerdict}
 use Rattle.order.specs.RunBy.{placeCounts}
+use Rattle.block.specs.Block.{blockTables, isBlock, blockVerdict, blockLent}
+use Rattle.sheet.specs.Meaning.{andThen}
 use Rattle.lent.specs.Lent.{verdictLent, problemWith, orderLent, answerLentFor, answerLent, listLentFor, listLent, tallyLentFor, tallyLent}
 use Rattle.lent.proofs.Lent as L
 use Rattle.walk.specs.Meaning.{tallyIn}
@@ -37,10 +42,10 @@ use Rattle.search.specs.declared.Ending.{Ending}
 use Rattle.search.specs.declared.Ending.the-variants.{Finished, Spent, Full}
 use Rattle.search.specs.declared.Answer.the-variants.{Ended}
 use Rattle.search.proofs.DemandsLent.{demands-lent}
-use Rattle.wire.specs.Wire.{wrongLength, threeNumbers}
-use Rattle.export_run.specs.Run.{endingBytes, answerCode}
+use Rattle.wire.specs.Wire.{codeOf, wrongLength, threeNumbers}
+use Rattle.export_run.specs.Run.{questionCode, endingBytes, answerCode}
 use Rattle.export_run.specs.Exported.{fourAt, Tells}
-use Rattle.export_run.proofs.Exported.{first-of, second-of, third-of, endingAs, ending-as, is-finish}
+use Rattle.export_run.proofs.Exported.{question-code, first-of, second-of, third-of, endingAs, ending-as, is-finish}
 use Rattle.export_run.proofs.Exported as X
 use Rattle.export_lent.specs.Tallied.{numbersOf}
 use Rattle.export_lent.specs.Lent.{placedBytes, lentRunCode, lentRunList, lentRunAnswer}
@@ -110,6 +115,52 @@ tells-other m l (Full plans made) f t = (f .0 ∙ t .0, f .1 ∙ t .1, f .2 ∙ 
 told-front : (e : R.Ending) (l : List ℕ) → Tells (endingBytes e ++ l) (endingAs e)
 told-front e l = tells-other (endingBytes e ++ l) (endingBytes e) (endingAs e) (ending-front e l) (X.told e)
 
+-- ---- no question has the number 0
+abbrev Zero : Verdict → Type 0
+Zero v = codeOf v ≡ 0 → v ≡ accepted
+
+ask-zero : (c : Bool) (number item : ℕ) (later : Verdict) → 0 < number → Zero later → Zero (ask c number item later)
+ask-zero true number item later h k = k
+ask-zero false number item later h k = λ e. absurd (omega arith)
+
+sheet-zero : (b : List ℕ) → Zero (verdictOf b)
+unfolding questionCode
+sheet-zero b e = question-code b (questionCode b) refl .accepts .0 e
+
+symmetries-zero : (p : Problem) (i : ℕ) (gs : List (List ℕ)) → Zero (symmetriesVerdict p i gs)
+unfolding symmetriesVerdict
+symmetries-zero p i [] = λ e. refl
+symmetries-zero p i (g ∷ gs) =
+    let last = symmetriesVerdict p (suc i) gs in
+    ask-zero (permutesPairs p g) 15 i (ask (respects p g) 16 i last) (omega arith) (ask-zero (respects p g) 16 i last (omega arith) (symmetries-zero p (suc i) gs))
+
+block-zero : (p : Problem) (block : List ℕ) → Zero (blockLent p block)
+unfolding blockLent blockVerdict
+block-zero p [] = λ e. refl
+block-zero p (first ∷ []) = λ e. absurd (omega arith)
+block-zero p (first ∷ m ∷ []) =
+    let last = symmetriesVerdict p (length (p .symmetries)) (blockTables p first m) in
+    ask-zero (isBlock p first m) 36 0 last (omega arith) (symmetries-zero p (length (p .symmetries)) (blockTables p first m))
+block-zero p (first ∷ m ∷ x ∷ block) = λ e. absurd (omega arith)
+
+order-zero : (n : ℕ) (pairs : List ℕ) (later : Verdict) → Zero later → Zero (orderVerdict n pairs later)
+unfolding orderVerdict
+order-zero n pairs later k =
+    let v30 = ask (settlesAll n pairs) 30 0 later in
+    let c29 = all (λ x. ltb x n) pairs in
+    ask-zero (both (leb (length pairs) 128) (eqb (length pairs % 2) 0)) 28 0 (ask c29 29 0 v30) (omega arith)
+    (ask-zero c29 29 0 v30 (omega arith) (ask-zero (settlesAll n pairs) 30 0 later (omega arith) k))
+
+then-zero : (v u : Verdict) → Zero v → Zero u → Zero (andThen v u)
+then-zero accepted u h k = k
+then-zero (refused number item) u h k = h
+
+lent-zero : (b pairs block : List ℕ) → Zero (verdictLent b pairs block)
+unfolding verdictLent
+lent-zero b pairs block =
+    then-zero (verdictOf b) (orderVerdict (problemOf b .variables) pairs (blockLent (problemOf b) block)) (sheet-zero b)
+    (order-zero (problemOf b .variables) pairs (blockLent (problemOf b) block) (block-zero (problemOf b) block))
+
 module _ (b pairs block : List ℕ) (limit : ℕ) (list answer : List ℕ) (code : ℕ) (list′ answer′ : List ℕ) (c : CallRunBytes b pairs block limit list answer code list′ answer′) where
   unfit : (length answer ≡ 60 → ⊥) → (code ≡ wrongLength) × (list′ ≡ list) × (answer′ ≡ answer)
   unfit n = let w = wrong-answer b pairs block limit list answer n in (c .0 ∙ sym (w .0), c .1 .0 ∙ sym (w .1 .0), c .1 .1 ∙ sym (w .1 .1))
@@ -164,10 +215,22 @@ module _ (b pairs block : List ℕ) (limit : ℕ) (list answer : List ℕ) (code
       tells-counts : TellsCounts answer′ tally
       tells-counts x h = ap (λ (l : List ℕ). fourAt l (12 + 4 * x)) bytes ∙ shifted (endingBytes (ran .0)) (numbersOf (tally .counts)) 12 (4 * x) (ending-long (ran .0)) ∙ number-of (tally .counts) x (omega (arith, twelve))
 
+  zero-so : code ≡ 0 → (length answer ≡ 60) × (verdictLent b pairs block ≡ accepted)
+  zero-so z = let s = sixty (eqb (length answer) 60) refl in (s, good s (verdictLent b pairs block) refl)
+    where
+      sixty : (t : Bool) → eqb (length answer) 60 ≡ t → length answer ≡ 60
+      sixty true e = eqb-true (length answer) 60 e
+      sixty false e = absurd (let w = unfit (eqb-false (length answer) 60 e) .0 in omega arith)
+
+      good : length answer ≡ 60 → (v : Verdict) → verdictLent b pairs block ≡ v → verdictLent b pairs block ≡ accepted
+      good s accepted e = e
+      good s (refused number item) e = lent-zero b pairs block (ap codeOf e ∙ sym (refuses s number item e .0) ∙ z)
+
   held : RunBytesHeld b pairs block limit list answer code list′ answer′
   held = record {
     unfit = unfit;
     refuses = refuses;
+    zero = zero-so;
     ends = λ s g. (
       so s (ended (ran s g .0)) (ran s g .1) .0,
       (

@@ -30,7 +30,9 @@ pub record RunBytesHeld (b pairs block : List ℕ) (limit : ℕ) (list answer : 
   -- an answer that has not sixty bytes, and a refusal: the code, and every byte as it came
   pub unfit : (length answer ≡ 60 → ⊥) → (code ≡ wrongLength) × (list′ ≡ list) × (answer′ ≡ answer)
   pub refuses : length answer ≡ 60 → (number item : ℕ) → verdictLent b pairs block ≡ refused number item → (code ≡ number * 256 + item) × (list′ ≡ list) × (answer′ ≡ answer)
-  -- else the code is 0, and the bytes tell the ending and the counts of a call of `run_lent` with this list and a tally of nothing, so that all of
+  -- the code is 0 only where neither is so
+  pub zero : code ≡ 0 → (length answer ≡ 60) × (verdictLent b pairs block ≡ accepted)
+  -- then the bytes tell the ending and the counts of a call of `run_lent` with this list and a tally of nothing, so that all of
   -- `DemandsLent` holds of it: demand 2 and the counts of every ending, demands 2 and 3 of a finished one
   pub ends : length answer ≡ 60 → verdictLent b pairs block ≡ accepted →
       (code ≡ 0) × ((e : Ending) × (tally : Tally) × Tells answer′ e × TellsCounts answer′ tally × CallLent b pairs block limit list noTally (Ended e) list′ tally
