@@ -293,6 +293,24 @@ uint32_t planner_run_part(const uint8_t *sheet, size_t sheet_len, const uint8_t 
                           const uint8_t *upto, size_t upto_len, uint32_t node_limit, uint8_t *list, size_t list_len,
                           uint8_t *answer, size_t answer_len);
 
+/* Joins the heads of parts, one behind the other, in any order, repeats too. Beginning at the empty path, always that head is taken that begins where
+ * one stands and reaches furthest, of equals the first; one that reaches nothing after its beginning is never taken. PLANNER_JOINED where one
+ * comes to the path 255: the sums of the heads taken are the figures of the run. Else PLANNER_MISSING: no head goes on from where one stands, and no
+ * head begins between there and `upto`. Heads that overlap can be answered so though others of them would join: what is missing is then run again.
+ * The answer has PLANNER_JOIN_BYTES bytes, its numbers low byte first:
+ *     0  the kind, 32 bits       4  zero      8  the plans, 64 bits      16  the trials, 64 bits      24  twelve counts, 64 bits each
+ *   120  the missing range: from where one stands, a path in 13 bytes as a head has it; 133 upto the nearest beginning after it, else the path
+ *        255 (joined: 26 zeros)
+ *   146  six zeros
+ * 0 is returned where the call has answered. Refusals, item 0: 41 (whole heads, at most 16,777,216), 42 (each has the shape of a head: kind 1 to 3,
+ * lengths up to 12, zeros behind the values), 43 (all bear the problem's name of the first), 44 (none is full); PLANNER_WRONG_SIZE, asked first,
+ * where the answer has another size; the answer is then as it came. The digests of a name tell problems apart that differ by accident, not by
+ * intent: who has the sheet, the pairs and the block can compare them. */
+#define PLANNER_JOIN_BYTES 152
+#define PLANNER_JOINED 1
+#define PLANNER_MISSING 2
+uint32_t planner_join(const uint8_t *heads, size_t heads_len, uint8_t *answer, size_t answer_len);
+
 #ifdef __cplusplus
 }
 #endif

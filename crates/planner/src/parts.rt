@@ -1,5 +1,6 @@
-// A run in parts: crate export_parts says what the calls answer and leave.
+// A run in parts: crates export_parts and export_join say what the calls answer and leave.
 ghost use Rattle.export_parts.specs.Parts.{CallPartBytes};
+ghost use Rattle.export_join.specs.Joined.{CallJoinBytes};
 
 // The nodes of a run that come after one path and not after another.
 #[no_mangle]
@@ -16,4 +17,12 @@ pub extern "C" fn planner_run_part(
     ensures { λ r. ⌜ CallPartBytes (now (sheet .entry)) (now (pairs .entry)) (now (block .entry)) (now (from .entry)) (now (upto .entry)) limit (now (list .entry)) (now (answer .entry)) r (now (list .exit)) (now (answer .exit)) ⌝ }
 {
     export_parts::parts::run_part(sheet, pairs, block, from, upto, limit, list, answer)
+}
+
+// The heads of parts joined.
+#[no_mangle]
+pub extern "C" fn planner_join(heads: &[u8], answer: &mut [u8]) -> u32
+    ensures { λ r. ⌜ CallJoinBytes (now (heads .entry)) (now (answer .entry)) r (now (answer .exit)) ⌝ }
+{
+    export_join::join_heads(heads, answer)
 }

@@ -1,0 +1,36 @@
+-- `eight`: two halves. Assumes nothing.
+use mathlib.Core.Path.{_≡_, refl, sym, ap, _∙_, subst}
+use mathlib.Core.List.{List}
+use Prim.Native.Nat.{ℕ, _+_, _-_, _*_, _≤_, _<_}
+use native.Mathlib.Omega.{arith}
+use borrow.Author.Needs.{needs}
+use lib.ListN.{length, length-set}
+use Rattle.model.specs.Lists.{at, tabulate}
+use Rattle.model.specs.Written.{Written}
+use Rattle.model.specs.Bytes.{fourBytes}
+use Rattle.export_join.proofs.Wides.{eight-put}
+use Rattle.export_join.proofs.pieces.eight.Statement.{statement}
+use Rattle.export_join.proofs.pieces.eight.Tie as tie
+
+four-requires : tie.Need-four-requires
+four-requires c κs = search needs
+
+four-requires-2 : tie.Need-four-requires-2
+unfolding fourBytes
+four-requires-2 c κs =
+    let p = c .before .before .before in
+    let s = p .before .before .before in
+    (omega (arith, p .four .ensures .ends, p .four .kept .0, s .pre), omega arith)
+
+same-length : tie.Need-same-length
+same-length c = search needs
+
+returns : tie.Need-returns
+returns c =
+    let q = c .before .before in
+    let p = q .before .before .before .before in
+    let s = p .before .before .before in
+    eight-put (s .args .at) (s .args .x) _ _ (s .pre) refl refl (p .four .ensures) (q .four2 .ensures)
+
+pub eight-spec : {M : Type 1} → statement M
+eight-spec = tie.close (tie.spec four-requires four-requires-2 same-length returns)

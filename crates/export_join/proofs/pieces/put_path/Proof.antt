@@ -1,0 +1,76 @@
+-- `put_path`: after i turns the first i bytes are written. Assumes nothing.
+use mathlib.Core.Path.{_≡_, refl, sym, ap, _∙_, subst}
+use mathlib.Core.List.{List, [], _∷_}
+use Prim.Native.Nat.{ℕ, _+_, _-_, _*_, _≤_, _<_}
+use native.Mathlib.Omega.{arith}
+use borrow.Author.Needs.{needs}
+use lib.ListN.{length, length-set, replicate}
+use Rattle.model.specs.Lists.{at, tabulate}
+use Rattle.model.specs.Written.{Written}
+use Rattle.model.specs.Bytes.{fourBytes}
+use Rattle.export_join.proofs.Wides.{bytes-start, bytes-turn, bytes-all}
+use Rattle.export_join.proofs.pieces.put_path.Statement.{statement}
+use Rattle.export_join.proofs.pieces.put_path.Tie as tie
+
+abbrev Inv-loop : tie.InvT-loop
+Inv-loop out₀ start l o i₀ out i = (i ≤ 13) × (length out ≡ length out₀) × Written out₀ start (tabulate i (λ k. at l (o + k))) out (start + i)
+
+abbrev μ-loop : tie.MeasureT-loop
+μ-loop out₀ start l o i₀ out i = 13 - i
+
+loop-holds : tie.Need-loop-holds Inv-loop μ-loop
+loop-holds c = let a = c .args in (omega arith, refl, bytes-start (a .out .now) (a .start) (λ k. at (a .l .now) (a .o + k)))
+
+add-out : tie.Need-add-out Inv-loop μ-loop
+add-out c = omega arith
+
+shared-slice-read-out : tie.Need-shared-slice-read-out Inv-loop μ-loop
+shared-slice-read-out c = omega arith
+
+add-out-2 : tie.Need-add-out-2 Inv-loop μ-loop
+add-out-2 c = omega arith
+
+slice-write-out : tie.Need-slice-write-out Inv-loop μ-loop
+slice-write-out c = omega arith
+
+add-i : tie.Need-add-i Inv-loop μ-loop
+add-i c = omega arith
+
+loop-less : tie.Need-loop-less Inv-loop μ-loop
+loop-less c = omega arith
+
+loop-again : tie.Need-loop-again Inv-loop μ-loop
+unfolding at
+loop-again c =
+    let l = c .before .before .loop in
+    let a = c .before .before .before .args in (
+      omega arith,
+      length-set (l .out) (a .start + l .i) _ ∙ l .inv .1,
+      bytes-turn (a .out .now) (l .out) (a .start) (l .i) _ (λ k. at (a .l .now) (a .o + k)) (omega arith) (l .inv .1) refl (l .inv .2),
+    )
+
+same-length : tie.Need-same-length Inv-loop μ-loop
+same-length c = c .before .loop .inv .1
+
+returns : tie.Need-returns Inv-loop μ-loop
+returns c =
+    let l = c .before .loop in
+    let a = c .before .before .args in
+    bytes-all (a .out .now) (l .out) (a .start) (l .i) (a .l .now) (a .o) (omega arith) (l .inv .2)
+
+pub put-path-spec : {M : Type 1} → statement M
+put-path-spec =
+    tie.close
+    (tie.spec
+    Inv-loop
+    μ-loop
+    loop-holds
+    add-out
+    shared-slice-read-out
+    add-out-2
+    slice-write-out
+    add-i
+    loop-less
+    loop-again
+    same-length
+    returns)

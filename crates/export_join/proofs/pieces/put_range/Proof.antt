@@ -1,0 +1,34 @@
+-- `put_range`: two paths. Assumes nothing.
+use mathlib.Core.Path.{_≡_, refl, sym, ap, _∙_, subst}
+use mathlib.Core.List.{List, [], _∷_}
+use Prim.Native.Nat.{ℕ, _+_, _-_, _*_, _≤_, _<_}
+use native.Mathlib.Omega.{arith}
+use borrow.Author.Needs.{needs}
+use lib.ListN.{length, length-set, replicate}
+use Rattle.model.specs.Lists.{at, tabulate}
+use Rattle.model.specs.Written.{Written}
+use Rattle.model.specs.Bytes.{fourBytes}
+use Rattle.export_join.specs.Joined.{standBytes, beginBytes}
+use Rattle.export_join.proofs.Wides.{two-put}
+use Rattle.export_join.proofs.pieces.put_range.Statement.{statement}
+use Rattle.export_join.proofs.pieces.put_range.Tie as tie
+
+put-stand-requires : tie.Need-put-stand-requires
+put-stand-requires c κs = search needs
+
+put-begin-requires : tie.Need-put-begin-requires
+put-begin-requires c κs = search needs
+
+same-length : tie.Need-same-length
+same-length c = search needs
+
+returns : tie.Need-returns
+returns c =
+    let q = c .before .before in
+    let p = q .before .before .before .before in
+    let s = p .before .before .before .before in
+    let a = s .args in
+    two-put (standBytes (a .l .now) (a .stand)) (beginBytes (a .l .now) (a .near)) (standBytes (a .l .now) (a .stand)) (beginBytes (a .l .now) (a .near)) (s .pre .0) refl refl (p .put-stand .ensures) (q .put-begin .ensures)
+
+pub put-range-spec : {M : Type 1} → statement M
+put-range-spec = tie.close (tie.spec put-stand-requires put-begin-requires same-length returns)

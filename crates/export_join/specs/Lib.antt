@@ -1,0 +1,2 @@
+-- What planner_join answers and leaves in the lent answer.
+pub mod Joined
