@@ -189,9 +189,9 @@ uint32_t planner_rows(const uint8_t *store, size_t store_len, uint8_t *out, size
 /* Writes the rows of either list, ascending, each once, to the front of out; bytes after them are unchanged. Rows have
  * `places` bytes, any value, and are compared in the settling order of the pairs (two bytes each, "this place before
  * that place": always the lowest place whose forerunners are all settled), without pairs by place. The answer is 1,
- * then the number of bytes written, its low half and its high half. Refusals: 24 (1 to 12 places, both lists whole rows),
- * 28 (at most 64 pairs and no half pair), 29 (places below `places`), 30 (no circle), 25 and 26 (the first and the second
- * list strictly ascending), 27 (out holds the merged list). */
+ * then the number of bytes written, its low half and its high half. Refusals: 24 (1 to 12 places, both lists whole
+ * rows), 28 (at most 64 pairs and no half pair), 29 (places below `places`), 30 (no circle), 25 and 26 (the first and
+ * the second list strictly ascending), 27 (out holds the merged list). */
 uint32_t planner_merge(uint32_t places, const uint8_t *pairs, size_t pairs_len, const uint8_t *first, size_t first_len,
                        const uint8_t *second, size_t second_len, uint8_t *out, size_t out_len, uint8_t *answer,
                        size_t answer_len);
@@ -272,40 +272,50 @@ uint32_t planner_desk_leave(uint8_t *desk, size_t desk_len, uint32_t seat, uint8
  * number of bytes written, 0. Refusals: 39 (k is a position), then 40 (out has at least 52 bytes). */
 uint32_t planner_small_sheet(uint32_t k, uint8_t *out, size_t out_len, uint8_t *answer, size_t answer_len);
 
-/* ---- A run in parts: the trials of one tree between two paths, run apart and joined. A path is any bytes: the values of windows in the
- * settling order. No bytes is before the first trial, the one byte 255 after the last; otherwise a trial comes after a path that
- * is the front of it, or that has the smaller value at the first difference. */
+/* ---- A run in parts: the trials of one tree between two paths, run apart and joined. A path is any bytes: the values
+ * of windows in the settling order. No bytes is before the first trial, the one byte 255 after the last; otherwise a
+ * trial comes after a path that is the front of it, or that has the smaller value at the first difference. */
 
-/* As planner_run_lent, for exactly the trials that come after the path `from` and not after `upto`, with a node limit and a list of their own. 0, with
- * the list and the answer written, the part's head; or number * 256 + item as planner_run_lent refuses or, asked first, PLANNER_WRONG_SIZE where
- * the answer hasn't PLANNER_PART_BYTES bytes; list and answer are then as they came. The head, its numbers of 32 bits, low byte first:
+/* As planner_run_lent, for exactly the trials that come after the path `from` and not after `upto`, with a node limit
+ * and a list of their own. 0, with the list and the answer written, the part's head; or number * 256 + item as
+ * planner_run_lent refuses or, asked first, PLANNER_WRONG_SIZE where the answer hasn't PLANNER_PART_BYTES bytes; list
+ * and answer are then as they came. The head, its numbers of 32 bits, low byte first:
  *     0  the kind, the plans, the trials and twelve counts, as in the answer of planner_run_lent
- *    60  the name of the problem, four digests: of the sheet by base 1000003, of the sheet by base 65599, of the pairs and of the block by base
- *        1000003. The digest by base q of no bytes is 1; with one byte x more, h becomes (h * q + x + 1) % 2147483647
- *    76  from: how many values, at most twelve, then these, then zeros, 13 bytes. Of a longer path its first twelve, which mean the same range
+ *    60  the name of the problem, four digests: of the sheet by base 1000003, of the sheet by base 65599, of the pairs
+ *        and of the block by base 1000003. The digest by base q of no bytes is 1; with one byte x more, h becomes
+ *        (h * q + x + 1) % 2147483647
+ *    76  from: how many values, at most twelve, then these, then zeros, 13 bytes. Of a longer path its first twelve,
+ *        which mean the same range
  *    89  upto, likewise
  *   102  the last trial made, else from, likewise
- * Parts of one sheet, pairs and block that go on from each other, whatever their limits and lists, are together the run: a finished part reaches
- * `upto`, a spent one its last trial (go on from there), and a full one has to be run again with more room. */
+ * Parts of one sheet, pairs and block that go on from each other, whatever their limits and lists, are together the
+ * run: a finished part reaches `upto`, a spent one its last trial (go on from there), and a full one has to be run
+ * again with more room. */
 #define PLANNER_PART_BYTES 115
 uint32_t planner_run_part(const uint8_t *sheet, size_t sheet_len, const uint8_t *pairs, size_t pairs_len,
                           const uint8_t *block, size_t block_len, const uint8_t *from, size_t from_len,
                           const uint8_t *upto, size_t upto_len, uint32_t node_limit, uint8_t *list, size_t list_len,
                           uint8_t *answer, size_t answer_len);
 
-/* Joins the heads of parts, one behind the other, in any order, repeats too. Beginning at the empty path, always that head is taken that begins where
- * one stands and reaches furthest, of equals the first; one that reaches nothing after its beginning is never taken. PLANNER_JOINED where one
- * comes to the path 255: the sums of the heads taken are the figures of the run. Else PLANNER_MISSING: no head goes on from where one stands, and no
- * head begins between there and `upto`. Heads that overlap can be answered so though others of them would join: what is missing is then run again.
- * The answer has PLANNER_JOIN_BYTES bytes, its numbers low byte first:
- *     0  the kind, 32 bits       4  zero      8  the plans, 64 bits      16  the trials, 64 bits      24  twelve counts, 64 bits each
- *   120  the missing range: from where one stands, a path in 13 bytes as a head has it; 133 upto the nearest beginning after it, else the path
- *        255 (joined: 26 zeros)
+/* Joins the heads of parts, one behind the other, in any order, repeats too. Beginning at the empty path, always that
+ * head is taken that begins where one stands and reaches furthest, of equals the first; one that reaches nothing after
+ * its beginning is never taken. PLANNER_JOINED where one comes to the path 255: the sums of the heads taken are the
+ * figures of the run. Else PLANNER_MISSING: no head goes on from where one stands, and no head begins between there
+ * and `upto`. Heads that overlap can be answered so though others of them would join: what is missing is then run
+ * again. The answer has PLANNER_JOIN_BYTES bytes, its numbers low byte first:
+ *     0  the kind, 32 bits
+ *     4  zero
+ *     8  the plans, 64 bits
+ *    16  the trials, 64 bits
+ *    24  twelve counts, 64 bits each
+ *   120  the missing range: from where one stands, a path in 13 bytes as a head has it (joined: zeros)
+ *   133  upto the nearest beginning after it, else the path 255 (joined: zeros)
  *   146  six zeros
- * 0 is returned where the call has answered. Refusals, item 0: 41 (whole heads, at most 16,777,216), 42 (each has the shape of a head: kind 1 to 3,
- * lengths up to 12, zeros behind the values), 43 (all bear the problem's name of the first), 44 (none is full); PLANNER_WRONG_SIZE, asked first,
- * where the answer has another size; the answer is then as it came. The digests of a name tell problems apart that differ by accident, not by
- * intent: who has the sheet, the pairs and the block can compare them. */
+ * 0 is returned where the call has answered. Refusals, item 0: 41 (whole heads, at most 16,777,216), 42 (each has the
+ * shape of a head: kind 1 to 3, lengths up to 12, zeros behind the values), 43 (all bear the problem's name of the
+ * first), 44 (none is full); PLANNER_WRONG_SIZE, asked first, where the answer has another size; the answer is then as
+ * it came. The digests of a name tell problems apart that differ by accident, not by intent: who has the sheet, the
+ * pairs and the block can compare them. */
 #define PLANNER_JOIN_BYTES 152
 #define PLANNER_JOINED 1
 #define PLANNER_MISSING 2
