@@ -84,7 +84,7 @@ static uint32_t run_lent(void) {
 static uint32_t at_least(void) { return planner_at_least(LENT, 5000, 1000000, ANSWER); }
 static uint32_t families(void) { return planner_families(LENT, 1000000, ANSWER); }
 static uint32_t closed(void) { return planner_closed(LENT, ANSWER); }
-static uint32_t report(void) { return planner_report(SHEET(exchanged), OUT) == 0; }
+static uint32_t report(void) { return planner_report(SHEET(exchanged), OUT, ANSWER); }
 static uint32_t filter(void) {
     static uint8_t sets[12] = {6, 0, 6, 0, 6, 0, 2, 0, 2, 0, 6, 0};
     static const uint8_t index[8] = {0, 1, 2, 3, 4, 2, 5, 0}, equal[8] = {255, 1, 255, 1, 1, 255, 2, 255};

@@ -56,10 +56,10 @@ extern "C" {
 /* The library's version: major * 65536 + minor * 256 + patch. */
 uint32_t planner_version(void);
 
-/* Every other function but planner_report returns 0, or a refusal: the number of the first question answered "no" and
- * the item (window, rule, exchange or entry) that it speaks of, as number * 256 + item. planner_words.h lists the
- * numbers. Every lent buffer, the answer too, then holds the bytes it came with. Only planner_filter returns 1 and 2
- * too, which are no refusals: a refusal is 256 or more. planner_report returns a length. */
+/* Every other function returns 0, or a refusal: the number of the first question answered "no" and the item (window,
+ * rule, exchange or entry) that it speaks of, as number * 256 + item. planner_words.h lists the numbers. Every lent
+ * buffer, the answer too, then holds the bytes it came with. Only planner_filter returns 1 and 2 too, which are no
+ * refusals: a refusal is 256 or more. */
 #define PLANNER_NUMBER(code) ((code) >> 8)
 #define PLANNER_ITEM(code) ((code) & 255)
 
@@ -88,11 +88,12 @@ uint32_t planner_question(const uint8_t *sheet, size_t sheet_len);
 uint32_t planner_run(const uint8_t *sheet, size_t sheet_len, uint32_t node_limit, uint8_t *list,
                      size_t list_len, uint8_t *answer, size_t answer_len);
 
-/* Writes what the lister prints for this standard input (node limit 1,000,000, room for 4,096 plans), a refusal
- * included, to the front of out and returns its length; the bytes after it are unchanged. With less room than
- * PLANNER_REPORT_ROOM it returns 0 and writes nothing. */
+/* Writes what the lister prints for this standard input (node limit 1,000,000, room for 4,096 plans), a refusal of the
+ * sheet included, to the front of out; the bytes after it are unchanged. The answer is 1, the report's length, 0.
+ * Refusal: 22 (out holds the report). */
 #define PLANNER_REPORT_ROOM 217160 /* no report is longer */
-size_t planner_report(const uint8_t *input, size_t input_len, uint8_t *out, size_t out_len);
+uint32_t planner_report(const uint8_t *input, size_t input_len, uint8_t *out, size_t out_len, uint8_t *answer,
+                        size_t answer_len);
 
 /* ---- The filter. */
 

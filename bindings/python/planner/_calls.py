@@ -179,9 +179,7 @@ def closed(sheet: Lent, pairs: Lent = b"", block: Lent = b"") -> Closed:
 
 def report(sheet: Lent) -> str:
     """What the lister prints for this standard input."""
-    room = room_for(_REPORT_ROOM)
-    length = call("report", sheet, room)
-    return room.raw[:length].decode("ascii")
+    return written("report", sheet, room=_REPORT_ROOM).decode("ascii")
 
 
 def columns(places: int, rows: Lent, room: Optional[int] = None) -> bytes:

@@ -26,7 +26,7 @@ _ARGUMENTS: Dict[str, Tuple[Any, ...]] = {
     "at_least": _LENT_RUN + _U32 * 2 + _IN,
     "families": _LENT_RUN + _U32 + _IN,
     "closed": _LENT_RUN + _IN,
-    "report": _IN * 2,
+    "report": _IN * 3,
     "columns": _U32 + _IN * 3,
     "rows": _IN * 3,
     "merge": _U32 + _IN * 5,
@@ -68,7 +68,7 @@ def _load() -> ctypes.CDLL:
     for name, arguments in _ARGUMENTS.items():
         function = getattr(library, "planner_" + name)
         function.argtypes = arguments
-        function.restype = ctypes.c_size_t if name == "report" else ctypes.c_uint32
+        function.restype = ctypes.c_uint32
     return library
 
 

@@ -53,7 +53,14 @@ mod exported {
             answer: *mut u8,
             answer_len: usize,
         ) -> u32;
-        pub fn planner_report(input: *const u8, input_len: usize, out: *mut u8, out_len: usize) -> usize;
+        pub fn planner_report(
+            input: *const u8,
+            input_len: usize,
+            out: *mut u8,
+            out_len: usize,
+            answer: *mut u8,
+            answer_len: usize,
+        ) -> u32;
     }
 }
 
@@ -63,7 +70,7 @@ pub const ABSENT: u8 = 255;
 /// A stack that is enough for every call, with some to spare for the thread itself; planner.h has the figures.
 pub const STACK_BYTES: usize = 320 * 1024;
 
-/// The least room for a report. No report is longer.
+/// No report is longer.
 const REPORT_ROOM: usize = 217_160;
 
 /// The first question answered "no", and the window, rule, exchange or entry that it speaks of.
@@ -213,8 +220,18 @@ fn number(answer: &[u8], i: usize) -> u32 {
 /// What the lister prints for this standard input.
 pub fn report(input: &[u8]) -> String {
     let mut out = vec![0; REPORT_ROOM];
-    let length =
-        unsafe { exported::planner_report(input.as_ptr(), input.len(), out.as_mut_ptr(), out.len()) };
-    out.truncate(length);
+    let mut answer = [0; 12];
+    let code = unsafe {
+        exported::planner_report(
+            input.as_ptr(),
+            input.len(),
+            out.as_mut_ptr(),
+            out.len(),
+            answer.as_mut_ptr(),
+            answer.len(),
+        )
+    };
+    assert_eq!(code, 0, "room for every report");
+    out.truncate(number(&answer, 1) as usize);
     String::from_utf8(out).expect("a report is plain text")
 }

@@ -13,27 +13,26 @@ use Rattle.lent.specs.Lent.{verdictLent}
 use Rattle.figure.specs.Figure.{Figure, familiesLent}
 use Rattle.counting.specs.Told.{Told, refusal, toldFor, countedLent}
 use Rattle.wire.specs.Wire.{wrongLength}
-use Rattle.export_families.specs.Families.{figureCode, countedBytes, familiesCode, familiesAnswer}
+use Rattle.export_families.specs.Families.{figureCode, countedBytes, familiesCode, familiesAnswer, CallFigured}
 
 module _ (b pairs block : List ℕ) (limit : ℕ) (answer : List ℕ) where
-  abbrev Figured : ℕ → List ℕ → Type 0
-  Figured r bytes = (r ≡ familiesCode b pairs block limit answer) × (bytes ≡ familiesAnswer b pairs block limit answer)
-
-  pub wrong-answer : (length answer ≡ 12 → ⊥) → Figured wrongLength answer
+  pub wrong-answer : (length answer ≡ 12 → ⊥) → CallFigured b pairs block limit answer wrongLength answer
   unfolding familiesCode familiesAnswer
   wrong-answer h =
-      let e = ne-eqb (length answer) 12 h in (
-        sym (ap {B = ℕ} (λ (t : Bool). choose t (figureCode (countedLent b pairs block limit)) wrongLength) e),
-        sym (ap {B = List ℕ} (λ (t : Bool). choose t (countedBytes (countedLent b pairs block limit) answer) answer) e),
-      )
+      let e = ne-eqb (length answer) 12 h in
+      record {
+        returns = sym (ap {B = ℕ} (λ (t : Bool). choose t (figureCode (countedLent b pairs block limit)) wrongLength) e);
+        tells = sym (ap {B = List ℕ} (λ (t : Bool). choose t (countedBytes (countedLent b pairs block limit) answer) answer) e);
+      }
 
-  pub right-answer : (o : Told) (r : ℕ) (bytes : List ℕ) → length answer ≡ 12 → o ≡ countedLent b pairs block limit → r ≡ figureCode o → bytes ≡ countedBytes o answer → Figured r bytes
+  pub right-answer : (o : Told) (r : ℕ) (bytes : List ℕ) → length answer ≡ 12 → o ≡ countedLent b pairs block limit → r ≡ figureCode o → bytes ≡ countedBytes o answer → CallFigured b pairs block limit answer r bytes
   unfolding familiesCode familiesAnswer
   right-answer o r bytes h so code w =
-      let e = eq-eqb (length answer) 12 h in (
-        code ∙ ap figureCode so ∙ sym (ap {B = ℕ} (λ (t : Bool). choose t (figureCode (countedLent b pairs block limit)) wrongLength) e),
-        w ∙ ap (λ (q : Told). countedBytes q answer) so ∙ sym (ap {B = List ℕ} (λ (t : Bool). choose t (countedBytes (countedLent b pairs block limit) answer) answer) e),
-      )
+      let e = eq-eqb (length answer) 12 h in
+      record {
+        returns = code ∙ ap figureCode so ∙ sym (ap {B = ℕ} (λ (t : Bool). choose t (figureCode (countedLent b pairs block limit)) wrongLength) e);
+        tells = w ∙ ap (λ (q : Told). countedBytes q answer) so ∙ sym (ap {B = List ℕ} (λ (t : Bool). choose t (countedBytes (countedLent b pairs block limit) answer) answer) e);
+      }
 
 pub refusal-counted : (b pairs block : List ℕ) (limit n i : ℕ) → refusal n i ≡ countedLent b pairs block limit → verdictLent b pairs block ≡ refused n i
 unfolding countedLent

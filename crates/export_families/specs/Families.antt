@@ -1,4 +1,5 @@
 -- planner_families (paper 02, #104): what it answers, and the bytes of the answer afterwards. Where the answer has not 12 bytes nothing is changed.
+use mathlib.Core.Path.{_≡_}
 use mathlib.Core.List.{List}
 use Prim.Native.Nat.{ℕ, _+_, _*_}
 use lib.Dec.{eqb}
@@ -28,3 +29,8 @@ familiesCode b pairs block limit answer = choose (eqb (length answer) 12) (figur
 
 unfoldable pub familiesAnswer : List ℕ → List ℕ → List ℕ → ℕ → List ℕ → List ℕ
 familiesAnswer b pairs block limit answer = choose (eqb (length answer) 12) (countedBytes (countedLent b pairs block limit) answer) answer
+
+-- a call: what it was lent, the code that comes back, the answer at the end. It is the function's contract.
+pub record CallFigured (b pairs block : List ℕ) (limit : ℕ) (answer : List ℕ) (code : ℕ) (answer′ : List ℕ) : Type 0 where
+  pub returns : code ≡ familiesCode b pairs block limit answer
+  pub tells : answer′ ≡ familiesAnswer b pairs block limit answer

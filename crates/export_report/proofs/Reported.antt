@@ -5,10 +5,13 @@ use mathlib.Core.List.{List, [], _∷_, _++_}
 use Prim.Native.Nat.{ℕ, _+_, _*_, _≤_, _<_}
 use native.Mathlib.Nat.{le-of-mul-le-mul-right}
 use native.Mathlib.Omega.{arith}
-use lib.Dec.{T, leb}
+use lib.Dec.{T, eqb, leb}
 use lib.ListN.{length, take, drop, length-append}
 use borrow.Author.Tests.{le-leb, lt-leb}
-use Rattle.model.specs.Verdict.{Verdict, accepted, refused, isAccepted}
+use Rattle.model.specs.Lists.{at, choose}
+use Rattle.model.specs.Bytes.{fourBytes}
+use Rattle.model.specs.Verdict.{Verdict, accepted, refused, ask, isAccepted}
+use Rattle.model.specs.Room.{Outcome, wrote, refusal, outcomeOf, roomAfter}
 use Rattle.model.specs.Sheet.{headerOf, problemOf, verdictOf}
 use Rattle.model.specs.Run.{Ending, plansIn, resultOf, ended, answerFor, answerOf, listOf, listedPlans}
 use Rattle.report.specs.Report.{line, refusedWord, resultText, reportFor, reportOf}
@@ -17,9 +20,11 @@ use Rattle.counting.specs.Held.{Sized, Ran}
 use Rattle.model.proofs.Accepted.{passed}
 use Rattle.model.proofs.Demands.{ran, held}
 use Rattle.model.proofs.Runs.{rows-counted, rows-fit}
-use Rattle.report.specs.Text.{endedText, room}
-use Rattle.model.specs.Written.{Fronted}
-use Rattle.export_report.specs.Report.{reportLength, reportBytes}
+use Rattle.report.specs.Text.{endedText, Fitted}
+use Rattle.wire.specs.Wire.{wrongLength, threeNumbers}
+use Rattle.wire.specs.Outcomes.{outcomeCode, outcomeAnswer, lentCode, lentRoom, lentAnswer}
+use Rattle.wire.proofs.Outcomes as lent
+use Rattle.export_report.specs.Report.{reportVerdict, reportCode, reportBytes, reportAnswer, lengthTold, CallReport}
 use Rattle.export_report.specs.Inner.{Listed}
 
 -- ---- refusals
@@ -81,28 +86,49 @@ module _ (b : List ℕ) (n : ℕ) (out : List ℕ) (e : Ending) (size : Sized b 
       ∙ sym (ap (λ (v : Verdict). reportFor v b) verdict)
 
 -- ---- the exported report
-pub no-room : (input out : List ℕ) → length out < room → (0 ≡ reportLength input out) × (out ≡ reportBytes input out)
-unfolding reportLength reportBytes
-no-room input out h =
-    let e = lt-leb room (length out) h in (
-      sym (ap {B = ℕ} (λ (b : Bool). elim b [ true ↦ length (reportOf input) | false ↦ 0 ]) e),
-      sym (ap {B = List ℕ} (λ (b : Bool). elim b [ true ↦ reportOf input ++ drop (length (reportOf input)) out | false ↦ out ]) e),
-    )
+module _ (input out answer : List ℕ) where
+  pub wrong-answer : (length answer ≡ 12 → ⊥) → CallReport input out answer wrongLength out answer
+  unfolding reportCode reportBytes reportAnswer
+  wrong-answer h = let r = lent.wrong-answer (reportVerdict input out) (reportOf input) out answer h in record { returns = r .0; leaves = r .1 .0; tells = r .1 .1 }
 
-pub reported : (input b out after : List ℕ) (r : ℕ) → room ≤ length out → take 65536 input ≡ b → Fronted out (reportFor (verdictOf b) b) after r → (r ≡ reportLength input out) × (after ≡ reportBytes input out)
-unfolding reportLength reportBytes reportOf
-reported input b out after r h s f =
-    let e = le-leb room (length out) h in
-    let t : reportOf input ≡ reportFor (verdictOf b) b = ap (λ (l : List ℕ). reportFor (verdictOf l) l) s in (
-      f .count ∙ ap length (sym t) ∙ sym (ap {B = ℕ} (λ (b : Bool). elim b [ true ↦ length (reportOf input) | false ↦ 0 ]) e),
-      f .bytes ∙ ap (λ (l : List ℕ). l ++ drop (length l) out) (sym t) ∙ sym (ap {B = List ℕ} (λ (b : Bool). elim b [ true ↦ reportOf input ++ drop (length (reportOf input)) out | false ↦ out ]) e),
-    )
+  module _ (right : length answer ≡ 12) (after : List ℕ) (r : ℕ) (f : Fitted out (reportOf input) after r) where
+    -- the outcome is that of the question about the room
+    outcome : (o : Outcome) (code : ℕ) (bytes : List ℕ) → o ≡ outcomeOf (reportVerdict input out) (reportOf input) → code ≡ outcomeCode o → after ≡ roomAfter (reportVerdict input out) (reportOf input) out → bytes ≡ outcomeAnswer o answer →
+        CallReport input out answer code after bytes
+    unfolding reportCode reportBytes reportAnswer
+    outcome o code bytes so c l w =
+        let r = lent.right-answer (reportVerdict input out) (reportOf input) out answer o code after bytes right so c l w in record { returns = r .0; leaves = r .1 .0; tells = r .1 .1 }
 
--- the report lies inside the buffer
-pub report-inside : (input out after : List ℕ) → after ≡ reportBytes input out → reportLength input out ≤ length after
-unfolding reportLength reportBytes
-report-inside input out after h = go (leb room (length out)) h
+    pub too-short : length out < r → CallReport input out answer 5632 after answer
+    unfolding reportVerdict
+    too-short h =
+        let e : reportVerdict input out ≡ refused 22 0 = ap {B = Verdict} (λ (b : Bool). ask b 22 0 accepted) (lt-leb (length (reportOf input)) (length out) (omega (arith, f .count))) in
+        outcome (refusal 22 0) 5632 answer (sym (ap (λ (v : Verdict). outcomeOf v (reportOf input)) e)) refl (f .short (omega (arith, f .count)) ∙ sym (ap (λ (v : Verdict). roomAfter v (reportOf input) out) e)) refl
+
+    pub reported : r ≤ length out → (bytes : List ℕ) → bytes ≡ threeNumbers 1 r 0 → CallReport input out answer 0 after bytes
+    unfolding reportVerdict
+    reported h bytes w =
+        let e : reportVerdict input out ≡ accepted = ap {B = Verdict} (λ (b : Bool). ask b 22 0 accepted) (le-leb (length (reportOf input)) (length out) (omega (arith, f .count))) in
+        outcome (wrote (length (reportOf input))) 0 bytes (sym (ap (λ (v : Verdict). outcomeOf v (reportOf input)) e)) refl
+        (f .fits (omega (arith, f .count)) ∙ sym (ap (λ (v : Verdict). roomAfter v (reportOf input) out) e)) (w ∙ ap (λ (k : ℕ). threeNumbers 1 k 0) (f .count))
+
+pub whole-input : (input out after : List ℕ) (r : ℕ) → Fitted out (reportFor (verdictOf (take 65536 input)) (take 65536 input)) after r → Fitted out (reportOf input) after r
+unfolding reportOf
+whole-input input out after r f = f
+
+second-told : (k : ℕ) → lengthTold (threeNumbers 1 k 0) ≡ k
+unfolding threeNumbers fourBytes at
+second-told k = omega arith
+
+-- where 0 comes back, the length told is the report's, which lies inside the buffer
+pub report-inside : (input out answer : List ℕ) (code : ℕ) (out′ answer′ : List ℕ) → CallReport input out answer code out′ answer′ → code ≡ 0 → (lengthTold answer′ ≡ length (reportOf input)) × (lengthTold answer′ ≤ length out′)
+unfolding reportCode reportBytes reportAnswer reportVerdict lentCode lentRoom lentAnswer
+report-inside input out answer code out′ answer′ c z = go (eqb (length answer) 12) (leb (length (reportOf input)) (length out)) (sym z ∙ c .returns) (c .leaves) (c .tells)
   where
-    go : (t : Bool) → after ≡ elim t [ true ↦ reportOf input ++ drop (length (reportOf input)) out | false ↦ out ] → elim t [ true ↦ length (reportOf input) | false ↦ 0 ] ≤ length after
-    go true e = omega (arith, ap length e, length-append (reportOf input) (drop (length (reportOf input)) out))
-    go false e = omega arith
+    go : (t u : Bool) → 0 ≡ choose t (outcomeCode (outcomeOf (ask u 22 0 accepted) (reportOf input))) wrongLength → out′ ≡ choose t (roomAfter (ask u 22 0 accepted) (reportOf input) out) out →
+        answer′ ≡ choose t (outcomeAnswer (outcomeOf (ask u 22 0 accepted) (reportOf input)) answer) answer → (lengthTold answer′ ≡ length (reportOf input)) × (lengthTold answer′ ≤ length out′)
+    go true true q l w =
+        let e : lengthTold answer′ ≡ length (reportOf input) = ap (λ (a : List ℕ). lengthTold a) w ∙ second-told (length (reportOf input)) in
+        (e, omega (arith, e, ap length l, length-append (reportOf input) (drop (length (reportOf input)) out)))
+    go true false q l w = absurd (omega arith)
+    go false u q l w = absurd (omega arith)

@@ -2,16 +2,10 @@
 use Prim.Native.Nat.{ℕ, _*_, _≤_}
 use mathlib.Core.List.{List}
 use lib.ListN.{length}
-use Rattle.model.specs.Run.{Ending, finished, spent, full, plansIn}
+use Rattle.model.specs.Run.{Ending, plansIn}
 
 -- an ending whose plans are rows of n bytes of the list
 pub record Listed (e : Ending) (n : ℕ) (list : List ℕ) : Type 0 where
   pub few : n ≤ 12
   pub most : plansIn e ≤ 4096
   pub inside : plansIn e * n ≤ length list
-
--- the run did not finish
-abbrev pub Stop : Ending → Type 0
-Stop (finished plans made) = ⊥
-Stop (spent plans made) = Unit {0}
-Stop (full plans made) = Unit {0}

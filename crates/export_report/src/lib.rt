@@ -1,20 +1,35 @@
-// The report on a sheet for callers.
+// The report on a sheet for callers. The answer has 12 bytes, three numbers of four bytes, low byte first: 1, the report's length, 0.
 mod text;
 
-ghost use mathlib.Core.Path.{_≡_};
-ghost use Rattle.export_report.specs.Report.{reportLength, reportBytes};
+use wire::three;
+ghost use lib.ListN.{take};
+ghost use Rattle.model.specs.Sheet.{verdictOf};
+ghost use Rattle.report.specs.Report.{reportFor};
+ghost use Rattle.report.specs.Text.{Fitted};
+ghost use Rattle.export_report.specs.Report.{CallReport};
 
-// Writes the report on a sheet to the front of the buffer, of which the first 65,536 bytes count, and answers its length; where the
-// buffer has less than REPORT_ROOM bytes it answers 0 and writes nothing.
-pub fn write_report(input: &[u8], out: &mut [u8]) -> usize
-    ensures { λ r. ⌜ r ≡ reportLength (now (input .entry)) (now (out .entry)) ⌝ }
-    ensures { λ _. ⌜ now (out .exit) ≡ reportBytes (now (input .entry)) (now (out .entry)) ⌝ }
+// The report on an input, of which the first 65,536 bytes are the sheet.
+fn input_report(input: &[u8], out: &mut [u8]) -> usize
+    ensures { λ r. ⌜ Fitted (now (out .entry)) (reportFor (verdictOf (take 65536 (now (input .entry)))) (take 65536 (now (input .entry)))) (now (out .exit)) r ⌝ }
 {
-    if out.len() < report::REPORT_ROOM {
-        return 0;
-    }
     if input.len() <= 65536 {
         return text::sheet_report(input, out);
     }
     text::sheet_report(&input[..65536], out)
+}
+
+// Writes the report on an input to the front of the buffer. Returns 0; or 22 times 256 where the buffer is shorter than the report, and then every
+// buffer is as it came; or, asked first, 255 times 256 where the answer has not 12 bytes.
+pub fn write_report(input: &[u8], out: &mut [u8], answer: &mut [u8]) -> u32
+    ensures { λ r. ⌜ CallReport (now (input .entry)) (now (out .entry)) (now (answer .entry)) r (now (out .exit)) (now (answer .exit)) ⌝ }
+{
+    if answer.len() != 12 {
+        return 65280;
+    }
+    let length = input_report(input, out);
+    if out.len() < length {
+        return 5632;
+    }
+    three(answer, 1, length, 0);
+    0
 }

@@ -1,4 +1,4 @@
-// The report on a sheet.
+// The report on a sheet: each function answers the report's length, and writes it where the buffer holds it.
 use search::Answer;
 use search::Ending;
 ghost use mathlib.Core.Path.{_≡_};
@@ -7,22 +7,21 @@ ghost use lib.ListN.{length};
 ghost use Rattle.model.specs.Sheet.{verdictOf};
 ghost use Rattle.figure.specs.Figure.{dash, reportFigure};
 ghost use Rattle.report.specs.Report.{reportFor};
-ghost use Rattle.report.specs.Text.{endedText, room};
-ghost use Rattle.model.specs.Written.{Fronted};
+ghost use Rattle.report.specs.Text.{endedText, Fitted};
 ghost use Rattle.counting.specs.Held.{Sized, Ran};
-ghost use Rattle.export_report.specs.Inner.{Listed, Stop};
+ghost use Rattle.export_report.specs.Inner.{Listed};
 ghost use Rattle.model.specs.Run.{finished};
 ghost use Rattle.search.specs.Meaning.{endingOf};
 
-// A run that stopped before it finished: its families aren't counted.
+// A run whose families aren't counted.
 fn stop_report(e: Ending, list: &[u8], n: usize, out: &mut [u8]) -> usize
-    requires { ⌜ Stop (endingOf e) × Listed (endingOf e) n (now list) × (room ≤ length (now out)) ⌝ }
-    ensures { λ r. ⌜ Fronted (now (out .entry)) (endedText (endingOf e) dash n (now (list .entry))) (now (out .exit)) r ⌝ }
+    requires { ⌜ Listed (endingOf e) n (now list) ⌝ }
+    ensures { λ r. ⌜ Fitted (now (out .entry)) (endedText (endingOf e) dash n (now (list .entry))) (now (out .exit)) r ⌝ }
 {
     match e {
         Ending::Spent(plans, nodes) => report::spent(plans, nodes, list, n, out),
         Ending::Full(plans, nodes) => report::full(plans, nodes, list, n, out),
-        Ending::Finished(_, _) => 0,
+        Ending::Finished(plans, nodes) => report::uncounted(plans, nodes, list, n, out),
     }
 }
 
@@ -35,21 +34,20 @@ fn finished_report(
     n: usize,
     out: &mut [u8],
 ) -> usize
-    requires { ⌜ Ran (now sheet) 1000000 (finished plans nodes) × Listed (finished plans nodes) n (now list) × (room ≤ length (now out)) ⌝ }
-    ensures { λ r. ⌜ Fronted (now (out .entry)) (endedText (finished plans nodes) (reportFigure (now (sheet .entry)) 1000000) n (now (list .entry))) (now (out .exit)) r ⌝ }
+    requires { ⌜ Ran (now sheet) 1000000 (finished plans nodes) × Listed (finished plans nodes) n (now list) ⌝ }
+    ensures { λ r. ⌜ Fitted (now (out .entry)) (endedText (finished plans nodes) (reportFigure (now (sheet .entry)) 1000000) n (now (list .entry))) (now (out .exit)) r ⌝ }
 {
     let figure = counting::finished(sheet, 1000000, plans);
-    match figure {
-        counting::Answer::Number(k) => report::finished(plans, nodes, k, list, n, out),
-        counting::Answer::Dash => report::uncounted(plans, nodes, list, n, out),
-        counting::Answer::Refused { number: _, item: _ } => 0,
-    }
+    let counting::Answer::Number(families) = figure else {
+        return report::uncounted(plans, nodes, list, n, out);
+    };
+    report::finished(plans, nodes, families, list, n, out)
 }
 
 // A finished run is taken apart first; the two others are a stop.
 fn ending_report(sheet: &[u8], e: Ending, list: &[u8], n: usize, out: &mut [u8]) -> usize
-    requires { ⌜ Ran (now sheet) 1000000 (endingOf e) × Listed (endingOf e) n (now list) × (room ≤ length (now out)) ⌝ }
-    ensures { λ r. ⌜ Fronted (now (out .entry)) (endedText (endingOf e) (reportFigure (now (sheet .entry)) 1000000) n (now (list .entry))) (now (out .exit)) r ⌝ }
+    requires { ⌜ Ran (now sheet) 1000000 (endingOf e) × Listed (endingOf e) n (now list) ⌝ }
+    ensures { λ r. ⌜ Fitted (now (out .entry)) (endedText (endingOf e) (reportFigure (now (sheet .entry)) 1000000) n (now (list .entry))) (now (out .exit)) r ⌝ }
 {
     let Ending::Finished(plans, nodes) = e else {
         return stop_report(e, list, n, out);
@@ -60,8 +58,8 @@ fn ending_report(sheet: &[u8], e: Ending, list: &[u8], n: usize, out: &mut [u8])
 // The report on a sheet; the list is cut to the room for 4,096 plans of n values. A function that calls itself is not compiled into one with the runs that
 // it calls, so their arrays stand one after the other on the stack.
 fn run_report(sheet: &[u8], n: usize, list: &mut [u8], out: &mut [u8]) -> usize
-    requires { ⌜ Sized (now sheet) n × (4096 * n ≤ length (now list)) × (room ≤ length (now out)) ⌝ }
-    ensures { λ r. ⌜ Fronted (now (out .entry)) (reportFor (verdictOf (now (sheet .entry))) (now (sheet .entry))) (now (out .exit)) r ⌝ }
+    requires { ⌜ Sized (now sheet) n × (4096 * n ≤ length (now list)) ⌝ }
+    ensures { λ r. ⌜ Fitted (now (out .entry)) (reportFor (verdictOf (now (sheet .entry))) (now (sheet .entry))) (now (out .exit)) r ⌝ }
 {
     let used = 4096 * n;
     if used < list.len() {
@@ -76,8 +74,7 @@ fn run_report(sheet: &[u8], n: usize, list: &mut [u8], out: &mut [u8]) -> usize
 
 // The report on a sheet.
 pub fn sheet_report(sheet: &[u8], out: &mut [u8]) -> usize
-    requires { ⌜ room ≤ length (now out) ⌝ }
-    ensures { λ r. ⌜ Fronted (now (out .entry)) (reportFor (verdictOf (now (sheet .entry))) (now (sheet .entry))) (now (out .exit)) r ⌝ }
+    ensures { λ r. ⌜ Fitted (now (out .entry)) (reportFor (verdictOf (now (sheet .entry))) (now (sheet .entry))) (now (out .exit)) r ⌝ }
 {
     let n = counting::variables(sheet);
     let mut list = counting::plan_room();

@@ -5,6 +5,7 @@ ghost use mathlib.Core.Path.{_≡_};
 ghost use lib.ListN.{length};
 ghost use Rattle.io.specs.Counts.{Counts};
 ghost use Rattle.report.specs.Text.{room};
+ghost use Rattle.export_report.specs.Report.{lengthTold};
 
 // Standard input: how many bytes stand at the front of the buffer, and whether a read failed after them.
 struct Input {
@@ -17,6 +18,17 @@ fn report_room() -> [u8; report::REPORT_ROOM]
     ensures { λ r. ⌜ room ≡ length r ⌝ }
 {
     [0; report::REPORT_ROOM]
+}
+
+// The report's length, as the answer tells it.
+fn length_told(answer: &[u8]) -> usize
+    requires { ⌜ length (now answer) ≡ 12 ⌝ }
+    ensures { λ r. ⌜ r ≡ lengthTold (now (answer .entry)) ⌝ }
+{
+    answer[4] as usize
+        + 256 * answer[5] as usize
+        + 65536 * answer[6] as usize
+        + 16777216 * answer[7] as usize
 }
 
 // Reads until the buffer is full, the input ends or a read fails.
@@ -54,7 +66,13 @@ fn main() {
     }
     let n = input.count;
     let mut out = report_room();
-    let k = planner::planner_report(&sheet[..n], &mut out);
+    let mut answer = [0u8; 12];
+    let code = planner::planner_report(&sheet[..n], &mut out, &mut answer);
+    if code != 0 {
+        io::write_all(2, b"lister: the report has no room\n");
+        return;
+    }
+    let k = length_told(&answer);
     if !io::write_all(1, &out[..k]) {
         io::write_all(2, b"lister: the report was not written whole\n");
     }

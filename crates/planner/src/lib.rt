@@ -4,9 +4,8 @@ mod lists;
 mod parts;
 mod runs;
 
-ghost use mathlib.Core.Path.{_≡_};
 ghost use Rattle.export_filter.specs.FilterBytes.{CallBytes};
-ghost use Rattle.export_report.specs.Report.{reportLength, reportBytes};
+ghost use Rattle.export_report.specs.Report.{CallReport};
 
 // The version: major * 65536 + minor * 256 + patch.
 #[no_mangle]
@@ -31,9 +30,8 @@ pub extern "C" fn planner_filter(
 
 // The report on a sheet (paper 01, "The report"; paper 02, #104).
 #[no_mangle]
-pub extern "C" fn planner_report(input: &[u8], out: &mut [u8]) -> usize
-    ensures { λ r. ⌜ r ≡ reportLength (now (input .entry)) (now (out .entry)) ⌝ }
-    ensures { λ _. ⌜ now (out .exit) ≡ reportBytes (now (input .entry)) (now (out .entry)) ⌝ }
+pub extern "C" fn planner_report(input: &[u8], out: &mut [u8], answer: &mut [u8]) -> u32
+    ensures { λ r. ⌜ CallReport (now (input .entry)) (now (out .entry)) (now (answer .entry)) r (now (out .exit)) (now (answer .exit)) ⌝ }
 {
-    export_report::write_report(input, out)
+    export_report::write_report(input, out, answer)
 }

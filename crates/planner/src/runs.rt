@@ -5,7 +5,7 @@ ghost use Rattle.export_run.specs.Exported.{CallExported};
 ghost use Rattle.export_lent.specs.Lent.{lentQuestionCode, lentRunCode, lentRunList, lentRunAnswer};
 ghost use Rattle.export_lent.specs.Enough.{enoughCode, enoughBytes};
 ghost use Rattle.export_lent.specs.Closed.{closedCode, closedAnswer};
-ghost use Rattle.export_families.specs.Families.{familiesCode, familiesAnswer};
+ghost use Rattle.export_families.specs.Families.{CallFigured};
 
 // The questions to a sheet.
 #[no_mangle]
@@ -82,8 +82,7 @@ pub extern "C" fn planner_families(
     limit: u32,
     answer: &mut [u8],
 ) -> u32
-    ensures { λ r. ⌜ r ≡ familiesCode (now (sheet .entry)) (now (pairs .entry)) (now (block .entry)) limit (now (answer .entry)) ⌝ }
-    ensures { λ _. ⌜ now (answer .exit) ≡ familiesAnswer (now (sheet .entry)) (now (pairs .entry)) (now (block .entry)) limit (now (answer .entry)) ⌝ }
+    ensures { λ r. ⌜ CallFigured (now (sheet .entry)) (now (pairs .entry)) (now (block .entry)) limit (now (answer .entry)) r (now (answer .exit)) ⌝ }
 {
     export_families::families(sheet, pairs, block, limit, answer)
 }

@@ -83,6 +83,12 @@ length-one n h = ap length (decimal-one n h)
 pub length-more : (n : ℕ) → 10 ≤ n → n < 2 ^ 64 → length (decimal n) ≡ length (decimal (n / 10)) + 1
 length-more n g h = ap length (decimal-more n g h) ∙ length-append (decimal (n / 10)) ((48 + n % 10) ∷ [])
 
+pub length-two : (n : ℕ) → 10 ≤ n → n < 100 → length (decimal n) ≡ 2
+length-two n g h = length-more n g (omega arith) ∙ ap (λ (k : ℕ). k + 1) (length-one (n / 10) (omega arith))
+
+pub length-three : (n : ℕ) → 100 ≤ n → n < 1000 → length (decimal n) ≡ 3
+length-three n g h = length-more n (omega arith) (omega arith) ∙ ap (λ (k : ℕ). k + 1) (length-two (n / 10) (omega arith) (omega arith))
+
 -- ---- a number put by its digits
 pub put-one : {d : List ℕ} {at n : ℕ} {e : List ℕ} {r : ℕ} → n < 10 → Written d at ((48 + n) ∷ []) e r → Written d at (decimal n) e r
 put-one {d} {at} {n} {e} {r} h w = subst (λ (l : List ℕ). Written d at l e r) (sym (decimal-one n h)) w

@@ -1,28 +1,25 @@
 -- Fields, lines and the lines of the listed plans, put one after the other. Assumes nothing.
-use mathlib.Core.Path.{_≡_, sym, ap, _∙_, subst}
+use mathlib.Core.Path.{_≡_, refl, sym, ap, ap₂, _∙_, subst}
 use mathlib.Core.List.{List, [], _∷_, _++_, map, map-append, append-assoc, append-nil}
-use Prim.Native.Nat.{ℕ, zero, suc, _+_, _*_, _-_, _^_, _≤_, _<_}
-use native.Mathlib.Nat.{zero-mul, suc-mul, mul-le-mul-right, add-comm, add-sub-cancel-left}
+use Prim.Native.Nat.{ℕ, zero, suc, _+_, _*_, _-_, _≤_, _<_}
+use native.Mathlib.Nat.{zero-mul, suc-mul, mul-le-mul-right, add-comm, add-zero, add-sub-cancel-left}
 use native.Mathlib.Numerals.{add-one}
 use native.Mathlib.Omega.{arith}
-use lib.ListN.{length, take, drop, getD}
-use lib.Seq.{take-suc, drop-drop, take-all}
+use lib.ListN.{length, take, drop, getD, length-append, take-append-drop}
+use lib.Seq.{take-suc, drop-drop, take-all, take-append-seam}
 use Rattle.model.specs.Lists.{flat}
 use Rattle.model.specs.Run.{Ending, plansIn, listedPlans}
-use Rattle.report.specs.Report.{line, planWord, figureLine, endingLine, resultText}
+use Rattle.report.specs.Report.{decimal, line, planWord, figureLine, endingLine, resultText}
 use Rattle.figure.specs.Figure.{Figure, dash}
 use Rattle.model.proofs.Lists.{flat-append}
-use Rattle.report.specs.Text.{field, fields, endedText}
+use Rattle.report.specs.Text.{field, fields, planLines, endedText, room, Fitted}
 use Rattle.model.specs.Written.{Written, Fronted}
 use Rattle.model.proofs.Written.{written-then, fronted}
-use Rattle.report.proofs.Digits.{decimal-most, decimal-below}
+use Rattle.report.proofs.Digits.{decimal-most}
 
 -- ---- fields
 pub field-most : (n : ℕ) → length (field n) ≤ 21
 field-most n = omega (arith, decimal-most n)
-
-pub field-byte : (n : ℕ) → n < 2 ^ 8 → length (field n) ≤ 4
-field-byte n h = omega (arith, decimal-below 2 n (omega arith))
 
 pub fields-snoc : (l : List ℕ) (i : ℕ) → i < length l → fields (take (i + 1) l) ≡ fields (take i l) ++ field (getD l i 0)
 unfolding fields flat
@@ -32,6 +29,17 @@ fields-snoc l i h =
     ∙ ap flat (map-append field (take i l) (getD l i 0 ∷ []))
     ∙ flat-append (map field (take i l)) (field (getD l i 0) ∷ [])
     ∙ ap (λ (r : List ℕ). flat (map field (take i l)) ++ r) (append-nil (field (getD l i 0)))
+
+-- the length of a row with one value more, and of a front of a row
+pub fields-step : (l : List ℕ) (i : ℕ) → i < length l → length (fields (take (i + 1) l)) ≡ length (fields (take i l)) + (1 + length (decimal (getD l i 0)))
+fields-step l i h = let e = ap length (fields-snoc l i h) in let f = length-append (fields (take i l)) (field (getD l i 0)) in omega arith
+
+pub fields-part : (l : List ℕ) (k : ℕ) → length (fields (take k l)) ≤ length (fields l)
+unfolding fields flat
+fields-part l k =
+    let e = ap length (sym (ap (λ (r : List ℕ). flat (map field r)) (take-append-drop k l)) ∙ ap flat (map-append field (take k l) (drop k l)) ∙ flat-append (map field (take k l)) (map field (drop k l))) in
+    let f = length-append (flat (map field (take k l))) (flat (map field (drop k l))) in
+    omega arith
 
 -- one value more of a row
 pub row-turn : {d : List ℕ} {at i : ℕ} {e : List ℕ} {n : ℕ} {f : List ℕ} {m : ℕ} (row : List ℕ) → i < length row → n ≤ length d → Written d at (fields (take i row)) e n → Written e n (field (getD row i 0)) f m → Written d at (fields (take (i + 1) row)) f m
@@ -44,6 +52,10 @@ row-whole {d} {at} {i} {e} {n} row h w = subst (λ (l : List ℕ). Written d at 
 pub put-line : {d : List ℕ} {at : ℕ} {word e : List ℕ} {r : ℕ} {f : List ℕ} {s : ℕ} {g : List ℕ} {t : ℕ} (ns : List ℕ) → s ≤ length d → Written d at word e r → Written e r (fields ns) f s → Written f s (10 ∷ []) g t → Written d at (line word ns) g t
 unfolding line fields
 put-line ns fits u v w = written-then fits (written-then (omega (arith, v .ends)) u v) w
+
+pub line-length : (ns : List ℕ) → length (line planWord ns) ≡ length (fields ns) + 5
+unfolding line fields
+line-length ns = omega (arith, length-append (planWord ++ fields ns) (10 ∷ []), length-append planWord (fields ns))
 
 -- a word and three numbers; a word and two
 pub put-three : {d : List ℕ} {at : ℕ} {word e : List ℕ} {r : ℕ} {f : List ℕ} {s : ℕ} {g : List ℕ} {t : ℕ} {h : List ℕ} {u : ℕ} {i : List ℕ} {v : ℕ} (a b c : ℕ) → u ≤ length d → Written d at word e r → Written e r (field a) f s → Written f s (field b) g t → Written g t (field c) h u → Written h u (10 ∷ []) i v → Written d at (line word (a ∷ b ∷ c ∷ [])) i v
@@ -92,13 +104,55 @@ plans-snoc n i l =
     ∙ flat-append (map (line planWord) (listedPlans n i l)) (line planWord (take n (drop (i * n) l)) ∷ [])
     ∙ ap (λ (r : List ℕ). flat (map (line planWord) (listedPlans n i l)) ++ r) (append-nil (line planWord (take n (drop (i * n) l))))
 
-pub plans-turn : {d e : List ℕ} {r : ℕ} {f : List ℕ} {s : ℕ} (n i at : ℕ) (l : List ℕ) → at ≡ i * n → r ≤ length d → Written d 0 (flat (map (line planWord) (listedPlans n i l))) e r → Written e r (line planWord (take (at + n - at) (drop at l))) f s → Written d 0 (flat (map (line planWord) (listedPlans n (i + 1) l))) f s
-plans-turn {d} {e} {r} {f} {s} n i at l p fits v w =
-    let row : take (at + n - at) (drop at l) ≡ take n (drop (i * n) l) = ap (λ (k : ℕ). take k (drop at l)) (add-sub-cancel-left at n) ∙ ap (λ (k : ℕ). take n (drop k l)) p in
-    subst (λ (t : List ℕ). Written d 0 t f s) (sym (plans-snoc n i l))
-    (written-then fits v (subst (λ (t : List ℕ). Written e r (line planWord t) f s) row w))
+-- a row of the list, as it is lent
+pub row-at : (n i at : ℕ) (l : List ℕ) → at ≡ i * n → take (at + n - at) (drop at l) ≡ take n (drop (i * n) l)
+row-at n i at l p = ap (λ (k : ℕ). take k (drop at l)) (add-sub-cancel-left at n) ∙ ap (λ (k : ℕ). take n (drop k l)) p
 
--- the plans and then the ending are the whole report
-pub put-ended : {d e : List ℕ} {r : ℕ} {f : List ℕ} {s : ℕ} (end : Ending) (figure : Figure) (n : ℕ) (list : List ℕ) → r ≤ length d → Written d 0 (flat (map (line planWord) (listedPlans n (plansIn end) list))) e r → Written e r (endingLine end figure) f s → Fronted d (endedText end figure n list) f s
+pub plans-turn : {d e : List ℕ} {r : ℕ} {f : List ℕ} {s : ℕ} (n i at : ℕ) (l : List ℕ) → at ≡ i * n → r ≤ length d → Written d 0 (planLines n i l) e r → Written e r (line planWord (take (at + n - at) (drop at l))) f s → Written d 0 (planLines n (i + 1) l) f s
+plans-turn {d} {e} {r} {f} {s} n i at l p fits v w =
+    subst (λ (t : List ℕ). Written d 0 t f s) (sym (plans-snoc n i l))
+    (written-then fits v (subst (λ (t : List ℕ). Written e r (line planWord t) f s) (row-at n i at l p) w))
+
+-- the length of the lines with one more, and with so many more
+pub lines-step : (n i at : ℕ) (l : List ℕ) → at ≡ i * n → length (planLines n (i + 1) l) ≡ length (planLines n i l) + length (line planWord (take (at + n - at) (drop at l)))
+lines-step n i at l p =
+    ap length (plans-snoc n i l) ∙ length-append (planLines n i l) (line planWord (take n (drop (i * n) l))) ∙ ap (λ (r : List ℕ). length (planLines n i l) + length (line planWord r)) (sym (row-at n i at l p))
+
+lines-more : (n i k : ℕ) (l : List ℕ) → length (planLines n i l) ≤ length (planLines n (i + k) l)
+lines-more n i zero l = omega (arith, ap (λ (m : ℕ). length (planLines n m l)) (add-zero i))
+lines-more n i (suc k) l =
+    let e = lines-step n (i + k) ((i + k) * n) l refl in
+    let s : i + suc k ≡ i + k + 1 = omega arith in
+    omega (arith, ap (λ (m : ℕ). length (planLines n m l)) s, lines-more n i k l)
+
+pub lines-fit : (n i plans : ℕ) (l : List ℕ) → i < plans → length (planLines n (i + 1) l) ≤ length (planLines n plans l)
+lines-fit n i plans l h = subst (λ (m : ℕ). length (planLines n (i + 1) l) ≤ length (planLines n m l)) (let e : i + 1 + (plans - (i + 1)) ≡ plans = omega arith in e) (lines-more n (i + 1) (plans - (i + 1)) l)
+
+-- ---- the whole report
+-- a line that stands at the front of a buffer
+pub front-taken : {d t after : List ℕ} {n : ℕ} → Fronted d t after n → take n after ≡ t
+front-taken {d} {t} f = ap₂ (λ (k : ℕ) (l : List ℕ). take k l) (f .count) (f .bytes) ∙ take-append-seam t (drop (length t) d)
+
+pub front-inside : {d t after : List ℕ} {n : ℕ} → Fronted d t after n → n ≤ length after
+front-inside {d} {t} f = omega (arith, f .count, ap length (f .bytes), length-append t (drop (length t) d))
+
+-- the lines of the plans and the last line, where the buffer is shorter, and where they are put
+module _ (d lines last : List ℕ) (r : ℕ) (counted : r ≡ length lines + length last) (most : r ≤ room) where
+  pub too-long : length d < r → Fitted d (lines ++ last) d r
+  too-long h = let e = length-append lines last in record { count = omega arith; most = most; fits = λ f. absurd (omega arith); short = λ f. refl }
+
+  pub both-put : {e : List ℕ} {at : ℕ} {after : List ℕ} {k : ℕ} → r ≤ length d → Written d 0 lines e at → Written e at last after k → Fitted d (lines ++ last) after k
+  both-put h v w =
+      let f = fronted (written-then (omega (arith, v .ends)) v w) in
+      let e = length-append lines last in
+      record { count = f .count; most = omega (arith, f .count); fits = λ z. f .bytes; short = λ z. absurd (omega arith) }
+
+-- the plans and then the ending are the text of an ending
+pub ended-fits : {d after : List ℕ} {r : ℕ} (end : Ending) (figure : Figure) (n : ℕ) (list last : List ℕ) → last ≡ endingLine end figure → Fitted d (planLines n (plansIn end) list ++ last) after r → Fitted d (endedText end figure n list) after r
 unfolding endedText resultText
-put-ended end figure n list fits v w = fronted (written-then fits v w)
+ended-fits {d} {after} {r} end figure n list last e f = subst (λ (l : List ℕ). Fitted d (planLines n (plansIn end) list ++ l) after r) e f
+
+-- without plans the last line is the text
+pub alone-fits : {d after : List ℕ} {r : ℕ} {last t : List ℕ} (n : ℕ) (list : List ℕ) → last ≡ t → Fitted d (planLines n 0 list ++ last) after r → Fitted d t after r
+unfolding listedPlans flat
+alone-fits {d} {after} {r} n list e f = subst (λ (l : List ℕ). Fitted d l after r) e f

@@ -1,12 +1,12 @@
 // The text of the report, made in a lent buffer (paper 01, "The report").
-ghost use mathlib.Core.List.{[], _∷_, map};
+ghost use mathlib.Core.Path.{_≡_};
+ghost use mathlib.Core.List.{[], _∷_, _++_};
 ghost use Prim.Native.Nat.{_+_, _*_, _≤_, _<_};
 ghost use lib.ListN.{length};
-ghost use Rattle.model.specs.Lists.{flat};
-ghost use Rattle.model.specs.Run.{finished, spent, full, listedPlans};
+ghost use Rattle.model.specs.Run.{finished, spent, full};
 ghost use Rattle.figure.specs.Figure.{number, dash};
 ghost use Rattle.report.specs.Report.{decimal, line, figureLine, planWord, refusedWord};
-ghost use Rattle.report.specs.Text.{field, fields, endedText, room};
+ghost use Rattle.report.specs.Text.{field, fields, planLines, endedText, Fitted};
 ghost use Rattle.model.specs.Written.{Written, Fronted};
 
 // The room that every report fits.
@@ -56,9 +56,8 @@ fn put_number(out: &mut [u8], at: usize, x: usize) -> usize
 
 // Puts a row of values, a space before each.
 fn put_row(out: &mut [u8], at: usize, row: &[u8]) -> usize
-    requires { ⌜ at + 4 * length (now row) ≤ length (now out) ⌝ }
+    requires { ⌜ at + length (fields (now row)) ≤ length (now out) ⌝ }
     ensures { λ r. ⌜ Written (now (out .entry)) at (fields (now (row .entry))) (now (out .exit)) r ⌝ }
-    ensures { λ r. ⌜ r ≤ at + 4 * length (now (row .entry)) ⌝ }
 {
     let mut next = at;
     let mut i = 0;
@@ -71,9 +70,8 @@ fn put_row(out: &mut [u8], at: usize, row: &[u8]) -> usize
 
 // Puts the line of a plan.
 fn plan_line(out: &mut [u8], at: usize, row: &[u8]) -> usize
-    requires { ⌜ at + 4 * length (now row) + 5 ≤ length (now out) ⌝ }
+    requires { ⌜ at + length (line planWord (now row)) ≤ length (now out) ⌝ }
     ensures { λ r. ⌜ Written (now (out .entry)) at (line planWord (now (row .entry))) (now (out .exit)) r ⌝ }
-    ensures { λ r. ⌜ r ≤ at + 4 * length (now (row .entry)) + 5 ⌝ }
 {
     let word = put(out, at, b"plan");
     let values = put_row(out, word, row);
@@ -82,9 +80,8 @@ fn plan_line(out: &mut [u8], at: usize, row: &[u8]) -> usize
 
 // Puts at the front the lines of the plans listed, which are rows of n bytes.
 fn plan_lines(out: &mut [u8], list: &[u8], n: usize, plans: usize) -> usize
-    requires { ⌜ (n ≤ 12) × (plans * n ≤ length (now list)) × (53 * plans ≤ length (now out)) ⌝ }
-    ensures { λ r. ⌜ Written (now (out .entry)) 0 (flat (map (line planWord) (listedPlans n plans (now (list .entry))))) (now (out .exit)) r ⌝ }
-    ensures { λ r. ⌜ r ≤ 53 * plans ⌝ }
+    requires { ⌜ (plans * n ≤ length (now list)) × (length (planLines n plans (now list)) ≤ length (now out)) ⌝ }
+    ensures { λ r. ⌜ Written (now (out .entry)) 0 (planLines n plans (now (list .entry))) (now (out .exit)) r ⌝ }
 {
     let mut next = 0;
     let mut at = 0;
@@ -97,19 +94,68 @@ fn plan_lines(out: &mut [u8], list: &[u8], n: usize, plans: usize) -> usize
     next
 }
 
-// Puts the line of an ending: its word, plans, nodes and families.
-fn ending_line(
-    out: &mut [u8],
-    at: usize,
-    word: &[u8],
-    plans: usize,
-    nodes: usize,
-    families: usize,
-) -> usize
-    requires { ⌜ at + length (now word) + 64 ≤ length (now out) ⌝ }
-    ensures { λ r. ⌜ Written (now (out .entry)) at (figureLine (now (word .entry)) plans nodes (number families)) (now (out .exit)) r ⌝ }
+// How many digits a byte has in decimal.
+fn digit_count(x: u8) -> usize
+    ensures { λ r. ⌜ (r ≡ length (decimal x)) × (r ≤ 3) ⌝ }
 {
-    let word_end = put(out, at, word);
+    if x < 10 {
+        return 1;
+    }
+    if x < 100 {
+        return 2;
+    }
+    3
+}
+
+// The length of a plan's line, of at most 12 values.
+fn line_length(row: &[u8]) -> usize
+    requires { ⌜ length (now row) ≤ 12 ⌝ }
+    ensures { λ r. ⌜ (r ≡ length (line planWord (now (row .entry)))) × (r ≤ 53) ⌝ }
+{
+    let mut length = 5;
+    let mut i = 0;
+    while i < row.len() {
+        length += 1 + digit_count(row[i]);
+        i += 1;
+    }
+    length
+}
+
+// The length of the lines of the plans listed.
+fn lines_length(list: &[u8], n: usize, plans: usize) -> usize
+    requires { ⌜ (n ≤ 12) × (plans ≤ 4096) × (plans * n ≤ length (now list)) ⌝ }
+    ensures { λ r. ⌜ (r ≡ length (planLines n plans (now (list .entry)))) × (r ≤ 53 * plans) ⌝ }
+{
+    let mut length = 0;
+    let mut at = 0;
+    let mut i = 0;
+    while i < plans {
+        length += line_length(&list[at..at + n]);
+        at += n;
+        i += 1;
+    }
+    length
+}
+
+// Puts at the front the lines of the plans listed and the last line, where there is room for them. Answers their length either way.
+fn put_report(list: &[u8], n: usize, plans: usize, last: &[u8], out: &mut [u8]) -> usize
+    requires { ⌜ (n ≤ 12) × (plans ≤ 4096) × (plans * n ≤ length (now list)) × (length (now last) ≤ 72) ⌝ }
+    ensures { λ r. ⌜ Fitted (now (out .entry)) (planLines n plans (now (list .entry)) ++ now (last .entry)) (now (out .exit)) r ⌝ }
+{
+    let length = lines_length(list, n, plans) + last.len();
+    if out.len() < length {
+        return length;
+    }
+    let at = plan_lines(out, list, n, plans);
+    put(out, at, last)
+}
+
+// Puts the line of an ending: its word, plans, nodes and families.
+fn ending_line(out: &mut [u8], word: &[u8], plans: usize, nodes: usize, families: usize) -> usize
+    requires { ⌜ length (now word) + 64 ≤ length (now out) ⌝ }
+    ensures { λ r. ⌜ Fronted (now (out .entry)) (figureLine (now (word .entry)) plans nodes (number families)) (now (out .exit)) r ⌝ }
+{
+    let word_end = put(out, 0, word);
     let listed = put_number(out, word_end, plans);
     let made = put_number(out, listed, nodes);
     let counted = put_number(out, made, families);
@@ -117,17 +163,29 @@ fn ending_line(
 }
 
 // The same with a dash for the families.
-fn dash_line(out: &mut [u8], at: usize, word: &[u8], plans: usize, nodes: usize) -> usize
-    requires { ⌜ at + length (now word) + 64 ≤ length (now out) ⌝ }
-    ensures { λ r. ⌜ Written (now (out .entry)) at (figureLine (now (word .entry)) plans nodes dash) (now (out .exit)) r ⌝ }
+fn dash_line(out: &mut [u8], word: &[u8], plans: usize, nodes: usize) -> usize
+    requires { ⌜ length (now word) + 64 ≤ length (now out) ⌝ }
+    ensures { λ r. ⌜ Fronted (now (out .entry)) (figureLine (now (word .entry)) plans nodes dash) (now (out .exit)) r ⌝ }
 {
-    let word_end = put(out, at, word);
+    let word_end = put(out, 0, word);
     let listed = put_number(out, word_end, plans);
     let made = put_number(out, listed, nodes);
     put(out, made, b" -\n")
 }
 
-// The report of a finished run: the plans listed, then its ending with the number of families. Answers the length.
+// The line of a refusal: its number and item.
+fn refused_line(out: &mut [u8], number: usize, item: usize) -> usize
+    requires { ⌜ 50 ≤ length (now out) ⌝ }
+    ensures { λ r. ⌜ Fronted (now (out .entry)) (line refusedWord (number ∷ item ∷ [])) (now (out .exit)) r ⌝ }
+{
+    let word = put(out, 0, b"refused");
+    let numbered = put_number(out, word, number);
+    let ended = put_number(out, numbered, item);
+    put_byte(out, ended, 10)
+}
+
+// The report of a finished run: the plans listed, then its ending with the number of families. Answers its length, as those below do; where the buffer
+// is shorter it is as it came.
 pub fn finished(
     plans: usize,
     nodes: usize,
@@ -136,47 +194,50 @@ pub fn finished(
     n: usize,
     out: &mut [u8],
 ) -> usize
-    requires { ⌜ (n ≤ 12) × (plans ≤ 4096) × (plans * n ≤ length (now list)) × (room ≤ length (now out)) ⌝ }
-    ensures { λ r. ⌜ Fronted (now (out .entry)) (endedText (finished plans nodes) (number families) n (now (list .entry))) (now (out .exit)) r ⌝ }
+    requires { ⌜ (n ≤ 12) × (plans ≤ 4096) × (plans * n ≤ length (now list)) ⌝ }
+    ensures { λ r. ⌜ Fitted (now (out .entry)) (endedText (finished plans nodes) (number families) n (now (list .entry))) (now (out .exit)) r ⌝ }
 {
-    let at = plan_lines(out, list, n, plans);
-    ending_line(out, at, b"finished", plans, nodes, families)
+    let mut last = [0u8; 72];
+    let length = ending_line(&mut last, b"finished", plans, nodes, families);
+    put_report(list, n, plans, &last[..length], out)
 }
 
 // The report of a finished run whose families aren't counted.
 pub fn uncounted(plans: usize, nodes: usize, list: &[u8], n: usize, out: &mut [u8]) -> usize
-    requires { ⌜ (n ≤ 12) × (plans ≤ 4096) × (plans * n ≤ length (now list)) × (room ≤ length (now out)) ⌝ }
-    ensures { λ r. ⌜ Fronted (now (out .entry)) (endedText (finished plans nodes) dash n (now (list .entry))) (now (out .exit)) r ⌝ }
+    requires { ⌜ (n ≤ 12) × (plans ≤ 4096) × (plans * n ≤ length (now list)) ⌝ }
+    ensures { λ r. ⌜ Fitted (now (out .entry)) (endedText (finished plans nodes) dash n (now (list .entry))) (now (out .exit)) r ⌝ }
 {
-    let at = plan_lines(out, list, n, plans);
-    dash_line(out, at, b"finished", plans, nodes)
+    let mut last = [0u8; 72];
+    let length = dash_line(&mut last, b"finished", plans, nodes);
+    put_report(list, n, plans, &last[..length], out)
 }
 
 // The report of a spent run.
 pub fn spent(plans: usize, nodes: usize, list: &[u8], n: usize, out: &mut [u8]) -> usize
-    requires { ⌜ (n ≤ 12) × (plans ≤ 4096) × (plans * n ≤ length (now list)) × (room ≤ length (now out)) ⌝ }
-    ensures { λ r. ⌜ Fronted (now (out .entry)) (endedText (spent plans nodes) dash n (now (list .entry))) (now (out .exit)) r ⌝ }
+    requires { ⌜ (n ≤ 12) × (plans ≤ 4096) × (plans * n ≤ length (now list)) ⌝ }
+    ensures { λ r. ⌜ Fitted (now (out .entry)) (endedText (spent plans nodes) dash n (now (list .entry))) (now (out .exit)) r ⌝ }
 {
-    let at = plan_lines(out, list, n, plans);
-    dash_line(out, at, b"spent", plans, nodes)
+    let mut last = [0u8; 72];
+    let length = dash_line(&mut last, b"spent", plans, nodes);
+    put_report(list, n, plans, &last[..length], out)
 }
 
 // The report of a full run.
 pub fn full(plans: usize, nodes: usize, list: &[u8], n: usize, out: &mut [u8]) -> usize
-    requires { ⌜ (n ≤ 12) × (plans ≤ 4096) × (plans * n ≤ length (now list)) × (room ≤ length (now out)) ⌝ }
-    ensures { λ r. ⌜ Fronted (now (out .entry)) (endedText (full plans nodes) dash n (now (list .entry))) (now (out .exit)) r ⌝ }
+    requires { ⌜ (n ≤ 12) × (plans ≤ 4096) × (plans * n ≤ length (now list)) ⌝ }
+    ensures { λ r. ⌜ Fitted (now (out .entry)) (endedText (full plans nodes) dash n (now (list .entry))) (now (out .exit)) r ⌝ }
 {
-    let at = plan_lines(out, list, n, plans);
-    dash_line(out, at, b"full", plans, nodes)
+    let mut last = [0u8; 72];
+    let length = dash_line(&mut last, b"full", plans, nodes);
+    put_report(list, n, plans, &last[..length], out)
 }
 
-// The report of a refusal: its number and item.
+// The report of a refusal.
 pub fn refused(number: usize, item: usize, out: &mut [u8]) -> usize
-    requires { ⌜ 50 ≤ length (now out) ⌝ }
-    ensures { λ r. ⌜ Fronted (now (out .entry)) (line refusedWord (number ∷ item ∷ [])) (now (out .exit)) r ⌝ }
+    ensures { λ r. ⌜ Fitted (now (out .entry)) (line refusedWord (number ∷ item ∷ [])) (now (out .exit)) r ⌝ }
 {
-    let word = put(out, 0, b"refused");
-    let numbered = put_number(out, word, number);
-    let ended = put_number(out, numbered, item);
-    put_byte(out, ended, 10)
+    let none = [0u8; 0];
+    let mut last = [0u8; 72];
+    let length = refused_line(&mut last, number, item);
+    put_report(&none, 0, 0, &last[..length], out)
 }

@@ -21,7 +21,14 @@ extern "C" {
         answer: *mut u8,
         answer_len: usize,
     ) -> u32;
-    fn planner_report(input: *const u8, input_len: usize, out: *mut u8, out_len: usize) -> usize;
+    fn planner_report(
+        input: *const u8,
+        input_len: usize,
+        out: *mut u8,
+        out_len: usize,
+        answer: *mut u8,
+        answer_len: usize,
+    ) -> u32;
 }
 
 pub fn question(sheet: &[u8]) -> u32 {
@@ -57,6 +64,15 @@ pub fn run(sheet: &[u8], node_limit: u32, list: &mut [u8], answer: &mut [u8]) ->
     }
 }
 
-pub fn report(input: &[u8], out: &mut [u8]) -> usize {
-    unsafe { planner_report(input.as_ptr(), input.len(), out.as_mut_ptr(), out.len()) }
+pub fn report(input: &[u8], out: &mut [u8], answer: &mut [u8]) -> u32 {
+    unsafe {
+        planner_report(
+            input.as_ptr(),
+            input.len(),
+            out.as_mut_ptr(),
+            out.len(),
+            answer.as_mut_ptr(),
+            answer.len(),
+        )
+    }
 }

@@ -8,8 +8,12 @@ use sheets::{damaged, encode, problem, Rng};
 use std::fs;
 use std::path::Path;
 
-/// The least room for a report.
+/// No report is longer.
 const REPORT_ROOM: usize = 217_160;
+
+/// The statuses where the room is shorter than the report, and where the answer has another length than 12 bytes.
+const NO_ROOM: u32 = 22 * 256;
+const ANSWER_ROOM: u32 = 255 * 256;
 
 pub fn case(number: usize, rng: &mut Rng, tally: &mut Tally) {
     if number.is_multiple_of(8) {
@@ -18,9 +22,16 @@ pub fn case(number: usize, rng: &mut Rng, tally: &mut Tally) {
     let problem = problem(rng);
     let sheet = if rng.chance(25) { damaged(rng, &problem) } else { encode(&problem) };
     let expected = oracle::report(&sheet);
-    report(&sheet, expected.as_bytes(), REPORT_ROOM + rng.below(50), tally);
+    let room = match rng.below(6) {
+        0 => expected.len() - 1,
+        1 => rng.below(expected.len()),
+        2 => expected.len(),
+        3 => REPORT_ROOM,
+        _ => expected.len() + rng.below(50),
+    };
+    report(&sheet, expected.as_bytes(), room, tally);
     if rng.chance(10) {
-        report(&sheet, b"", rng.pick(&[0, 1, 4096, REPORT_ROOM - 1]), tally);
+        wrong_answer_room(&sheet, expected.len(), rng, tally);
     }
 }
 
@@ -35,18 +46,37 @@ pub fn many_plans(tally: &mut Tally) {
     }
 }
 
-/// Compares the report, and that nothing after it is written.
+/// Compares the report with the expected one: the status, and every byte lent.
 fn report(input: &[u8], expected: &[u8], room: usize, tally: &mut Tally) {
     let mut out = Guarded::new(room, input.len() as u8);
-    let mut expected_out = out.clone();
-    expected_out.lent()[..expected.len()].copy_from_slice(expected);
+    let mut answer = Guarded::new(12, expected.len() as u8);
+    let (mut expected_out, mut expected_answer) = (out.clone(), answer.clone());
+    let fits = expected.len() <= room;
+    if fits {
+        expected_out.lent()[..expected.len()].copy_from_slice(expected);
+        let words = [1, expected.len() as u32, 0].map(u32::to_le_bytes).concat();
+        expected_answer.lent().copy_from_slice(&words);
+    }
     let lent = input.to_vec();
-    let length = planner::report(&lent, out.lent());
-    let text = String::from_utf8_lossy(&out.lent()[..length.min(room)]).to_string();
-    tally.same("report", text, String::from_utf8_lossy(expected).to_string(), input);
-    tally.same("length", length, expected.len(), input);
+    let status = planner::report(&lent, out.lent(), answer.lent());
+    let [text, expected_text] = [&mut out, &mut expected_out]
+        .map(|out| String::from_utf8_lossy(&out.lent()[..expected.len().min(room)]).to_string());
+    tally.same("status", status, if fits { 0 } else { NO_ROOM }, input);
+    tally.same("report", text, expected_text, input);
+    tally.same("answer", &answer.bytes, &expected_answer.bytes, input);
     tally.same("room after", out.bytes == expected_out.bytes, true, input);
     tally.same("input after", &lent[..], input, &[]);
+}
+
+/// With an answer that isn't 12 bytes long nothing is written.
+fn wrong_answer_room(input: &[u8], room: usize, rng: &mut Rng, tally: &mut Tally) {
+    let mut out = Guarded::new(room, rng.word() as u8);
+    let mut answer = Guarded::new(rng.pick(&[0, 1, 11, 13, 24]), rng.word() as u8);
+    let (out_before, answer_before) = (out.clone(), answer.clone());
+    let status = planner::report(input, out.lent(), answer.lent());
+    tally.same("status", status, ANSWER_ROOM, input);
+    tally.same("room untouched", &out.bytes, &out_before.bytes, input);
+    tally.same("answer untouched", &answer.bytes, &answer_before.bytes, input);
 }
 
 /// Inputs at and above 65,536 bytes, of which the first 65,536 are the sheet.

@@ -1,52 +1,54 @@
--- `write_report`: the room is asked first, then the first 65,536 bytes are the sheet. Assumes nothing.
-use mathlib.Core.Path.{sym, refl}
+-- `write_report`: the answer's length is asked first, then whether the buffer holds the report. Assumes nothing.
+use mathlib.Core.Path.{_≡_}
 use native.Mathlib.Omega.{arith}
-use lib.ListN.{take}
-use lib.Seq.{length-take-le, take-all}
-use Rattle.export_report.proofs.Reported.{no-room, reported}
+use Rattle.export_report.proofs.Reported.{wrong-answer, too-short, reported, whole-input}
 use borrow.Author.Needs.{needs}
 use Rattle.export_report.proofs.write_report.Statement.{statement}
 use Rattle.export_report.proofs.write_report.Tie as tie
 
 returns : tie.Need-returns
-returns c = let a = c .before .before .before .args in no-room (a .input .now) (a .out .now) (c .if1 .taken)
+returns c = let a = c .before .before .before .before .args in wrong-answer (a .input .now) (a .out .now) (a .answer .now) (c .if1 .taken)
 
-sheet-report-requires : tie.Need-sheet-report-requires
-sheet-report-requires c κs = search needs
+input-report-requires : tie.Need-input-report-requires
+input-report-requires c κs = search needs
 
 same-length : tie.Need-same-length
 same-length c = search needs
 
 returns-2 : tie.Need-returns-2
 returns-2 c =
-    let s = c .before .before .before .before .before .before .before .before in
-    let r = c .before .before .sheet-report in
-    reported (s .args .input .now) (s .args .input .now) (s .args .out .now) (r .last .1 .0) (r .result) (c .before .before .before .before .before .if1 .left) (take-all 65536 (s .args .input .now) (c .before .before .before .before .if2 .taken)) (r .ensures)
+    let r = c .before .before .before in
+    let i = r .before .before in
+    let a = i .before .before .before .before .args in
+    too-short (a .input .now) (a .out .now) (a .answer .now) (i .if1 .left) (r .input-report .last .1 .0) (r .input-report .result) (whole-input _ _ _ _ (r .input-report .ensures)) (omega (arith, c .if2 .taken, r .input-report .kept .1 .0))
 
-slice-aggregate-sheet-report : tie.Need-slice-aggregate-sheet-report
-slice-aggregate-sheet-report c = sym (length-take-le 65536 (c .before .before .before .before .before .args .input .now) (omega (arith, c .before .if2 .left)))
-
-sheet-report-requires-2 : tie.Need-sheet-report-requires-2
-sheet-report-requires-2 c κs = search needs
+three-requires : tie.Need-three-requires
+three-requires c κs = search needs
 
 same-length-2 : tie.Need-same-length-2
 same-length-2 c = search needs
 
+same-length-3 : tie.Need-same-length-3
+same-length-3 c = search needs
+
 returns-3 : tie.Need-returns-3
 returns-3 c =
-    let s = c .before .before .before .before .before .before .before .before .before in
-    let r = c .before .before .sheet-report2 in
-    reported (s .args .input .now) (take 65536 (s .args .input .now)) (s .args .out .now) (r .last .1 .0) (r .result) (c .before .before .before .before .before .before .if1 .left) refl (r .ensures)
+    let t = c .before .before in
+    let j = t .before .before in
+    let r = j .before .before .before in
+    let i = r .before .before in
+    let a = i .before .before .before .before .args in
+    reported (a .input .now) (a .out .now) (a .answer .now) (i .if1 .left) (r .input-report .last .1 .0) (r .input-report .result) (whole-input _ _ _ _ (r .input-report .ensures)) (omega (arith, j .if2 .left, r .input-report .kept .1 .0)) (t .three .last .0) (t .three .ensures)
 
 pub write-report-spec : {M : Type 1} → statement M
 write-report-spec =
     tie.close
     (tie.spec
     returns
-    sheet-report-requires
+    input-report-requires
     same-length
     returns-2
-    slice-aggregate-sheet-report
-    sheet-report-requires-2
+    three-requires
     same-length-2
+    same-length-3
     returns-3)

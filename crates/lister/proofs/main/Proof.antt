@@ -1,18 +1,16 @@
 -- `main`: the report lies inside its room. Assumes nothing.
-use mathlib.Core.Path.{sym, subst}
-use Prim.Native.Nat.{ℕ, _≤_}
-use lib.ListN.{length, take}
+use mathlib.Core.Path.{sym}
+use Prim.Native.Nat.{_≤_}
+use native.Mathlib.Omega.{arith}
+use lib.ListN.{length}
 use lib.Seq.{length-take-le}
 use Rattle.export_report.proofs.Reported.{report-inside}
 use borrow.Author.Needs.{needs}
 use Rattle.lister.proofs.main.Statement.{statement}
 use Rattle.lister.proofs.main.Tie as tie
 
-inside : (c : tie.After-planner-report) → c .planner-report .result ≤ length (c .planner-report .last .1 .0)
-inside c =
-    let r = c .before .before .before .before .before .before .read-input in
-    let p = c .planner-report in
-    subst (λ (k : ℕ). k ≤ length (p .last .1 .0)) (sym (p .ensures .0)) (report-inside (take (r .result .count) (r .last .0)) (c .before .before .before .report-room .result) (p .last .1 .0) (p .ensures .1))
+inside : (c : tie.After-length-told) → c .length-told .result ≤ length (c .before .before .before .before .before .planner-report .last .1 .0)
+inside c = omega (arith, c .length-told .ensures, report-inside _ _ _ _ _ _ (c .before .before .before .before .before .planner-report .ensures) (c .before .before .if2 .left) .1)
 
 large-buffer-requires : tie.Need-large-buffer-requires
 large-buffer-requires c κs = search needs
@@ -44,29 +42,47 @@ slice-aggregate-planner-report c = search needs
 slice-aggregate-planner-report-2 : tie.Need-slice-aggregate-planner-report-2
 slice-aggregate-planner-report-2 c = search needs
 
+slice-aggregate-planner-report-3 : tie.Need-slice-aggregate-planner-report-3
+slice-aggregate-planner-report-3 c = search needs
+
 planner-report-requires : tie.Need-planner-report-requires
 planner-report-requires c κs = search needs
 
-array-share-prefix-out : tie.Need-array-share-prefix-out
-array-share-prefix-out c = inside (c .before)
-
 slice-aggregate-write-all-2 : tie.Need-slice-aggregate-write-all-2
-slice-aggregate-write-all-2 c = sym (length-take-le (c .before .before .planner-report .result) (c .before .before .planner-report .last .1 .0) (inside (c .before .before)))
+slice-aggregate-write-all-2 c = search needs
 
 write-all-requires-2 : tie.Need-write-all-requires-2
 write-all-requires-2 c κs = search needs
 
+returns-2 : tie.Need-returns-2
+returns-2 c = search needs
+
+slice-aggregate-length-told : tie.Need-slice-aggregate-length-told
+slice-aggregate-length-told c = search needs
+
+length-told-requires : tie.Need-length-told-requires
+length-told-requires c κs = search needs
+
+array-share-prefix-out : tie.Need-array-share-prefix-out
+array-share-prefix-out c = inside c
+
 slice-aggregate-write-all-3 : tie.Need-slice-aggregate-write-all-3
-slice-aggregate-write-all-3 c = search needs
+slice-aggregate-write-all-3 c = let l = c .before in sym (length-take-le (l .length-told .result) (l .before .before .before .before .before .planner-report .last .1 .0) (inside l))
 
 write-all-requires-3 : tie.Need-write-all-requires-3
 write-all-requires-3 c κs = search needs
 
-returns-2 : tie.Need-returns-2
-returns-2 c = search needs
+slice-aggregate-write-all-4 : tie.Need-slice-aggregate-write-all-4
+slice-aggregate-write-all-4 c = search needs
+
+write-all-requires-4 : tie.Need-write-all-requires-4
+write-all-requires-4 c κs = search needs
 
 returns-3 : tie.Need-returns-3
 returns-3 c = search needs
+
+returns-4 : tie.Need-returns-4
+returns-4 c = search needs
 
 pub main-spec : {M : Type 1} → statement M
 main-spec =
@@ -82,11 +98,17 @@ main-spec =
     array-share-prefix-sheet
     slice-aggregate-planner-report
     slice-aggregate-planner-report-2
+    slice-aggregate-planner-report-3
     planner-report-requires
-    array-share-prefix-out
     slice-aggregate-write-all-2
     write-all-requires-2
+    returns-2
+    slice-aggregate-length-told
+    length-told-requires
+    array-share-prefix-out
     slice-aggregate-write-all-3
     write-all-requires-3
-    returns-2
-    returns-3)
+    slice-aggregate-write-all-4
+    write-all-requires-4
+    returns-3
+    returns-4)

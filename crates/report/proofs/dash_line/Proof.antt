@@ -1,5 +1,6 @@
 -- `dash_line`: the word, two numbers of at most 20 digits, and the dash. Assumes nothing.
 use native.Mathlib.Omega.{arith}
+use Rattle.model.proofs.Written.{fronted}
 use Rattle.report.proofs.Lines.{field-most, put-dash}
 use borrow.Author.Needs.{needs}
 use Rattle.report.proofs.dash_line.Statement.{statement}
@@ -42,12 +43,13 @@ returns c =
     let q = t .before .before .before .before in
     let p = q .before .before .before .before in
     let s = p .before .before .before .before in
-    put-dash (s .args .plans) (s .args .nodes)
+    fronted
+    (put-dash (s .args .plans) (s .args .nodes)
     (omega (arith, field-most (s .args .plans), field-most (s .args .nodes), p .put .ensures .ends, q .put-number .ensures .ends, t .put-number2 .ensures .ends, s .pre))
     (p .put .ensures)
     (q .put-number .ensures)
     (t .put-number2 .ensures)
-    (v .put2 .ensures)
+    (v .put2 .ensures))
 
 pub dash-line-spec : {M : Type 1} → statement M
 dash-line-spec =

@@ -1,5 +1,6 @@
 -- `ending_line`: the word, three numbers of at most 20 digits, and the newline. Assumes nothing.
 use native.Mathlib.Omega.{arith}
+use Rattle.model.proofs.Written.{fronted}
 use Rattle.report.proofs.Lines.{field-most, put-three}
 use borrow.Author.Needs.{needs}
 use Rattle.report.proofs.ending_line.Statement.{statement}
@@ -49,13 +50,14 @@ returns c =
     let q = t .before .before .before .before in
     let p = q .before .before .before .before in
     let s = p .before .before .before .before in
-    put-three (s .args .plans) (s .args .nodes) (s .args .families)
+    fronted
+    (put-three (s .args .plans) (s .args .nodes) (s .args .families)
     (omega (arith, field-most (s .args .plans), field-most (s .args .nodes), field-most (s .args .families), p .put .ensures .ends, q .put-number .ensures .ends, t .put-number2 .ensures .ends, u .put-number3 .ensures .ends, s .pre))
     (p .put .ensures)
     (q .put-number .ensures)
     (t .put-number2 .ensures)
     (u .put-number3 .ensures)
-    (v .put-byte .ensures)
+    (v .put-byte .ensures))
 
 pub ending-line-spec : {M : Type 1} → statement M
 ending-line-spec =

@@ -1,6 +1,6 @@
 -- `plan_line`: the word, the row, and the newline. Assumes nothing.
 use native.Mathlib.Omega.{arith}
-use Rattle.report.proofs.Lines.{put-line}
+use Rattle.report.proofs.Lines.{line-length, put-line}
 use borrow.Author.Needs.{needs}
 use Rattle.report.proofs.plan_line.Statement.{statement}
 use Rattle.report.proofs.plan_line.Tie as tie
@@ -9,13 +9,20 @@ slice-aggregate-put : tie.Need-slice-aggregate-put
 slice-aggregate-put c = search needs
 
 put-requires : tie.Need-put-requires
-put-requires c κs = search needs
+put-requires c κs = let s = c .before .before .before .before in omega (arith, line-length (s .args .row .now), s .pre)
 
 put-row-requires : tie.Need-put-row-requires
-put-row-requires c κs = search needs
+put-row-requires c κs =
+    let p = c .before .before .before in
+    let s = p .before .before .before .before .before in
+    omega (arith, line-length (s .args .row .now), p .put .ensures .ends, p .put .kept .0, s .pre)
 
 put-byte-requires : tie.Need-put-byte-requires
-put-byte-requires c κs = search needs
+put-byte-requires c κs =
+    let q = c .before .before .before in
+    let p = q .before .before .before .before in
+    let s = p .before .before .before .before .before in
+    omega (arith, line-length (s .args .row .now), p .put .ensures .ends, p .put .kept .0, q .put-row .ensures .ends, q .put-row .kept .0, s .pre)
 
 same-length : tie.Need-same-length
 same-length c = search needs
@@ -25,10 +32,8 @@ returns c =
     let v = c .before .before in
     let q = v .before .before .before .before in
     let p = q .before .before .before .before in
-    let s = p .before .before .before .before .before in (
-      put-line (s .args .row .now) (omega (arith, q .put-row .ensures .1, p .put .ensures .ends, s .pre)) (p .put .ensures) (q .put-row .ensures .0) (v .put-byte .ensures),
-      omega (arith, v .put-byte .ensures .ends, q .put-row .ensures .1, p .put .ensures .ends),
-    )
+    let s = p .before .before .before .before .before in
+    put-line (s .args .row .now) (omega (arith, line-length (s .args .row .now), q .put-row .ensures .ends, p .put .ensures .ends, s .pre)) (p .put .ensures) (q .put-row .ensures) (v .put-byte .ensures)
 
 pub plan-line-spec : {M : Type 1} → statement M
 plan-line-spec =

@@ -1,23 +1,23 @@
--- `plan_lines`: after i turns the lines of the first i rows stand at the front, in at most 53 bytes each. Assumes nothing.
+-- `plan_lines`: after i turns the lines of the first i rows stand at the front. Assumes nothing.
 use mathlib.Core.Path.{_≡_, refl, sym, ap, _∙_, subst}
-use mathlib.Core.List.{List, map}
+use mathlib.Core.List.{List}
 use Prim.Native.Nat.{ℕ, _+_, _*_, _-_, _≤_}
 use native.Mathlib.Nat.{zero-mul, suc-mul}
 use native.Mathlib.Numerals.{add-one}
 use native.Mathlib.Omega.{arith}
 use borrow.Author.Needs.{needs}
-use lib.ListN.{length, drop, length-take}
+use lib.ListN.{length}
 use Rattle.model.specs.Lists.{flat}
 use Rattle.model.specs.Run.{listedPlans}
-use Rattle.report.specs.Report.{line, planWord}
+use Rattle.report.specs.Text.{planLines}
 use Rattle.model.specs.Written.{Written}
 use Rattle.model.proofs.Written.{written-none}
-use Rattle.report.proofs.Lines.{row-inside, plans-turn}
+use Rattle.report.proofs.Lines.{row-inside, plans-turn, lines-step, lines-fit}
 use Rattle.report.proofs.plan_lines.Statement.{statement}
 use Rattle.report.proofs.plan_lines.Tie as tie
 
 abbrev Inv-loop : tie.InvT-loop
-Inv-loop out₀ list n plans next₀ at₀ i₀ out next at i = (i ≤ plans) × (length out ≡ length out₀) × (next ≤ 53 * i) × (at ≡ i * n) × Written out₀ 0 (flat (map (line planWord) (listedPlans n i list))) out next
+Inv-loop out₀ list n plans next₀ at₀ i₀ out next at i = (i ≤ plans) × (length out ≡ length out₀) × (at ≡ i * n) × Written out₀ 0 (planLines n i list) out next
 
 abbrev μ-loop : tie.MeasureT-loop
 μ-loop out₀ list n plans next₀ at₀ i₀ out next at i = plans - i
@@ -27,16 +27,16 @@ inside : (c : tie.In-loop Inv-loop μ-loop) → c .before .loop .at + c .before 
 inside c =
     let l = c .before in
     let s = l .before .before .before in
-    row-inside (s .args .n) (l .loop .i) (s .args .plans) (l .loop .at) (length (s .args .list .now)) (c .loop-test .taken) (l .loop .inv .3) (s .pre .1)
+    row-inside (s .args .n) (l .loop .i) (s .args .plans) (l .loop .at) (length (s .args .list .now)) (c .loop-test .taken) (l .loop .inv .2) (s .pre .0)
 
-start : (d : List ℕ) (n : ℕ) (list : List ℕ) → Written d 0 (flat (map (line planWord) (listedPlans n 0 list))) d 0
+start : (d : List ℕ) (n : ℕ) (list : List ℕ) → Written d 0 (planLines n 0 list) d 0
 unfolding listedPlans flat
 start d n list = written-none d 0
 
 loop-holds : tie.Need-loop-holds Inv-loop μ-loop
 loop-holds c =
     let a = c .before .before .args in
-    (search needs, refl, omega arith, sym (zero-mul (a .n)), start (a .out .now) (a .n) (a .list .now))
+    (search needs, refl, sym (zero-mul (a .n)), start (a .out .now) (a .n) (a .list .now))
 
 add-plan-line : tie.Need-add-plan-line Inv-loop μ-loop
 add-plan-line c = omega (arith, inside (c .before))
@@ -54,7 +54,8 @@ plan-line-requires : tie.Need-plan-line-requires Inv-loop μ-loop
 plan-line-requires c κs =
     let l = c .before .before .before in
     let s = l .before .before .before in
-    omega (arith, length-take (l .loop .at + s .args .n - l .loop .at) (drop (l .loop .at) (s .args .list .now)), c .before .before .loop-test .taken, l .loop .inv .1, l .loop .inv .2, s .pre)
+    let a = s .args in
+    omega (arith, lines-step (a .n) (l .loop .i) (l .loop .at) (a .list .now) (l .loop .inv .2), lines-fit (a .n) (l .loop .i) (a .plans) (a .list .now) (c .before .before .loop-test .taken), l .loop .inv .1, l .loop .inv .3 .ends, s .pre .1)
 
 add-at : tie.Need-add-at Inv-loop μ-loop
 add-at c = omega (arith, inside (c .before .before .before .before .before))
@@ -74,9 +75,10 @@ loop-again c =
     let i = l .loop .i in (
       omega arith,
       p .plan-line .kept .0 ∙ l .loop .inv .1,
-      omega (arith, length-take (l .loop .at + n - l .loop .at) (drop (l .loop .at) (s .args .list .now)), p .plan-line .ensures .1, l .loop .inv .2, s .pre .0),
-      ap (λ (k : ℕ). k + n) (l .loop .inv .3) ∙ sym (suc-mul i n) ∙ ap (λ (k : ℕ). k * n) (sym (add-one i)),
-      plans-turn n i (l .loop .at) (s .args .list .now) (l .loop .inv .3) (omega (arith, l .loop .inv .2, l .loop .inv .0, s .pre)) (l .loop .inv .4) (p .plan-line .ensures .0),
+      ap (λ (k : ℕ). k + n) (l .loop .inv .2) ∙ sym (suc-mul i n) ∙ ap (λ (k : ℕ). k * n) (sym (add-one i)),
+      plans-turn n i (l .loop .at) (s .args .list .now) (l .loop .inv .2)
+          (omega (arith, lines-step n i (l .loop .at) (s .args .list .now) (l .loop .inv .2), lines-fit n i (s .args .plans) (s .args .list .now) (c .before .before .before .before .before .loop-test .taken), l .loop .inv .3 .ends, s .pre .1))
+          (l .loop .inv .3) (p .plan-line .ensures),
     )
 
 same-length : tie.Need-same-length Inv-loop μ-loop
@@ -87,7 +89,7 @@ returns c =
     let l = c .before in
     let s = l .before .before .before in
     let last : l .loop .i ≡ s .args .plans = omega arith in
-    (subst (λ (k : ℕ). Written (s .args .out .now) 0 (flat (map (line planWord) (listedPlans (s .args .n) k (s .args .list .now)))) (l .loop .out) (l .loop .next)) last (l .loop .inv .4), omega (arith, l .loop .inv .2))
+    subst (λ (k : ℕ). Written (s .args .out .now) 0 (planLines (s .args .n) k (s .args .list .now)) (l .loop .out) (l .loop .next)) last (l .loop .inv .3)
 
 pub plan-lines-spec : {M : Type 1} → statement M
 plan-lines-spec =

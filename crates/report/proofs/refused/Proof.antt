@@ -1,64 +1,50 @@
--- `refused`: the word, two numbers of at most 20 digits, and the newline. Assumes nothing.
+-- `refused`: the line of a refusal and no plans. Assumes nothing.
+use mathlib.Core.Path.{sym}
 use native.Mathlib.Omega.{arith}
-use Rattle.model.proofs.Written.{fronted}
-use Rattle.report.proofs.Lines.{field-most, put-two}
+use lib.Seq.{length-take-le}
+use Rattle.report.proofs.Lines.{front-taken, front-inside, alone-fits}
 use borrow.Author.Needs.{needs}
 use Rattle.report.proofs.refused.Statement.{statement}
 use Rattle.report.proofs.refused.Tie as tie
 
-slice-aggregate-put : tie.Need-slice-aggregate-put
-slice-aggregate-put c = search needs
+slice-aggregate-refused-line : tie.Need-slice-aggregate-refused-line
+slice-aggregate-refused-line c = search needs
 
-put-requires : tie.Need-put-requires
-put-requires c κs = search needs
+refused-line-requires : tie.Need-refused-line-requires
+refused-line-requires c κs = search needs
 
-put-number-requires : tie.Need-put-number-requires
-put-number-requires c κs =
-    let p = c .before .before .before in
-    let s = p .before .before .before .before in
-    omega (arith, field-most (s .args .number), field-most (s .args .item), p .put .ensures .ends, p .put .kept .0, s .pre)
+slice-aggregate-put-report : tie.Need-slice-aggregate-put-report
+slice-aggregate-put-report c = search needs
 
-put-number-requires-2 : tie.Need-put-number-requires-2
-put-number-requires-2 c κs =
-    let q = c .before .before .before in
-    let p = q .before .before .before .before in
-    let s = p .before .before .before .before in
-    omega (arith, field-most (s .args .number), field-most (s .args .item), p .put .ensures .ends, p .put .kept .0, q .put-number .ensures .ends, q .put-number .kept .0, s .pre)
+array-share-prefix-last : tie.Need-array-share-prefix-last
+array-share-prefix-last c = front-inside (c .before .before .refused-line .ensures)
 
-put-byte-requires : tie.Need-put-byte-requires
-put-byte-requires c κs =
-    let t = c .before .before .before in
-    let q = t .before .before .before .before in
-    let p = q .before .before .before .before in
-    let s = p .before .before .before .before in
-    omega (arith, field-most (s .args .number), field-most (s .args .item), p .put .ensures .ends, p .put .kept .0, q .put-number .ensures .ends, q .put-number .kept .0, t .put-number2 .ensures .ends, t .put-number2 .kept .0, s .pre)
+slice-aggregate-put-report-2 : tie.Need-slice-aggregate-put-report-2
+slice-aggregate-put-report-2 c = sym (length-take-le _ _ (front-inside (c .before .before .before .refused-line .ensures)))
+
+put-report-requires : tie.Need-put-report-requires
+put-report-requires c κs =
+    let l = c .before .before .before .before .refused-line in
+    (omega arith, omega arith, omega arith, omega (arith, length-take-le (l .result) (l .last .0) (front-inside (l .ensures)), front-inside (l .ensures), l .kept .0))
 
 same-length : tie.Need-same-length
 same-length c = search needs
 
 returns : tie.Need-returns
 returns c =
-    let v = c .before .before in
-    let t = v .before .before .before .before in
-    let q = t .before .before .before .before in
-    let p = q .before .before .before .before in
-    let s = p .before .before .before .before in
-    fronted
-    (put-two (s .args .number) (s .args .item)
-    (omega (arith, field-most (s .args .number), field-most (s .args .item), p .put .ensures .ends, q .put-number .ensures .ends, t .put-number2 .ensures .ends, s .pre))
-    (p .put .ensures)
-    (q .put-number .ensures)
-    (t .put-number2 .ensures)
-    (v .put-byte .ensures))
+    let r = c .before .before in
+    let l = r .before .before .before .before .before .refused-line in
+    alone-fits _ _ (front-taken (l .ensures)) (r .put-report .ensures)
 
 pub refused-spec : {M : Type 1} → statement M
 refused-spec =
     tie.close
     (tie.spec
-    slice-aggregate-put
-    put-requires
-    put-number-requires
-    put-number-requires-2
-    put-byte-requires
+    slice-aggregate-refused-line
+    refused-line-requires
+    slice-aggregate-put-report
+    array-share-prefix-last
+    slice-aggregate-put-report-2
+    put-report-requires
     same-length
     returns)

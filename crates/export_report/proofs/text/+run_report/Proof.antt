@@ -4,7 +4,7 @@ use mathlib.Core.List.{List}
 use native.Mathlib.Omega.{arith}
 use lib.ListN.{length, take}
 use lib.Seq.{length-take-le}
-use Rattle.model.specs.Written.{Fronted}
+use Rattle.report.specs.Text.{Fitted}
 use Rattle.search.specs.Meaning.{endingOf, means}
 use Rattle.export_run.proofs.Ran.{refusal-of}
 use Rattle.export_report.proofs.Reported.{refused-text, ran-so, listed, ended-text}
@@ -83,7 +83,7 @@ run-report-run-report-requires t c κs =
     let s = c .before .before .before .before .before .before in
     let cut = length-take-le (4096 * s .args .n) (s .args .list .now) (s .pre .1 .1) in
     let less : length (take (4096 * s .args .n) (s .args .list .now)) < t = omega (arith, cut, s .pre .0, c .before .before .if1 .taken) in
-    (less, (s .pre .1 .0, omega (arith, cut), s .pre .1 .2))
+    (less, (s .pre .1 .0, omega (arith, cut)))
 
 run-report-same-length : (t : ℕ) → run-report-lts.Need-same-length (
   run-report-below t,
@@ -199,7 +199,6 @@ run-report-ending-report-requires t c κs =
     let long : length (s .args .list .now) ≡ 4096 * s .args .n = omega (arith, s .pre .1 .1, f .before .before .if1 .left) in (
       ran-so (s .args .sheet .now) (s .args .n) (s .args .list .now) (endingOf (g .0 .0)) (s .pre .1 .0) long h,
       listed (s .args .sheet .now) (s .args .n) (s .args .list .now) (endingOf (g .0 .0)) (s .pre .1 .0) long h (f .run .last .1 .1 .0) (f .run .kept .1 .1 .0),
-      s .pre .1 .2,
     )
 
 run-report-same-length-3 : (t : ℕ) → run-report-lts.Need-same-length-3 (
@@ -243,7 +242,7 @@ run-report-returns-2 t c =
     let r = c .before .before .refused in
     let b = s .args .sheet .now in
     let v = refusal-of b 1000000 (s .args .list .now) (g .0 .0) (g .0 .1 .0) (sym (f .run .ensures .answers) ∙ ap means (g .1)) in
-    subst (λ (l : List ℕ). Fronted (s .args .out .now) l (r .last .1 .1 .0) (r .result)) (refused-text b (g .0 .0) (g .0 .1 .0) v) (r .ensures)
+    subst (λ (l : List ℕ). Fitted (s .args .out .now) l (r .last .1 .1 .0) (r .result)) (refused-text b (g .0 .0) (g .0 .1 .0) v) (r .ensures)
 
 run-report-same-length-5 : (t : ℕ) → run-report-lts.Need-same-length-5 (
   run-report-below t,
@@ -287,7 +286,7 @@ run-report-returns-3 t c =
     let h = sym (f .run .ensures .answers) ∙ ap means (g .1) in
     let long : length (s .args .list .now) ≡ 4096 * s .args .n = omega (arith, s .pre .1 .1, f .before .before .if1 .left) in
     let e = ended-text (s .args .sheet .now) (s .args .n) (s .args .list .now) (endingOf (g .0 .0)) (s .pre .1 .0) long h (f .run .last .1 .1 .0) (f .run .ensures .leaves) in
-    subst (λ (l : List ℕ). Fronted (s .args .out .now) l (r .last .1 .1 .1 .1 .0) (r .result)) e (r .ensures)
+    subst (λ (l : List ℕ). Fitted (s .args .out .now) l (r .last .1 .1 .1 .1 .0) (r .result)) e (r .ensures)
 
 pub +run-report-spec : {M : Type 1} → statement M
 +run-report-spec = close μ-run-report λ t. run-report-lts.spec (

@@ -1,18 +1,12 @@
 -- `ending_report`: a finished run is taken apart, the two others are a stop. Assumes nothing.
-use mathlib.Core.Path.{refl, sym, subst}
-use mathlib.Core.List.{[], _∷_}
-use types.Run.{OneOf}
-use denote.Enum.Declared.{tagOf}
+use mathlib.Core.Path.{sym, subst}
 use Rattle.figure.specs.Figure.{Figure, reportFigure}
 use Rattle.counting.specs.Held.{Ran}
 use Rattle.counting.proofs.Bare.{report-dash, stopped}
-use Rattle.report.specs.Text.{endedText}
-use Rattle.model.specs.Written.{Fronted}
+use Rattle.report.specs.Text.{endedText, Fitted}
 use Rattle.search.specs.declared.Ending.{Ending}
-use Rattle.search.proofs.Ending.{the-type}
-use Rattle.search.specs.declared.Ending.the-variants.{Finished, Spent, Full}
 use Rattle.search.specs.Meaning.{endingOf}
-use Rattle.export_report.specs.Inner.{Listed, Stop}
+use Rattle.export_report.specs.Inner.{Listed}
 use borrow.Author.Needs.{needs}
 use Rattle.export_report.proofs.text.ending_report.Statement.{statement}
 use Rattle.export_report.proofs.text.ending_report.Tie as tie
@@ -20,13 +14,8 @@ use Rattle.export_report.proofs.text.ending_report.Tie as tie
 enum-known-e : tie.Need-enum-known-e
 enum-known-e c = search needs
 
-stop-is : (e : Ending) → OneOf (1 ∷ 2 ∷ []) (tagOf the-type e) → Stop (endingOf e)
-stop-is (Finished plans nodes) k = stopped (Finished plans nodes) k plans nodes refl
-stop-is (Spent plans nodes) k = tt
-stop-is (Full plans nodes) k = tt
-
 stop-report-requires : tie.Need-stop-report-requires
-stop-report-requires c κs = let s = c .before .before .before .before .before in (stop-is (s .args .e) (c .before .match .keys2), s .pre .1, s .pre .2)
+stop-report-requires c κs = c .before .before .before .before .before .pre .1
 
 same-length : tie.Need-same-length
 same-length c = search needs
@@ -36,7 +25,7 @@ returns c =
     let s = c .before .before .before .before .before .before .before .before in
     let n = report-dash _ _ _ (s .pre .0) (stopped (s .args .e) (c .before .before .before .before .match .keys2)) in
     let r = c .before .before .stop-report in
-    subst (λ (f : Figure). Fronted (s .args .out .now) (endedText (endingOf (s .args .e)) f (s .args .n) (s .args .list .now)) (r .last .1 .1 .1 .0) (r .result)) (sym n) (r .ensures)
+    subst (λ (f : Figure). Fitted (s .args .out .now) (endedText (endingOf (s .args .e)) f (s .args .n) (s .args .list .now)) (r .last .1 .1 .1 .0) (r .result)) (sym n) (r .ensures)
 
 finished-report-requires : tie.Need-finished-report-requires
 finished-report-requires c κs =
@@ -44,7 +33,6 @@ finished-report-requires c κs =
     let s = c .before .before .before .before .before .before .before in (
       subst (λ (x : Ending). Ran (s .args .sheet .now) 1000000 (endingOf x)) e (s .pre .0),
       subst (λ (x : Ending). Listed (endingOf x) (s .args .n) (s .args .list .now)) e (s .pre .1),
-      s .pre .2,
     )
 
 same-length-2 : tie.Need-same-length-2
@@ -54,7 +42,7 @@ returns-2 : tie.Need-returns-2
 returns-2 c =
     let s = c .before .before .before .before .before .before .before .before .before .before in
     let r = c .before .before .finished-report in
-    subst (λ (x : Ending). Fronted (s .args .out .now) (endedText (endingOf x) (reportFigure (s .args .sheet .now) 1000000) (s .args .n) (s .args .list .now)) (r .last .1 .1 .1 .1 .1 .0) (r .result)) (sym (c .before .before .before .before .before .e .given .1)) (r .ensures)
+    subst (λ (x : Ending). Fitted (s .args .out .now) (endedText (endingOf x) (reportFigure (s .args .sheet .now) 1000000) (s .args .n) (s .args .list .now)) (r .last .1 .1 .1 .1 .1 .0) (r .result)) (sym (c .before .before .before .before .before .e .given .1)) (r .ensures)
 
 pub ending-report-spec : {M : Type 1} → statement M
 ending-report-spec =

@@ -1,13 +1,19 @@
 -- `finished_report`: the figure is asked for, and is a number or the dash. Assumes nothing.
 use mathlib.Core.Path.{_≡_, sym, ap, _∙_, subst}
+use mathlib.Core.Logic.{⊎-elim}
+use mathlib.Core.List.{[], _∷_}
 use Prim.Native.Nat.{ℕ}
 use native.Mathlib.Omega.{arith}
+use types.Run.{OneOf}
+use denote.Enum.Declared.{tagOf}
 use borrow.Author.Needs.{needs}
 use Rattle.model.specs.Run.{finished}
-use Rattle.model.specs.Written.{Fronted}
 use Rattle.figure.specs.Figure.{Figure, number, dash, reportFigure}
 use Rattle.counting.specs.Told.{refusal, told, means}
-use Rattle.report.specs.Text.{endedText}
+use Rattle.counting.specs.declared.Answer.{Answer}
+use Rattle.counting.specs.declared.Answer.the-variants.{Number, Dash, Refused}
+use Rattle.counting.proofs.Answer.{the-type}
+use Rattle.report.specs.Text.{endedText, Fitted}
 use Rattle.export_report.proofs.text.finished_report.Statement.{statement}
 use Rattle.export_report.proofs.text.finished_report.Tie as tie
 
@@ -17,46 +23,44 @@ figured f g e = cc
 never-refused : (n i : ℕ) (f : Figure) → refusal n i ≡ told f → ⊥
 never-refused n i f e = let z : _≡_ {A = ℕ} 0 1 = cc in omega arith
 
+-- an answer that is no number, where none is refused, is the dash
+dash-told : (r : Answer) (f : Figure) → OneOf (1 ∷ 2 ∷ []) (tagOf the-type r) → means r ≡ told f → dash ≡ f
+dash-told (Number k) f t e = absurd (⊎-elim {C = ⊥} (λ z. omega arith) (λ z. omega arith) t)
+dash-told Dash f t e = figured dash f e
+dash-told (Refused n i) f t e = absurd (never-refused n i f e)
+
 finished-requires : tie.Need-finished-requires
 finished-requires c κs = search needs
 
 enum-known-figure : tie.Need-enum-known-figure
 enum-known-figure c = search needs
 
-finished-requires-2 : tie.Need-finished-requires-2
-finished-requires-2 c κs = search needs
-
-enum-told : tie.Need-enum-told
-enum-told c = search needs
-
 uncounted-requires : tie.Need-uncounted-requires
 uncounted-requires c κs = search needs
-
-enum-told-2 : tie.Need-enum-told-2
-enum-told-2 c = search needs
 
 same-length : tie.Need-same-length
 same-length c = search needs
 
 returns : tie.Need-returns
 returns c =
-    let s = c .before .before .before .before .before .before .before .before .before .before .before in
-    let r = c .before .before .finished2 in
-    let e : number (c .before .before .before .before .before .figure .given .0 .0) ≡ reportFigure (s .args .sheet .now) 1000000 = figured _ _ (sym (ap means (c .before .before .before .before .before .figure .given .1)) ∙ c .before .before .before .before .before .before .before .finished .ensures) in
-    subst (λ (f : Figure). Fronted (s .args .out .now) (endedText (finished (s .args .plans) (s .args .nodes)) f (s .args .n) (s .args .list .now)) (r .last .1 .1 .1 .1 .1 .0) (r .result)) e (r .ensures)
+    let m = c .before .before .before .before in
+    let s = m .before .before .before .before .before in
+    let r = c .before .before .uncounted in
+    let e : dash ≡ reportFigure (s .args .sheet .now) 1000000 = dash-told (m .before .finished .result) _ (m .match .keys2) (m .before .finished .ensures) in
+    subst (λ (f : Figure). Fitted (s .args .out .now) (endedText (finished (s .args .plans) (s .args .nodes)) f (s .args .n) (s .args .list .now)) (r .last .1 .1 .1 .1 .0) (r .result)) e (r .ensures)
+
+finished-requires-2 : tie.Need-finished-requires-2
+finished-requires-2 c κs = search needs
 
 same-length-2 : tie.Need-same-length-2
 same-length-2 c = search needs
 
 returns-2 : tie.Need-returns-2
 returns-2 c =
-    let s = c .before .before .before .before .before .before .before .before .before .before in
-    let r = c .before .before .uncounted in
-    let e : dash ≡ reportFigure (s .args .sheet .now) 1000000 = figured _ _ (sym (ap means (c .before .before .before .before .enum-told .given .1)) ∙ c .before .before .before .before .before .before .finished .ensures) in
-    subst (λ (f : Figure). Fronted (s .args .out .now) (endedText (finished (s .args .plans) (s .args .nodes)) f (s .args .n) (s .args .list .now)) (r .last .1 .1 .1 .1 .0) (r .result)) e (r .ensures)
-
-returns-3 : tie.Need-returns-3
-returns-3 c = absurd (never-refused _ _ _ (sym (ap means (c .enum-told2 .given .1)) ∙ c .before .before .finished .ensures))
+    let s = c .before .before .before .before .before .before .before .before .before .before .before in
+    let r = c .before .before .finished2 in
+    let e : number (c .before .before .before .before .before .figure .given .0 .0) ≡ reportFigure (s .args .sheet .now) 1000000 = figured _ _ (sym (ap means (c .before .before .before .before .before .figure .given .1)) ∙ c .before .before .before .before .before .before .before .finished .ensures) in
+    subst (λ (f : Figure). Fitted (s .args .out .now) (endedText (finished (s .args .plans) (s .args .nodes)) f (s .args .n) (s .args .list .now)) (r .last .1 .1 .1 .1 .1 .0) (r .result)) e (r .ensures)
 
 pub finished-report-spec : {M : Type 1} → statement M
 finished-report-spec =
@@ -64,12 +68,9 @@ finished-report-spec =
     (tie.spec
     finished-requires
     enum-known-figure
-    finished-requires-2
-    enum-told
     uncounted-requires
-    enum-told-2
     same-length
     returns
+    finished-requires-2
     same-length-2
-    returns-2
-    returns-3)
+    returns-2)

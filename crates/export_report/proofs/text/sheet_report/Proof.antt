@@ -16,7 +16,7 @@ slice-aggregate-run-report c = c .before .plan-room .ensures
 run-report-requires : tie.Need-run-report-requires
 run-report-requires c κs =
     let v = c .before .before .before in
-    (v .variables .ensures, omega (arith, v .variables .ensures .most, c .before .before .plan-room .ensures), search needs)
+    (v .variables .ensures, omega (arith, v .variables .ensures .most, c .before .before .plan-room .ensures))
 
 same-length : tie.Need-same-length
 same-length c = search needs

@@ -1,11 +1,10 @@
--- `stop_report`: a run that was spent or full. Assumes nothing.
+-- `stop_report`: the ending by its word, with a dash. Assumes nothing.
 use mathlib.Core.Path.{sym, subst}
 use Rattle.figure.specs.Figure.{dash}
-use Rattle.report.specs.Text.{endedText}
-use Rattle.model.specs.Written.{Fronted}
+use Rattle.report.specs.Text.{endedText, Fitted}
 use Rattle.search.specs.declared.Ending.{Ending}
 use Rattle.search.specs.Meaning.{endingOf}
-use Rattle.export_report.specs.Inner.{Listed, Stop}
+use Rattle.export_report.specs.Inner.{Listed}
 use borrow.Author.Needs.{needs}
 use Rattle.export_report.proofs.text.stop_report.Statement.{statement}
 use Rattle.export_report.proofs.text.stop_report.Tie as tie
@@ -17,8 +16,8 @@ spent-requires : tie.Need-spent-requires
 spent-requires c κs =
     let g = c .before .before .e .given in
     let s = c .before .before .before .before .before .before in
-    let k = subst (λ (x : Ending). Listed (endingOf x) (s .args .n) (s .args .list .now)) (g .1) (s .pre .1) in
-    (k .few, k .most, k .inside, s .pre .2)
+    let k = subst (λ (x : Ending). Listed (endingOf x) (s .args .n) (s .args .list .now)) (g .1) (s .pre) in
+    (k .few, k .most, k .inside)
 
 enum-known-e-2 : tie.Need-enum-known-e-2
 enum-known-e-2 c = search needs
@@ -27,11 +26,18 @@ full-requires : tie.Need-full-requires
 full-requires c κs =
     let g = c .before .before .e2 .given in
     let s = c .before .before .before .before .before .before in
-    let k = subst (λ (x : Ending). Listed (endingOf x) (s .args .n) (s .args .list .now)) (g .1) (s .pre .1) in
-    (k .few, k .most, k .inside, s .pre .2)
+    let k = subst (λ (x : Ending). Listed (endingOf x) (s .args .n) (s .args .list .now)) (g .1) (s .pre) in
+    (k .few, k .most, k .inside)
 
-enum-told : tie.Need-enum-told
-enum-told c = search needs
+enum-known-e-3 : tie.Need-enum-known-e-3
+enum-known-e-3 c = search needs
+
+uncounted-requires : tie.Need-uncounted-requires
+uncounted-requires c κs =
+    let g = c .before .before .e3 .given in
+    let s = c .before .before .before .before .before .before in
+    let k = subst (λ (x : Ending). Listed (endingOf x) (s .args .n) (s .args .list .now)) (g .1) (s .pre) in
+    (k .few, k .most, k .inside)
 
 same-length : tie.Need-same-length
 same-length c = search needs
@@ -39,7 +45,7 @@ same-length c = search needs
 returns : tie.Need-returns
 returns c =
     let s = c .before .before .before .before .before .before .before .before .before in
-    subst (λ (x : Ending). Fronted (s .args .out .now) (endedText (endingOf x) dash (s .args .n) (s .args .list .now)) (c .before .before .spent .last .1 .1 .1 .1 .0) (c .before .before .spent .result)) (sym (c .before .before .before .before .before .e .given .1)) (c .before .before .spent .ensures)
+    subst (λ (x : Ending). Fitted (s .args .out .now) (endedText (endingOf x) dash (s .args .n) (s .args .list .now)) (c .before .before .spent .last .1 .1 .1 .1 .0) (c .before .before .spent .result)) (sym (c .before .before .before .before .before .e .given .1)) (c .before .before .spent .ensures)
 
 same-length-2 : tie.Need-same-length-2
 same-length-2 c = search needs
@@ -47,10 +53,15 @@ same-length-2 c = search needs
 returns-2 : tie.Need-returns-2
 returns-2 c =
     let s = c .before .before .before .before .before .before .before .before .before in
-    subst (λ (x : Ending). Fronted (s .args .out .now) (endedText (endingOf x) dash (s .args .n) (s .args .list .now)) (c .before .before .full .last .1 .1 .1 .1 .0) (c .before .before .full .result)) (sym (c .before .before .before .before .before .e2 .given .1)) (c .before .before .full .ensures)
+    subst (λ (x : Ending). Fitted (s .args .out .now) (endedText (endingOf x) dash (s .args .n) (s .args .list .now)) (c .before .before .full .last .1 .1 .1 .1 .0) (c .before .before .full .result)) (sym (c .before .before .before .before .before .e2 .given .1)) (c .before .before .full .ensures)
+
+same-length-3 : tie.Need-same-length-3
+same-length-3 c = search needs
 
 returns-3 : tie.Need-returns-3
-returns-3 c = absurd (subst (λ (x : Ending). Stop (endingOf x)) (c .enum-told .given .1) (c .before .before .before .before .pre .0))
+returns-3 c =
+    let s = c .before .before .before .before .before .before .before .before .before in
+    subst (λ (x : Ending). Fitted (s .args .out .now) (endedText (endingOf x) dash (s .args .n) (s .args .list .now)) (c .before .before .uncounted .last .1 .1 .1 .1 .0) (c .before .before .uncounted .result)) (sym (c .before .before .before .before .before .e3 .given .1)) (c .before .before .uncounted .ensures)
 
 pub stop-report-spec : {M : Type 1} → statement M
 stop-report-spec =
@@ -60,9 +71,11 @@ stop-report-spec =
     spent-requires
     enum-known-e-2
     full-requires
-    enum-told
+    enum-known-e-3
+    uncounted-requires
     same-length
     returns
     same-length-2
     returns-2
+    same-length-3
     returns-3)
