@@ -35,15 +35,20 @@ from ._calls import (
 )
 from ._kept import DESK_BYTES, SEAT_PLANS, SEATS, STORE_BYTES, TABLE_BYTES, Desk, Rounds, Standing, Store
 from ._library import Refusal, __version__
+from ._parts import END, JOIN_BYTES, PART_BYTES, START, Joined, Missing, Part, join, run_part
 
 __all__ = [
     "ABSENT",
     "DESK_BYTES",
+    "END",
+    "JOIN_BYTES",
     "NODE_LIMIT",
+    "PART_BYTES",
     "ROOM",
     "SEATS",
     "SEAT_PLANS",
     "STACK_BYTES",
+    "START",
     "STORE_BYTES",
     "TABLE_BYTES",
     "Closed",
@@ -51,7 +56,10 @@ __all__ = [
     "Ending",
     "Enough",
     "FilterEnding",
+    "Joined",
     "LentRun",
+    "Missing",
+    "Part",
     "Plan",
     "Refusal",
     "Rounds",
@@ -66,6 +74,7 @@ __all__ = [
     "families",
     "filter",
     "item_words",
+    "join",
     "merge",
     "plans_of",
     "question",
@@ -74,6 +83,7 @@ __all__ = [
     "rows",
     "run",
     "run_lent",
+    "run_part",
     "small_sheet",
     "small_sheets",
     "version",

@@ -126,14 +126,14 @@ def filter(
     return FilterEnding(code), [int.from_bytes(left[at : at + 2], "little") for at in range(0, len(left), 2)]
 
 
-def _windows(sheet: Lent) -> int:
+def windows(sheet: Lent) -> int:
     """The windows that a sheet states, if it can be accepted."""
     return max(1, min(int.from_bytes(bytes(sheet[:2]), "little"), _MOST_WINDOWS))
 
 
 def run(sheet: Lent, node_limit: int = NODE_LIMIT, room: int = ROOM) -> Run:
     """Lists the sheet's plans, with at most `node_limit` trials and room for so many plans."""
-    n = _windows(sheet)
+    n = windows(sheet)
     rows = room_for(n * room)
     kind, plans, nodes = ask("run", sheet, node_limit, rows)
     return Run(Ending(kind), plans_of(rows.raw[: n * plans], n), nodes)
@@ -149,7 +149,7 @@ def run_lent(
     sheet: Lent, pairs: Lent = b"", block: Lent = b"", node_limit: int = NODE_LIMIT, room: int = ROOM
 ) -> LentRun:
     """As `run`, with the windows settled, and the plans read, in the order of the pairs."""
-    n = _windows(sheet)
+    n = windows(sheet)
     rows = room_for(n * room)
     kind, plans, nodes, *counts = ask("run_lent", sheet, pairs, block, node_limit, rows, numbers=15)
     return LentRun(Ending(kind), plans_of(rows.raw[: n * plans], n), nodes, counts)

@@ -23,6 +23,8 @@ _ARGUMENTS: Dict[str, Tuple[Any, ...]] = {
     "run": _IN + _U32 + _IN * 2,
     "question_lent": _LENT_RUN,
     "run_lent": _LENT_RUN + _U32 + _IN * 2,
+    "run_part": _LENT_RUN + _IN * 2 + _U32 + _IN * 2,
+    "join": _IN * 2,
     "at_least": _LENT_RUN + _U32 * 2 + _IN,
     "families": _LENT_RUN + _U32 + _IN,
     "closed": _LENT_RUN + _IN,

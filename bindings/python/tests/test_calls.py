@@ -36,7 +36,7 @@ class Interface(unittest.TestCase):
         self.assertEqual(set(declared), set(_library._ARGUMENTS))
 
     def test_constants(self) -> None:
-        for name in "ABSENT DESK_BYTES SEATS SEAT_PLANS STACK_BYTES STORE_BYTES TABLE_BYTES".split():
+        for name in "ABSENT DESK_BYTES JOIN_BYTES PART_BYTES SEATS SEAT_PLANS STACK_BYTES STORE_BYTES TABLE_BYTES".split():
             self.assertEqual(getattr(planner, name), self.numbers[name], name)
 
     def test_kinds(self) -> None:
@@ -60,11 +60,26 @@ class Calls(unittest.TestCase):
         self.assertEqual(".".join(map(str, planner.version())), planner.__version__)
 
     def test_words(self) -> None:
-        for number in [*range(1, 41), 255]:
+        for number in [*range(1, 45), 255]:
             self.assertGreater(len(planner.words(number)), 10)
         self.assertEqual((planner.item_words(13), planner.item_words(7)), ("rule", ""))
         refusal = self.refused(1, planner.question, b"")
         self.assertEqual(str(refusal), "refused 1 0: the sheet has at least 16 bytes")
+
+    def test_parts(self) -> None:
+        whole = planner.run_part(SHEET_A, planner.START, planner.END)
+        self.assertEqual((whole.plans, whole.nodes, whole.counts[:3]), (PLANS_A, 6, [3, 3, 0]))
+        spent = planner.run_part(SHEET_A, planner.START, planner.END, node_limit=4)
+        self.assertEqual((spent.ending, spent.plans, spent.last), (Ending.SPENT, PLANS_A[:2], b"\x01"))
+        rest = planner.run_part(SHEET_A, spent.last, planner.END)
+        self.assertEqual(spent.plans + rest.plans, PLANS_A)
+        self.assertEqual(planner.join([rest.head, spent.head]), planner.Joined(3, 6, whole.counts))
+        self.assertEqual(planner.join([spent.head]), planner.Missing(b"\x01", planner.END))
+        self.assertEqual(planner.join([]), planner.Missing(planner.START, planner.END))
+        self.refused(41, planner.join, [whole.head[1:]])
+        self.refused(43, planner.join, [whole.head, planner.run_part(BARE_A, b"", b"\xff").head])
+        self.refused(44, planner.join, [planner.run_part(SHEET_A, b"", b"\xff", room=1).head])
+        self.refused(1, planner.run_part, b"", planner.START, planner.END)
 
     def test_run(self) -> None:
         planner.question(SHEET_A)
