@@ -1,1 +1,3 @@
 pub mod Tied
+pub mod TiedRuns
+pub mod TiedLists

@@ -1,16 +1,13 @@
 // Calls about runs: crates export_run, export_lent and export_families say what they answer and leave.
 ghost use mathlib.Core.Path.{_≡_};
-ghost use Rattle.export_run.specs.Run.{questionCode};
-ghost use Rattle.export_run.specs.Exported.{CallExported};
-ghost use Rattle.export_lent.specs.Lent.{lentQuestionCode, lentRunCode, lentRunList, lentRunAnswer};
-ghost use Rattle.export_lent.specs.Enough.{enoughCode, enoughBytes};
-ghost use Rattle.export_lent.specs.Closed.{closedCode, closedAnswer};
+ghost use Rattle.export_run.specs.Exported.{CallCode, CallExported};
+ghost use Rattle.export_lent.specs.Calls.{CallQuestionCode, CallRunBytes, CallEnoughBytes, CallClosedBytes};
 ghost use Rattle.export_families.specs.Families.{CallFigured};
 
 // The questions to a sheet.
 #[no_mangle]
 pub extern "C" fn planner_question(sheet: &[u8]) -> u32
-    ensures { λ r. ⌜ r ≡ questionCode (now (sheet .entry)) ⌝ }
+    ensures { λ r. ⌜ CallCode (now (sheet .entry)) r ⌝ }
 {
     export_run::runs::question(sheet)
 }
@@ -26,7 +23,7 @@ pub extern "C" fn planner_run(sheet: &[u8], limit: u32, list: &mut [u8], answer:
 // The questions of a run that is lent pairs and a block (paper 02, #108 and #111).
 #[no_mangle]
 pub extern "C" fn planner_question_lent(sheet: &[u8], pairs: &[u8], block: &[u8]) -> u32
-    ensures { λ r. ⌜ r ≡ lentQuestionCode (now (sheet .entry)) (now (pairs .entry)) (now (block .entry)) ⌝ }
+    ensures { λ r. ⌜ CallQuestionCode (now (sheet .entry)) (now (pairs .entry)) (now (block .entry)) r ⌝ }
 {
     export_lent::lendings::question_lent(sheet, pairs, block)
 }
@@ -41,9 +38,7 @@ pub extern "C" fn planner_run_lent(
     list: &mut [u8],
     answer: &mut [u8],
 ) -> u32
-    ensures { λ r. ⌜ r ≡ lentRunCode (now (sheet .entry)) (now (pairs .entry)) (now (block .entry)) limit (now (list .entry)) (now (answer .entry)) ⌝ }
-    ensures { λ _. ⌜ now (list .exit) ≡ lentRunList (now (sheet .entry)) (now (pairs .entry)) (now (block .entry)) limit (now (list .entry)) (now (answer .entry)) ⌝ }
-    ensures { λ _. ⌜ now (answer .exit) ≡ lentRunAnswer (now (sheet .entry)) (now (pairs .entry)) (now (block .entry)) limit (now (list .entry)) (now (answer .entry)) ⌝ }
+    ensures { λ r. ⌜ CallRunBytes (now (sheet .entry)) (now (pairs .entry)) (now (block .entry)) limit (now (list .entry)) (now (answer .entry)) r (now (list .exit)) (now (answer .exit)) ⌝ }
 {
     export_lent::lendings::run_lent(sheet, pairs, block, limit, list, answer)
 }
@@ -58,8 +53,7 @@ pub extern "C" fn planner_at_least(
     limit: u32,
     answer: &mut [u8],
 ) -> u32
-    ensures { λ r. ⌜ r ≡ enoughCode (now (sheet .entry)) (now (pairs .entry)) (now (block .entry)) plans limit (now (answer .entry)) ⌝ }
-    ensures { λ _. ⌜ now (answer .exit) ≡ enoughBytes (now (sheet .entry)) (now (pairs .entry)) (now (block .entry)) plans limit (now (answer .entry)) ⌝ }
+    ensures { λ r. ⌜ CallEnoughBytes (now (sheet .entry)) (now (pairs .entry)) (now (block .entry)) plans limit (now (answer .entry)) r (now (answer .exit)) ⌝ }
 {
     export_lent::at_least::at_least(sheet, pairs, block, plans, limit, answer)
 }
@@ -67,8 +61,7 @@ pub extern "C" fn planner_at_least(
 // Whether the exchanges are closed (#112).
 #[no_mangle]
 pub extern "C" fn planner_closed(sheet: &[u8], pairs: &[u8], block: &[u8], answer: &mut [u8]) -> u32
-    ensures { λ r. ⌜ r ≡ closedCode (now (sheet .entry)) (now (pairs .entry)) (now (block .entry)) (now (answer .entry)) ⌝ }
-    ensures { λ _. ⌜ now (answer .exit) ≡ closedAnswer (now (sheet .entry)) (now (pairs .entry)) (now (block .entry)) (now (answer .entry)) ⌝ }
+    ensures { λ r. ⌜ CallClosedBytes (now (sheet .entry)) (now (pairs .entry)) (now (block .entry)) (now (answer .entry)) r (now (answer .exit)) ⌝ }
 {
     export_lent::exchanges::closed(sheet, pairs, block, answer)
 }
