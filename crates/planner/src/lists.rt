@@ -1,6 +1,4 @@
 // Calls about lists of plans, the symmetry store and small sheets: crate export_lists says what they answer and leave.
-ghost use mathlib.Core.Path.{_≡_};
-ghost use lib.ListN.{length};
 ghost use Rattle.export_lists.specs.Merged.{CallMerged};
 ghost use Rattle.export_lists.specs.Calls.{CallColumnsBytes, CallRowsBytes, CallPutBytes, CallFetchBytes, CallDropBytes, CallSmallBytes};
 

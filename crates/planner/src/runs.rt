@@ -1,5 +1,4 @@
 // Calls about runs: crates export_run, export_lent and export_families say what they answer and leave.
-ghost use mathlib.Core.Path.{_≡_};
 ghost use Rattle.export_run.specs.Exported.{CallCode, CallExported};
 ghost use Rattle.export_lent.specs.Calls.{CallQuestionCode, CallRunBytes, CallEnoughBytes, CallClosedBytes};
 ghost use Rattle.export_families.specs.Families.{CallFigured};
