@@ -13,6 +13,7 @@ mod families;
 mod filter;
 mod lent;
 mod merge;
+mod parts;
 mod planner;
 mod question;
 mod report;
@@ -32,7 +33,7 @@ use tally::{Tally, WRONG_SIZE};
 
 const PARTS: &[&str] = &[
     "question", "filter", "run", "lent", "enough", "families", "closed", "retyped", "report", "columns",
-    "merge", "store", "small", "desk",
+    "merge", "store", "small", "desk", "parts",
 ];
 /// The refusal numbers that a part must reach.
 const REFUSALS: &[(&str, RangeInclusive<u32>)] = &[
@@ -61,6 +62,11 @@ const REFUSALS: &[(&str, RangeInclusive<u32>)] = &[
     ("desk", 22..=22),
     ("desk", 37..=38),
     ("desk", WRONG_SIZE..=WRONG_SIZE),
+    ("parts", 15..=16),
+    ("parts", 28..=30),
+    ("parts", 36..=36),
+    ("parts", 41..=44),
+    ("parts", WRONG_SIZE..=WRONG_SIZE),
 ];
 const CASES: usize = 2000;
 /// With fewer cases, numbers and endings that nothing reached are no failure.
@@ -75,6 +81,8 @@ const FAMILIES: [&str; 2] = ["families counted", "dash"];
 const CLOSED: [&str; 2] = ["closed", "product missing"];
 /// Likewise of turns at a desk, whose run then goes on or has ended.
 const TURNS: [&str; 4] = ["goes on", "finished", "spent", "full"];
+/// Likewise of heads.
+const JOINS: [&str; 2] = ["joined", "missing"];
 
 fn environment(name: &str, otherwise: usize) -> usize {
     std::env::var(name)
@@ -113,6 +121,9 @@ fn main() {
     if parts.iter().any(|part| part == "desk") {
         met(TURNS, tally.turns, cases / 10, &mut tally);
     }
+    if parts.iter().any(|part| part == "parts") {
+        met(JOINS, tally.joins, cases / 10, &mut tally);
+    }
     println!("differential: {} passed, {} failed", tally.passed, tally.failed);
     std::process::exit(if tally.failed == 0 { 0 } else { 1 });
 }
@@ -137,6 +148,7 @@ fn test(part: &str, seed: usize, cases: usize, tally: &mut Tally) {
             "store" => store::case(&mut rng, tally),
             "small" => small::case(&mut rng, tally),
             "desk" => desk::case(&mut rng, tally),
+            "parts" => parts::case(&mut rng, tally),
             _ => report::case(seed + number, &mut rng, tally),
         }
     }
@@ -159,6 +171,9 @@ fn test(part: &str, seed: usize, cases: usize, tally: &mut Tally) {
     }
     if part == "desk" {
         desk::examples(tally);
+    }
+    if part == "parts" {
+        parts::examples(tally);
     }
     if part == "report" {
         report::many_plans(tally);

@@ -28,6 +28,8 @@ pub struct Tally {
     pub closed: [usize; 2],
     /// Turns at a desk by the kind of their answer, from 1.
     pub turns: [usize; 4],
+    /// Heads that joined, and those of which a range is missing.
+    pub joins: [usize; 2],
     /// What is tested now, printed with a difference.
     pub case: String,
 }

@@ -75,7 +75,7 @@ pub fn trials(problem: &Problem, order: &[usize]) -> Vec<bool> {
 }
 
 /// The trials that settle the place after a prefix, the first to be made last; of a dead prefix there are none.
-fn trials_below(problem: &Problem, order: &[usize], prefix: &[usize]) -> Vec<Vec<usize>> {
+pub(crate) fn trials_below(problem: &Problem, order: &[usize], prefix: &[usize]) -> Vec<Vec<usize>> {
     let Some(sets) = sets_at(problem, order, prefix) else {
         return Vec::new();
     };

@@ -12,6 +12,7 @@ pub mod listing;
 pub mod merge;
 pub mod nogood;
 pub mod order;
+pub mod parts;
 pub mod report;
 pub mod search;
 pub mod sheet;

@@ -1,0 +1,255 @@
+//! Part `parts`: parts of a run between two paths and the join of their heads, on sheets, pairs and blocks right and damaged: random cuts, every
+//! cut of small trees, spent parts gone on with, heads shuffled, repeated, missing and damaged; a joined whole beside the run.
+
+use crate::lent::{drawn, Lent};
+use crate::run::{node_limit, room};
+use crate::tally::{code, Guarded, Tally, WRONG_SIZE};
+use oracle::lent::run_lent;
+use oracle::parts::{join, paths, run_part, Range, END, HEAD_BYTES};
+use sheets::Rng;
+use std::fs;
+use std::path::Path;
+
+extern "C" {
+    fn planner_run_part(
+        sheet: *const u8,
+        sheet_len: usize,
+        pairs: *const u8,
+        pairs_len: usize,
+        block: *const u8,
+        block_len: usize,
+        from: *const u8,
+        from_len: usize,
+        upto: *const u8,
+        upto_len: usize,
+        node_limit: u32,
+        list: *mut u8,
+        list_len: usize,
+        answer: *mut u8,
+        answer_len: usize,
+    ) -> u32;
+    fn planner_join(heads: *const u8, heads_len: usize, answer: *mut u8, answer_len: usize) -> u32;
+}
+
+/// The bytes of a join's answer.
+const JOIN_BYTES: usize = 152;
+/// Room for every plan of the trees that are cut.
+const ROOM: usize = 12 * 4096;
+/// Trees with more trials are not cut: the oracle draws the whole tree for each part.
+const MOST_TRIALS: usize = 400;
+
+impl Lent {
+    fn run_part(&self, range: Range, list: &mut [u8], answer: &mut [u8]) -> u32 {
+        unsafe {
+            planner_run_part(
+                self.sheet.as_ptr(),
+                self.sheet.len(),
+                self.pairs.as_ptr(),
+                self.pairs.len(),
+                self.block.as_ptr(),
+                self.block.len(),
+                range.from.as_ptr(),
+                range.from.len(),
+                range.upto.as_ptr(),
+                range.upto.len(),
+                range.node_limit,
+                list.as_mut_ptr(),
+                list.len(),
+                answer.as_mut_ptr(),
+                answer.len(),
+            )
+        }
+    }
+}
+
+pub fn case(rng: &mut Rng, tally: &mut Tally) {
+    let (lent, places) = drawn(rng);
+    let tree = paths(&lent.sheet, &lent.pairs, &lent.block);
+    tally.answer(&tree);
+    let tree = tree.unwrap_or_default();
+    if tree.len() > MOST_TRIALS {
+        return;
+    }
+    let (from, upto) = (path(rng, &tree), path(rng, &tree));
+    let limit = node_limit(rng, tree.len() as u32);
+    let room = room(rng, 3 * places);
+    part(&lent, Range { from: &from, upto: &upto, node_limit: limit }, room, rng, tally);
+    if rng.chance(10) {
+        wrong_size(&lent, rng, tally);
+    }
+    if !tree.is_empty() {
+        let cuts = cuts(rng, &tree);
+        whole(&lent, &cuts, rng, tally);
+    }
+}
+
+/// A path: a trial, the front of one, one that goes on behind it, or any bytes; none, or the last.
+fn path(rng: &mut Rng, tree: &[Vec<u8>]) -> Vec<u8> {
+    let trial = if tree.is_empty() { Vec::new() } else { rng.pick(tree) };
+    match rng.below(6) {
+        0 => Vec::new(),
+        1 => END.to_vec(),
+        2 => trial[..rng.below(trial.len() + 1)].to_vec(),
+        3 => [&trial[..], &[rng.below(18) as u8, 0]].concat(),
+        4 => (0..rng.below(15)).map(|_| rng.below(18) as u8).collect(),
+        _ => trial,
+    }
+}
+
+/// Some cuts in order, the last path behind them.
+fn cuts(rng: &mut Rng, tree: &[Vec<u8>]) -> Vec<Vec<u8>> {
+    let mut cuts: Vec<Vec<u8>> = (0..rng.below(5)).map(|_| path(rng, tree)).collect();
+    cuts.sort();
+    cuts.push(END.to_vec());
+    cuts
+}
+
+/// Compares one part with the oracle: the status, and every byte lent. The head, if there is one.
+fn part(lent: &Lent, range: Range, room: usize, rng: &mut Rng, tally: &mut Tally) -> Option<Vec<u8>> {
+    let mut list = Guarded::new(room, rng.word() as u8);
+    let mut answer = Guarded::new(HEAD_BYTES, rng.word() as u8);
+    let (mut expected_list, mut expected_answer) = (list.clone(), answer.clone());
+    let expected = run_part(&lent.sheet, &lent.pairs, &lent.block, range, expected_list.lent());
+    if let Ok(head) = expected {
+        expected_answer.lent().copy_from_slice(&head);
+    }
+    let (after, ends) = (lent.clone(), [range.from.to_vec(), range.upto.to_vec()]);
+    let lent_range = Range { from: &ends[0], upto: &ends[1], node_limit: range.node_limit };
+    let status = after.run_part(lent_range, list.lent(), answer.lent());
+    tally.same("status of a part", status, code(&expected), &lent.bytes());
+    tally.same("head", &answer.bytes, &expected_answer.bytes, &lent.bytes());
+    tally.same("list after a part", &list.bytes, &expected_list.bytes, &lent.bytes());
+    tally.same("sheet, pairs and block after", &after, lent, &lent.bytes());
+    tally.same("paths after", &ends[..], &[range.from.to_vec(), range.upto.to_vec()][..], &lent.bytes());
+    expected.is_ok().then(|| answer.lent().to_vec())
+}
+
+/// Cuts a tree, runs each range in one piece or in spent parts, and joins the heads: shuffled and repeated they are the run; with one missing and damaged
+/// as the oracle says.
+fn whole(lent: &Lent, cuts: &[Vec<u8>], rng: &mut Rng, tally: &mut Tally) {
+    let mut heads = Vec::new();
+    let mut from: &[u8] = &[];
+    for upto in cuts {
+        let some = 1 + rng.below(20) as u32;
+        let limit = rng.pick(&[u32::MAX, some]);
+        heads.extend(pieces(lent, from, upto, limit, rng, tally));
+        from = upto;
+    }
+    let expected = run_lent(&lent.sheet, &lent.pairs, &lent.block, u32::MAX, &mut vec![0; ROOM]);
+    if let Ok(run) = expected {
+        let sums = run.outcome.sums(&run.counts);
+        let all = joined(&heads.concat(), rng, tally);
+        tally.same("sums of a run", all, Some(sums), &lent.bytes());
+    }
+    for _ in 0..rng.below(3) {
+        heads.push(rng.pick(&heads));
+    }
+    for i in (1..heads.len()).rev() {
+        heads.swap(i, rng.below(i + 1));
+    }
+    joined(&heads.concat(), rng, tally);
+    let mut fewer = heads.clone();
+    fewer.remove(rng.below(fewer.len()));
+    joined(&fewer.concat(), rng, tally);
+    joined(&damaged(&heads, rng), rng, tally);
+}
+
+/// The heads of a range that is run with a limit, gone on with from where each part stands until it is finished.
+fn pieces(
+    lent: &Lent,
+    from: &[u8],
+    upto: &[u8],
+    limit: u32,
+    rng: &mut Rng,
+    tally: &mut Tally,
+) -> Vec<Vec<u8>> {
+    let (mut heads, mut from) = (Vec::new(), from.to_vec());
+    while let Some(head) = part(lent, Range { from: &from, upto, node_limit: limit }, ROOM, rng, tally) {
+        let (spent, last) = (head[0] == 2, head[103..103 + usize::from(head[102])].to_vec());
+        heads.push(head);
+        if !spent {
+            break;
+        }
+        from = last;
+    }
+    heads
+}
+
+/// Compares a join with the oracle; the sums where the heads join.
+fn joined(heads: &[u8], rng: &mut Rng, tally: &mut Tally) -> Option<[u64; 14]> {
+    let mut answer = Guarded::new(JOIN_BYTES, rng.word() as u8);
+    let mut expected_answer = answer.clone();
+    let expected = join(heads);
+    tally.answer(&expected);
+    if let Ok(join) = &expected {
+        expected_answer.lent().copy_from_slice(&join.bytes());
+        tally.joins[usize::from(join.missing.is_some())] += 1;
+    }
+    let after = heads.to_vec();
+    let bytes = answer.lent();
+    let status = unsafe { planner_join(after.as_ptr(), after.len(), bytes.as_mut_ptr(), bytes.len()) };
+    tally.same("status of a join", status, code(&expected), heads);
+    tally.same("answer of a join", &answer.bytes, &expected_answer.bytes, heads);
+    tally.same("heads after", &after[..], heads, heads);
+    expected.ok().filter(|join| join.missing.is_none()).map(|join| join.sums)
+}
+
+/// Heads of which one is cut short, of another kind, sheet, pairs or block, full, backwards, or of another shape; or none.
+fn damaged(heads: &[Vec<u8>], rng: &mut Rng) -> Vec<u8> {
+    let mut heads = heads.to_vec();
+    let which = rng.below(heads.len());
+    let head = &mut heads[which];
+    match rng.below(10) {
+        0 => head.truncate(rng.below(HEAD_BYTES)),
+        1 => head[0] = rng.pick(&[0, 4, 255]),
+        2 => head[3] = 1,
+        3 => head[60 + rng.below(16)] ^= 1,
+        4 => head[0] = 3,
+        5 => head[rng.pick(&[76, 89, 102])] = 13,
+        6 => head[rng.pick(&[88, 101, 114])] ^= 1,
+        7 => head[76..102].rotate_left(13),
+        8 => head[76 + rng.below(39)] = rng.below(13) as u8,
+        _ => return Vec::new(),
+    }
+    heads.concat()
+}
+
+/// With an answer of another size nothing is written, whatever else is lent.
+fn wrong_size(lent: &Lent, rng: &mut Rng, tally: &mut Tally) {
+    let mut list = Guarded::new(100, rng.word() as u8);
+    let mut answer = Guarded::new(rng.pick(&[0, 1, 60, 114, 116, 151, 153]), rng.word() as u8);
+    let (list_before, answer_before) = (list.clone(), answer.clone());
+    let range = Range { from: &[], upto: &END, node_limit: 100 };
+    let status = lent.run_part(range, list.lent(), answer.lent());
+    tally.count(WRONG_SIZE);
+    tally.same("status of a part", status, 256 * WRONG_SIZE, &lent.bytes());
+    tally.same("list untouched", &list.bytes, &list_before.bytes, &lent.bytes());
+    tally.same("head untouched", &answer.bytes, &answer_before.bytes, &lent.bytes());
+    let (heads, bytes) = ([0; HEAD_BYTES], answer.lent());
+    let status = unsafe { planner_join(heads.as_ptr(), heads.len(), bytes.as_mut_ptr(), bytes.len()) };
+    tally.same("status of a join", status, 256 * WRONG_SIZE, &heads);
+    tally.same("answer untouched", &answer.bytes, &answer_before.bytes, &heads);
+}
+
+/// Every two cuts of the trees of the stored sheets A and the rotation, at trials and between them.
+pub fn examples(tally: &mut Tally) {
+    let folder = Path::new(env!("CARGO_MANIFEST_DIR")).join("../../examples");
+    for name in ["a.sheet", "cycle.sheet"] {
+        let sheet = fs::read(folder.join(name)).expect("a stored sheet");
+        for pairs in [&[][..], &[1, 0]] {
+            let lent = Lent { sheet: sheet.clone(), pairs: pairs.to_vec(), block: Vec::new() };
+            every_cut(&lent, name, tally);
+        }
+    }
+}
+
+fn every_cut(lent: &Lent, name: &str, tally: &mut Tally) {
+    let tree = paths(&lent.sheet, &lent.pairs, &lent.block).expect("an accepted sheet");
+    let mut rng = Rng::new(1);
+    for (i, first) in tree.iter().enumerate() {
+        for second in tree[i..].iter().step_by(1 + tree.len() / 40) {
+            tally.case = format!("part parts, {name}, pairs {:?}, cuts {first:?} {second:?}", lent.pairs);
+            whole(lent, &[first.clone(), second.clone(), END.to_vec()], &mut rng, tally);
+        }
+    }
+}
