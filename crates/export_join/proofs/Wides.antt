@@ -14,6 +14,8 @@ use Rattle.model.specs.Written.{Written}
 use Rattle.model.proofs.Written.{written-byte, written-then, written-none}
 use Rattle.wire.specs.Wire.{wrongLength}
 use Rattle.wire.proofs.Numbers.{whole}
+use Rattle.join.proofs.Orders.{tabulate-same}
+use Rattle.join.proofs.Turns.{startBytes, endBytes}
 use Rattle.join.specs.Join.{joinVerdict, kindAt, headsIn, reachPlace, plansOf, nodesOf, countOf}
 use Rattle.model.specs.Verdict.{Verdict, accepted, refused}
 use Rattle.join.specs.Calls.{answerFor, figureFor, CallJoin}
@@ -77,12 +79,6 @@ unfolding pathBytesAt
 bytes-all d e start i l o h w = subst (λ (k : ℕ). Written d start (tabulate k (λ j. at l (o + j))) e (start + k)) h w
 
 -- ---- the first and the last path
-abbrev pub startBytes : List ℕ
-startBytes = 0 ∷ 0 ∷ 0 ∷ 0 ∷ 0 ∷ 0 ∷ 0 ∷ 0 ∷ 0 ∷ 0 ∷ 0 ∷ 0 ∷ 0 ∷ []
-
-abbrev pub endBytes : List ℕ
-endBytes = 1 ∷ 255 ∷ 0 ∷ 0 ∷ 0 ∷ 0 ∷ 0 ∷ 0 ∷ 0 ∷ 0 ∷ 0 ∷ 0 ∷ 0 ∷ []
-
 pub none-at : pathBytesAt startBytes 0 ≡ replicate 13 0
 unfolding pathBytesAt tabulate at
 none-at = refl
@@ -132,11 +128,6 @@ pub two-put : {d e f : List ℕ} (x y z w : List ℕ) → length d ≡ 152 → x
 two-put {d} {e} {f} x y z w n p q u v = subst (λ (t : List ℕ). Written d 120 t f 146) (ap₂ (λ (a b : List ℕ). a ++ b) p q) (written-then (omega arith) u v)
 
 -- ---- the whole
-tabulate-same : (m : ℕ) (f g : ℕ → ℕ) → ((j : ℕ) → j < m → f j ≡ g j) → tabulate m f ≡ tabulate m g
-unfolding tabulate
-tabulate-same zero f g e = refl
-tabulate-same (suc m) f g e = ap₂ (λ (x : ℕ) (l : List ℕ). x ∷ l) (e 0 (omega arith)) (tabulate-same m (λ j. f (suc j)) (λ j. g (suc j)) (λ j h. e (suc j) (omega arith)))
-
 module _ (l answer : List ℕ) where
   pub wrong-size : (length answer ≡ 152 → ⊥) → CallJoinBytes l answer wrongLength answer
   unfolding joinCode joinAnswer

@@ -3,3 +3,4 @@ pub mod Questions
 pub mod Turns
 pub mod Sums
 pub mod Said
+pub mod Tied

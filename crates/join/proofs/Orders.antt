@@ -118,7 +118,7 @@ no-diff (suc n) f g (suc m) (suc k) h i e =
     front-same (f 0) (g 0) (tabulate m (λ j. f (suc j))) (tabulate k (λ j. g (suc j))) (e 0 (omega arith))
     ∙ no-diff n (λ j. f (suc j)) (λ j. g (suc j)) m k (omega arith) (omega arith) (λ j l. e (suc j) (omega arith)) ∙ ltb-suc m k
 
-tabulate-same : (m : ℕ) (f g : ℕ → ℕ) → ((j : ℕ) → j < m → f j ≡ g j) → tabulate m f ≡ tabulate m g
+pub tabulate-same : (m : ℕ) (f g : ℕ → ℕ) → ((j : ℕ) → j < m → f j ≡ g j) → tabulate m f ≡ tabulate m g
 unfolding tabulate
 tabulate-same zero f g e = refl
 tabulate-same (suc m) f g e = ap₂ (λ (x : ℕ) (l : List ℕ). x ∷ l) (e 0 (omega arith)) (tabulate-same m (λ j. f (suc j)) (λ j. g (suc j)) (λ j h. e (suc j) (omega arith)))

@@ -9,7 +9,8 @@ use Rattle.model.specs.Lists.{at, tabulate}
 use Rattle.model.specs.Written.{Written}
 use Rattle.model.specs.Bytes.{fourBytes}
 use Rattle.export_join.specs.Joined.{pathBytesAt}
-use Rattle.export_join.proofs.Wides.{none-at, startBytes, two-put}
+use Rattle.join.proofs.Turns.{startBytes}
+use Rattle.export_join.proofs.Wides.{none-at, two-put}
 use Rattle.export_join.proofs.pieces.put_none.Statement.{statement}
 use Rattle.export_join.proofs.pieces.put_none.Tie as tie
 
