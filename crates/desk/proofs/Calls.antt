@@ -8,7 +8,8 @@ use lib.ListN.{set, length-set}
 use Rattle.model.specs.Lists.{at, below}
 use Rattle.model.proofs.Lists.{at-set, at-set-other}
 use Rattle.desk.specs.Desk.{Hall, hallTurned, Seat, waits, seatTurned, Desk, seatAt, Found, none-found, seat, roundFrom, toServe, DeskCall, sit, turn, leave, DeskReply, turnDesk, deskAfter, deskEnd, deskReplies}
-use Rattle.desk.specs.Layout.{seatPlace, nextPlace, hallAt, seatOf, deskOf, withRun, turnBytes, callBytes, bytesAfter}
+use Rattle.desk.specs.Places.{NEXT}
+use Rattle.desk.specs.Layout.{seatPlace, hallAt, seatOf, deskOf, withRun, turnBytes, callBytes, bytesAfter}
 use Rattle.desk.specs.Claims.{DeskBytes, ByteCall, Each-call, bytesEnd, repliesOn, All-calls}
 use Rattle.desk.proofs.Desk.{first-in}
 use Rattle.desk.proofs.Bytes.{small-set}
@@ -20,11 +21,11 @@ use Rattle.desk.proofs.Turned.{run-whole, run-seat, run-others, run-byt
 
 -- ---- where to look
 module _ (b : List ℕ) (v : ℕ) (d : DeskBytes b) where
-  pub looked-seat : (j : ℕ) → j < 8 → seatOf (set b nextPlace v) j ≡ seatOf b j
-  looked-seat j l = seat-same b (set b nextPlace v) j (length-set b nextPlace v) l (d .0) (λ i m. at-set-other b nextPlace v (seatPlace j + i) (λ e. omega arith))
+  pub looked-seat : (j : ℕ) → j < 8 → seatOf (set b NEXT v) j ≡ seatOf b j
+  looked-seat j l = seat-same b (set b NEXT v) j (length-set b NEXT v) l (d .0) (λ i m. at-set-other b NEXT v (seatPlace j + i) (λ e. omega arith))
 
-  pub looked-next : at (set b nextPlace v) nextPlace ≡ v
-  looked-next = at-set b nextPlace v (let w = d .0 in omega arith)
+  pub looked-next : at (set b NEXT v) NEXT ≡ v
+  looked-next = at-set b NEXT v (let w = d .0 in omega arith)
 
 -- ---- a turn
 held : (b : List ℕ) (k : ℕ) → T (waits (seatOf b k)) → at b (seatPlace k) ≡ 0 → ⊥
@@ -36,7 +37,7 @@ module _ (b : List ℕ) (d : DeskBytes b) where
   turned-by (seat k) e = (
     desk-is (seats-set b c k (seatTurned (seatAt (deskOf b) k)) (looked-seat run v run-desk k l ∙ run-seat b k d l g fits n ∙ sym (ap seatTurned (seat-in b k l ∙ taken-at b k n)))
         (λ j m o. looked-seat run v run-desk j m ∙ run-others b k d l g fits j m o)) (looked-next run v run-desk),
-    (length-set run nextPlace v ∙ run-desk .0, small-set run nextPlace v (omega arith) (run-desk .1)),
+    (length-set run NEXT v ∙ run-desk .0, small-set run NEXT v (omega arith) (run-desk .1)),
   )
     where
       found : T (waits (seatAt (deskOf b) k)) × List·Memᴰ k (roundFrom (deskOf b .next))
@@ -64,7 +65,7 @@ module _ (b : List ℕ) (d : DeskBytes b) where
       v = (k + 1) % 8
 
       c : List ℕ
-      c = set run nextPlace v
+      c = set run NEXT v
 
   turn-call : (deskOf (callBytes b turn) ≡ deskAfter (deskOf b) turn) × DeskBytes (callBytes b turn)
   turn-call = turned-by (toServe (deskOf b)) refl

@@ -9,14 +9,15 @@ use Rattle.model.specs.Problem.{valuesAt, satisfies, isSolution, assignments, p
 use Rattle.model.specs.Sheet.{word, words, headerOf, scopeAt, rowsAt, afterAt, constraintsFrom, tableAt, problemOf, setsVerdict, constraintVerdict, constraintsVerdict, distinct, permutesPairs, symmetriesVerdict, headerVerdict, formVerdict, verdictOf}
 use Rattle.model.specs.Nogood.{obeysFrom, obeying, used, filtered}
 use Rattle.model.specs.Search.{entriesAt, nogoodsOf, rowWith, supported, pruned, narrowed, rounds, setsAt, isLive, nodesBelow, nodes, isPlan}
-use Rattle.model.specs.Run.{finished, spent, search, resultOf, written}
+use Rattle.model.specs.Run.{finished, spent, search, resultOf, written, countsBy}
 use Rattle.model.specs.Examples.{sheetA}
-use Rattle.parts.specs.Parts.{after, nodesAfter, nodesBetween, nodesOf, nodesLeft, lastOf, goOn}
+use Rattle.parts.specs.Parts.{after, nodesAfter, nodesBetween, nodesOf, lastOf, goOn, added}
 use Rattle.desk.specs.Desk.{over, hallTurned, firstOf, emptyDesk, Desk, sit, turn, leave, denied, seated, idle, served, left, deskEnd, deskReplies, due, behindLast, roundsDesk, turnsGiven, endedIn, goingOn, lookReply}
+use Rattle.desk.specs.Examples.{Stay}
 
 -- every definition that computes
 opened : ℕ
-unfolding all any keep flat tabulate upFrom below at total same earlier ascending rowsAscend has maskBelow least members anyEmpty valuesAt satisfies isSolution assignments pair isPair pairsOf within takes doubled pairsAt excluded forbidden respects word words headerOf scopeAt rowsAt afterAt constraintsFrom tableAt problemOf setsVerdict constraintVerdict constraintsVerdict distinct permutesPairs symmetriesVerdict headerVerdict formVerdict verdictOf obeysFrom obeying used filtered entriesAt nogoodsOf rowWith supported pruned narrowed rounds setsAt isLive nodesBelow nodes isPlan search resultOf written after nodesAfter nodesBetween nodesOf nodesLeft lastOf goOn hallTurned firstOf deskEnd deskReplies due behindLast
+unfolding all any keep flat tabulate upFrom below at total same earlier ascending rowsAscend has maskBelow least members anyEmpty valuesAt satisfies isSolution assignments pair isPair pairsOf within takes doubled pairsAt excluded forbidden respects word words headerOf scopeAt rowsAt afterAt constraintsFrom tableAt problemOf setsVerdict constraintVerdict constraintsVerdict distinct permutesPairs symmetriesVerdict headerVerdict formVerdict verdictOf obeysFrom obeying used filtered entriesAt nogoodsOf rowWith supported pruned narrowed rounds setsAt isLive nodesBelow nodes isPlan search resultOf written after nodesAfter nodesBetween nodesOf lastOf goOn added countsBy hallTurned firstOf deskEnd deskReplies due behindLast
 opened = 0
 
 -- two halls at the desk, the second with allowance 2, a third that may make no node; idle, leaving with short room, leaving, leaving again
@@ -33,3 +34,21 @@ two = deskEnd emptyDesk (sit sheetA 1000000 ∷ sit sheetA 2 ∷ [])
 pub rounds-case : (turnsGiven two 3 ≡ 2) × (roundsDesk two 3 .next ≡ 2) × (endedIn two 3 ≡ 3) × (goingOn two 3 ≡ 0) × (lookReply (roundsDesk two 3) 1 ≡ served 1 (over (spent 1 2)) 1 2)
 unfolding opened
 rounds-case = (refl, refl, refl, refl, refl)
+
+-- halls that stay seated (specs/Examples)
+pub stay : Stay
+unfolding opened
+stay = record {
+  replies = refl;
+  looks = refl;
+  counts = refl;
+  seat = refl;
+  ended = refl;
+  sat = refl;
+  stays = (tt, tt);
+  goes-on = refl;
+  counted = refl;
+  ends = refl;
+  all = refl;
+  waits = (tt, (tt, (tt, (tt, (tt, (tt, (tt, (tt, tt))))))));
+}

@@ -9,19 +9,20 @@ use lib.Dec.{T, leb, ltb, eqb, eqb→eq}
 use lib.ListN.{length, take, set, getD, replicate, length-set, List·getD-eq-default}
 use lib.Seq.{getD-set-same, getD-set-other, set-getD}
 use borrow.Author.Tests.{ltb-true, ltb-false, leb-false, eqb-true, eqb-false}
-use Rattle.model.specs.Lists.{both, all, ascending, rowsAscend, either, any, keep, flat, below, upFrom}
+use Rattle.model.specs.Lists.{both, all, ascending, rowsAscend, either, any, keep, flat, below, upFrom, tabulate}
 use Rattle.model.specs.Problem.{Problem, respects}
 use Rattle.model.specs.Search.{nodes, isPlan}
 use Rattle.model.specs.Verdict.{Verdict, accepted, refused, ask}
 use Rattle.model.specs.Sheet.{word, Header, headerOf, scopeAt, rowsAt, afterAt, permutesPairs, problemOf, setsVerdict, constraintVerdict, constraintsVerdict, symmetriesVerdict, headerVerdict, formVerdict, verdictOf}
-use Rattle.model.specs.Run.{Ending, finished, spent, full, plansIn, nodesIn, Result, search, resultOf, ended, answerFor, answerOf, written, listFor, listOf}
-use Rattle.parts.specs.Parts.{nodesAfter, lastOf, Progress, start, progressAt, goOn, resumed}
-use Rattle.desk.specs.Desk.{Standing, running, over, goesOn, Hall, newcomer, deskRoom, turnLimit, standingAfter, hallAfter, hallTurned, turned, Seat, free, taken, isFree, waits, seatTurned, Desk, emptyDesk, seatAt, Found, none-found, seat, firstOf, lowestFree, toServe, DeskCall, sit, turn, leave, DeskReply, denied, seated, idle, served, left, servedAs, sitReply, sitDesk, turnReply, turnDesk, fits, leaveFor, leaveReply, leaveSeat, deskReply, deskAfter, deskEnd, deskReplies}
+use Rattle.model.specs.Run.{Ending, finished, spent, full, plansIn, nodesIn, Result, search, resultOf, Answer, ended, answerFor, answerOf, written, listFor, listOf, Tally, settledBy, countsBy, tallyAt, tallyFor, tallyOf}
+use Rattle.parts.specs.Parts.{nodesAfter, lastOf, Progress, start, progressAt, goOn, added, countsAfter, resumed}
+use Rattle.desk.specs.Desk.{Standing, running, over, goesOn, Hall, newcomer, deskRoom, turnLimit, standingAfter, hallAfter, hallTurned, turned, Seat, free, taken, isFree, waits, seatTurned, Desk, emptyDesk, seatAt, Found, none-found, seat, firstOf, lowestFree, toServe, DeskCall, sit, turn, leave, DeskReply, denied, seated, idle, served, left, servedAs, sitReply, sitDesk, turnReply, turnDesk, fits, leaveFor, leaveReply, leaveSeat, deskReply, deskAfter, deskEnd, deskReplies, countsOf}
 use Rattle.desk.specs.Claims.{serves, turnsIn, timesServed, Throughout, Remains, Waits, Fair, alone, HoldsAs, Holds, As-alone, Same-as-run, Turn-of-64, Sixty-four-each, Turn-answers, Refused-same, Idle-exactly, Past-eighth, By-own-turns, Others-nothing, Leaves, Lowest-seat, Seats-taken, Keeps-seat}
 use Rattle.model.proofs.Lists.{T-of, of-T, of-not, any-cons, either-l, either-r, below-i, below-e}
 use Rattle.model.proofs.Room.{length-flat}
 use Rattle.model.proofs.Runs.{Ended, walk, rows-counted, rows-fit, rows-sized}
 use Rattle.parts.proofs.Resume.{stands, from-start, from-cut, in-parts, last-moves}
+use Rattle.parts.proofs.Anywhere.{no-fewer, counts-move}
 
 -- ---- the first that passes a test
 number : Found → ℕ
@@ -190,7 +191,7 @@ to-serve-waits d k e = first-in (λ n. waits (seatAt d n)) (map (λ i. (d .next 
 
 -- ---- 2: each run is the run alone
 begun : (p : Problem) → start ≡ progressAt p 0
-unfolding keep lastOf
+unfolding keep lastOf countsBy tabulate
 begun p = refl
 
 newcomer-holds : (b : List ℕ) (allowance : ℕ) → Holds (newcomer b allowance)
@@ -226,9 +227,21 @@ module _ (h : Hall) (H : HoldsAs h running) where
       go (inl e) = ap (λ (k : ℕ). goOn p limit room (progressAt p k)) e ∙ ap (goOn p limit room) (sym (begun p)) ∙ from-start p limit room
       go (inr r) = from-cut p limit room made (length (h .progress .rows)) made made-allowed (ap (λ (x : Result). x .ending) (r .2))
 
+  -- the nodes made by then, counted by variable
+  no-less : made ≤ nodesIn (alone h limit .ending)
+  no-less = subst (λ (r : Result). made ≤ nodesIn (r .ending)) turn-alone (no-fewer p limit room (h .progress))
+
+  counts-alone : hallAfter h (alone h limit) .progress .counts ≡ countsBy settledBy (take (nodesIn (alone h limit .ending)) (nodes p))
+  counts-alone =
+      let n = nodesIn (alone h limit .ending) in
+      let l = no-less in
+      ap (λ (x : Progress). added (x .counts) (countsBy settledBy (take (n - made) (nodesAfter p (x .last))))) (H .0) ∙ counts-move p made (n - made)
+      ∙ ap (λ (k : ℕ). countsBy settledBy (take k (nodes p))) (let i : made + (n - made) ≡ n = omega arith in i)
+
   -- ended, or spent with the allowance made
   ended-holds : (x : Ending) → alone h limit .ending ≡ x → (alone h (h .allowance) ≡ record { ending = x; rows = alone h limit .rows }) → HoldsAs (hallAfter h (alone h limit)) (over x)
-  ended-holds x e q = (q, ap nodesIn e, sym (rows-counted p limit room) ∙ ap plansIn e)
+  unfolding tallyAt
+  ended-holds x e q = (q, ap nodesIn e, sym (rows-counted p limit room) ∙ ap plansIn e, counts-alone ∙ ap (λ (y : Ending). countsBy settledBy (take (nodesIn y) (nodes p))) e)
 
   spent-holds : (plans total : ℕ) → alone h limit .ending ≡ spent plans total → total < h .allowance → HoldsAs (hallAfter h (alone h limit)) running
   spent-holds plans total e l =
@@ -244,7 +257,8 @@ module _ (h : Hall) (H : HoldsAs h running) where
       let c : r .ending ≡ spent (length (r .rows)) n = e ∙ ap₂ spent (sym (ap plansIn e) ∙ rows-counted p limit room) (sym (ap nodesIn e)) in
       let d = s .due in
       let t = s .there in (
-        ap₂ (λ (x : List (List ℕ)) (y : List ℕ). let w : Progress = record { made = n; rows = x; last = y } in w) rows last,
+        ap₂ (λ (x : List (List ℕ)) (y : List ℕ). let w : Progress = record { made = n; counts = countsAfter p (h .progress) r; rows = x; last = y } in w) rows last
+            ∙ ap (λ (x : List ℕ). let w : Progress = record { made = n; counts = x; rows = progressAt p n .rows; last = progressAt p n .last } in w) counts-alone,
         inr (
           omega arith,
           omega arith,
@@ -335,11 +349,12 @@ seated-accepted xs k h e = subst SeatHolds e (desk-holds emptyDesk xs empty-hold
 
 -- ---- what a caller gets of an ended run
 pub same-as-run : Same-as-run
-unfolding answerOf answerFor listOf listFor
-same-as-run xs k h e out q s n = (
-  ap (λ (v : Verdict). answerFor v (h .sheet) (h .allowance) (length out)) c ∙ ap (λ (m : ℕ). ended (resultOf p (h .allowance) m .ending)) n ∙ ap (λ (r : Result). ended (r .ending)) (a .0),
+unfolding answerOf answerFor listOf listFor tallyOf tallyAt
+same-as-run xs k h e out tally q s n = (
+  same-answer,
   ap (λ (x : Seat). leaveReply x out) q ∙ go (fits h out) refl
       ∙ ap₂ left (sized ∙ ap (λ (m : ℕ). m * p .variables) (a .2)) (sym (ap (λ (v : Verdict). listFor v (h .sheet) (h .allowance) out) c ∙ ap (λ (m : ℕ). written (resultOf p (h .allowance) m .rows) out) n ∙ ap (λ (r : Result). written (r .rows) out) (a .0))),
+  ap (λ (x : Answer). tallyFor x p tally) same-answer ∙ ap₂ (λ (m : ℕ) (l : List ℕ). let t : Tally = record { nodes = m; counts = l } in t) (sym (a .1)) (sym (a .3) ∙ sym (ap countsOf q)),
 )
   where
     p : Problem
@@ -350,6 +365,9 @@ same-as-run xs k h e out q s n = (
 
     a : HoldsAs h (over e)
     a = subst (HoldsAs h) s (as-alone xs k h q)
+
+    same-answer : answerFor (verdictOf (h .sheet)) (h .sheet) (h .allowance) (length out) ≡ ended e
+    same-answer = ap (λ (v : Verdict). answerFor v (h .sheet) (h .allowance) (length out)) c ∙ ap (λ (m : ℕ). ended (resultOf p (h .allowance) m .ending)) n ∙ ap (λ (r : Result). ended (r .ending)) (a .0)
 
     rows : alone h (h .allowance) .rows ≡ h .progress .rows
     rows = ap (λ (r : Result). r .rows) (a .0)

@@ -4,7 +4,9 @@ pub mod Rounds
 pub mod Cases
 pub mod Sheets
 pub mod Bytes
+pub mod Counts
 pub mod Seats
+pub mod Held
 pub mod Meaning
 pub mod Refines
 pub mod Turning
@@ -12,3 +14,4 @@ pub mod Turned
 pub mod Calls
 pub mod RoundCalls
 pub mod Stretch
+pub mod Tied

@@ -19,18 +19,22 @@ use Rattle.model.proofs.Written.{length-placed, placed-before, placed-in, place
 use Rattle.desk.specs.Desk.{Standing, Hall, newcomer, Seat, free, taken, seatAt}
 use Rattle.sheet.specs.Form.{compilable}
 use Rattle.sheet.proofs.Compilable.{accepted-compilable}
-use Rattle.desk.specs.Layout.{size, seatPlace, nextPlace, long, standingBy, standingAt, sheetLength, nodesAt, plansAt, widthAt, rowsAt, lastAt, sheetAt, hallAt, seatOf, deskOf, headBytes, seatBytes}
+use Rattle.desk.specs.Places.{LENGTH, LIMIT, STANDING, NODES, PLANS, DEPTH, LAST, COUNTS, SHEET, SHEET-BYTES, LIST, LIST-BYTES, SEAT, NEXT, size}
+use Rattle.desk.specs.Layout.{seatPlace, long, standingBy, standingAt, sheetLength, nodesAt, countsAt, plansAt, widthAt, rowsAt, lastAt, sheetAt, hallAt, seatOf, deskOf, headBytes, seatBytes}
 use Rattle.desk.proofs.Sheets.{answered-length}
 use Rattle.desk.proofs.Bytes.{part-is, word-of, long-of}
+use Rattle.desk.proofs.Counts.{counts-length, counts-is, counts-zero, counts-as}
 use Rattle.desk.proofs.Seats.{seat-in, row-length, taken-at}
 
 -- ---- a hall by its parts
-abbrev pub hallOf : List ℕ → ℕ → ℕ → List (List ℕ) → List ℕ → Standing → Hall
-hallOf s a m r l t = record { sheet = s; allowance = a; progress = record { made = m; rows = r; last = l }; standing = t }
+abbrev pub hallOf : List ℕ → ℕ → ℕ → List ℕ → List (List ℕ) → List ℕ → Standing → Hall
+hallOf s a m c r l t = record { sheet = s; allowance = a; progress = record { made = m; counts = c; rows = r; last = l }; standing = t }
 
-pub hall-is : {s s′ : List ℕ} {a a′ m m′ : ℕ} {r r′ : List (List ℕ)} {l l′ : List ℕ} {t t′ : Standing} → s ≡ s′ → a ≡ a′ → m ≡ m′ → r ≡ r′ → l ≡ l′ → t ≡ t′ → hallOf s a m r l t ≡ hallOf s′ a′ m′ r′ l′ t′
-hall-is {s} {s′} {a} {a′} {m} {m′} {r} {r′} {l} {l′} {t} {t′} e f g h i j =
-    ap₂ (λ (x : List ℕ) (y : ℕ). hallOf x y m r l t) e f ∙ ap₂ (λ (x : ℕ) (y : List (List ℕ)). hallOf s′ a′ x y l t) g h ∙ ap₂ (λ (x : List ℕ) (y : Standing). hallOf s′ a′ m′ r′ x y) i j
+pub hall-is : {s s′ : List ℕ} {a a′ m m′ : ℕ} {c c′ : List ℕ} {r r′ : List (List ℕ)} {l l′ : List ℕ} {t t′ : Standing} →
+    s ≡ s′ → a ≡ a′ → m ≡ m′ → c ≡ c′ → r ≡ r′ → l ≡ l′ → t ≡ t′ → hallOf s a m c r l t ≡ hallOf s′ a′ m′ c′ r′ l′ t′
+hall-is {s} {s′} {a} {a′} {m} {m′} {c} {c′} {r} {r′} {l} {l′} {t} {t′} e f g d h i j =
+    ap₂ (λ (x : List ℕ) (y : ℕ). hallOf x y m c r l t) e f ∙ ap₂ (λ (x : ℕ) (y : List ℕ). hallOf s′ a′ x y r l t) g d ∙ ap₂ (λ (x : List (List ℕ)) (y : List ℕ). hallOf s′ a′ m′ c′ x y t) h i
+    ∙ ap (hallOf s′ a′ m′ c′ r′ l′) j
 
 -- ---- parts of a seat with the same bytes
 abbrev pub Same : List ℕ → List ℕ → ℕ → ℕ → Type 0
@@ -39,7 +43,7 @@ Same b c p n = (i : ℕ) → i < n → at c (p + i) ≡ at b (p + i)
 pub at-same : (b c : List ℕ) (p n : ℕ) → Same b c p n → (o : ℕ) → p ≤ o → o < p + n → at c o ≡ at b o
 at-same b c p n same o g h = let z : p + (o - p) ≡ o = omega arith in ap (at c) (sym z) ∙ same (o - p) (omega arith) ∙ ap (at b) z
 
-module _ (b c : List ℕ) (p : ℕ) (e : length c ≡ length b) (room : p + 104835 ≤ length b) where
+module _ (b c : List ℕ) (p : ℕ) (e : length c ≡ length b) (room : p + SEAT ≤ length b) where
   pub word-same : (o : ℕ) → at c o ≡ at b o → at c (o + 1) ≡ at b (o + 1) → «word» c o ≡ «word» b o
   unfolding «word»
   word-same o f g = ap₂ (λ (x y : ℕ). x + 256 * y) f g
@@ -51,38 +55,40 @@ module _ (b c : List ℕ) (p : ℕ) (e : length c ≡ length b) (room : p + 1048
       (word-same (o + 2) (f (o + 2) (omega arith) (omega arith)) (f (o + 2 + 1) (omega arith) (omega arith)))
 
   -- the sheet and the allowance need the flag, the first seven bytes and the sheet
-  pub sheet-same : ((i : ℕ) → p + 1 ≤ i → i < p + 3 → at c i ≡ at b i) → ((i : ℕ) → p + 27 ≤ i → i < p + 55683 → at c i ≡ at b i) → sheetAt c p ≡ sheetAt b p
+  pub sheet-same : ((i : ℕ) → p + LENGTH ≤ i → i < p + LIMIT → at c i ≡ at b i) → ((i : ℕ) → p + SHEET ≤ i → i < p + LIST → at c i ≡ at b i) → sheetAt c p ≡ sheetAt b p
   unfolding sheetAt
   sheet-same f g =
-      let w = word-same (p + 1) (f (p + 1) (omega arith) (omega arith)) (f (p + 1 + 1) (omega arith) (omega arith)) in
+      let w = word-same (p + LENGTH) (f (p + LENGTH) (omega arith) (omega arith)) (f (p + LENGTH + 1) (omega arith) (omega arith)) in
       let n = sheetLength b p in
-      let l : n ≤ 55656 = omega arith in
+      let l : n ≤ SHEET-BYTES = omega arith in
       ap (λ (s : List ℕ). choose (compilable s) s [])
-      (ap (λ (k : ℕ). take (min 55656 k) (drop (p + 27) c)) w ∙ part-is c b (p + 27) (p + 27) n (omega arith) (omega arith) (λ i h. g (p + 27 + i) (omega arith) (omega arith)))
+      (ap (λ (k : ℕ). take (min SHEET-BYTES k) (drop (p + SHEET) c)) w ∙ part-is c b (p + SHEET) (p + SHEET) n (omega arith) (omega arith) (λ i h. g (p + SHEET + i) (omega arith) (omega arith)))
 
-  pub width-same : ((i : ℕ) → p + 27 ≤ i → i < p + 55683 → at c i ≡ at b i) → widthAt c p ≡ widthAt b p
-  width-same g = ap (min 12) (word-same (p + 27) (g (p + 27) (omega arith) (omega arith)) (g (p + 27 + 1) (omega arith) (omega arith)))
+  pub width-same : ((i : ℕ) → p + SHEET ≤ i → i < p + LIST → at c i ≡ at b i) → widthAt c p ≡ widthAt b p
+  width-same g = ap (min 12) (word-same (p + SHEET) (g (p + SHEET) (omega arith) (omega arith)) (g (p + SHEET + 1) (omega arith) (omega arith)))
 
-  pub hall-same : Same b c p 104835 → hallAt c p ≡ hallAt b p
+  pub hall-same : Same b c p SEAT → hallAt c p ≡ hallAt b p
   unfolding hallAt rowsAt lastAt
   hall-same same =
-      let at-o : (o : ℕ) → p ≤ o → o < p + 104835 → at c o ≡ at b o = at-same b c p 104835 same in
-      let a = long-same (p + 3) (λ i g h. at-o i (omega arith) (omega arith)) in
-      let m : nodesAt c p ≡ nodesAt b p = ap₂ min a (long-same (p + 8) (λ i g h. at-o i (omega arith) (omega arith))) in
-      let k : plansAt c p ≡ plansAt b p = ap (min 4096) (word-same (p + 12) (at-o (p + 12) (omega arith) (omega arith)) (at-o (p + 12 + 1) (omega arith) (omega arith))) in
+      let at-o : (o : ℕ) → p ≤ o → o < p + SEAT → at c o ≡ at b o = at-same b c p SEAT same in
+      let a = long-same (p + LIMIT) (λ i g h. at-o i (omega arith) (omega arith)) in
+      let m : nodesAt c p ≡ nodesAt b p = ap₂ min a (long-same (p + NODES) (λ i g h. at-o i (omega arith) (omega arith))) in
+      let k : plansAt c p ≡ plansAt b p = ap (min 4096) (word-same (p + PLANS) (at-o (p + PLANS) (omega arith) (omega arith)) (at-o (p + PLANS + 1) (omega arith) (omega arith))) in
       let w = width-same (λ i g h. at-o i (omega arith) (omega arith)) in
-      let list = part-is c b (p + 55683) (p + 55683) 49152 (omega arith) (omega arith) (λ i h. at-o (p + 55683 + i) (omega arith) (omega arith)) in
-      let n = min 12 (at b (p + 14)) in
+      let list = part-is c b (p + LIST) (p + LIST) LIST-BYTES (omega arith) (omega arith) (λ i h. at-o (p + LIST + i) (omega arith) (omega arith)) in
+      let counts : countsAt c p ≡ countsAt b p = counts-as c p (countsAt b p) (counts-length b p) (λ x z.
+          ap₂ min m (long-same (p + COUNTS + 4 * x) (λ i g h. at-o i (omega arith) (omega arith))) ∙ sym (counts-is b p x z)) in
+      let n = min 12 (at b (p + DEPTH)) in
       let l : n ≤ 12 = omega arith in
-      hall-is (sheet-same (λ i g h. at-o i (omega arith) (omega arith)) (λ i g h. at-o i (omega arith) (omega arith))) a m
-      (ap₂ (λ (x y : ℕ). listedPlans x y (take 49152 (drop (p + 55683) c))) w k ∙ ap (listedPlans (widthAt b p) (plansAt b p)) list)
-      (ap (λ (x : ℕ). take (min 12 x) (drop (p + 15) c)) (at-o (p + 14) (omega arith) (omega arith)) ∙ part-is c b (p + 15) (p + 15) n (omega arith) (omega arith) (λ i h. at-o (p + 15 + i) (omega arith) (omega arith)))
-      (ap (λ (x : ℕ). standingBy (min 3 x) (plansAt c p) (nodesAt c p)) (at-o (p + 7) (omega arith) (omega arith)) ∙ ap₂ (standingBy (standingAt b p)) k m)
+      hall-is (sheet-same (λ i g h. at-o i (omega arith) (omega arith)) (λ i g h. at-o i (omega arith) (omega arith))) a m counts
+      (ap₂ (λ (x y : ℕ). listedPlans x y (take LIST-BYTES (drop (p + LIST) c))) w k ∙ ap (listedPlans (widthAt b p) (plansAt b p)) list)
+      (ap (λ (x : ℕ). take (min 12 x) (drop (p + LAST) c)) (at-o (p + DEPTH) (omega arith) (omega arith)) ∙ part-is c b (p + LAST) (p + LAST) n (omega arith) (omega arith) (λ i h. at-o (p + LAST + i) (omega arith) (omega arith)))
+      (ap (λ (x : ℕ). standingBy (min 3 x) (plansAt c p) (nodesAt c p)) (at-o (p + STANDING) (omega arith) (omega arith)) ∙ ap₂ (standingBy (standingAt b p)) k m)
 
-pub seat-same : (b c : List ℕ) (k : ℕ) → length c ≡ length b → k < 8 → length b ≡ size → Same b c (seatPlace k) 104835 → seatOf c k ≡ seatOf b k
+pub seat-same : (b c : List ℕ) (k : ℕ) → length c ≡ length b → k < 8 → length b ≡ size → Same b c (seatPlace k) SEAT → seatOf c k ≡ seatOf b k
 unfolding seatOf
 seat-same b c k e h w same =
-    ap₂ (λ (x : ℕ) (y : Hall). choose (eqb x 0) free (taken y)) (at-same b c (seatPlace k) 104835 same (seatPlace k) (omega arith) (omega arith))
+    ap₂ (λ (x : ℕ) (y : Hall). choose (eqb x 0) free (taken y)) (at-same b c (seatPlace k) SEAT same (seatPlace k) (omega arith) (omega arith))
     (hall-same b c (seatPlace k) e (omega arith) same)
 
 -- ---- one seat changed
@@ -109,7 +115,7 @@ seats-set b c k s own others = ext-getD free (deskOf c .seats) (set (deskOf b .s
             others j l n ∙ sym (getD-set-other (deskOf b .seats) k j s free n ∙ seat-in b j l)
 
 -- bytes put into a seat leave the others
-pub others-placed : (b : List ℕ) (k o : ℕ) (t : List ℕ) → length b ≡ size → k < 8 → o + length t ≤ 104835 → (j : ℕ) → j < 8 → (j ≡ k → ⊥) → Same b (placed b (seatPlace k + o) t) (seatPlace j) 104835
+pub others-placed : (b : List ℕ) (k o : ℕ) (t : List ℕ) → length b ≡ size → k < 8 → o + length t ≤ SEAT → (j : ℕ) → j < 8 → (j ≡ k → ⊥) → Same b (placed b (seatPlace k + o) t) (seatPlace j) SEAT
 others-placed b k o t w h f j l n i m = go (ltb j k) refl
   where
     go : (x : Bool) → ltb j k ≡ x → at (placed b (seatPlace k + o) t) (seatPlace j + i) ≡ at b (seatPlace j + i)
@@ -127,11 +133,11 @@ module _ (b sheet : List ℕ) (allowance k : ℕ) (whole : length b ≡ size) (h
   abbrev c : List ℕ
   c = placed b p t
 
-  long-t : length t ≡ 27 + length sheet
+  long-t : length t ≡ SHEET + length sheet
   unfolding seatBytes headBytes fourBytes
   long-t = omega arith
 
-  short : length sheet ≤ 55656
+  short : length sheet ≤ SHEET-BYTES
   short = answered-length sheet ok
 
   fits-t : p + length t ≤ length b
@@ -140,7 +146,7 @@ module _ (b sheet : List ℕ) (allowance k : ℕ) (whole : length b ≡ size) (h
   pub sat-length : length c ≡ length b
   sat-length = length-placed b p t fits-t
 
-  head-byte : (i : ℕ) → i < 27 → at c (p + i) ≡ at (headBytes (length sheet) allowance) i
+  head-byte : (i : ℕ) → i < SHEET → at c (p + i) ≡ at (headBytes (length sheet) allowance) i
   unfolding seatBytes headBytes fourBytes
   head-byte i l = let e = long-t in placed-in b p t fits-t i (omega arith) ∙ at-append (headBytes (length sheet) allowance) sheet i (omega arith)
 
@@ -148,31 +154,31 @@ module _ (b sheet : List ℕ) (allowance k : ℕ) (whole : length b ≡ size) (h
   unfolding headBytes fourBytes at
   head-0 = ap (at c) (let z : p ≡ p + 0 = omega arith in z) ∙ head-byte 0 (omega arith)
 
-  length-read : «word» c (p + 1) ≡ length sheet
+  length-read : «word» c (p + LENGTH) ≡ length sheet
   unfolding headBytes fourBytes at
-  length-read = word-of c (p + 1) (length sheet) (head-byte 1 (omega arith)) (ap (at c) (let z : p + 1 + 1 ≡ p + 2 = omega arith in z) ∙ head-byte 2 (omega arith))
+  length-read = word-of c (p + LENGTH) (length sheet) (head-byte 1 (omega arith)) (ap (at c) (let z : p + LENGTH + 1 ≡ p + 2 = omega arith in z) ∙ head-byte 2 (omega arith))
 
-  allowance-read : long c (p + 3) ≡ allowance
+  allowance-read : long c (p + LIMIT) ≡ allowance
   unfolding headBytes fourBytes at
   allowance-read =
-      long-of c (p + 3) allowance (head-byte 3 (omega arith)) (ap (at c) (let z : p + 3 + 1 ≡ p + 4 = omega arith in z) ∙ head-byte 4 (omega arith))
-      (ap (at c) (let z : p + 3 + 2 ≡ p + 5 = omega arith in z) ∙ head-byte 5 (omega arith)) (ap (at c) (let z : p + 3 + 2 + 1 ≡ p + 6 = omega arith in z) ∙ head-byte 6 (omega arith))
+      long-of c (p + LIMIT) allowance (head-byte 3 (omega arith)) (ap (at c) (let z : p + LIMIT + 1 ≡ p + 4 = omega arith in z) ∙ head-byte 4 (omega arith))
+      (ap (at c) (let z : p + LIMIT + 2 ≡ p + 5 = omega arith in z) ∙ head-byte 5 (omega arith)) (ap (at c) (let z : p + LIMIT + 2 + 1 ≡ p + 6 = omega arith in z) ∙ head-byte 6 (omega arith))
 
-  sheet-part : take (sheetLength c p) (drop (p + 27) c) ≡ sheet
+  sheet-part : take (sheetLength c p) (drop (p + SHEET) c) ≡ sheet
   unfolding seatBytes headBytes fourBytes
   sheet-part =
       let n = length sheet in
       let s = short in
       let e = long-t in
       let l = sat-length in
-      ap (λ (k : ℕ). take (min 55656 k) (drop (p + 27) c)) length-read ∙ ap (λ (k : ℕ). take k (drop (p + 27) c)) (let z : min 55656 n ≡ n = omega arith in z)
-      ∙ part-is c sheet (p + 27) 0 n (omega arith) (omega arith) (λ i g. each i g) ∙ take-length sheet
+      ap (λ (k : ℕ). take (min SHEET-BYTES k) (drop (p + SHEET) c)) length-read ∙ ap (λ (k : ℕ). take k (drop (p + SHEET) c)) (let z : min SHEET-BYTES n ≡ n = omega arith in z)
+      ∙ part-is c sheet (p + SHEET) 0 n (omega arith) (omega arith) (λ i g. each i g) ∙ take-length sheet
     where
-      each : (i : ℕ) → i < length sheet → at c (p + 27 + i) ≡ at sheet (0 + i)
+      each : (i : ℕ) → i < length sheet → at c (p + SHEET + i) ≡ at sheet (0 + i)
       each i g =
           let e = long-t in
-          ap (at c) (let z : p + 27 + i ≡ p + (27 + i) = omega arith in z) ∙ placed-in b p t fits-t (27 + i) (omega arith) ∙ at-skip (headBytes (length sheet) allowance) sheet 27 (27 + i) refl (omega arith)
-          ∙ ap (at sheet) (let z : 27 + i - 27 ≡ 0 + i = omega arith in z)
+          ap (at c) (let z : p + SHEET + i ≡ p + (SHEET + i) = omega arith in z) ∙ placed-in b p t fits-t (SHEET + i) (omega arith) ∙ at-skip (headBytes (length sheet) allowance) sheet SHEET (SHEET + i) refl (omega arith)
+          ∙ ap (at sheet) (let z : SHEET + i - SHEET ≡ 0 + i = omega arith in z)
 
   sheet-read : sheetAt c p ≡ sheet
   unfolding sheetAt
@@ -184,12 +190,12 @@ module _ (b sheet : List ℕ) (allowance k : ℕ) (whole : length b ≡ size) (h
   unfolding hallAt rowsAt lastAt listedPlans headBytes fourBytes at
   sat-hall =
       let zero : (o i : ℕ) → p + i ≡ o → at c (p + i) ≡ 0 → at c o ≡ 0 = λ o i z e. ap (at c) (sym z) ∙ e in
-      let made = long-of c (p + 8) 0 (head-byte 8 (omega arith)) (zero (p + 8 + 1) 9 (omega arith) (head-byte 9 (omega arith))) (zero (p + 8 + 2) 10 (omega arith) (head-byte 10 (omega arith))) (zero (p + 8 + 2 + 1) 11 (omega arith) (head-byte 11 (omega arith))) in
-      let plans = word-of c (p + 12) 0 (head-byte 12 (omega arith)) (zero (p + 12 + 1) 13 (omega arith) (head-byte 13 (omega arith))) in
+      let made = long-of c (p + NODES) 0 (head-byte 8 (omega arith)) (zero (p + NODES + 1) 9 (omega arith) (head-byte 9 (omega arith))) (zero (p + NODES + 2) 10 (omega arith) (head-byte 10 (omega arith))) (zero (p + NODES + 2 + 1) 11 (omega arith) (head-byte 11 (omega arith))) in
+      let plans = word-of c (p + PLANS) 0 (head-byte 12 (omega arith)) (zero (p + PLANS + 1) 13 (omega arith) (head-byte 13 (omega arith))) in
       let k : plansAt c p ≡ 0 = ap (min 4096) plans in
-      let m : nodesAt c p ≡ 0 = ap (min (long c (p + 3))) made ∙ (let z : min (long c (p + 3)) 0 ≡ 0 = omega arith in z) in
-      hall-is sheet-read allowance-read m (ap (λ (x : ℕ). listedPlans (widthAt c p) x (take 49152 (drop (p + 55683) c))) k)
-      (ap (λ (x : ℕ). take (min 12 x) (drop (p + 15) c)) (head-byte 14 (omega arith))) (ap (λ (x : ℕ). standingBy (min 3 x) (plansAt c p) (nodesAt c p)) (head-byte 7 (omega arith)))
+      let m : nodesAt c p ≡ 0 = ap (min (long c (p + LIMIT))) made ∙ (let z : min (long c (p + LIMIT)) 0 ≡ 0 = omega arith in z) in
+      hall-is sheet-read allowance-read m (counts-zero c p m) (ap (λ (x : ℕ). listedPlans (widthAt c p) x (take LIST-BYTES (drop (p + LIST) c))) k)
+      (ap (λ (x : ℕ). take (min 12 x) (drop (p + LAST) c)) (head-byte 14 (omega arith))) (ap (λ (x : ℕ). standingBy (min 3 x) (plansAt c p) (nodesAt c p)) (head-byte 7 (omega arith)))
 
   pub sat-seat : seatOf c k ≡ taken (newcomer sheet allowance)
   sat-seat = taken-at c k (λ z. let e = head-0 in omega arith) ∙ ap taken sat-hall
@@ -199,7 +205,7 @@ module _ (b sheet : List ℕ) (allowance k : ℕ) (whole : length b ≡ size) (h
       let e = long-t in
       let s = short in
       let z : p + 0 ≡ p = omega arith in
-      seat-same b c j sat-length l whole (subst (λ (o : ℕ). Same b (placed b o t) (seatPlace j) 104835) z (others-placed b k 0 t whole h (omega arith) j l n))
+      seat-same b c j sat-length l whole (subst (λ (o : ℕ). Same b (placed b o t) (seatPlace j) SEAT) z (others-placed b k 0 t whole h (omega arith) j l n))
 
-  pub sat-next : at c nextPlace ≡ at b nextPlace
-  sat-next = let e = long-t in let s = short in placed-after b p t fits-t nextPlace (omega arith)
+  pub sat-next : at c NEXT ≡ at b NEXT
+  sat-next = let e = long-t in let s = short in placed-after b p t fits-t NEXT (omega arith)

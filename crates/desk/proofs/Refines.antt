@@ -15,7 +15,8 @@ use Rattle.model.specs.Bytes.{twoBytes, fourBytes}
 use Rattle.model.specs.Written.{placed}
 use Rattle.model.proofs.Lists.{below-e, at-set, at-set-other}
 use Rattle.desk.specs.Desk.{newcomer, Hall, Seat, free, taken, isFree, Desk, seatAt, Found, none-found, seat, lowestFree, sit, leave, sitDesk, fits, leaveSeat, deskAfter}
-use Rattle.desk.specs.Layout.{seatPlace, nextPlace, seatOf, deskOf, headBytes, seatBytes, sitBytes, leaveBytes, callBytes}
+use Rattle.desk.specs.Places.{NEXT}
+use Rattle.desk.specs.Layout.{seatPlace, seatOf, deskOf, headBytes, seatBytes, sitBytes, leaveBytes, callBytes}
 use Rattle.desk.specs.Claims.{DeskBytes, Zeros-empty}
 use Rattle.desk.proofs.Desk.{first-in, no-seats}
 use Rattle.desk.proofs.Sheets.{answered-length}
@@ -30,7 +31,7 @@ desk-is e f = ap₂ (λ (x : List Seat) (y : ℕ). let d : Desk = record { seats
 -- ---- zeros
 pub zeros-empty : Zeros-empty
 unfolding below
-zeros-empty b zeros = desk-is (ext-getD free (deskOf b .seats) (replicate 8 free) (row-length (seatOf b) 8 0) each) (zeros nextPlace)
+zeros-empty b zeros = desk-is (ext-getD free (deskOf b .seats) (replicate 8 free) (row-length (seatOf b) 8 0) each) (zeros NEXT)
   where
     each : (k : ℕ) → k < length (deskOf b .seats) → seatAt (deskOf b) k ≡ getD (replicate 8 free) k free
     each k h = let l = row-length (seatOf b) 8 0 in seat-in b k (omega arith) ∙ free-at b k (zeros (seatPlace k)) ∙ sym (no-seats 8 k)
@@ -41,9 +42,9 @@ module _ (b sheet : List ℕ) (allowance : ℕ) (d : DeskBytes b) (small : Small
   unfolding seatBytes headBytes
   small-seat ok =
       let l = answered-length sheet ok in
-      small-append ((1 ∷ twoBytes (length sheet)) ++ fourBytes allowance ++ replicate 20 0) sheet
-      (small-append (1 ∷ twoBytes (length sheet)) (fourBytes allowance ++ replicate 20 0) (small-cons 1 (twoBytes (length sheet)) (omega arith) (small-two (length sheet) (omega arith)))
-      (small-append (fourBytes allowance) (replicate 20 0) (small-four allowance narrow) (small-replicate 20)))
+      small-append ((1 ∷ twoBytes (length sheet)) ++ fourBytes allowance ++ replicate 68 0) sheet
+      (small-append (1 ∷ twoBytes (length sheet)) (fourBytes allowance ++ replicate 68 0) (small-cons 1 (twoBytes (length sheet)) (omega arith) (small-two (length sheet) (omega arith)))
+      (small-append (fourBytes allowance) (replicate 68 0) (small-four allowance narrow) (small-replicate 68)))
       small
 
   abbrev Sat : Found → Verdict → Type 0
@@ -79,7 +80,7 @@ module _ (b : List ℕ) (k : ℕ) (d : DeskBytes b) (h : k < 8) where
   others j l n = seat-same b c j c-length l (d .0) (λ i m. at-set-other b (seatPlace k) 0 (seatPlace j + i) (λ e. omega arith))
 
   pub left-desk : deskOf c ≡ record { seats = set (deskOf b .seats) k free; next = deskOf b .next }
-  left-desk = desk-is (seats-set b c k free freed others) (at-set-other b (seatPlace k) 0 nextPlace (λ e. omega arith))
+  left-desk = desk-is (seats-set b c k free freed others) (at-set-other b (seatPlace k) 0 NEXT (λ e. omega arith))
 
   pub left-bytes : DeskBytes c
   left-bytes = (c-length ∙ d .0, small-set b (seatPlace k) 0 (omega arith) (d .1))

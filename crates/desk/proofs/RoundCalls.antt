@@ -10,7 +10,8 @@ use lib.Seq.{ext-getD}
 use borrow.Author.Tests.{eqb-true, eqb-false}
 use Rattle.model.specs.Lists.{at, both, choose, below}
 use Rattle.desk.specs.Desk.{Hall, hallTurned, turned, Seat, free, taken, seatAt, roundFrom, due, dueAt, given, seatGiven, behindLast, roundsDesk}
-use Rattle.desk.specs.Layout.{seatPlace, nextPlace, hallAt, seatOf, deskOf, withRun, roundBytes, roundsBytes}
+use Rattle.desk.specs.Places.{NEXT}
+use Rattle.desk.specs.Layout.{seatPlace, hallAt, seatOf, deskOf, withRun, roundBytes, roundsBytes}
 use Rattle.desk.specs.Claims.{DeskBytes, Rounds-call}
 use Rattle.desk.proofs.Rounds.{Once, pos-e, pos-once, round-is, round-all}
 use Rattle.desk.proofs.Bytes.{small-set}
@@ -40,7 +41,7 @@ module _ (r : ℕ) (b : List ℕ) (d : DeskBytes b) (k : ℕ) (l : k < 8) where
     pub bytes : DeskBytes c
     pub own : seatOf c k ≡ seatGiven r (seatOf b k)
     pub others : (j : ℕ) → j < 8 → (j ≡ k → ⊥) → seatOf c j ≡ seatOf b j
-    pub next : at c nextPlace ≡ at b nextPlace
+    pub next : at c NEXT ≡ at b NEXT
 
   pub serve : Served after
   serve = go (eqb (dueAt r (seatOf b k)) 0) refl
@@ -63,7 +64,7 @@ pub record AllServed (r : ℕ) (b : List ℕ) (ks : List ℕ) (c : List ℕ) : T
   pub bytes : DeskBytes c
   pub given-to : (j : ℕ) → List·Memᴰ j ks → seatOf c j ≡ seatGiven r (seatOf b j)
   pub others : (j : ℕ) → j < 8 → ((k : ℕ) → List·Memᴰ k ks → (j ≡ k → ⊥)) → seatOf c j ≡ seatOf b j
-  pub next : at c nextPlace ≡ at b nextPlace
+  pub next : at c NEXT ≡ at b NEXT
 
 serve-all : (r : ℕ) (ks : List ℕ) (b : List ℕ) → DeskBytes b → Once ks → ((k : ℕ) → List·Memᴰ k ks → k < 8) → AllServed r b ks (roundBytes r ks b)
 unfolding roundBytes
@@ -100,11 +101,11 @@ pub rounds-call : Rounds-call
 unfolding roundsBytes below
 rounds-call b r d = (
   desk-is (ext-getD free (deskOf c .seats) (map (seatGiven r) (deskOf b .seats)) lengths each) (looked-next run v run-desk),
-  (length-set run nextPlace v ∙ run-desk .0, small-set run nextPlace v (behind-small (λ k. dueAt r (seatAt (deskOf b) k)) (roundFrom (deskOf b .next)) 0 (deskOf b .next) (d .1 nextPlace)) (run-desk .1)),
+  (length-set run NEXT v ∙ run-desk .0, small-set run NEXT v (behind-small (λ k. dueAt r (seatAt (deskOf b) k)) (roundFrom (deskOf b .next)) 0 (deskOf b .next) (d .1 NEXT)) (run-desk .1)),
 )
   where
     ks : List ℕ
-    ks = roundFrom (at b nextPlace)
+    ks = roundFrom (at b NEXT)
 
     run : List ℕ
     run = roundBytes r ks b
@@ -113,13 +114,13 @@ rounds-call b r d = (
     v = roundsDesk (deskOf b) r .next
 
     c : List ℕ
-    c = set run nextPlace v
+    c = set run NEXT v
 
     all-seats : AllServed r b ks run
     all-seats =
-        let e = sym (round-is (at b nextPlace)) in
-        serve-all r ks b d (subst Once e (pos-once 8 (at b nextPlace) (omega arith)))
-        (λ k m. let q = pos-e 8 (at b nextPlace) k (subst (List·Memᴰ k) (sym e) m) in let z : k ≡ (at b nextPlace + q .0) % 8 = q .2 in omega arith)
+        let e = sym (round-is (at b NEXT)) in
+        serve-all r ks b d (subst Once e (pos-once 8 (at b NEXT) (omega arith)))
+        (λ k m. let q = pos-e 8 (at b NEXT) k (subst (List·Memᴰ k) (sym e) m) in let z : k ≡ (at b NEXT + q .0) % 8 = q .2 in omega arith)
 
     run-desk : DeskBytes run
     run-desk = all-seats .bytes
@@ -131,5 +132,5 @@ rounds-call b r d = (
     each j h =
         let m = row-length (seatOf c) 8 0 in
         let l : j < 8 = omega arith in
-        seat-in c j l ∙ looked-seat run v run-desk j l ∙ all-seats .given-to j (subst (List·Memᴰ j) (sym (round-is (at b nextPlace))) (round-all (at b nextPlace) j l))
+        seat-in c j l ∙ looked-seat run v run-desk j l ∙ all-seats .given-to j (subst (List·Memᴰ j) (sym (round-is (at b NEXT))) (round-all (at b NEXT) j l))
         ∙ ap (seatGiven r) (sym (seat-in b j l)) ∙ sym (List·getD-map (seatGiven r) (deskOf b .seats) j free)

@@ -16,8 +16,9 @@ use Rattle.model.specs.Written.{placed}
 use Rattle.model.specs.Run.{listedPlans, written}
 use Rattle.model.proofs.Lists.{below-e}
 use Rattle.model.proofs.Room.{length-listed}
-use Rattle.desk.specs.Desk.{Hall, Seat, free, taken, isFree, seatAt, Found, none-found, seat, firstOf, lowestFree, DeskCall, sit, leave, DeskReply, denied, seated, served, left, sitReply, fits, leaveFor, leaveReply, deskReply, lookFor, lookReply}
-use Rattle.desk.specs.Layout.{size, seatPlace, long, plansAt, widthAt, nodesAt, standingAt, standingBy, rowsAt, hallAt, seatOf, deskOf, seatBytes, sitBytes, leaveBytes, callBytes, replyOn, lookOn, bytesAfter}
+use Rattle.desk.specs.Desk.{Hall, Seat, free, taken, isFree, seatAt, Found, none-found, seat, firstOf, lowestFree, DeskCall, sit, leave, DeskReply, denied, seated, served, left, sitReply, fits, leaveFor, leaveReply, deskReply, lookFor, lookReply, noCounts, countsOf, lookCounts}
+use Rattle.desk.specs.Places.{LIST, LIST-BYTES, size}
+use Rattle.desk.specs.Layout.{seatPlace, long, plansAt, widthAt, nodesAt, standingAt, standingBy, rowsAt, hallAt, seatOf, deskOf, seatBytes, sitBytes, leaveBytes, callBytes, replyOn, lookOn, bytesAfter, countsAt, countsOn}
 use Rattle.desk.specs.Meaning.{found, roomAfter}
 use Rattle.desk.proofs.Desk.{none-first}
 
@@ -157,28 +158,43 @@ module _ (b sheet : List ℕ) (allowance : ℕ) where
 
 -- ---- looking
 module _ (b : List ℕ) (k : ℕ) where
-  pub look-255 : (length b ≡ size → ⊥) → denied 255 0 ≡ lookOn b k
-  unfolding lookOn
-  look-255 n = sym (ap (λ (t : Bool). choose t (lookReply (deskOf b) k) (denied 255 0)) (ne-eqb (length b) size n))
+  -- what is said of a reply and of the counts beside it
+  abbrev pub Seen : DeskReply → List ℕ → Type 0
+  Seen r counts = (r ≡ lookOn b k) × (counts ≡ countsOn b k)
 
-  look-whole : length b ≡ size → lookOn b k ≡ lookFor k (seatAt (deskOf b) k)
-  unfolding lookOn
-  look-whole e = ap (λ (t : Bool). choose t (lookReply (deskOf b) k) (denied 255 0)) (eq-eqb (length b) size e)
+  pub look-255 : (length b ≡ size → ⊥) → Seen (denied 255 0) noCounts
+  unfolding lookOn countsOn
+  look-255 n =
+      let e = ne-eqb (length b) size n in
+      (sym (ap (λ (t : Bool). choose t (lookReply (deskOf b) k) (denied 255 0)) e), sym (ap (λ (t : Bool). choose t (lookCounts (deskOf b) k) noCounts) e))
 
-  pub look-out : length b ≡ size → 8 ≤ k → denied 38 0 ≡ lookOn b k
-  look-out e h = sym (look-whole e ∙ ap (lookFor k) (seat-out b k h))
+  module _ (whole : length b ≡ size) where
+    seen-by : (s : Seat) → seatAt (deskOf b) k ≡ s → Seen (lookFor k s) (countsOf s)
+    unfolding lookOn countsOn
+    seen-by s e =
+        let w = eq-eqb (length b) size whole in (
+          sym (ap (λ (t : Bool). choose t (lookReply (deskOf b) k) (denied 255 0)) w ∙ ap (lookFor k) e),
+          sym (ap (λ (t : Bool). choose t (lookCounts (deskOf b) k) noCounts) w ∙ ap countsOf e),
+        )
 
-  pub look-free : length b ≡ size → k < 8 → at b (seatPlace k) ≡ 0 → denied 38 0 ≡ lookOn b k
-  look-free e h z = sym (look-whole e ∙ ap (lookFor k) (seat-in b k h ∙ free-at b k z))
+    pub look-out : 8 ≤ k → Seen (denied 38 0) noCounts
+    look-out h = seen-by free (seat-out b k h)
 
-  pub look-yes : (s plans nodes : ℕ) → length b ≡ size → k < 8 → (at b (seatPlace k) ≡ 0 → ⊥) → s ≡ standingAt b (seatPlace k) → plans ≡ plansAt b (seatPlace k) → nodes ≡ nodesAt b (seatPlace k) →
-      served k (standingBy s plans nodes) plans nodes ≡ lookOn b k
-  unfolding hallAt rowsAt
-  look-yes s plans nodes e h n x y z =
-      let p = seatPlace k in
-      ap (λ (i : ℕ). served k (standingBy i plans nodes) plans nodes) x ∙ ap₂ (λ (i j : ℕ). served k (standingBy (standingAt b p) i j) i j) y z
-      ∙ ap (λ (i : ℕ). served k (standingBy (standingAt b p) (plansAt b p) (nodesAt b p)) i (nodesAt b p)) (sym (length-listed (widthAt b p) (plansAt b p) (take 49152 (drop (p + 55683) b))))
-      ∙ sym (look-whole e ∙ ap (lookFor k) (seat-in b k h ∙ taken-at b k n))
+    module _ (h : k < 8) where
+      pub look-free : at b (seatPlace k) ≡ 0 → Seen (denied 38 0) noCounts
+      look-free z = seen-by free (seat-in b k h ∙ free-at b k z)
+
+      pub look-yes : (s plans nodes : ℕ) (counts : List ℕ) → (at b (seatPlace k) ≡ 0 → ⊥) → s ≡ standingAt b (seatPlace k) → plans ≡ plansAt b (seatPlace k) → nodes ≡ nodesAt b (seatPlace k) →
+          counts ≡ countsAt b (seatPlace k) → Seen (served k (standingBy s plans nodes) plans nodes) counts
+      unfolding hallAt rowsAt
+      look-yes s plans nodes counts n x y z c =
+          let p = seatPlace k in
+          let r = seen-by (taken (hallAt b p)) (seat-in b k h ∙ taken-at b k n) in (
+            ap (λ (i : ℕ). served k (standingBy i plans nodes) plans nodes) x ∙ ap₂ (λ (i j : ℕ). served k (standingBy (standingAt b p) i j) i j) y z
+                ∙ ap (λ (i : ℕ). served k (standingBy (standingAt b p) (plansAt b p) (nodesAt b p)) i (nodesAt b p)) (sym (length-listed (widthAt b p) (plansAt b p) (take LIST-BYTES (drop (p + LIST) b))))
+                ∙ r .0,
+            c ∙ r .1,
+          )
 
 -- ---- leaving
 -- so many rows of n bytes, one behind the other
@@ -216,25 +232,25 @@ module _ (b : List ℕ) (k : ℕ) (room : List ℕ) where
       by-room : (t : Bool) → (at b (seatPlace k) ≡ 0 → ⊥) → fits hall room ≡ t → Leaving (leaveFor t hall room) (roomAfter (leaveFor t hall room) room) (choose t (set b (seatPlace k) 0) b)
       by-room t n e = subst (λ (x : Bool). Leaving (leaveFor x hall room) (roomAfter (leaveFor x hall room) room) (choose x (set b (seatPlace k) 0) b)) e (by-seat (taken hall) (seat-in b k h ∙ taken-at b k n))
 
-      module _ (n : ℕ) (is : n ≡ plansAt b (seatPlace k) * widthAt b (seatPlace k)) (small : n ≤ 49152) where
-        listed : flat (hall .progress .rows) ≡ take n (drop (seatPlace k + 55683) b)
+      module _ (n : ℕ) (is : n ≡ plansAt b (seatPlace k) * widthAt b (seatPlace k)) (small : n ≤ LIST-BYTES) where
+        listed : flat (hall .progress .rows) ≡ take n (drop (seatPlace k + LIST) b)
         unfolding hallAt rowsAt
         listed =
-            let list = drop (seatPlace k + 55683) b in
-            flat-listed (widthAt b (seatPlace k)) (plansAt b (seatPlace k)) (take 49152 list) ∙ ap (λ (i : ℕ). take i (take 49152 list)) (sym is) ∙ take-take n 49152 list small
+            let list = drop (seatPlace k + LIST) b in
+            flat-listed (widthAt b (seatPlace k)) (plansAt b (seatPlace k)) (take LIST-BYTES list) ∙ ap (λ (i : ℕ). take i (take LIST-BYTES list)) (sym is) ∙ take-take n LIST-BYTES list small
 
         sized : length (flat (hall .progress .rows)) ≡ n
-        sized = ap length listed ∙ length-take-le n (drop (seatPlace k + 55683) b) (let e = length-drop (seatPlace k + 55683) b in omega arith)
+        sized = ap length listed ∙ length-take-le n (drop (seatPlace k + LIST) b) (let e = length-drop (seatPlace k + LIST) b in omega arith)
 
         pub leave-22 : (at b (seatPlace k) ≡ 0 → ⊥) → length room < n → Leaving (denied 22 0) room b
         leave-22 z l = by-room false z (lt-leb (length (flat (hall .progress .rows))) (length room) (let e = sized in omega arith))
 
-        pub leave-yes : (m : ℕ) (out c : List ℕ) → m ≡ n → (at b (seatPlace k) ≡ 0 → ⊥) → n ≤ length room → out ≡ placed room 0 (take m (drop (seatPlace k + 55683) b)) → c ≡ set b (seatPlace k) 0 → Leaving (left n out) out c
+        pub leave-yes : (m : ℕ) (out c : List ℕ) → m ≡ n → (at b (seatPlace k) ≡ 0 → ⊥) → n ≤ length room → out ≡ placed room 0 (take m (drop (seatPlace k + LIST) b)) → c ≡ set b (seatPlace k) 0 → Leaving (left n out) out c
         unfolding written placed
         leave-yes m out c s z l e q =
             let r = by-room true z (le-leb (length (flat (hall .progress .rows))) (length room) (let e = sized in omega arith)) in
-            let t = take n (drop (seatPlace k + 55683) b) in
+            let t = take n (drop (seatPlace k + LIST) b) in
             let w : written (hall .progress .rows) room ≡ out =
             ap (λ (x : List ℕ). x ++ drop (length x) room) listed ∙ ap (λ (i : ℕ). t ++ drop i room) (sym (zero-add (length t)))
-            ∙ sym (e ∙ ap (λ (i : ℕ). placed room 0 (take i (drop (seatPlace k + 55683) b))) s) in
+            ∙ sym (e ∙ ap (λ (i : ℕ). placed room 0 (take i (drop (seatPlace k + LIST) b))) s) in
             (ap₂ left (sym sized) (sym w) ∙ r .0, (sym w ∙ r .1 .0, q ∙ r .1 .1))

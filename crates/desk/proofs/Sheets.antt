@@ -10,6 +10,7 @@ use Rattle.model.specs.Lists.{both}
 use Rattle.model.specs.Verdict.{Verdict, accepted, isAccepted}
 use Rattle.model.specs.Sheet.{Header, «word», headerOf, afterAt, constraintsVerdict, verdictOf}
 use Rattle.model.proofs.Lists.{both-l, both-r}
+use Rattle.desk.specs.Places.{SHEET-BYTES}
 use Rattle.model.proofs.Accepted.{asked, constraint-asked, passed}
 
 -- a constraint has at most 1,546 bytes
@@ -32,7 +33,7 @@ constraints-bytes b h (suc k) i o v t =
     let y = constraints-bytes b h k (suc i) (afterAt b o) v (q .1) in
     omega arith
 
-pub sheet-length : (b : List ℕ) → T (isAccepted (verdictOf b)) → length b ≤ 55656
+pub sheet-length : (b : List ℕ) → T (isAccepted (verdictOf b)) → length b ≤ SHEET-BYTES
 sheet-length b t =
     let p = passed b t in
     let h = headerOf b in
@@ -46,5 +47,5 @@ sheet-length b t =
     let c = p .header .constraints in
     omega arith
 
-pub answered-length : (b : List ℕ) → accepted ≡ verdictOf b → length b ≤ 55656
+pub answered-length : (b : List ℕ) → accepted ≡ verdictOf b → length b ≤ SHEET-BYTES
 answered-length b e = sheet-length b (subst (λ (v : Verdict). T (isAccepted v)) e tt)

@@ -1,20 +1,19 @@
 -- Turns at a stretch: up to r turns of a hall are one walk with the limit of the last of them, and how many of them it takes is told by its nodes.
 -- Assumes nothing.
-use mathlib.Core.Path.{_≡_, refl, sym, ap, _∙_, subst}
+use mathlib.Core.Path.{_≡_, refl, sym, ap, ap₂, _∙_, subst}
 use mathlib.Core.Bool.{Bool, true, false}
-use mathlib.Core.List.{List}
 use Prim.Native.Nat.{ℕ, zero, suc, _+_, _-_, _*_, _/_, _≤_, _<_, min}
 use native.Mathlib.Omega.{arith}
 use lib.Dec.{ltb}
-use lib.ListN.{length, take, length-drop}
+use lib.ListN.{length, length-drop}
 use borrow.Author.Tests.{ltb-true, ltb-false}
 use Rattle.model.specs.Lists.{choose}
 use Rattle.model.specs.Problem.{Problem}
 use Rattle.model.specs.Sheet.{problemOf}
 use Rattle.model.specs.Run.{Ending, finished, spent, full, nodesIn, Result}
 use Rattle.model.proofs.Runs.{Ended, Walk, walk}
-use Rattle.parts.specs.Parts.{nodesAfter, lastOf, Progress, goOn, lastAfter, progressAfter, andNext}
-use Rattle.parts.proofs.Anywhere.{after-from, last-from, from-anywhere}
+use Rattle.parts.specs.Parts.{nodesAfter, Progress, goOn, progressAfter, andNext}
+use Rattle.parts.proofs.Anywhere.{after-from, from-anywhere, stands-anywhere}
 use Rattle.desk.proofs.Rounds.{due-over}
 use Rattle.desk.specs.Desk.{running, over, goesOn, Hall, deskRoom, standingAfter, hallAfter, hallTurned, turned, due, given}
 
@@ -41,14 +40,6 @@ due-yes r h e = ap (λ (b : Bool). choose b (suc (due r (hallTurned h))) 0) e
 walked : (p : Problem) (limit room : ℕ) (s : Progress) → Walk p limit room (nodesAfter p (s .last)) (s .made) (s .rows) (goOn p limit room s)
 unfolding goOn
 walked p limit room s = walk p limit room (nodesAfter p (s .last)) (s .made) (s .rows)
-
-no-fewer : (p : Problem) (limit room : ℕ) (s : Progress) → s .made ≤ nodesIn (goOn p limit room s .ending)
-no-fewer p limit room s = let w = walked p limit room s in go (w .passed) (goOn p limit room s .ending) (w .ended)
-  where
-    go : (k : ℕ) (e : Ending) → Ended p limit room (nodesAfter p (s .last)) (s .made) k e → s .made ≤ nodesIn e
-    go k (finished a b) h = omega arith
-    go k (spent a b) h = omega arith
-    go k (full a b) h = omega arith
 
 -- a walk with a node left and a limit above makes one at least
 some-made : (p : Problem) (limit room : ℕ) (s : Progress) → s .made < limit → 1 ≤ length (nodesAfter p (s .last)) → s .made < nodesIn (goOn p limit room s .ending)
@@ -139,14 +130,13 @@ module _ (r : ℕ) (h : Hall) (l : h .progress .made ≤ h .allowance) (g : goes
   same : stretch (suc r) h ≡ stretch r h′
   same = further r h l g ∙ ap (λ (x : Ending). andNext x (stretch 1 h) (goOn q (stretchLimit (suc r) h) (deskRoom q) (h′ .progress))) e ∙ ap (λ (x : ℕ). goOn q x (deskRoom q) (h′ .progress)) (sym limits)
 
-  lasts : lastAfter q (h′ .progress) (stretch r h′) ≡ lastAfter q (h .progress) (stretch r h′)
-  lasts =
-      let n = nodesIn (stretch r h′ .ending) in
-      let x = no-fewer q (stretchLimit r h′) (deskRoom q) (h′ .progress) in
-      let y = no-fewer q (stretchLimit 1 h) (deskRoom q) (h .progress) in
-      let j = h′ .progress .made - h .progress .made in
-      last-from q (h .progress .last) j (n - h′ .progress .made)
-      ∙ ap (λ (i : ℕ). lastOf (h .progress .last) (take i (nodesAfter q (h .progress .last)))) (let z : j + (n - h′ .progress .made) ≡ n - h .progress .made = omega arith in z)
+  -- what is carried on is the same in two parts and in one
+  carried : hallAfter h′ (stretch r h′) .progress ≡ hallAfter h (stretch (suc r) h) .progress
+  carried =
+      let z = made-64 in
+      let y = within in
+      stands-anywhere q (stretchLimit r h′) (deskRoom q) (stretchLimit 1 h) plans made (h .progress) (omega arith) (let i = ap nodesIn e in let x = ended .2 in omega arith) e
+      ∙ ap (λ (x : ℕ). progressAfter q (h .progress) (goOn q x (deskRoom q) (h .progress))) limits
 
   pub goes-on : 1 ≤ r → Stretched r h′ → Stretched (suc r) h
   goes-on o ih =
@@ -155,8 +145,7 @@ module _ (r : ℕ) (h : Hall) (l : h .progress .made ≤ h .allowance) (g : goes
       record {
         whole =
             given-is r h l g ∙ ap (given r) (turned-is r h l g) ∙ ih .whole
-            ∙ ap (λ (t : List ℕ). let w : Hall = record { sheet = h .sheet; allowance = h .allowance; progress = record { made = nodesIn (stretch r h′ .ending); rows = stretch r h′ .rows; last = t }; standing = standingAfter (h .allowance) (stretch r h′ .ending) } in w) lasts
-            ∙ ap (hallAfter h) (sym same);
+            ∙ ap₂ (λ (t : Progress) (x : Result). let w : Hall = record { sheet = h .sheet; allowance = h .allowance; progress = t; standing = standingAfter (h .allowance) (x .ending) } in w) carried (sym same);
         turns =
             first r h l g ∙ ap (λ (k : Hall). suc (due r k)) (turned-is r h l g) ∙ ap suc (ih .turns)
             ∙ (let z : suc (turnsFor (nodesIn (stretch r h′ .ending) - h′ .progress .made)) ≡ turnsFor (nodesIn (stretch r h′ .ending) - h .progress .made) = omega arith in z)

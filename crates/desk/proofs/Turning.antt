@@ -3,29 +3,32 @@ use mathlib.Core.Path.{_≡_, refl, sym, ap, ap₂, _∙_, subst}
 use mathlib.Core.Bool.{Bool, true, false}
 use mathlib.Core.Logic.{_⊎_, inl, inr, ⊎-elim}
 use mathlib.Core.List.{List, [], _∷_, _++_, List·Memᴰ, List·Memᴰ·head, List·Memᴰ·tail, append-nil}
-use Prim.Native.Nat.{ℕ, zero, suc, _+_, _-_, _*_, _≤_, min}
+use Prim.Native.Nat.{ℕ, zero, suc, _+_, _-_, _*_, _≤_, _<_, min}
 use native.Mathlib.Nat.{mul-le-mul, suc-mul}
 use native.Mathlib.Omega.{arith}
 use lib.Dec.{T, ltb, leb, eqb, eqb→eq}
 use lib.ListN.{length, take, drop, length-take, length-drop}
 use lib.Seq.{getD-drop, length-take-le, take-nil}
-use borrow.Author.Tests.{leb-true, leb-false}
-use Rattle.model.specs.Lists.{any, at, choose, flat, keep, below}
-use Rattle.model.specs.ValueSets.{has, members}
+use borrow.Author.Tests.{leb-true, leb-false, ltb-true, ltb-false}
+use Rattle.model.specs.Lists.{at, choose, flat, keep}
 use Rattle.model.specs.Problem.{Problem}
-use Rattle.model.specs.Search.{setsAt, nodesBelow, nodes, isPlan}
+use Rattle.model.specs.Search.{nodesBelow, nodes, isPlan}
 use Rattle.model.specs.Sheet.{«word», headerOf, problemOf}
-use Rattle.model.specs.Run.{Ending, finished, spent, full, plansIn, nodesIn, search, listedPlans}
-use Rattle.model.proofs.Lists.{T-of, at-take, both-l, both-r, among-e, keep-e, below-e, flat-append}
+use Rattle.model.specs.Run.{Ending, finished, spent, full, plansIn, nodesIn, search, settledBy, countsBy, listedPlans}
+use Rattle.model.proofs.Lists.{T-of, at-take, both-l, keep-e, flat-append, at-out}
 use Rattle.model.proofs.Room.{Wide, length-listed, listed-wide}
 use Rattle.model.proofs.Runs.{walk}
-use Rattle.parts.specs.Parts.{after, nodesAfter, candidatesAt, reached, lastOf, goOn}
-use Rattle.parts.proofs.Resume.{node-reached, last-in, taken}
+use Rattle.parts.specs.Parts.{after, nodesAfter, lastOf, goOn, madeIn}
+use Rattle.parts.proofs.Resume.{node-values, last-in, taken}
+use Rattle.parts.proofs.Counts.{length-added}
+use Rattle.parts.proofs.Anywhere.{no-fewer}
 use Rattle.sheet.specs.Form.{compilable}
 use Rattle.sheet.proofs.Compilable.{compilable-fits}
 use Rattle.desk.specs.Desk.{Standing, running, over, Hall, deskRoom, turnLimit, standingAfter, hallTurned}
+use Rattle.desk.specs.Places.{LIMIT, DEPTH, LAST, SHEET, LIST, LIST-BYTES, SEAT}
 use Rattle.desk.specs.Layout.{long, standingBy, standingAt, sheetLength, nodesAt, plansAt, widthAt, rowsAt, lastAt, sheetAt, hallAt, standingByte}
-use Rattle.desk.proofs.Bytes.{Small, small-cons, small-nil, small-append, small-take, small-drop}
+use Rattle.desk.proofs.Bytes.{Small, small-nil, small-append, small-take, small-drop}
+use Rattle.desk.proofs.Counts.{count-most, added-most, counts-length, counts-most}
 use Rattle.desk.proofs.Seats.{flat-listed}
 
 -- how a run stands, told by its number and its figures
@@ -34,8 +37,10 @@ Figured s plans made = standingBy (min 3 (standingByte s)) plans made ≡ s
 
 pub record Fits (b : List ℕ) (p : ℕ) (h : Hall) : Type 0 where
   pub sheeted : h .sheet ≡ sheetAt b p
-  pub limited : h .allowance ≡ long b (p + 3)
+  pub limited : h .allowance ≡ long b (p + LIMIT)
   pub allowed : h .progress .made ≤ h .allowance
+  pub twelve : length (h .progress .counts) ≡ 12
+  pub counted : (x : ℕ) → at (h .progress .counts) x ≤ h .progress .made
   pub few : length (h .progress .rows) ≤ 4096
   pub wide : Wide (widthAt b p) (h .progress .rows)
   pub short : length (h .progress .last) ≤ 12
@@ -50,48 +55,41 @@ standing-figured (suc zero) plans made = refl
 standing-figured (suc (suc zero)) plans made = refl
 standing-figured (suc (suc (suc s))) plans made = refl
 
-pub at-fits : (b : List ℕ) (p : ℕ) → p + 104835 ≤ length b → Small b → Fits b p (hallAt b p)
+pub at-fits : (b : List ℕ) (p : ℕ) → p + SEAT ≤ length b → Small b → Fits b p (hallAt b p)
 unfolding hallAt rowsAt lastAt
 at-fits b p room small = record {
   sheeted = refl;
   limited = refl;
   allowed = omega arith;
-  few = let e = counted in omega arith;
+  twelve = counts-length b p;
+  counted = counts-most b p;
+  few = let e = number in omega arith;
   wide = listed-wide (widthAt b p) (plansAt b p) list (let e = area in let z = most in omega arith);
-  short = let e = length-take (min 12 (at b (p + 14))) (drop (p + 15) b) in omega arith;
-  figured = subst (λ (k : ℕ). Figured (standingBy (standingAt b p) (plansAt b p) (nodesAt b p)) k (nodesAt b p)) (sym counted) (standing-figured (standingAt b p) (plansAt b p) (nodesAt b p));
-  row-bytes = subst Small (sym (flat-listed (widthAt b p) (plansAt b p) list)) (small-take (plansAt b p * widthAt b p) list (small-take 49152 (drop (p + 55683) b) (small-drop (p + 55683) b small)));
-  last-bytes = small-take (min 12 (at b (p + 14))) (drop (p + 15) b) (small-drop (p + 15) b small);
+  short = let e = length-take (min 12 (at b (p + DEPTH))) (drop (p + LAST) b) in omega arith;
+  figured = subst (λ (k : ℕ). Figured (standingBy (standingAt b p) (plansAt b p) (nodesAt b p)) k (nodesAt b p)) (sym number) (standing-figured (standingAt b p) (plansAt b p) (nodesAt b p));
+  row-bytes = subst Small (sym (flat-listed (widthAt b p) (plansAt b p) list)) (small-take (plansAt b p * widthAt b p) list (small-take LIST-BYTES (drop (p + LIST) b) (small-drop (p + LIST) b small)));
+  last-bytes = small-take (min 12 (at b (p + DEPTH))) (drop (p + LAST) b) (small-drop (p + LAST) b small);
 }
   where
     list : List ℕ
-    list = take 49152 (drop (p + 55683) b)
+    list = take LIST-BYTES (drop (p + LIST) b)
 
-    counted : length (listedPlans (widthAt b p) (plansAt b p) list) ≡ plansAt b p
-    counted = length-listed (widthAt b p) (plansAt b p) list
+    number : length (listedPlans (widthAt b p) (plansAt b p) list) ≡ plansAt b p
+    number = length-listed (widthAt b p) (plansAt b p) list
 
-    area : length list ≡ 49152
-    area = length-take-le 49152 (drop (p + 55683) b) (let e = length-drop (p + 55683) b in omega arith)
+    area : length list ≡ LIST-BYTES
+    area = length-take-le LIST-BYTES (drop (p + LIST) b) (let e = length-drop (p + LIST) b in omega arith)
 
     most : plansAt b p * widthAt b p ≤ 4096 * 12
     most = let x : plansAt b p ≤ 4096 = omega arith in let y : widthAt b p ≤ 12 = omega arith in mul-le-mul x y
 
 -- ---- nodes are short, and their values bytes
-reached-small : (q : Problem) (prefix path : List ℕ) → T (reached q prefix path) → Small path
-unfolding reached members
-reached-small q prefix [] t = small-nil
-reached-small q prefix (v ∷ path) t =
-    let c = any (eqb v) (candidatesAt q prefix) in
-    let m = among-e v (candidatesAt q prefix) (both-l c (reached q (prefix ++ (v ∷ [])) path) t) in
-    let l = below-e 16 v (keep-e (has (at (setsAt q prefix) (length prefix))) (below 16) v m .0) in
-    small-cons v path (omega arith) (reached-small q (prefix ++ (v ∷ [])) path (both-r c (reached q (prefix ++ (v ∷ [])) path) t))
-
 node-small : (q : Problem) (t : List ℕ) → List·Memᴰ t (nodes q) → Small t × (length t ≤ q .variables)
-unfolding nodes
-node-small q t m =
-    let r = node-reached q (q .variables) [] t m in
-    let e : r .0 ≡ t = sym (r .1) in
-    subst (λ (z : List ℕ). Small z × (length z ≤ q .variables)) e (reached-small q [] (r .0) (r .2), r .4)
+node-small q t m = (λ i. byte i (ltb i (length t)) refl, node-values q t m .1)
+  where
+    byte : (i : ℕ) (c : Bool) → ltb i (length t) ≡ c → at t i < 256
+    byte i true e = let v = node-values q t m .0 i (ltb-true i (length t) e) in omega arith
+    byte i false e = let z = at-out t i (ltb-false i (length t) e) in omega arith
 
 -- ---- the problem of a seat: its plans have the seat's width, or it has no nodes
 abbrev pub Known : List ℕ → ℕ → Problem → Type 0
@@ -103,22 +101,22 @@ empty-nodes = refl
 
 -- the bytes that stand where the seat's sheet does
 abbrev pub rawAt : List ℕ → ℕ → List ℕ
-rawAt b p = take (sheetLength b p) (drop (p + 27) b)
+rawAt b p = take (sheetLength b p) (drop (p + SHEET) b)
 
 pub raw-known : (b : List ℕ) (p : ℕ) → T (compilable (rawAt b p)) → (problemOf (rawAt b p) .variables ≡ widthAt b p) × (1 ≤ problemOf (rawAt b p) .variables) × (problemOf (rawAt b p) .variables ≤ 12)
 unfolding problemOf headerOf «word» at
 raw-known b p t =
     let raw = rawAt b p in
     let h = compilable-fits raw t in
-    let l = length-take (sheetLength b p) (drop (p + 27) b) in
+    let l = length-take (sheetLength b p) (drop (p + SHEET) b) in
     let o = h .long in
     let n : 16 ≤ sheetLength b p = omega arith in
-    let x : at raw 0 ≡ at b (p + 27) = at-take (sheetLength b p) (drop (p + 27) b) 0 (omega arith) ∙ getD-drop (p + 27) b 0 0 ∙ ap (at b) (let z : p + 27 + 0 ≡ p + 27 = omega arith in z) in
-    let y : at raw 1 ≡ at b (p + 27 + 1) = at-take (sheetLength b p) (drop (p + 27) b) 1 (omega arith) ∙ getD-drop (p + 27) b 1 0 in
-    let w : «word» raw 0 ≡ «word» b (p + 27) = ap₂ (λ (i j : ℕ). i + 256 * j) x y in
+    let x : at raw 0 ≡ at b (p + SHEET) = at-take (sheetLength b p) (drop (p + SHEET) b) 0 (omega arith) ∙ getD-drop (p + SHEET) b 0 0 ∙ ap (at b) (let z : p + SHEET + 0 ≡ p + SHEET = omega arith in z) in
+    let y : at raw 1 ≡ at b (p + SHEET + 1) = at-take (sheetLength b p) (drop (p + SHEET) b) 1 (omega arith) ∙ getD-drop (p + SHEET) b 1 0 in
+    let w : «word» raw 0 ≡ «word» b (p + SHEET) = ap₂ (λ (i j : ℕ). i + 256 * j) x y in
     let few : «word» raw 0 ≤ 12 = h .few in
     let some : 1 ≤ «word» raw 0 = h .some in
-    ((let z : «word» raw 0 ≡ min 12 («word» b (p + 27)) = omega arith in z), some, few)
+    ((let z : «word» raw 0 ≡ min 12 («word» b (p + SHEET)) = omega arith in z), some, few)
 
 pub seat-known : (b : List ℕ) (p : ℕ) → Known b p (problemOf (sheetAt b p))
 unfolding sheetAt
@@ -199,6 +197,8 @@ module _ (b : List ℕ) (p : ℕ) (h : Hall) (f : Fits b p h) where
         sheeted = f .sheeted;
         limited = f .limited;
         allowed = omega arith;
+        twelve = length-added (h .progress .counts) (countsBy settledBy (madeIn q (h .progress) r));
+        counted = λ x. let z = added-most (h .progress .counts) (countsBy settledBy (madeIn q (h .progress) r)) (h .progress .made) (length (madeIn q (h .progress) r)) (f .counted) (count-most settledBy (madeIn q (h .progress) r)) x in let y = length-take (nodesIn (r .ending) - h .progress .made) ts in let u = no-fewer q limit room (h .progress) in omega arith;
         few = k .0;
         wide = k .1;
         short = last-short (nodesIn (r .ending) - h .progress .made) known;

@@ -11,10 +11,11 @@ use Rattle.model.specs.Lists.{any, at, flat}
 use Rattle.model.specs.Verdict.{refused}
 use Rattle.model.specs.Search.{nodes}
 use Rattle.model.specs.Sheet.{verdictOf, problemOf}
-use Rattle.model.specs.Run.{Ending, spent, plansIn, nodesIn, Result, resultOf, ended, answerOf, written, listOf}
+use Rattle.model.specs.Run.{Ending, spent, plansIn, nodesIn, Result, resultOf, ended, answerOf, written, listOf, Tally, tallyAt, tallyOf}
 use Rattle.parts.specs.Parts.{progressAt}
-use Rattle.desk.specs.Desk.{Standing, running, over, goesOn, Hall, newcomer, deskRoom, hallTurned, turned, free, taken, isFree, waits, Desk, emptyDesk, seatAt, DeskCall, sit, turn, leave, DeskReply, denied, seated, idle, served, left, fits, leaveSeat, deskReply, deskAfter, deskEnd, deskReplies, roundsDesk, turnsGiven, due}
-use Rattle.desk.specs.Layout.{size, deskOf, roundsBytes, replyOn, bytesAfter}
+use Rattle.desk.specs.Desk.{Standing, running, over, goesOn, Hall, newcomer, deskRoom, hallTurned, turned, free, taken, isFree, waits, Desk, emptyDesk, seatAt, DeskCall, sit, turn, leave, DeskReply, denied, seated, idle, served, left, fits, leaveSeat, deskReply, deskAfter, deskEnd, deskReplies, roundsDesk, turnsGiven, due, lookCounts}
+use Rattle.desk.specs.Places.{size}
+use Rattle.desk.specs.Layout.{deskOf, roundsBytes, replyOn, bytesAfter}
 
 -- ---- words
 -- the run alone: the hall's sheet, a limit, and room for 4,096 plans
@@ -61,13 +62,15 @@ Fair =
     T (any (serves k) (deskReplies (deskEnd emptyDesk before) xs))
 
 -- 2: before its run ends, a hall holds the run alone as it is after that many nodes, and after its first turn neither the tree nor the allowance is at its end;
--- once ended, it holds the plans, the ending and the figures of the run alone
+-- once ended, it holds the plans, the ending, the figures and the counts by variable of the run alone
 abbrev pub HoldsAs : Hall → Standing → Type 0
 HoldsAs h running =
     (h .progress ≡ progressAt (problemOf (h .sheet)) (h .progress .made))
     × ((h .progress .made ≡ 0)
     ⊎ ((h .progress .made < h .allowance) × (h .progress .made < length (nodes (problemOf (h .sheet)))) × (alone h (h .progress .made) ≡ record { ending = spent (length (h .progress .rows)) (h .progress .made); rows = h .progress .rows })))
-HoldsAs h (over e) = (alone h (h .allowance) ≡ record { ending = e; rows = h .progress .rows }) × (h .progress .made ≡ nodesIn e) × (length (h .progress .rows) ≡ plansIn e)
+HoldsAs h (over e) =
+    (alone h (h .allowance) ≡ record { ending = e; rows = h .progress .rows }) × (h .progress .made ≡ nodesIn e) × (length (h .progress .rows) ≡ plansIn e)
+    × (h .progress .counts ≡ tallyAt (problemOf (h .sheet)) (nodesIn e) .counts)
 
 abbrev pub Holds : Hall → Type 0
 Holds h = HoldsAs h (h .standing)
@@ -95,12 +98,14 @@ Turn-answers =
     (h : Hall) × (seatAt d k ≡ taken h) × (seatAt (deskAfter d turn) k ≡ taken (hallTurned h))
     × (hallTurned h .standing ≡ s) × (length (hallTurned h .progress .rows) ≡ plans) × (hallTurned h .progress .made ≡ made)
 
--- an ended hall that leaves into a list with room for 4,096 plans gets what `run` writes to such a list, and ended as `run` does
+-- an ended hall that leaves into a list with room for 4,096 plans gets what `run_with` writes to such a list, ended as it does, and has its tally
 abbrev pub Same-as-run : Type 0
 Same-as-run =
-    (xs : List DeskCall) (k : ℕ) (h : Hall) (e : Ending) (out : List ℕ) → seatAt (deskEnd emptyDesk xs) k ≡ taken h → h .standing ≡ over e → length out ≡ deskRoom (problemOf (h .sheet)) →
+    (xs : List DeskCall) (k : ℕ) (h : Hall) (e : Ending) (out : List ℕ) (tally : Tally) →
+    seatAt (deskEnd emptyDesk xs) k ≡ taken h → h .standing ≡ over e → length out ≡ deskRoom (problemOf (h .sheet)) →
     (answerOf (h .sheet) (h .allowance) out ≡ ended e)
     × (deskReply (deskEnd emptyDesk xs) (leave k out) ≡ left (plansIn e * problemOf (h .sheet) .variables) (listOf (h .sheet) (h .allowance) out))
+    × (tallyOf (h .sheet) (h .allowance) out tally ≡ record { nodes = h .progress .made; counts = lookCounts (deskEnd emptyDesk xs) k })
 
 -- 3: what a seat holds depends on its own turns alone
 abbrev pub By-own-turns : Type 0

@@ -10,8 +10,8 @@ use Rattle.model.specs.ValueSets.{maskOf}
 use Rattle.model.specs.Problem.{Problem}
 use Rattle.model.specs.Verdict.{Verdict, accepted, refused}
 use Rattle.model.specs.Sheet.{verdictOf, problemOf}
-use Rattle.model.specs.Run.{Ending, finished, spent, full, nodesIn, Result, written}
-use Rattle.parts.specs.Parts.{Progress, start, goOn, lastAfter}
+use Rattle.model.specs.Run.{Ending, finished, spent, full, Result, written}
+use Rattle.parts.specs.Parts.{Progress, start, goOn, progressAfter}
 
 -- ---- a hall at its seat
 pub data Standing : Type 0 where
@@ -50,7 +50,7 @@ abbrev pub hallAfter : Hall → Result → Hall
 hallAfter h r = record {
   sheet = h .sheet;
   allowance = h .allowance;
-  progress = record { made = nodesIn (r .ending); rows = r .rows; last = lastAfter (problemOf (h .sheet)) (h .progress) r };
+  progress = progressAfter (problemOf (h .sheet)) (h .progress) r;
   standing = standingAfter (h .allowance) (r .ending);
 }
 
@@ -207,6 +207,17 @@ lookFor k (taken h) = servedAs k (taken h)
 
 abbrev pub lookReply : Desk → ℕ → DeskReply
 lookReply d k = lookFor k (seatAt d k)
+
+-- and its nodes by variable, twelve counts; zeros where nobody holds it
+abbrev pub noCounts : List ℕ
+noCounts = replicate 12 0
+
+abbrev pub countsOf : Seat → List ℕ
+countsOf free = noCounts
+countsOf (taken h) = h .progress .counts
+
+abbrev pub lookCounts : Desk → ℕ → List ℕ
+lookCounts d k = countsOf (seatAt d k)
 
 -- ---- rounds: each seat whose run hasn't ended gets up to r turns
 -- how many of r turns a hall takes until its run ends

@@ -1,30 +1,22 @@
--- The desk's bytes: eight seats of 104,835 bytes, and one byte for the seat where the next turn begins to look. A seat has, low bytes first:
---   0 whether it is taken (0: free)   1 the sheet's length   3 the allowance, four bytes
---   7 how the run stands (0 running, 1 finished, 2 spent, 3 full)   8 its nodes, four bytes   12 its plans   14 the length of the last node
---   15 the last node's values, twelve bytes   27 the sheet, 55,656 bytes   55,683 the list, 49,152 bytes
--- Any bytes of the desk's size are a desk; zeros are the empty one.
+-- The desk's bytes: eight seats, and one byte for the seat where the next turn begins to look; specs/Places says where a seat has what. Any bytes of the
+-- desk's size are a desk; zeros are the empty one.
 use mathlib.Core.List.{List, [], _∷_, _++_, map}
 use Prim.Native.Nat.{ℕ, zero, suc, _+_, _-_, _*_, _%_, min}
 use lib.ListN.{length, take, drop, set, replicate}
 use lib.Dec.{eqb}
-use Rattle.model.specs.Lists.{at, choose, flat, below}
+use Rattle.model.specs.Lists.{at, choose, flat, below, tabulate}
 use Rattle.model.specs.Verdict.{Verdict, accepted, refused}
 use Rattle.model.specs.Sheet.{«word», verdictOf}
 use Rattle.model.specs.Bytes.{twoBytes, fourBytes}
 use Rattle.model.specs.Written.{placed}
 use Rattle.model.specs.Run.{finished, spent, full, listedPlans}
 use Rattle.sheet.specs.Form.{compilable}
-use Rattle.desk.specs.Desk.{Standing, running, over, Hall, hallTurned, Seat, free, taken, Desk, seatAt, Found, none-found, seat, lowestFree, toServe, DeskCall, sit, turn, leave, DeskReply, denied, fits, deskReply, dueAt, given, roundFrom, roundsDesk, lookReply, RoundsReply, not-given, roundsReply}
+use Rattle.desk.specs.Places.{LENGTH, LIMIT, STANDING, NODES, PLANS, DEPTH, LAST, COUNTS, SHEET, SHEET-BYTES, LIST, LIST-BYTES, SEAT, NEXT, size}
+use Rattle.desk.specs.Desk.{Standing, running, over, Hall, hallTurned, Seat, free, taken, Desk, seatAt, Found, none-found, seat, lowestFree, toServe, DeskCall, sit, turn, leave, DeskReply, denied, fits, deskReply, dueAt, given, roundFrom, roundsDesk, lookReply, noCounts, lookCounts, RoundsReply, not-given, roundsReply}
 
-abbrev pub size : ℕ
-size = 838681
-
--- where seat k starts, and where the byte stands that says where to look
+-- where seat k starts
 abbrev pub seatPlace : ℕ → ℕ
-seatPlace k = 104835 * k
-
-abbrev pub nextPlace : ℕ
-nextPlace = 838680
+seatPlace k = SEAT * k
 
 -- ---- what the bytes mean
 -- a number in four bytes
@@ -39,43 +31,47 @@ standingBy (suc (suc zero)) plans made = over (spent plans made)
 standingBy (suc (suc (suc k))) plans made = over (full plans made)
 
 -- The numbers of the seat at p. One that is too large counts as the largest: 3 for how the run stands, 55,656 bytes of the sheet, 4,096 plans,
--- twelve values of the last node, twelve variables; and the allowance for the nodes
+-- twelve values of the last node, twelve variables; the allowance for the nodes, and these for each of their counts
 abbrev pub standingAt : List ℕ → ℕ → ℕ
-standingAt b p = min 3 (at b (p + 7))
+standingAt b p = min 3 (at b (p + STANDING))
 
 abbrev pub sheetLength : List ℕ → ℕ → ℕ
-sheetLength b p = min 55656 («word» b (p + 1))
+sheetLength b p = min SHEET-BYTES («word» b (p + LENGTH))
 
 abbrev pub nodesAt : List ℕ → ℕ → ℕ
-nodesAt b p = min (long b (p + 3)) (long b (p + 8))
+nodesAt b p = min (long b (p + LIMIT)) (long b (p + NODES))
+
+unfoldable pub countsAt : List ℕ → ℕ → List ℕ
+countsAt b p = tabulate 12 (λ x. min (nodesAt b p) (long b (p + COUNTS + 4 * x)))
 
 abbrev pub plansAt : List ℕ → ℕ → ℕ
-plansAt b p = min 4096 («word» b (p + 12))
+plansAt b p = min 4096 («word» b (p + PLANS))
 
 -- a plan has as many bytes as the sheet's first number says
 abbrev pub widthAt : List ℕ → ℕ → ℕ
-widthAt b p = min 12 («word» b (p + 27))
+widthAt b p = min 12 («word» b (p + SHEET))
 
 unfoldable pub rowsAt : List ℕ → ℕ → List (List ℕ)
-rowsAt b p = listedPlans (widthAt b p) (plansAt b p) (take 49152 (drop (p + 55683) b))
+rowsAt b p = listedPlans (widthAt b p) (plansAt b p) (take LIST-BYTES (drop (p + LIST) b))
 
 unfoldable pub lastAt : List ℕ → ℕ → List ℕ
-lastAt b p = take (min 12 (at b (p + 14))) (drop (p + 15) b)
+lastAt b p = take (min 12 (at b (p + DEPTH))) (drop (p + LAST) b)
 
 -- Bytes that questions 1 to 15 refuse count as the sheet of no bytes, which has no nodes: its run finishes at the next turn. Question 16 is asked
 -- only when a hall sits down: a turn needs none of it
 unfoldable pub sheetAt : List ℕ → ℕ → List ℕ
 sheetAt b p =
-    let sheet = take (sheetLength b p) (drop (p + 27) b) in
+    let sheet = take (sheetLength b p) (drop (p + SHEET) b) in
     choose (compilable sheet) sheet []
 
 unfoldable pub hallAt : List ℕ → ℕ → Hall
 hallAt b p =
     record {
       sheet = sheetAt b p;
-      allowance = long b (p + 3);
+      allowance = long b (p + LIMIT);
       progress = record {
         made = nodesAt b p;
+        counts = countsAt b p;
         rows = rowsAt b p;
         last = lastAt b p;
       };
@@ -86,12 +82,12 @@ unfoldable pub seatOf : List ℕ → ℕ → Seat
 seatOf b k = choose (eqb (at b (seatPlace k)) 0) free (taken (hallAt b (seatPlace k)))
 
 abbrev pub deskOf : List ℕ → Desk
-deskOf b = record { seats = map (seatOf b) (below 8); next = at b nextPlace }
+deskOf b = record { seats = map (seatOf b) (below 8); next = at b NEXT }
 
 -- ---- the bytes that a call leaves
 -- a newcomer's seat, up to the end of its sheet; the bytes after it stay
 unfoldable pub headBytes : ℕ → ℕ → List ℕ
-headBytes length allowance = (1 ∷ twoBytes length) ++ fourBytes allowance ++ replicate 20 0
+headBytes length allowance = (1 ∷ twoBytes length) ++ fourBytes allowance ++ replicate 68 0
 
 unfoldable pub seatBytes : List ℕ → ℕ → List ℕ
 seatBytes sheet allowance = headBytes (length sheet) allowance ++ sheet
@@ -113,19 +109,25 @@ standingByte (over (finished plans made)) = 1
 standingByte (over (spent plans made)) = 2
 standingByte (over (full plans made)) = 3
 
--- a seat's bytes after a turn: how the run stands, its figures and its last node, and the list's rows
+-- a seat's bytes after a turn: how the run stands, its figures, its last node and its counts, and the list's rows
 unfoldable pub figureBytes : Hall → List ℕ
 figureBytes h = (standingByte (h .standing) ∷ fourBytes (h .progress .made)) ++ twoBytes (length (h .progress .rows)) ++ (length (h .progress .last) ∷ [])
 
+unfoldable pub stateBytes : Hall → List ℕ
+stateBytes h = figureBytes h ++ h .progress .last ++ replicate (12 - length (h .progress .last)) 0
+
+unfoldable pub countBytes : List ℕ → List ℕ
+countBytes counts = flat (map fourBytes counts)
+
 unfoldable pub runBytes : Hall → List ℕ
-runBytes h = figureBytes h ++ h .progress .last ++ replicate (12 - length (h .progress .last)) 0
+runBytes h = stateBytes h ++ countBytes (h .progress .counts)
 
 unfoldable pub withRun : List ℕ → ℕ → Hall → List ℕ
-withRun b p h = placed (placed b (p + 7) (runBytes h)) (p + 55683) (flat (h .progress .rows))
+withRun b p h = placed (placed b (p + STANDING) (runBytes h)) (p + LIST) (flat (h .progress .rows))
 
 abbrev pub turnBytes : Found → List ℕ → List ℕ
 turnBytes none-found b = b
-turnBytes (seat k) b = set (withRun b (seatPlace k) (hallTurned (hallAt b (seatPlace k)))) nextPlace ((k + 1) % 8)
+turnBytes (seat k) b = set (withRun b (seatPlace k) (hallTurned (hallAt b (seatPlace k)))) NEXT ((k + 1) % 8)
 
 -- rounds: of each seat to which a turn is due, going round; then where to look
 unfoldable pub roundBytes : ℕ → List ℕ → List ℕ → List ℕ
@@ -133,7 +135,7 @@ roundBytes r [] b = b
 roundBytes r (k ∷ ks) b = roundBytes r ks (choose (eqb (dueAt r (seatOf b k)) 0) b (withRun b (seatPlace k) (given r (hallAt b (seatPlace k)))))
 
 unfoldable pub roundsBytes : List ℕ → ℕ → List ℕ
-roundsBytes b r = set (roundBytes r (roundFrom (at b nextPlace)) b) nextPlace (roundsDesk (deskOf b) r .next)
+roundsBytes b r = set (roundBytes r (roundFrom (at b NEXT)) b) NEXT (roundsDesk (deskOf b) r .next)
 
 abbrev pub callBytes : List ℕ → DeskCall → List ℕ
 callBytes b (sit sheet allowance) = sitBytes (lowestFree (deskOf b)) (verdictOf sheet) b (seatBytes sheet allowance)
@@ -144,8 +146,12 @@ callBytes b (leave k room) = leaveBytes (seatAt (deskOf b) k) b k room
 unfoldable pub replyOn : List ℕ → DeskCall → DeskReply
 replyOn b x = choose (eqb (length b) size) (deskReply (deskOf b) x) (denied 255 0)
 
+-- looking: the reply, and the twelve counts beside it
 unfoldable pub lookOn : List ℕ → ℕ → DeskReply
 lookOn b k = choose (eqb (length b) size) (lookReply (deskOf b) k) (denied 255 0)
+
+unfoldable pub countsOn : List ℕ → ℕ → List ℕ
+countsOn b k = choose (eqb (length b) size) (lookCounts (deskOf b) k) noCounts
 
 unfoldable pub bytesAfter : List ℕ → DeskCall → List ℕ
 bytesAfter b x = choose (eqb (length b) size) (callBytes b x) b

@@ -1,5 +1,8 @@
 -- The desk, its bytes, what the answers mean, and the claims.
 pub mod Desk
+pub mod Places
 pub mod Layout
 pub mod Meaning
+pub mod Calls
 pub mod Claims
+pub mod Examples

@@ -6,22 +6,44 @@ ghost use lib.ListN.{length};
 ghost use Rattle.model.specs.Lists.{at};
 ghost use Rattle.model.specs.Sheet.{«word»};
 ghost use Rattle.model.specs.Written.{placed};
-ghost use Rattle.desk.specs.Desk.{sit, leave, lowestFree};
-ghost use Rattle.desk.specs.Layout.{size, long, nodesAt, plansAt, widthAt, seatBytes, deskOf, replyOn, lookOn, bytesAfter};
-ghost use Rattle.desk.specs.Meaning.{means, roomAfter, found};
+ghost use Rattle.desk.specs.Places.{COUNTS, SHEET, SHEET-BYTES, LIST, LIST-BYTES, size};
+ghost use Rattle.desk.specs.Desk.{lowestFree, denied, noCounts};
+ghost use Rattle.desk.specs.Layout.{long, nodesAt, countsAt, plansAt, widthAt, seatBytes, deskOf};
+ghost use Rattle.desk.specs.Meaning.{means, found};
+ghost use Rattle.desk.specs.Calls.{Sat, Looked, Gone};
 
 // The desk's size in bytes.
-pub const DESK_BYTES: usize = 838681;
+pub const DESK_BYTES: usize = 839065;
 
-// A seat's size, and where its sheet and its list stand in it.
-pub const SEAT: usize = 104835;
+// A seat's size, and where it has what: the sheet's length, the limit, how the run stands, its nodes, its plans, the length and the values of its last node,
+// its nodes by variable, the sheet, the list. Its first byte says whether it is taken.
+pub const SEAT: usize = 104883;
 
-pub const SHEET: usize = 27;
+pub const LENGTH: usize = 1;
 
-pub const LIST: usize = 55683;
+pub const LIMIT: usize = 3;
+
+pub const STANDING: usize = 7;
+
+pub const NODES: usize = 8;
+
+pub const PLANS: usize = 12;
+
+pub const DEPTH: usize = 14;
+
+pub const LAST: usize = 15;
+
+pub const COUNTS: usize = 27;
+
+pub const SHEET: usize = 75;
+
+pub const LIST: usize = 55731;
+
+// The most bytes of a sheet.
+pub const SHEET_BYTES: usize = 55656;
 
 // Where the byte stands that says where the next turn begins to look.
-pub const NEXT: usize = 838680;
+pub const NEXT: usize = 839064;
 
 pub enum Answer {
     Seated {
@@ -45,6 +67,12 @@ pub enum Answer {
         number: u8,
         item: usize,
     },
+}
+
+// How a seat stands, and its nodes by variable: twelve counts, 0 after a refusal.
+pub struct Status {
+    pub answer: Answer,
+    pub counts: [u32; 12],
 }
 
 // Copies bytes to a place, one by one.
@@ -96,11 +124,11 @@ pub fn read_long(desk: &[u8], at: usize) -> usize
 
 // The nodes of the seat at p.
 pub fn nodes_at(desk: &[u8], p: usize) -> usize
-    requires { ⌜ p + 11 < length (now desk) ⌝ }
+    requires { ⌜ p + COUNTS < length (now desk) ⌝ }
     ensures { λ r. ⌜ r ≡ nodesAt (now (desk .entry)) p ⌝ }
 {
-    let limit = read_long(desk, p + 3);
-    let made = read_long(desk, p + 8);
+    let limit = read_long(desk, p + LIMIT);
+    let made = read_long(desk, p + NODES);
     if limit < made {
         return limit;
     }
@@ -119,57 +147,60 @@ pub fn byte(desk: &[u8], offset: usize, most: u8) -> u8
     b
 }
 
-// The bytes of the plans that the seat at p has listed.
-fn list_length(desk: &[u8], p: usize) -> usize
-    requires { ⌜ p + 28 < length (now desk) ⌝ }
-    ensures { λ r. ⌜ (r ≡ plansAt (now (desk .entry)) p * widthAt (now (desk .entry)) p) × (r ≤ 49152) ⌝ }
+// The lesser of a number and another of 32 bits.
+fn capped(n: usize, most: u32) -> u32
+    ensures { λ r. ⌜ r ≡ min most n ⌝ }
 {
-    bounded(desk, p + 12, 4096) * bounded(desk, p + SHEET, 12)
+    if n < most as usize {
+        return n as u32;
+    }
+    most
 }
 
-// Puts a newcomer's sheet and limit into the seat at p.
+// The nodes by variable of the seat at p, none of them more than all its nodes.
+pub fn counts_at(desk: &[u8], p: usize) -> [u32; 12]
+    requires { ⌜ p + SHEET ≤ length (now desk) ⌝ }
+    ensures { λ r. ⌜ r ≡ countsAt (now (desk .entry)) p ⌝ }
+{
+    let nodes = nodes_at(desk, p) as u32;
+    let mut counts = [0u32; 12];
+    let mut x = 0;
+    while x < 12 {
+        counts[x] = capped(read_long(desk, p + COUNTS + 4 * x), nodes);
+        x += 1;
+    }
+    counts
+}
+
+// The bytes of the plans that the seat at p has listed.
+fn list_length(desk: &[u8], p: usize) -> usize
+    requires { ⌜ p + LIST < length (now desk) ⌝ }
+    ensures { λ r. ⌜ (r ≡ plansAt (now (desk .entry)) p * widthAt (now (desk .entry)) p) × (r ≤ LIST-BYTES) ⌝ }
+{
+    bounded(desk, p + PLANS, 4096) * bounded(desk, p + SHEET, 12)
+}
+
+// Puts a newcomer's sheet and limit into the seat at p, whose run stands at its start.
 fn fill(desk: &mut [u8], p: usize, sheet: &[u8], limit: u32)
-    requires { ⌜ (p + 27 + length (now sheet) ≤ length (now desk)) × (length (now sheet) ≤ 55656) ⌝ }
+    requires { ⌜ (p + SHEET + length (now sheet) ≤ length (now desk)) × (length (now sheet) ≤ SHEET-BYTES) ⌝ }
     ensures { λ _. ⌜ now (desk .exit) ≡ placed (now (desk .entry)) p (seatBytes (now (sheet .entry)) limit) ⌝ }
 {
     let n = sheet.len();
-    let head = [
-        1,
-        (n % 256) as u8,
-        (n / 256) as u8,
-        (limit % 256) as u8,
-        (limit / 256 % 256) as u8,
-        (limit / 65536 % 256) as u8,
-        (limit / 16777216) as u8,
-        0,
-        0,
-        0,
-        0,
-        0,
-        0,
-        0,
-        0,
-        0,
-        0,
-        0,
-        0,
-        0,
-        0,
-        0,
-        0,
-        0,
-        0,
-        0,
-        0,
-    ];
+    let mut head = [0u8; SHEET];
+    head[0] = 1;
+    head[LENGTH] = (n % 256) as u8;
+    head[LENGTH + 1] = (n / 256) as u8;
+    head[LIMIT] = (limit % 256) as u8;
+    head[LIMIT + 1] = (limit / 256 % 256) as u8;
+    head[LIMIT + 2] = (limit / 65536 % 256) as u8;
+    head[LIMIT + 3] = (limit / 16777216) as u8;
     place(&head, desk, p);
     place(sheet, desk, p + SHEET);
 }
 
 // Sits down at the lowest free seat with a sheet and a limit (the paper's allowance).
 pub fn sit(desk: &mut [u8], sheet: &[u8], limit: u32) -> Answer
-    ensures { λ r. ⌜ means r [] ≡ replyOn (now (desk .entry)) (sit (now (sheet .entry)) limit) ⌝ }
-    ensures { λ _. ⌜ now (desk .exit) ≡ bytesAfter (now (desk .entry)) (sit (now (sheet .entry)) limit) ⌝ }
+    ensures { λ r. ⌜ Sat (now (desk .entry)) (now (sheet .entry)) limit (now (desk .exit)) r ⌝ }
 {
     if desk.len() != DESK_BYTES {
         return Answer::Refused {
@@ -192,42 +223,45 @@ pub fn sit(desk: &mut [u8], sheet: &[u8], limit: u32) -> Answer
     Answer::Seated { seat: k }
 }
 
+// A refusal in place of how a seat stands.
+fn unseen(number: u8) -> Status
+    ensures { λ r. ⌜ (means (r .answer) [] ≡ denied number 0) × (r .counts ≡ noCounts) ⌝ }
+{
+    Status {
+        answer: Answer::Refused { number, item: 0 },
+        counts: [0; 12],
+    }
+}
+
 // How a seat stands.
-pub fn look(desk: &[u8], seat: u32) -> Answer
-    ensures { λ r. ⌜ means r [] ≡ lookOn (now (desk .entry)) seat ⌝ }
+pub fn look(desk: &[u8], seat: u32) -> Status
+    ensures { λ r. ⌜ Looked (now (desk .entry)) seat r ⌝ }
 {
     if desk.len() != DESK_BYTES {
-        return Answer::Refused {
-            number: 255,
-            item: 0,
-        };
+        return unseen(255);
     }
     if 8 <= seat {
-        return Answer::Refused {
-            number: 38,
-            item: 0,
-        };
+        return unseen(38);
     }
     let p = SEAT * seat as usize;
     if desk[p] == 0 {
-        return Answer::Refused {
-            number: 38,
-            item: 0,
-        };
+        return unseen(38);
     }
-    Answer::Stands {
+    let answer = Answer::Stands {
         seat: seat as usize,
-        standing: byte(desk, p + 7, 3),
-        plans: bounded(desk, p + 12, 4096),
+        standing: byte(desk, p + STANDING, 3),
+        plans: bounded(desk, p + PLANS, 4096),
         nodes: nodes_at(desk, p),
+    };
+    Status {
+        answer,
+        counts: counts_at(desk, p),
     }
 }
 
 // Leaves a seat: the plans listed so far go to the front of the room.
 pub fn leave(desk: &mut [u8], seat: u32, room: &mut [u8]) -> Answer
-    ensures { λ r. ⌜ means r (now (room .exit)) ≡ replyOn (now (desk .entry)) (leave seat (now (room .entry))) ⌝ }
-    ensures { λ _. ⌜ now (room .exit) ≡ roomAfter (replyOn (now (desk .entry)) (leave seat (now (room .entry)))) (now (room .entry)) ⌝ }
-    ensures { λ _. ⌜ now (desk .exit) ≡ bytesAfter (now (desk .entry)) (leave seat (now (room .entry))) ⌝ }
+    ensures { λ r. ⌜ Gone (now (desk .entry)) seat (now (room .entry)) (now (desk .exit)) (now (room .exit)) r ⌝ }
 {
     if desk.len() != DESK_BYTES {
         return Answer::Refused {

@@ -1,47 +1,75 @@
 -- What the desk's exported calls answer: a reply's numbers fit the code and the answer; answers of the length asked and of another. Assumes nothing.
-use mathlib.Core.Path.{_≡_, refl, sym, ap, _∙_, subst}
+use mathlib.Core.Path.{_≡_, refl, sym, ap, ap₂, _∙_, subst}
 use mathlib.Core.Bool.{Bool, true, false}
-use mathlib.Core.List.{List, [], Memᴰ·of-map}
+use mathlib.Core.List.{List, [], _++_, Memᴰ·of-map}
 use Prim.Native.Nat.{ℕ, zero, suc, _+_, _*_, _%_, _≤_, _<_, min}
 use native.Mathlib.Nat.{mul-le-mul}
 use native.Mathlib.Omega.{arith}
 use lib.Dec.{eqb, ltb}
-use lib.ListN.{length}
+use lib.ListN.{length, length-append}
 use borrow.Author.Tests.{eq-eqb, ne-eqb, eqb-true, eqb-false, ltb-true, ltb-false}
 use Rattle.model.specs.Lists.{at, choose, below}
 use Rattle.model.specs.Verdict.{Verdict, accepted, refused}
 use Rattle.model.specs.Sheet.{verdictOf}
 use Rattle.model.specs.Bytes.{fourBytes}
 use Rattle.model.specs.Written.{Written}
-use Rattle.model.proofs.Lists.{below-e}
+use Rattle.model.proofs.Lists.{below-e, at-replicate}
 use Rattle.model.proofs.Room.{length-flat}
 use Rattle.model.proofs.Written.{written-then}
 use Rattle.wire.specs.Wire.{wrongLength, threeNumbers}
 use Rattle.wire.proofs.Codes.{Small, verdict-small}
 use Rattle.wire.proofs.Numbers.{whole}
-use Rattle.desk.specs.Desk.{Hall, hallTurned, Seat, free, taken, isFree, waits, seatTurned, seatAt, Found, none-found, seat, lowestFree, roundFrom, toServe, DeskCall, sit, turn, leave, DeskReply, denied, servedAs, sitReply, turnReply, fits, leaveFor, leaveReply, lookFor, RoundsReply, not-given, roundsReply}
-use Rattle.desk.specs.Layout.{size, seatPlace, standingBy, standingByte, widthAt, hallAt, deskOf, replyOn, lookOn, bytesAfter, roundsOn, roundsAfter}
+use Rattle.desk.specs.Desk.{Hall, hallTurned, Seat, free, taken, isFree, waits, seatTurned, seatAt, Found, none-found, seat, lowestFree, roundFrom, toServe, DeskCall, sit, turn, leave, DeskReply, denied, servedAs, sitReply, turnReply, fits, leaveFor, leaveReply, lookFor, noCounts, countsOf, RoundsReply, not-given, roundsReply}
+use Rattle.desk.specs.Places.{LIMIT, size}
+use Rattle.desk.specs.Layout.{seatPlace, standingBy, widthAt, hallAt, deskOf, replyOn, lookOn, countsOn, bytesAfter, roundsOn, roundsAfter}
 use Rattle.desk.specs.Meaning.{means, roomAfter}
 use Rattle.desk.specs.declared.Answer.{Answer}
 use Rattle.desk.specs.declared.Answer.the-variants.{Seated, Idle, Stands, Left, Refused}
 use Rattle.desk.proofs.Desk.{first-in}
 use Rattle.desk.proofs.Seats.{long-small, seat-in, seat-out, free-at, taken-at}
 use Rattle.desk.proofs.Turning.{Fits, at-fits, turned-fits}
-use Rattle.export_desk.specs.Told.{fourNumbers, replyCode, replyAnswer, answerLength, deskCode, deskBytes, deskAnswer, leaveRoom, lookCode, lookAnswer, roundsReplyCode, roundsReplyAnswer, roundsCode, roundsDesk, roundsAnswer, Holds}
+use Rattle.export_lent.specs.Tallied.{numbersOf}
+use Rattle.export_lent.specs.Inner.{Twelve}
+use Rattle.export_lent.proofs.Tallied.{length-numbers}
+use Rattle.export_desk.specs.Told.{fourNumbers, kindOf, replyCode, replyAnswer, answerLength, deskCode, deskBytes, deskAnswer, leaveRoom, lookBytes, lookCode, lookAnswer, roundsReplyCode, roundsReplyAnswer, roundsCode, roundsDesk, roundsAnswer, CallDesk, CallLeave, CallLook, CallRounds, Holds, Sees}
 
 -- ---- four numbers
-pub put-four : {d e : List ℕ} {r : ℕ} {f : List ℕ} {s : ℕ} {g : List ℕ} {t : ℕ} {h : List ℕ} {u : ℕ} (kind a b c : ℕ) → length d ≡ 16 → Written d 0 (fourBytes kind) e r → Written e r (fourBytes a) f s → Written f s (fourBytes b) g t → Written g t (fourBytes c) h u →
-    h ≡ fourNumbers kind a b c
+pub put-four : {d e : List ℕ} {r : ℕ} {f : List ℕ} {s : ℕ} {g : List ℕ} {t : ℕ} {h : List ℕ} {u : ℕ} (kind a b c : ℕ) → 16 ≤ length d → Written d 0 (fourBytes kind) e r → Written e r (fourBytes a) f s → Written f s (fourBytes b) g t → Written g t (fourBytes c) h u →
+    Written d 0 (fourNumbers kind a b c) h u
 unfolding fourBytes threeNumbers fourNumbers
 put-four kind a b c l w x y z =
-    whole (sym l) (written-then (omega (arith, w .ends, x .ends, y .ends)) (written-then (omega (arith, w .ends, x .ends)) (written-then (omega (arith, w .ends)) w x) y) z)
+    written-then (omega (arith, w .ends, x .ends, y .ends)) (written-then (omega (arith, w .ends, x .ends)) (written-then (omega (arith, w .ends)) w x) y) z
+
+pub sixteen : {n : ℕ} → n ≡ 16 → 16 ≤ n
+sixteen e = omega arith
+
+pub all-four : {d h : List ℕ} {u : ℕ} (kind a b c : ℕ) → length d ≡ 16 → Written d 0 (fourNumbers kind a b c) h u → h ≡ fourNumbers kind a b c
+unfolding fourBytes threeNumbers fourNumbers
+all-four kind a b c l w = whole (sym l) w
+
+four-length : (kind a b c : ℕ) → length (fourNumbers kind a b c) ≡ 16
+unfolding fourBytes threeNumbers fourNumbers
+four-length kind a b c = refl
+
+-- with twelve counts behind them
+pub all-counts : {d h : List ℕ} {u : ℕ} {e : List ℕ} {v : ℕ} (kind a b c : ℕ) (ks : List ℕ) → length d ≡ 64 → length ks ≡ 12 → Written d 0 (fourNumbers kind a b c) h u → Written h u (numbersOf ks) e v → e ≡ fourNumbers kind a b c ++ numbersOf ks
+all-counts kind a b c ks l n w x =
+    let m = four-length kind a b c in
+    whole (omega (arith, length-append (fourNumbers kind a b c) (numbersOf ks), length-numbers ks)) (written-then (omega (arith, w .ends)) w x)
+
+pub after-four : {d h : List ℕ} {u : ℕ} (kind a b c : ℕ) → Written d 0 (fourNumbers kind a b c) h u → u ≡ 16
+after-four kind a b c w = let m = four-length kind a b c in omega (arith, w .ends)
 
 -- the kind of a seat that stands so
-pub kind-is : (standing plans nodes : ℕ) → 1 + min 3 standing ≡ 1 + standingByte (standingBy standing plans nodes)
-kind-is zero plans nodes = refl
-kind-is (suc zero) plans nodes = refl
-kind-is (suc (suc zero)) plans nodes = refl
-kind-is (suc (suc (suc k))) plans nodes = omega arith
+pub kind-runs : (standing plans nodes : ℕ) → standing ≡ 0 → 4 ≡ kindOf (standingBy standing plans nodes)
+kind-runs zero plans nodes e = refl
+kind-runs (suc k) plans nodes e = absurd (omega arith)
+
+pub kind-ends : (standing plans nodes : ℕ) → (standing ≡ 0 → ⊥) → min 3 standing ≡ kindOf (standingBy standing plans nodes)
+kind-ends zero plans nodes n = absurd (n refl)
+kind-ends (suc zero) plans nodes n = refl
+kind-ends (suc (suc zero)) plans nodes n = refl
+kind-ends (suc (suc (suc k))) plans nodes n = omega arith
 
 -- the room does not matter to them
 pub code-any : (r : Answer) (room : List ℕ) → replyCode (means r []) ≡ replyCode (means r room)
@@ -66,6 +94,10 @@ holds-any (Left bytes) room n h = h
 holds-any (Refused number item) room n h = h
 
 -- ---- a reply fits
+none-twelve : Twelve noCounts
+unfolding at
+none-twelve = record { long = refl; small = λ i. let z = at-replicate 12 i in omega arith }
+
 module _ (b : List ℕ) (small : (i : ℕ) → at b i < 256) where
   sized : (x : DeskReply) (n : ℕ) → (length b ≡ size → Holds x n) → Holds (choose (eqb (length b) size) x (denied 255 0)) n
   sized x n h = go (eqb (length b) size) refl
@@ -93,10 +125,19 @@ module _ (b : List ℕ) (small : (i : ℕ) → at b i < 256) where
         go true x false y = let l = ltb-true k 8 x in subst P (sym (seat-in b k l ∙ taken-at b k (eqb-false (at b (seatPlace k)) 0 y))) (g l)
 
     hall-holds : (k p : ℕ) (h : Hall) → k < 8 → Fits b p h → Holds (servedAs k (taken h)) 16
-    hall-holds k p h l f = let n = f .few in let a = f .allowed in let m = f .limited in let z = long-small b small (p + 3) in (refl, omega arith, omega arith, omega arith)
+    hall-holds k p h l f = let n = f .few in let a = f .allowed in let m = f .limited in let z = long-small b small (p + LIMIT) in (refl, omega arith, omega arith, omega arith)
 
-    look-fits : (k : ℕ) → Holds (lookFor k (seatAt (deskOf b) k)) 16
-    look-fits k = by-seat (λ s. Holds (lookFor k s) 16) k (omega arith) (λ l. hall-holds k (seatPlace k) (hallAt b (seatPlace k)) l (hall-fits k l))
+    look-fits : (k : ℕ) → Sees (lookFor k (seatAt (deskOf b) k)) 64
+    look-fits k = by-seat (λ s. Sees (lookFor k s) 64) k (omega arith) (λ l. let h = hall-holds k (seatPlace k) (hallAt b (seatPlace k)) l (hall-fits k l) in (refl, h .1, h .2, h .3))
+
+    counts-fit : (k : ℕ) → Twelve (countsOf (seatAt (deskOf b) k))
+    unfolding at
+    counts-fit k = by-seat (λ s. Twelve (countsOf s)) k none-twelve (λ l.
+        let f = hall-fits k l in
+        let z = long-small b small (seatPlace k + LIMIT) in
+        let a = f .allowed in
+        let e = f .limited in
+        record { long = f .twelve; small = λ i. let n = f .counted i in omega arith })
 
     leave-fits : (k : ℕ) (room : List ℕ) → Holds (leaveReply (seatAt (deskOf b) k) room) 12
     leave-fits k room = by-seat (λ s. Holds (leaveReply s room) 12) k (omega arith) (λ l. go (fits (hallAt b (seatPlace k)) room) (hall-fits k l))
@@ -129,9 +170,21 @@ module _ (b : List ℕ) (small : (i : ℕ) → at b i < 256) where
   unfolding replyOn
   turn-reply = sized (turnReply (toServe (deskOf b)) (deskOf b)) 16 (λ e. turn-holds e (toServe (deskOf b)) refl)
 
-  pub look-reply : (k : ℕ) → Holds (lookOn b k) 16
+  pub look-reply : (k : ℕ) → Sees (lookOn b k) 64
   unfolding lookOn
-  look-reply k = sized (lookFor k (seatAt (deskOf b) k)) 16 (λ e. look-fits e k)
+  look-reply k = go (eqb (length b) size) refl
+    where
+      go : (t : Bool) → eqb (length b) size ≡ t → Sees (choose t (lookFor k (seatAt (deskOf b) k)) (denied 255 0)) 64
+      go true e = look-fits (eqb-true (length b) size e) k
+      go false e = omega arith
+
+  pub look-twelve : (k : ℕ) → Twelve (countsOn b k)
+  unfolding countsOn
+  look-twelve k = go (eqb (length b) size) refl
+    where
+      go : (t : Bool) → eqb (length b) size ≡ t → Twelve (choose t (countsOf (seatAt (deskOf b) k)) noCounts)
+      go true e = counts-fit (eqb-true (length b) size e) k
+      go false e = none-twelve
 
   pub leave-reply : (k : ℕ) (room : List ℕ) → Holds (replyOn b (leave k room)) 12
   unfolding replyOn
@@ -146,43 +199,49 @@ module _ {A : Type 0} (yes other : A) (answer : List ℕ) (n : ℕ) where
   full h = sym (ap (λ (t : Bool). choose t yes other) (eq-eqb (length answer) n h))
 
 module _ (b : List ℕ) (x : DeskCall) (answer : List ℕ) where
-  -- the three things said of a call that may change the desk
-  abbrev pub Answered : ℕ → List ℕ → List ℕ → Type 0
-  Answered n c d = (n ≡ deskCode b x answer) × ((c ≡ deskBytes b x answer) × (d ≡ deskAnswer b x answer))
-
-  pub unanswered : (length answer ≡ answerLength x → ⊥) → Answered 65280 b answer
+  pub unanswered : (length answer ≡ answerLength x → ⊥) → CallDesk b x answer 65280 b answer
   unfolding deskCode deskBytes deskAnswer
-  unanswered h = (short (replyCode (replyOn b x)) wrongLength answer (answerLength x) h, (short (bytesAfter b x) b answer (answerLength x) h, short (replyAnswer (replyOn b x) answer) answer answer (answerLength x) h))
+  unanswered h = record {
+    code = short (replyCode (replyOn b x)) wrongLength answer (answerLength x) h;
+    bytes = short (bytesAfter b x) b answer (answerLength x) h;
+    told = short (replyAnswer (replyOn b x) answer) answer answer (answerLength x) h;
+  }
 
-  pub answered : length answer ≡ answerLength x → (r : DeskReply) → r ≡ replyOn b x → (n : ℕ) (c d : List ℕ) → n ≡ replyCode r → c ≡ bytesAfter b x → d ≡ replyAnswer r answer → Answered n c d
+  pub answered : length answer ≡ answerLength x → (r : DeskReply) → r ≡ replyOn b x → (n : ℕ) (c d : List ℕ) → n ≡ replyCode r → c ≡ bytesAfter b x → d ≡ replyAnswer r answer → CallDesk b x answer n c d
   unfolding deskCode deskBytes deskAnswer
-  answered h r e n c d f g i = (
-    f ∙ ap replyCode e ∙ full (replyCode (replyOn b x)) wrongLength answer (answerLength x) h,
-    (g ∙ full (bytesAfter b x) b answer (answerLength x) h, i ∙ ap (λ (q : DeskReply). replyAnswer q answer) e ∙ full (replyAnswer (replyOn b x) answer) answer answer (answerLength x) h),
-  )
+  answered h r e n c d f g i = record {
+    code = f ∙ ap replyCode e ∙ full (replyCode (replyOn b x)) wrongLength answer (answerLength x) h;
+    bytes = g ∙ full (bytesAfter b x) b answer (answerLength x) h;
+    told = i ∙ ap (λ (q : DeskReply). replyAnswer q answer) e ∙ full (replyAnswer (replyOn b x) answer) answer answer (answerLength x) h;
+  }
 
 -- a look changes nothing
 module _ (b : List ℕ) (k : ℕ) (answer : List ℕ) where
-  abbrev pub Looked : ℕ → List ℕ → Type 0
-  Looked n d = (n ≡ lookCode b k answer) × (d ≡ lookAnswer b k answer)
-
-  pub unlooked : (length answer ≡ 16 → ⊥) → Looked 65280 answer
+  pub unlooked : (length answer ≡ 64 → ⊥) → CallLook b k answer 65280 answer
   unfolding lookCode lookAnswer
-  unlooked h = (short (replyCode (lookOn b k)) wrongLength answer 16 h, short (replyAnswer (lookOn b k) answer) answer answer 16 h)
+  unlooked h = record { code = short (replyCode (lookOn b k)) wrongLength answer 64 h; told = short (lookBytes (lookOn b k) (countsOn b k) answer) answer answer 64 h }
 
-  pub looked : length answer ≡ 16 → (r : DeskReply) → r ≡ lookOn b k → (n : ℕ) (d : List ℕ) → n ≡ replyCode r → d ≡ replyAnswer r answer → Looked n d
+  pub looked : length answer ≡ 64 → (r : DeskReply) (counts : List ℕ) → r ≡ lookOn b k → counts ≡ countsOn b k → (n : ℕ) (d : List ℕ) → n ≡ replyCode r → d ≡ lookBytes r counts answer → CallLook b k answer n d
   unfolding lookCode lookAnswer
-  looked h r e n d f i = (f ∙ ap replyCode e ∙ full (replyCode (lookOn b k)) wrongLength answer 16 h, i ∙ ap (λ (q : DeskReply). replyAnswer q answer) e ∙ full (replyAnswer (lookOn b k) answer) answer answer 16 h)
+  looked h r counts e g n d f i = record {
+    code = f ∙ ap replyCode e ∙ full (replyCode (lookOn b k)) wrongLength answer 64 h;
+    told = i ∙ ap₂ (λ (q : DeskReply) (l : List ℕ). lookBytes q l answer) e g ∙ full (lookBytes (lookOn b k) (countsOn b k) answer) answer answer 64 h;
+  }
 
 -- a hall that leaves may change its room too
 module _ (b : List ℕ) (k : ℕ) (room answer : List ℕ) where
-  pub unleft : (length answer ≡ 12 → ⊥) → room ≡ leaveRoom b k room answer
+  pub unleft : (length answer ≡ 12 → ⊥) → CallLeave b k room answer 65280 b room answer
   unfolding leaveRoom
-  unleft h = short (roomAfter (replyOn b (leave k room)) room) room answer 12 h
+  unleft h =
+      let u = unanswered b (leave k room) answer h in
+      record { code = u .code; bytes = u .bytes; written = short (roomAfter (replyOn b (leave k room)) room) room answer 12 h; told = u .told }
 
-  pub left-room : length answer ≡ 12 → (out : List ℕ) → out ≡ roomAfter (replyOn b (leave k room)) room → out ≡ leaveRoom b k room answer
+  pub left-room : length answer ≡ 12 → (r : DeskReply) → r ≡ replyOn b (leave k room) → (n : ℕ) (c out d : List ℕ) → n ≡ replyCode r → c ≡ bytesAfter b (leave k room) → out ≡ roomAfter (replyOn b (leave k room)) room → d ≡ replyAnswer r answer →
+      CallLeave b k room answer n c out d
   unfolding leaveRoom
-  left-room h out e = e ∙ full (roomAfter (replyOn b (leave k room)) room) room answer 12 h
+  left-room h r e n c out d f g o i =
+      let u = answered b (leave k room) answer h r e n c d f g i in
+      record { code = u .code; bytes = u .bytes; written = o ∙ full (roomAfter (replyOn b (leave k room)) room) room answer 12 h; told = u .told }
 
 -- ---- rounds
 pub refused-item : (b : List ℕ) (r number item : ℕ) → not-given number item ≡ roundsOn b r → item < 256
@@ -194,16 +253,18 @@ refused-item b r number item e = go (eqb (length b) size) e
     go false f = let z : item ≡ 0 = cc in omega arith
 
 module _ (b : List ℕ) (r : ℕ) (answer : List ℕ) where
-  abbrev pub Rounded : ℕ → List ℕ → List ℕ → Type 0
-  Rounded n c d = (n ≡ roundsCode b r answer) × ((c ≡ roundsDesk b r answer) × (d ≡ roundsAnswer b r answer))
-
-  pub unrounded : (length answer ≡ 12 → ⊥) → Rounded 65280 b answer
+  pub unrounded : (length answer ≡ 12 → ⊥) → CallRounds b r answer 65280 b answer
   unfolding roundsCode roundsDesk roundsAnswer
-  unrounded h = (short (roundsReplyCode (roundsOn b r)) wrongLength answer 12 h, (short (roundsAfter b r) b answer 12 h, short (roundsReplyAnswer (roundsOn b r) answer) answer answer 12 h))
+  unrounded h = record {
+    code = short (roundsReplyCode (roundsOn b r)) wrongLength answer 12 h;
+    bytes = short (roundsAfter b r) b answer 12 h;
+    told = short (roundsReplyAnswer (roundsOn b r) answer) answer answer 12 h;
+  }
 
-  pub rounded : length answer ≡ 12 → (x : RoundsReply) → x ≡ roundsOn b r → (n : ℕ) (c d : List ℕ) → n ≡ roundsReplyCode x → c ≡ roundsAfter b r → d ≡ roundsReplyAnswer x answer → Rounded n c d
+  pub rounded : length answer ≡ 12 → (x : RoundsReply) → x ≡ roundsOn b r → (n : ℕ) (c d : List ℕ) → n ≡ roundsReplyCode x → c ≡ roundsAfter b r → d ≡ roundsReplyAnswer x answer → CallRounds b r answer n c d
   unfolding roundsCode roundsDesk roundsAnswer
-  rounded h x e n c d f g i = (
-    f ∙ ap roundsReplyCode e ∙ full (roundsReplyCode (roundsOn b r)) wrongLength answer 12 h,
-    (g ∙ full (roundsAfter b r) b answer 12 h, i ∙ ap (λ (q : RoundsReply). roundsReplyAnswer q answer) e ∙ full (roundsReplyAnswer (roundsOn b r) answer) answer answer 12 h),
-  )
+  rounded h x e n c d f g i = record {
+    code = f ∙ ap roundsReplyCode e ∙ full (roundsReplyCode (roundsOn b r)) wrongLength answer 12 h;
+    bytes = g ∙ full (roundsAfter b r) b answer 12 h;
+    told = i ∙ ap (λ (q : RoundsReply). roundsReplyAnswer q answer) e ∙ full (roundsReplyAnswer (roundsOn b r) answer) answer answer 12 h;
+  }

@@ -2,37 +2,44 @@
 // first. Each function answers 0; or a refusal, and then every buffer is as it came; or, asked first, 255 times 256 where the answer or the desk has
 // another length than is asked.
 use desk::Answer;
+use export_lent::counts;
 use serve::Reply;
 use wire::code;
 use wire::four;
 use wire::three;
 ghost use mathlib.Core.Path.{_≡_};
 ghost use mathlib.Core.List.{[]};
-ghost use Prim.Native.Nat.{_+_, _^_, _<_, min};
+ghost use Prim.Native.Nat.{ℕ, _^_, _≤_, _<_};
 ghost use lib.ListN.{length};
-ghost use Rattle.desk.specs.Desk.{sit, turn, leave};
+ghost use Rattle.model.specs.Written.{Written};
+ghost use Rattle.desk.specs.Desk.{sit, turn};
+ghost use Rattle.desk.specs.Layout.{standingBy};
 ghost use Rattle.desk.specs.Meaning.{means};
-ghost use Rattle.export_desk.specs.Told.{fourNumbers, replyCode, replyAnswer, deskCode, deskBytes, deskAnswer, leaveRoom, lookCode, lookAnswer, roundsCode, roundsDesk, roundsAnswer, Holds};
+ghost use Rattle.export_lent.specs.Inner.{Twelve};
+ghost use Rattle.export_desk.specs.Told.{fourNumbers, kindOf, replyCode, replyAnswer, lookBytes, CallDesk, CallLeave, CallLook, CallRounds, Holds, Sees};
 
-// Puts four numbers.
-fn numbers(answer: &mut [u8], kind: usize, a: usize, b: usize, c: usize)
-    requires { ⌜ (length (now answer) ≡ 16) × (kind < 2 ^ 32) × (a < 2 ^ 32) × (b < 2 ^ 32) × (c < 2 ^ 32) ⌝ }
-    ensures { λ _. ⌜ now (answer .exit) ≡ fourNumbers kind a b c ⌝ }
+// Puts four numbers at the front; answers the place after them.
+fn numbers(answer: &mut [u8], kind: usize, a: usize, b: usize, c: usize) -> usize
+    requires { ⌜ (16 ≤ length (now answer)) × (kind < 2 ^ 32) × (a < 2 ^ 32) × (b < 2 ^ 32) × (c < 2 ^ 32) ⌝ }
+    ensures { λ r. ⌜ Written (now (answer .entry)) 0 (fourNumbers kind a b c) (now (answer .exit)) r ⌝ }
 {
     let first = four(answer, 0, kind);
     let second = four(answer, first, a);
     let third = four(answer, second, b);
-    four(answer, third, c);
+    four(answer, third, c)
 }
 
-// The kind of a seat: 1 running, 2 finished, 3 spent, 4 full.
+// The kind of a seat: 1 finished, 2 spent, 3 full, 4 running.
 fn kind(standing: u8) -> usize
-    ensures { λ r. ⌜ r ≡ 1 + min 3 standing ⌝ }
+    ensures { λ r. ⌜ ((plans nodes : ℕ) → r ≡ kindOf (standingBy standing plans nodes)) × (r < 5) ⌝ }
 {
-    if standing < 3 {
-        return 1 + standing as usize;
+    if standing == 0 {
+        return 4;
     }
-    4
+    if standing < 3 {
+        return standing as usize;
+    }
+    3
 }
 
 // A reply as the returned number and the answer.
@@ -67,11 +74,33 @@ fn told(answer: &mut [u8], r: Answer) -> u32
     }
 }
 
+// How a seat stands as the returned number and the answer, with its counts.
+fn seen(answer: &mut [u8], r: Answer, counts: [u32; 12]) -> u32
+    requires { ⌜ Sees (means r []) (length (now answer)) × Twelve counts ⌝ }
+    ensures { λ n. ⌜ n ≡ replyCode (means r []) ⌝ }
+    ensures { λ _. ⌜ now (answer .exit) ≡ lookBytes (means r []) counts (now (answer .entry)) ⌝ }
+{
+    match r {
+        Answer::Refused { number, item } => code(number, item),
+        Answer::Stands {
+            seat,
+            standing,
+            plans,
+            nodes,
+        } => {
+            let after = numbers(answer, kind(standing), seat, plans, nodes);
+            counts::numbers(answer, after, counts);
+            0
+        }
+        Answer::Seated { seat } => 0,
+        Answer::Idle => 0,
+        Answer::Left { bytes } => 0,
+    }
+}
+
 // Sits down at the lowest free seat. The answer has 12 bytes: 1, the seat, 0.
 pub fn sit(desk: &mut [u8], sheet: &[u8], limit: u32, answer: &mut [u8]) -> u32
-    ensures { λ r. ⌜ r ≡ deskCode (now (desk .entry)) (sit (now (sheet .entry)) limit) (now (answer .entry)) ⌝ }
-    ensures { λ _. ⌜ now (desk .exit) ≡ deskBytes (now (desk .entry)) (sit (now (sheet .entry)) limit) (now (answer .entry)) ⌝ }
-    ensures { λ _. ⌜ now (answer .exit) ≡ deskAnswer (now (desk .entry)) (sit (now (sheet .entry)) limit) (now (answer .entry)) ⌝ }
+    ensures { λ r. ⌜ CallDesk (now (desk .entry)) (sit (now (sheet .entry)) limit) (now (answer .entry)) r (now (desk .exit)) (now (answer .exit)) ⌝ }
 {
     if answer.len() != 12 {
         return 65280;
@@ -83,9 +112,7 @@ pub fn sit(desk: &mut [u8], sheet: &[u8], limit: u32, answer: &mut [u8]) -> u32
 // Gives a turn to the next seat whose run hasn't ended. The answer has 16 bytes: its kind, its number, its plans, its nodes (the paper's trials); four
 // zeros where no run waits.
 pub fn turn(desk: &mut [u8], answer: &mut [u8]) -> u32
-    ensures { λ r. ⌜ r ≡ deskCode (now (desk .entry)) turn (now (answer .entry)) ⌝ }
-    ensures { λ _. ⌜ now (desk .exit) ≡ deskBytes (now (desk .entry)) turn (now (answer .entry)) ⌝ }
-    ensures { λ _. ⌜ now (answer .exit) ≡ deskAnswer (now (desk .entry)) turn (now (answer .entry)) ⌝ }
+    ensures { λ r. ⌜ CallDesk (now (desk .entry)) turn (now (answer .entry)) r (now (desk .exit)) (now (answer .exit)) ⌝ }
 {
     if answer.len() != 16 {
         return 65280;
@@ -97,9 +124,7 @@ pub fn turn(desk: &mut [u8], answer: &mut [u8]) -> u32
 // Gives each seat whose run hasn't ended up to so many turns. The answer has 12 bytes: 1, the seats whose run ended, those whose run goes on, bit k for
 // seat k.
 pub fn rounds(desk: &mut [u8], turns: u32, answer: &mut [u8]) -> u32
-    ensures { λ r. ⌜ r ≡ roundsCode (now (desk .entry)) turns (now (answer .entry)) ⌝ }
-    ensures { λ _. ⌜ now (desk .exit) ≡ roundsDesk (now (desk .entry)) turns (now (answer .entry)) ⌝ }
-    ensures { λ _. ⌜ now (answer .exit) ≡ roundsAnswer (now (desk .entry)) turns (now (answer .entry)) ⌝ }
+    ensures { λ r. ⌜ CallRounds (now (desk .entry)) turns (now (answer .entry)) r (now (desk .exit)) (now (answer .exit)) ⌝ }
 {
     if answer.len() != 12 {
         return 65280;
@@ -114,24 +139,22 @@ pub fn rounds(desk: &mut [u8], turns: u32, answer: &mut [u8]) -> u32
     }
 }
 
-// How a seat stands. The answer has 16 bytes: its kind, its number, its plans, its nodes.
+// How a seat stands. The answer has 64 bytes: its kind, its number, its plans, its nodes, and these by variable, twelve counts.
 pub fn look(desk: &[u8], seat: u32, answer: &mut [u8]) -> u32
-    ensures { λ r. ⌜ r ≡ lookCode (now (desk .entry)) seat (now (answer .entry)) ⌝ }
-    ensures { λ _. ⌜ now (answer .exit) ≡ lookAnswer (now (desk .entry)) seat (now (answer .entry)) ⌝ }
+    ensures { λ r. ⌜ CallLook (now (desk .entry)) seat (now (answer .entry)) r (now (answer .exit)) ⌝ }
 {
-    if answer.len() != 16 {
+    if answer.len() != 64 {
         return 65280;
     }
-    let r = desk::look(desk, seat);
-    told(answer, r)
+    let s = desk::look(desk, seat);
+    let counts = s.counts;
+    let r = s.answer;
+    seen(answer, r, counts)
 }
 
 // Leaves a seat: the plans listed so far go to the front of the room. The answer has 12 bytes: 1, the bytes written, 0.
 pub fn leave(desk: &mut [u8], seat: u32, room: &mut [u8], answer: &mut [u8]) -> u32
-    ensures { λ r. ⌜ r ≡ deskCode (now (desk .entry)) (leave seat (now (room .entry))) (now (answer .entry)) ⌝ }
-    ensures { λ _. ⌜ now (desk .exit) ≡ deskBytes (now (desk .entry)) (leave seat (now (room .entry))) (now (answer .entry)) ⌝ }
-    ensures { λ _. ⌜ now (room .exit) ≡ leaveRoom (now (desk .entry)) seat (now (room .entry)) (now (answer .entry)) ⌝ }
-    ensures { λ _. ⌜ now (answer .exit) ≡ deskAnswer (now (desk .entry)) (leave seat (now (room .entry))) (now (answer .entry)) ⌝ }
+    ensures { λ r. ⌜ CallLeave (now (desk .entry)) seat (now (room .entry)) (now (answer .entry)) r (now (desk .exit)) (now (room .exit)) (now (answer .exit)) ⌝ }
 {
     if answer.len() != 12 {
         return 65280;

@@ -16,7 +16,7 @@ use Rattle.model.specs.Problem.{Problem}
 use Rattle.model.specs.Search.{setsAt, nodesBelow, nodes}
 use Rattle.parts.specs.Parts.{after, nodesAfter, nodesBetween, ranges, Cuts, candidatesAt}
 use Rattle.parts.specs.Claims.{Ranges-whole}
-use Rattle.model.proofs.Lists.{T-of, of-T, not-of, of-not, both-r, keep-yes, keep-no, keep-ext, keep-all, keep-none, keep-append, flat-e, Sorted, sorted-keep, sorted-flat-map, sorted-below, below-e}
+use Rattle.model.proofs.Lists.{T-of, of-T, not-of, of-not, both-r, keep-yes, keep-no, keep-all, keep-none, keep-append, flat-e, Sorted, sorted-keep, sorted-flat-map, sorted-below}
 
 -- ---- the order of the search
 pub after-eq : (x : ℕ) (l m : List ℕ) → after (x ∷ l) (x ∷ m) ≡ after l m
@@ -169,24 +169,6 @@ cut-after a b h (x ∷ l) s = go (cut-after a b h l (s .1)) (after b x) refl
         inner false f =
             keep-no (after a) x l f ∙ ih
             ∙ sym (ap₂ (λ (k m : List (List ℕ)). k ++ m) (keep-no between x l (same-test ∙ f)) (keep-no (after b) x l e))
-
--- ---- the members above a value, as a set of their own
-keep-keep : {A : Type 0} (q r : A → Bool) (l : List A) → keep q (keep r l) ≡ keep (λ x. both (r x) (q x)) l
-unfolding keep
-keep-keep q r [] = refl
-keep-keep {A} q r (x ∷ l) = go (r x) refl (keep-keep q r l)
-  where
-    go : (b : Bool) → r x ≡ b → keep q (keep r l) ≡ keep (λ y. both (r y) (q y)) l → keep q (elim b [ true ↦ x ∷ keep r l | false ↦ keep r l ]) ≡ keep (λ y. both (r y) (q y)) (x ∷ l)
-    go true e ih = inner (q x) refl
-      where
-        inner : (c : Bool) → q x ≡ c → keep q (x ∷ keep r l) ≡ keep (λ y. both (r y) (q y)) (x ∷ l)
-        inner true f = keep-yes q x (keep r l) f ∙ ap (λ (m : List A). x ∷ m) ih ∙ sym (keep-yes (λ y. both (r y) (q y)) x l (ap₂ both e f))
-        inner false f = keep-no q x (keep r l) f ∙ ih ∙ sym (keep-no (λ y. both (r y) (q y)) x l (ap₂ both e f))
-    go false e ih = ih ∙ sym (keep-no (λ y. both (r y) (q y)) x l (ap (λ (b : Bool). both b (q x)) e))
-
-pub members-above : (s m v : ℕ) → ((w : ℕ) → w < 16 → has m w ≡ both (has s w) (ltb v w)) → members m ≡ keep (ltb v) (members s)
-unfolding members
-members-above s m v h = keep-ext (has m) (λ w. both (has s w) (ltb v w)) (below 16) (λ w k. h w (below-e 16 w k)) ∙ sym (keep-keep (ltb v) (has s) (below 16))
 
 -- ---- the tree
 module _ (p : Problem) where

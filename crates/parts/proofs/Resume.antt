@@ -1,121 +1,27 @@
--- The nodes after a path as a search makes them, and a run that goes on from its last node (specs/Parts). Holds of every problem. Assumes nothing.
+-- The nodes of a tree as paths, and a run that goes on from its last node (specs/Parts). Holds of every problem. Assumes nothing.
 use mathlib.Core.Path.{_≡_, refl, sym, ap, ap₂, _∙_, subst}
 use mathlib.Core.Bool.{Bool, true, false, not}
 use mathlib.Core.Logic.{_⊎_, inl, inr}
-use mathlib.Core.List.{List, [], _∷_, _++_, map, List·Memᴰ, List·Memᴰ·head, List·Memᴰ·tail, List·Memᴰ·not-nil, Memᴰ·of-map, Memᴰ·map, append-assoc, append-nil}
+use mathlib.Core.List.{List, [], _∷_, _++_, map, List·Memᴰ, List·Memᴰ·head, List·Memᴰ·tail, List·Memᴰ·not-nil, Memᴰ·of-map}
 use Prim.Native.Nat.{ℕ, zero, suc, _+_, _-_, _*_, _≤_, _<_}
 use native.Mathlib.Omega.{arith}
-use lib.Dec.{T, eqb, ltb, leb}
-use lib.ListN.{length, take, drop, length-append}
-use lib.Seq.{append-snoc, take-append-seam, take-add}
-use borrow.Author.Tests.{ltb-true, ltb-false, eqb-true, eqb-false, ne-eqb, lt-ltb, le-ltb}
-use Rattle.model.specs.Lists.{either, any, keep, flat, below, at}
+use lib.Dec.{T, eqb, leb}
+use lib.ListN.{length, take, drop}
+use lib.Seq.{append-snoc, take-add}
+use borrow.Author.Tests.{eqb-true, eqb-false, ne-eqb}
+use Rattle.model.specs.Lists.{any, keep, flat, below, at}
 use Rattle.model.specs.ValueSets.{has, members, anyEmpty}
 use Rattle.model.specs.Problem.{Problem}
 use Rattle.model.specs.Search.{rounds, narrowed, setsAt, isLive, nodesBelow, nodes, isPlan}
-use Rattle.model.specs.Run.{Ending, finished, spent, full, plansIn, Result, search, resultOf}
-use Rattle.parts.specs.Parts.{after, nodesAfter, nodesOf, candidatesAt, nodesLeft, reached, Along, levelNodes, down, lastOf, start, progressAt, goOn, resumed}
+use Rattle.model.specs.Run.{Ending, finished, spent, full, plansIn, Result, search, resultOf, settledBy, countsBy}
+use Rattle.parts.specs.Parts.{after, nodesAfter, candidatesAt, reached, lastOf, start, progressAt, goOn, resumed}
 use Rattle.parts.specs.Claims.{From-cut, In-parts}
-use Rattle.model.proofs.Lists.{T-of, of-T, not-of, of-not, both-i, both-l, both-r, any-cons, among-i, among-e, keep-yes, keep-no, keep-all, keep-none, keep-flat-map, flat-i, flat-e, flat-append, map-append, map-ext, at-seam, Sorted}
-use Rattle.model.proofs.Sets.{has-none}
+use Rattle.model.proofs.Lists.{T-of, not-of, of-not, both-i, among-i, keep-no, keep-all, keep-none, flat-e, Sorted, both-l, both-r, among-e}
+use Rattle.model.proofs.Sets.{has-none, members-e}
 use Rattle.model.proofs.Runs.{turn, search-turn, Ended, the-walk}
-use Rattle.parts.proofs.Parts.{after-ne, after-eq, after-lt, after-front, after-not, after-asym, nil-after, Later, branch, branch-form, sorted-candidates, below-after, nodes-ascend, nodes-start}
-
--- ---- the values up to one, that one, and those above it
-abbrev given : Bool → List (List ℕ) → List (List ℕ)
-given b l = elim b [ true ↦ l | false ↦ [] ]
-
-pick-above : (v : ℕ) (X : List (List ℕ)) (F G : ℕ → List (List ℕ)) → ((w : ℕ) → w < v → G w ≡ []) → G v ≡ X → ((w : ℕ) → v < w → G w ≡ F w) →
-    (ms : List ℕ) → Sorted (λ (x y : ℕ). x < y) ms → flat (map G ms) ≡ given (any (eqb v) ms) X ++ flat (map F (keep (ltb v) ms))
-unfolding flat keep any
-pick-above v X F G lo eq hi [] s = refl
-pick-above v X F G lo eq hi (w ∷ ms) s = go (pick-above v X F G lo eq hi ms (s .1)) (eqb v w) refl (ltb v w) refl
-  where
-    rest : List ℕ → List (List ℕ)
-    rest l = flat (map F (keep (ltb v) l))
-
-    highs : v ≤ w → flat (map G ms) ≡ rest ms
-    highs h =
-        ap flat (map-ext G F ms (λ u m. let k = s .0 u m in hi u (omega arith)))
-        ∙ ap (λ (l : List ℕ). flat (map F l)) (sym (keep-all (ltb v) ms (λ u m. let k = s .0 u m in let i : v < u = omega arith in T-of (ltb v u) (lt-ltb v u i))))
-
-    none : v < w → any (eqb v) (w ∷ ms) ≡ false
-    none h = not-of (any (eqb v) (w ∷ ms)) (λ t. let m = among-e v (w ∷ ms) t in no-member m)
-      where
-        no-member : List·Memᴰ v (w ∷ ms) → ⊥
-        no-member (List·Memᴰ·head e) = omega arith
-        no-member (List·Memᴰ·tail m) = let k = s .0 v m in omega arith
-
-    go : flat (map G ms) ≡ given (any (eqb v) ms) X ++ rest ms → (b : Bool) → eqb v w ≡ b → (c : Bool) → ltb v w ≡ c →
-        G w ++ flat (map G ms) ≡ given (any (eqb v) (w ∷ ms)) X ++ rest (w ∷ ms)
-    go ih true e c f =
-        let q : v ≡ w = eqb-true v w e in
-        ap₂ (λ (l m : List (List ℕ)). l ++ m) (ap G (sym q) ∙ eq) (highs (omega arith))
-        ∙ sym (ap₂ (λ (b : Bool) (l : List ℕ). given b X ++ flat (map F l)) (any-cons (eqb v) w ms ∙ ap (λ (b : Bool). either b (any (eqb v) ms)) e) (keep-no (ltb v) w ms (le-ltb v w (omega arith))))
-    go ih false e true f =
-        let h : v < w = ltb-true v w f in
-        ap₂ (λ (l m : List (List ℕ)). l ++ m) (hi w h) (highs (omega arith))
-        ∙ sym (ap₂ (λ (b : Bool) (l : List ℕ). given b X ++ flat (map F l)) (none h) (keep-yes (ltb v) w ms f))
-    go ih false e false f =
-        let n = eqb-false v w e in
-        let m = ltb-false v w f in
-        ap₂ (λ (l m : List (List ℕ)). l ++ m) (lo w (omega arith)) ih
-        ∙ sym (ap₂ (λ (b : Bool) (l : List ℕ). given b X ++ flat (map F l)) (any-cons (eqb v) w ms ∙ ap (λ (b : Bool). either b (any (eqb v) ms)) e) (keep-no (ltb v) w ms f))
-
--- k numbers from a + k - 1 down to a
-downTo : ℕ → ℕ → List ℕ
-downTo a zero = []
-downTo a (suc k) = downTo (suc a) k ++ (a ∷ [])
-
-downTo-first : (a k : ℕ) → downTo a (suc k) ≡ (a + k) ∷ downTo a k
-unfolding downTo
-downTo-first a zero = ap (λ (x : ℕ). x ∷ []) (let e : a ≡ a + 0 = omega arith in e)
-downTo-first a (suc k) = ap (λ (l : List ℕ). l ++ (a ∷ [])) (downTo-first (suc a) k) ∙ ap (λ (x : ℕ). x ∷ (downTo (suc a) k ++ (a ∷ []))) (let e : suc a + k ≡ a + suc k = omega arith in e)
-
-down-is : (k : ℕ) → downTo 0 k ≡ down k
-unfolding downTo down
-down-is zero = refl
-down-is (suc k) = downTo-first 0 k ∙ ap₂ (λ (x : ℕ) (l : List ℕ). x ∷ l) (let e : 0 + k ≡ k = omega arith in e) (down-is k)
+use Rattle.parts.proofs.Parts.{after-not, after-asym, Later, branch, below-after, nodes-ascend, nodes-start}
 
 module _ (p : Problem) where
-  -- ---- the nodes after any path
-  pub left-after : (k : ℕ) (prefix path : List ℕ) → nodesLeft p k prefix path ≡ keep (after (prefix ++ path)) (nodesBelow p k prefix)
-  unfolding nodesLeft nodesBelow nodesOf keep
-  left-after zero prefix [] = refl
-  left-after zero prefix (v ∷ path) = refl
-  left-after (suc k) prefix [] =
-      sym (keep-all (after (prefix ++ [])) (nodesBelow p (suc k) prefix) (λ t m. subst (λ (z : List ℕ). T (after z t)) (sym (append-nil prefix)) (below-after p (suc k) prefix t m)))
-  left-after (suc k) prefix (v ∷ path) =
-      sym (keep-flat-map q (branch p k prefix) (candidatesAt p prefix)
-      ∙ pick-above v (nodesLeft p k (prefix ++ (v ∷ [])) path) (branch p k prefix) (λ w. keep q (branch p k prefix w)) lows (same (left-after k (prefix ++ (v ∷ [])) path)) highs (candidatesAt p prefix) (sorted-candidates p prefix))
-    where
-      q : List ℕ → Bool
-      q = after (prefix ++ (v ∷ path))
-
-      at-value : (w : ℕ) (r : List ℕ) → q (prefix ++ (w ∷ r)) ≡ after (v ∷ path) (w ∷ r)
-      at-value w r = after-front prefix (v ∷ path) (w ∷ r)
-
-      lows : (w : ℕ) → w < v → keep q (branch p k prefix w) ≡ []
-      lows w h = keep-none q (branch p k prefix w) (λ t m u.
-          let j = branch-form p k prefix w t m in
-          of-not (q t) (ap q (j .1) ∙ at-value w (j .0) ∙ after-ne v w path (j .0) (λ e. omega arith) ∙ le-ltb v w (omega arith)) u)
-
-      highs : (w : ℕ) → v < w → keep q (branch p k prefix w) ≡ branch p k prefix w
-      highs w h = keep-all q (branch p k prefix w) (λ t m.
-          let j = branch-form p k prefix w t m in
-          T-of (q t) (ap q (j .1) ∙ at-value w (j .0) ∙ of-T (after (v ∷ path) (w ∷ j .0)) (after-lt v w path (j .0) h)))
-
-      same : nodesLeft p k (prefix ++ (v ∷ [])) path ≡ keep (after (prefix ++ (v ∷ []) ++ path)) (nodesBelow p k (prefix ++ (v ∷ []))) → keep q (branch p k prefix v) ≡ nodesLeft p k (prefix ++ (v ∷ [])) path
-      same ih =
-          keep-no q (prefix ++ (v ∷ [])) (nodesBelow p k (prefix ++ (v ∷ []))) (at-value v [] ∙ after-eq v path [] ∙ nil-after path)
-          ∙ ap (λ (a : List ℕ). keep (after a) (nodesBelow p k (prefix ++ (v ∷ [])))) (sym (append-snoc prefix v path))
-          ∙ sym ih
-
-  -- for every path, whether or not the tree has it
-  pub nodesAfter-left : (path : List ℕ) → nodesAfter p path ≡ nodesLeft p (p .variables) [] path
-  unfolding nodesAfter nodes
-  nodesAfter-left path = sym (left-after (p .variables) [] path)
-
   -- ---- below a dead prefix there are no nodes
   zeros : (l : List ℕ) (x : ℕ) → at (map (λ (s : ℕ). 0) l) x ≡ 0
   unfolding at
@@ -146,80 +52,6 @@ module _ (p : Problem) where
   dead-below zero prefix e = refl
   dead-below (suc k) prefix e = ap (λ (l : List ℕ). flat (map (branch p k prefix) l)) (dead-candidates prefix e)
 
-  -- so going down a path ends at a dead prefix
-  pub dead-left : (k : ℕ) (prefix path : List ℕ) → isLive p prefix ≡ false → nodesLeft p k prefix path ≡ []
-  unfolding nodesLeft nodesOf any keep flat
-  dead-left k prefix [] e = dead-below k prefix e
-  dead-left zero prefix (v ∷ path) e = refl
-  dead-left (suc k) prefix (v ∷ path) e =
-      ap (λ (l : List ℕ). given (any (eqb v) l) (nodesLeft p k (prefix ++ (v ∷ [])) path) ++ nodesOf p k prefix (keep (ltb v) l)) (dead-candidates prefix e)
-
-  -- ---- as a loop over the path's variables, from the last back to the first
-  along-here : (prefix : List ℕ) (v : ℕ) (path : List ℕ) (k : ℕ) → Along p prefix (v ∷ path) → given (any (eqb v) (candidatesAt p prefix)) (nodesLeft p k (prefix ++ (v ∷ [])) path) ≡ nodesLeft p k (prefix ++ (v ∷ [])) path
-  unfolding nodesLeft
-  along-here prefix v (w ∷ path) k a = ap (λ (b : Bool). given b (nodesLeft p k (prefix ++ (v ∷ [])) (w ∷ path))) (of-T (any (eqb v) (candidatesAt p prefix)) (a .0))
-  along-here prefix v [] k (inl t) = ap (λ (b : Bool). given b (nodesBelow p k (prefix ++ (v ∷ [])))) (of-T (any (eqb v) (candidatesAt p prefix)) t)
-  along-here prefix v [] k (inr e) =
-      let z = dead-below k (prefix ++ (v ∷ [])) e in
-      ap (given (any (eqb v) (candidatesAt p prefix))) z ∙ empty (any (eqb v) (candidatesAt p prefix)) ∙ sym z
-    where
-      empty : (b : Bool) → given b [] ≡ []
-      empty true = refl
-      empty false = refl
-
-  along-next : (prefix : List ℕ) (v : ℕ) (path : List ℕ) → Along p prefix (v ∷ path) → Along p (prefix ++ (v ∷ [])) path
-  along-next prefix v [] a = tt
-  along-next prefix v (w ∷ path) a = a .1
-
-  pub reached-along : (prefix path : List ℕ) → T (reached p prefix path) → Along p prefix path
-  unfolding reached
-  reached-along prefix [] t = tt
-  reached-along prefix (v ∷ []) t = inl (both-l (any (eqb v) (candidatesAt p prefix)) (reached p (prefix ++ (v ∷ [])) []) t)
-  reached-along prefix (v ∷ w ∷ path) t =
-      let a = any (eqb v) (candidatesAt p prefix) in
-      let b = reached p (prefix ++ (v ∷ [])) (w ∷ path) in
-      (both-l a b t, reached-along (prefix ++ (v ∷ [])) (w ∷ path) (both-r a b t))
-
-  level-here : (prefix : List ℕ) (v : ℕ) (path : List ℕ) (k : ℕ) → length prefix + suc k ≡ p .variables →
-      levelNodes p (prefix ++ (v ∷ path)) (length prefix) ≡ nodesOf p k prefix (keep (ltb v) (candidatesAt p prefix))
-  unfolding levelNodes
-  level-here prefix v path k e =
-      let n : p .variables - suc (length prefix) ≡ k = omega arith in
-      let a = at-seam prefix v path in
-      let t = take-append-seam prefix (v ∷ path) in
-      ap₂ (λ (l : List ℕ) (u : ℕ). nodesOf p (p .variables - suc (length prefix)) l (keep (ltb u) (candidatesAt p l))) t a
-      ∙ ap (λ (m : ℕ). nodesOf p m prefix (keep (ltb v) (candidatesAt p prefix))) n
-
-  levels-left : (path prefix : List ℕ) (k m : ℕ) → k ≡ length path + m → length prefix + k ≡ p .variables → Along p prefix path →
-      nodesLeft p k prefix path ≡ nodesBelow p m (prefix ++ path) ++ flat (map (levelNodes p (prefix ++ path)) (downTo (length prefix) (length path)))
-  unfolding nodesLeft downTo flat
-  levels-left [] prefix k m e f a =
-      let z : k ≡ m = omega arith in
-      ap₂ (nodesBelow p) z (sym (append-nil prefix)) ∙ sym (append-nil (nodesBelow p m (prefix ++ [])))
-  levels-left (v ∷ path) prefix zero m e f a = absurd (omega arith)
-  levels-left (v ∷ path) prefix (suc k) m e f a =
-      let one = prefix ++ (v ∷ []) in
-      let whole = prefix ++ (v ∷ path) in
-      let l : length one ≡ suc (length prefix) = length-append prefix (v ∷ []) ∙ omega arith in
-      let ih = levels-left path one k m (omega arith) (omega arith) (along-next prefix v path a) in
-      let lower = flat (map (levelNodes p whole) (downTo (suc (length prefix)) (length path))) in
-      let s = append-snoc prefix v path in
-      ap₂ (λ (x y : List (List ℕ)). x ++ y)
-      (along-here prefix v path k a ∙ ih ∙ ap₂ (λ (w : List ℕ) (j : ℕ). nodesBelow p m w ++ flat (map (levelNodes p w) (downTo j (length path)))) s l)
-      (sym (level-here prefix v path k f))
-      ∙ append-assoc (nodesBelow p m whole) lower (levelNodes p whole (length prefix))
-      ∙ ap (λ (r : List (List ℕ)). nodesBelow p m whole ++ r)
-      (ap (λ (r : List (List ℕ)). lower ++ r) (sym (append-nil (levelNodes p whole (length prefix))))
-      ∙ sym (flat-append (map (levelNodes p whole) (downTo (suc (length prefix)) (length path))) (levelNodes p whole (length prefix) ∷ []))
-      ∙ ap flat (sym (map-append (levelNodes p whole) (downTo (suc (length prefix)) (length path)) (length prefix ∷ []))))
-
-  -- the nodes after a path that the tree reaches, or that goes dead at its last value: those below it, then at each of its variables, from the last back to the first, those of the larger values
-  pub nodesAfter-levels : (path : List ℕ) → length path ≤ p .variables → Along p [] path →
-      nodesAfter p path ≡ nodesBelow p (p .variables - length path) path ++ flat (map (levelNodes p path) (down (length path)))
-  nodesAfter-levels path h a =
-      nodesAfter-left path ∙ levels-left path [] (p .variables) (p .variables - length path) (omega arith) (omega arith) a
-      ∙ ap (λ (l : List ℕ). nodesBelow p (p .variables - length path) path ++ flat (map (levelNodes p path) l)) (down-is (length path))
-
   -- ---- the nodes are the paths reached
   pub node-reached : (k : ℕ) (prefix t : List ℕ) → List·Memᴰ t (nodesBelow p k prefix) → (r : List ℕ) × (t ≡ prefix ++ r) × T (reached p prefix r) × (0 < length r) × (length r ≤ k)
   unfolding nodesBelow reached
@@ -237,28 +69,20 @@ module _ (p : Problem) where
           let j = ih i in
           (v ∷ j .0, j .1 ∙ append-snoc prefix v (j .0), both-i (any (eqb v) (candidatesAt p prefix)) (reached p (prefix ++ (v ∷ [])) (j .0)) c (j .2), omega arith, omega (arith, j .4))
 
-  pub reached-node : (k : ℕ) (prefix : List ℕ) (v : ℕ) (r : List ℕ) → T (reached p prefix (v ∷ r)) → length (v ∷ r) ≤ k → List·Memᴰ (prefix ++ (v ∷ r)) (nodesBelow p k prefix)
-  unfolding nodesBelow reached
-  reached-node zero prefix v r t h = absurd (omega arith)
-  reached-node (suc k) prefix v r t h =
-      flat-i (map (branch p k prefix) (candidatesAt p prefix)) (branch p k prefix v) (prefix ++ (v ∷ r)) (Memᴰ·map (branch p k prefix) (among-e v (candidatesAt p prefix) (both-l a (reached p (prefix ++ (v ∷ [])) r) t)))
-      (go r (reached-node k (prefix ++ (v ∷ []))) (both-r a (reached p (prefix ++ (v ∷ [])) r) t) (omega arith))
-    where
-      a : Bool
-      a = any (eqb v) (candidatesAt p prefix)
+  -- they have values below 16, and no more of them than there are variables
+  reached-values : (prefix r : List ℕ) → T (reached p prefix r) → (i : ℕ) → i < length r → at r i < 16
+  unfolding reached at
+  reached-values prefix [] t i l = absurd (omega arith)
+  reached-values prefix (v ∷ r) t zero l =
+      members-e (at (setsAt p prefix) (length prefix)) v (among-e v (candidatesAt p prefix) (both-l (any (eqb v) (candidatesAt p prefix)) (reached p (prefix ++ (v ∷ [])) r) t)) .0
+  reached-values prefix (v ∷ r) t (suc i) l =
+      reached-values (prefix ++ (v ∷ [])) r (both-r (any (eqb v) (candidatesAt p prefix)) (reached p (prefix ++ (v ∷ [])) r) t) i (omega arith)
 
-      go : (r : List ℕ) → ((w : ℕ) (s : List ℕ) → T (reached p (prefix ++ (v ∷ [])) (w ∷ s)) → length (w ∷ s) ≤ k → List·Memᴰ ((prefix ++ (v ∷ [])) ++ (w ∷ s)) (nodesBelow p k (prefix ++ (v ∷ [])))) →
-          T (reached p (prefix ++ (v ∷ [])) r) → length r ≤ k → List·Memᴰ (prefix ++ (v ∷ r)) (branch p k prefix v)
-      go [] ih t h = List·Memᴰ·head refl
-      go (w ∷ s) ih t h = List·Memᴰ·tail (subst (λ (z : List ℕ). List·Memᴰ z (nodesBelow p k (prefix ++ (v ∷ [])))) (append-snoc prefix v (w ∷ s)) (ih w s t h))
-
-  -- so the loop serves for every node that a run made
-  pub nodesAfter-node : (t : List ℕ) → List·Memᴰ t (nodes p) → nodesAfter p t ≡ nodesBelow p (p .variables - length t) t ++ flat (map (levelNodes p t) (down (length t)))
+  pub node-values : (t : List ℕ) → List·Memᴰ t (nodes p) → ((i : ℕ) → i < length t → at t i < 16) × (length t ≤ p .variables)
   unfolding nodes
-  nodesAfter-node t m =
+  node-values t m =
       let r = node-reached (p .variables) [] t m in
-      let e : r .0 ≡ t = sym (r .1) in
-      nodesAfter-levels t (subst (λ (z : List ℕ). length z ≤ p .variables) e (r .4)) (reached-along [] t (subst (λ (z : List ℕ). T (reached p [] z)) e (r .2)))
+      subst (λ (z : List ℕ). ((i : ℕ) → i < length z → at z i < 16) × (length z ≤ p .variables)) (sym (r .1)) (reached-values [] (r .0) (r .2), r .4)
 
   -- ---- the last node made
   pub last-in : (t : List ℕ) (l : List (List ℕ)) → (lastOf t l ≡ t) ⊎ List·Memᴰ (lastOf t l) l
@@ -421,4 +245,4 @@ in-parts p limit room k h = go (resultOf p k room .ending) refl
     go (spent plans made) e =
         let s = stands p room k plans made e in
         sym (from-cut p limit room k plans made h e)
-        ∙ ap₂ (λ (l : List (List ℕ)) (j : ℕ). goOn p limit room record { made = j; rows = l; last = lastOf [] (take j (nodes p)) }) (sym (s .listed)) (sym (s .there))
+        ∙ ap₂ (λ (l : List (List ℕ)) (j : ℕ). goOn p limit room record { made = j; counts = countsBy settledBy (take j (nodes p)); rows = l; last = lastOf [] (take j (nodes p)) }) (sym (s .listed)) (sym (s .there))

@@ -6,8 +6,8 @@ use lib.ListN.{length}
 use Rattle.model.specs.Lists.{keep, flat, total}
 use Rattle.model.specs.Problem.{Problem}
 use Rattle.model.specs.Search.{nodes, isPlan}
-use Rattle.model.specs.Run.{spent, finished, nodesIn, Result, search, resultOf}
-use Rattle.parts.specs.Parts.{ranges, Cuts, Progress, progressAt, goOn, progressAfter, andNext, resumed}
+use Rattle.model.specs.Run.{spent, finished, nodesIn, Result, search, resultOf, tallyAt}
+use Rattle.parts.specs.Parts.{ranges, Cuts, Progress, start, progressAt, goOn, countsAfter, progressAfter, andNext, resumed}
 
 -- a run cut after k nodes goes on from the last of them to what it is in one piece
 abbrev pub From-cut : Type 0
@@ -23,6 +23,17 @@ abbrev pub From-anywhere : Type 0
 From-anywhere =
     (p : Problem) (limit room k : ℕ) (s : Progress) → s .made ≤ k → k ≤ limit →
     goOn p limit room s ≡ andNext (goOn p k room s .ending) (goOn p k room s) (goOn p limit room (progressAfter p s (goOn p k room s)))
+
+-- and it stands so: with a part that was spent first, what is carried on, counts and last node with it, comes to the same
+abbrev pub Stands-anywhere : Type 0
+Stands-anywhere =
+    (p : Problem) (limit room k plans made : ℕ) (s : Progress) → s .made ≤ k → k ≤ limit → goOn p k room s .ending ≡ spent plans made →
+    progressAfter p (progressAfter p s (goOn p k room s)) (goOn p limit room (progressAfter p s (goOn p k room s))) ≡ progressAfter p s (goOn p limit room s)
+
+-- from the start the counts are those of the run's tally
+abbrev pub Counts-from-start : Type 0
+Counts-from-start =
+    (p : Problem) (limit room : ℕ) → countsAfter p start (goOn p limit room start) ≡ tallyAt p (nodesIn (resultOf p limit room .ending)) .counts
 
 -- ---- parts of one tree, run apart
 -- the parts of a tree cut at any paths, each bounded by two, are the whole tree, one behind the other

@@ -1,17 +1,15 @@
 -- A run in parts (paper 02, #113): the order in which the search makes its nodes, the nodes that come after a path, and a run that goes on from the last node made.
 -- A path is a list of values, as a node is; the empty path is where a run starts.
-use mathlib.Core.Path.{_≡_}
-use mathlib.Core.Logic.{_⊎_}
 use mathlib.Core.Bool.{Bool, true, false, not}
 use mathlib.Core.List.{List, [], _∷_, _++_, map}
-use Prim.Native.Nat.{ℕ, zero, suc, _-_}
-use lib.ListN.{length, take}
+use Prim.Native.Nat.{ℕ, _+_, _-_}
+use lib.ListN.{length, take, replicate}
 use lib.Dec.{T, eqb, ltb}
-use Rattle.model.specs.Lists.{any, keep, flat, at, both}
+use Rattle.model.specs.Lists.{any, keep, flat, at, both, tabulate}
 use Rattle.model.specs.ValueSets.{members}
 use Rattle.model.specs.Problem.{Problem}
-use Rattle.model.specs.Search.{setsAt, isLive, nodesBelow, nodes, isPlan}
-use Rattle.model.specs.Run.{Ending, finished, spent, full, nodesIn, Result, search}
+use Rattle.model.specs.Search.{setsAt, nodesBelow, nodes, isPlan}
+use Rattle.model.specs.Run.{Ending, finished, spent, full, nodesIn, Result, search, settledBy, countsBy}
 
 -- ---- the order of the search
 -- t comes after the path: the path is a proper first part of t, or t has the larger value at the first difference
@@ -39,7 +37,7 @@ abbrev pub Cuts : List ℕ → List (List ℕ) → Type 0
 Cuts from [] = Unit {0}
 Cuts from (cut ∷ cuts) = (T (after cut from) → ⊥) × Cuts cut cuts
 
--- ---- the nodes after a path, as a search makes them
+-- ---- the nodes of the tree by their paths
 -- the nodes of some values of the variable behind a prefix, k variables left to settle after it
 unfoldable pub nodesOf : Problem → ℕ → List ℕ → List ℕ → List (List ℕ)
 nodesOf p k prefix vs = flat (map (λ v. (prefix ++ (v ∷ [])) ∷ nodesBelow p k (prefix ++ (v ∷ []))) vs)
@@ -48,33 +46,10 @@ nodesOf p k prefix vs = flat (map (λ v. (prefix ++ (v ∷ [])) ∷ nodesBelow p
 abbrev pub candidatesAt : Problem → List ℕ → List ℕ
 candidatesAt p prefix = members (at (setsAt p prefix) (length prefix))
 
--- the nodes below a prefix, k variables left, that come after prefix ++ path: first those below its next value, where the sets leave it, then those of the larger values
-unfoldable pub nodesLeft : Problem → ℕ → List ℕ → List ℕ → List (List ℕ)
-nodesLeft p k prefix [] = nodesBelow p k prefix
-nodesLeft p zero prefix (v ∷ path) = []
-nodesLeft p (suc k) prefix (v ∷ path) =
-    elim (any (eqb v) (candidatesAt p prefix)) [ true ↦ nodesLeft p k (prefix ++ (v ∷ [])) path | false ↦ [] ]
-    ++ nodesOf p k prefix (keep (ltb v) (candidatesAt p prefix))
-
 -- each value of the path, behind the prefix, is one that the sets leave
 unfoldable pub reached : Problem → List ℕ → List ℕ → Bool
 reached p prefix [] = true
 reached p prefix (v ∷ path) = both (any (eqb v) (candidatesAt p prefix)) (reached p (prefix ++ (v ∷ [])) path)
-
--- each value of the path but its last is one that the sets leave; the last is too, or makes a dead prefix
-abbrev pub Along : Problem → List ℕ → List ℕ → Type 0
-Along p prefix [] = Unit {0}
-Along p prefix (v ∷ []) = T (any (eqb v) (candidatesAt p prefix)) ⊎ (isLive p (prefix ++ (v ∷ [])) ≡ false)
-Along p prefix (v ∷ w ∷ path) = T (any (eqb v) (candidatesAt p prefix)) × Along p (prefix ++ (v ∷ [])) (w ∷ path)
-
--- the same with a loop over the path's variables: the nodes of the values above the path's at variable j of n
-unfoldable pub levelNodes : Problem → List ℕ → ℕ → List (List ℕ)
-levelNodes p path j = nodesOf p (p .variables - suc j) (take j path) (keep (ltb (at path j)) (candidatesAt p (take j path)))
-
--- k - 1, .. 1, 0
-unfoldable pub down : ℕ → List ℕ
-down zero = []
-down (suc k) = k ∷ down k
 
 -- ---- a run in parts
 -- the last of the nodes, or the path in front of them where there are none
@@ -82,31 +57,45 @@ unfoldable pub lastOf : List ℕ → List (List ℕ) → List ℕ
 lastOf path [] = path
 lastOf path (t ∷ ts) = lastOf t ts
 
--- what is carried from one part of a run to the next: the nodes made, the plans listed, and the last node made
+-- what is carried from one part of a run to the next: the nodes made, and of these the nodes that settle each of twelve variables, the plans listed, and the
+-- last node made
 pub record Progress : Type 0 where
   pub made : ℕ
+  pub counts : List ℕ
   pub rows : List (List ℕ)
   pub last : List ℕ
 
 -- before the first node
 abbrev pub start : Progress
-start = record { made = 0; rows = []; last = [] }
+start = record { made = 0; counts = replicate 12 0; rows = []; last = [] }
 
 -- a run after its first k nodes
 abbrev pub progressAt : Problem → ℕ → Progress
-progressAt p k = record { made = k; rows = keep (isPlan p) (take k (nodes p)); last = lastOf [] (take k (nodes p)) }
+progressAt p k =
+    record { made = k; counts = countsBy settledBy (take k (nodes p)); rows = keep (isPlan p) (take k (nodes p)); last = lastOf [] (take k (nodes p)) }
 
 -- the rest of a run, from where it stands
 unfoldable pub goOn : Problem → ℕ → ℕ → Progress → Result
 goOn p limit room s = search p limit room (nodesAfter p (s .last)) (s .made) (s .rows)
 
+-- the nodes made in it
+abbrev pub madeIn : Problem → Progress → Result → List (List ℕ)
+madeIn p s r = take (nodesIn (r .ending) - s .made) (nodesAfter p (s .last))
+
 -- the last node made then
 abbrev pub lastAfter : Problem → Progress → Result → List ℕ
-lastAfter p s r = lastOf (s .last) (take (nodesIn (r .ending) - s .made) (nodesAfter p (s .last)))
+lastAfter p s r = lastOf (s .last) (madeIn p s r)
+
+-- twelve counts and twelve more, place by place
+unfoldable pub added : List ℕ → List ℕ → List ℕ
+added xs ys = tabulate 12 (λ x. at xs x + at ys x)
+
+abbrev pub countsAfter : Problem → Progress → Result → List ℕ
+countsAfter p s r = added (s .counts) (countsBy settledBy (madeIn p s r))
 
 -- where it stands then
 abbrev pub progressAfter : Problem → Progress → Result → Progress
-progressAfter p s r = record { made = nodesIn (r .ending); rows = r .rows; last = lastAfter p s r }
+progressAfter p s r = record { made = nodesIn (r .ending); counts = countsAfter p s r; rows = r .rows; last = lastAfter p s r }
 
 -- after a part that was spent comes the next one; another one was the end
 abbrev pub andNext : Ending → Result → Result → Result
@@ -118,4 +107,5 @@ andNext (spent plans made) r next = next
 abbrev pub resumed : Problem → ℕ → ℕ → Ending → List (List ℕ) → Result
 resumed p limit room (finished plans made) rows = record { ending = finished plans made; rows = rows }
 resumed p limit room (full plans made) rows = record { ending = full plans made; rows = rows }
-resumed p limit room (spent plans made) rows = goOn p limit room record { made = made; rows = rows; last = lastOf [] (take made (nodes p)) }
+resumed p limit room (spent plans made) rows =
+    goOn p limit room record { made = made; counts = countsBy settledBy (take made (nodes p)); rows = rows; last = lastOf [] (take made (nodes p)) }

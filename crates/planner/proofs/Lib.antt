@@ -1,3 +1,4 @@
 pub mod Tied
 pub mod TiedRuns
 pub mod TiedLists
+pub mod TiedDesk

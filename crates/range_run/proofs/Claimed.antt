@@ -1,13 +1,13 @@
 -- Parts of a run, of what callers hold (specs/Claims). Assumes nothing.
-use mathlib.Core.Path.{_≡_, refl, sym, ap, _∙_, subst}
-use mathlib.Core.List.{List, [], _∷_}
+use mathlib.Core.Path.{_≡_, sym, ap, _∙_, subst}
+use mathlib.Core.List.{List}
 use Prim.Native.Nat.{ℕ}
 use lib.ListN.{length, replicate}
-use Rattle.model.specs.Verdict.{Verdict, accepted}
+use Rattle.model.specs.Verdict.{Verdict}
 use Rattle.model.specs.Sheet.{problemOf}
 use Rattle.model.specs.Run.{Answer}
 use Rattle.model.specs.Run as Run
-use Rattle.lent.specs.Lent.{verdictLent, answerLentFor, answerLent, listLent, tallyLentFor, tallyLent}
+use Rattle.lent.specs.Lent.{answerLentFor, answerLent, listLent, tallyLentFor, tallyLent}
 use Rattle.walk.specs.Meaning.{tallyIn}
 use Rattle.ranges.specs.Claims.{Together}
 use Rattle.ranges.proofs.Joined.{joined-run, whole-run}

@@ -2,49 +2,44 @@
 use mathlib.Core.Path.{_≡_, refl, sym, ap, ap₂, _∙_, subst}
 use mathlib.Core.Bool.{Bool, true, false}
 use mathlib.Core.Logic.{_⊎_, inl, inr}
-use mathlib.Core.List.{List, [], _∷_, _++_, map, List·Memᴰ}
-use Prim.Native.Nat.{ℕ, zero, suc, _+_, _-_, _*_, _/_, _^_, _≤_, _<_, min}
+use mathlib.Core.List.{List, [], _∷_, map, List·Memᴰ}
+use Prim.Native.Nat.{ℕ, zero, suc, _+_, _-_, _*_, _/_, _^_, _≤_, _<_}
 use native.Mathlib.Nat.{sub-zero}
 use native.Mathlib.Omega.{arith}
-use lib.Dec.{T, eqb}
+use lib.Dec.{eqb}
 use lib.ListN.{length, take}
-use lib.Seq.{length-take-le}
 use borrow.Author.Tests.{eqb-true, eqb-false}
-use Rattle.model.specs.Lists.{at, any, below, choose, keep, flat}
-use Rattle.model.specs.ValueSets.{has, members}
+use Rattle.model.specs.Lists.{at, choose, keep, flat}
 use Rattle.model.specs.Problem.{Problem}
-use Rattle.model.specs.Search.{setsAt, nodes, isLive}
-use Rattle.model.specs.Verdict.{Verdict, accepted, refused}
+use Rattle.model.specs.Search.{nodes, isLive}
+use Rattle.model.specs.Verdict.{Verdict, accepted}
 use Rattle.model.specs.Sheet.{problemOf}
 use Rattle.model.specs.Run.{Ending, finished, spent, full, plansIn, nodesIn, Result, search, Answer, refusal, ended, written, Tally, settledBy, countsBy}
-use Rattle.model.proofs.Lists.{at-take, keep-e, below-e, among-e, both-l, both-r}
-use Rattle.model.proofs.Runs.{Walk}
+use Rattle.model.proofs.Lists.{keep-e}
 use Rattle.model.proofs.Runs as R
 use Rattle.order.specs.Reordered.{write}
-use Rattle.parts.specs.Parts.{candidatesAt, reached, nodesBetween, lastOf}
-use Rattle.parts.proofs.Resume.{dead-below, last-in, taken, node-reached}
+use Rattle.parts.specs.Parts.{nodesBetween, lastOf}
+use Rattle.parts.proofs.Resume.{dead-below, last-in, taken, node-values}
 use Rattle.lent.specs.Lent.{verdictLent, orderLent, problemLent}
 use Rattle.lent.proofs.Lent.{passed-all, well-sheet, ordering-lent}
-use Rattle.layout.specs.Places.{LIMIT, ROOM, PLANS, NUMBER, ITEM, LAST, ALL, SPENT, DEEPER, REFUSED}
+use Rattle.layout.specs.Places.{ROOM, PLANS, NUMBER, ITEM, LAST, ALL, SPENT, DEEPER, REFUSED}
 use Rattle.walk.specs.Walk.{noNodes, State, walk, kept, stopIn, tallyBy}
-use Rattle.walk.specs.Pair.{prefixOf, orderIn, stateOf, AtPrefix, Walked}
-use Rattle.walk.proofs.Prefix.{prefix-zero, prefix-at, prefix-is, length-prefix}
+use Rattle.walk.specs.Pair.{prefixOf, orderIn, stateOf, AtPrefix}
+use Rattle.walk.proofs.Prefix.{prefix-zero, prefix-at, length-prefix}
 use Rattle.walk.proofs.Outcome.{outcome-on, kept-none, kept-over}
 use Rattle.task.specs.Task.{BARE, WANTED, roomFor}
-use Rattle.explore.specs.Prepared.{treeOf, orderOf, bytesFor, Prepared}
-use Rattle.explore.proofs.Prepared.{room-fits, room-most, room-lent}
+use Rattle.explore.specs.Prepared.{treeOf, orderOf, Prepared}
+use Rattle.explore.proofs.Prepared.{room-fits, room-most}
 use Rattle.search.specs.Meaning.{means}
 use Rattle.search.specs.Whole.{Stopped, Answered}
 use Rattle.search.specs.declared.Answer as S
-use Rattle.resume.specs.Cuts.{Valued}
-use Rattle.ranges.specs.Ranges.{partNodes, resultPart, answerPartFor, answerPart, listPartFor, listPart, nodesSaid, tallyPart, lastPart}
-use Rattle.ranges.specs.Claims.{Part, Call}
+use Rattle.ranges.specs.Ranges.{resultPart, answerPartFor, answerPart, listPartFor, listPart, nodesSaid, tallyPart, lastPart}
+use Rattle.ranges.specs.Claims.{Call}
 use Rattle.ranges.specs.Within.{within}
 use Rattle.ranges.proofs.Within.{within-whole}
-use Rattle.ranges.proofs.Between.{node-short}
-use Rattle.ranges.proofs.Joined.{counts-none}
-use Rattle.range_run.specs.Steps.{AtBelow, Parted}
-use Rattle.range_run.proofs.Ends.{Begun, put-last, put-short, put-asks}
+use Rattle.parts.proofs.Counts.{counts-none}
+use Rattle.range_run.specs.Steps.{AtBelow, Valued, Parted}
+use Rattle.range_run.proofs.Ends.{Begun, put-last, put-short, put-asks, valued-last}
 
 -- an ending is known by its figures and how it stopped
 abbrev endingBy : ℕ → ℕ → ℕ → Ending
@@ -70,17 +65,6 @@ nothing-kept out = go (eqb (length out) 0)
     go : (b : Bool) → choose b out out ≡ out
     go true = refl
     go false = refl
-
--- each value of a node is below 16
-reached-small : (p : Problem) (prefix r : List ℕ) → T (reached p prefix r) → (i : ℕ) → i < length r → at r i < 16
-unfolding reached at members
-reached-small p prefix [] t i l = absurd (let z : i < 0 = l in omega arith)
-reached-small p prefix (v ∷ r) t zero l = below-e 16 v (keep-e (has (at (setsAt p prefix) (length prefix))) (below 16) v (among-e v (candidatesAt p prefix) (both-l (any (eqb v) (candidatesAt p prefix)) (reached p (prefix ++ (v ∷ [])) r) t)) .0)
-reached-small p prefix (v ∷ r) t (suc i) l = reached-small p (prefix ++ (v ∷ [])) r (both-r (any (eqb v) (candidatesAt p prefix)) (reached p (prefix ++ (v ∷ [])) r) t) i (let z : suc i < suc (length r) = l in omega arith)
-
-node-small : (p : Problem) (t : List ℕ) → List·Memᴰ t (nodes p) → (i : ℕ) → i < length t → at t i < 16
-unfolding nodes
-node-small p t m i l = let r = node-reached p (p .variables) [] t m in reached-small p [] t (subst (λ (z : List ℕ). T (reached p [] z)) (sym (r .1)) (r .2)) i l
 
 -- ---- a walk along some nodes, from nothing counted and nothing listed
 module _ (p : Problem) (order : List ℕ) (sized : length order ≡ p .variables) (limit room bytes : ℕ) (out last : List ℕ) (fits : room * p .variables ≤ bytes) (most : bytes < suc room * p .variables) (same : (length out ≡ 0 → ⊥) → bytes ≡ length out) (ts : List (List ℕ)) where
@@ -221,8 +205,9 @@ module _ (task b pairs block from upto : List ℕ) (limit : ℕ) (list : List �
     node-bytes : (step ≡ REFUSED → ⊥) → (t : List ℕ) → List·Memᴰ t (nodes p) → Bytes t
     node-bytes z t m =
         let few = well-sheet b pairs block (passed-all (verdictLent b pairs block) (good z)) .few in
-        let l = node-short p t m in
-        (omega arith, λ i k. let v = node-small p t m i k in omega arith)
+        let s = node-values p t m in
+        let l = s .1 in
+        (omega arith, λ i k. let v = s .0 i k in omega arith)
 
     last-bytes : (step ≡ REFUSED → ⊥) → (k : ℕ) → Bytes (lastOf (take 12 from) (take k ts))
     unfolding nodesBetween
@@ -324,12 +309,6 @@ module _ (task b pairs block from upto : List ℕ) (limit : ℕ) (list : List �
               let z = eqb-false step REFUSED c in
               ap (λ (s : State). s .tally) (ended-so z) ∙ sym (ap (λ (u : Verdict). told (answerPartFor u b pairs block from upto limit (length list))) (good z))
 
-      last-so : take (at work₂ LAST) last ≡ prefixOf work₂ (at work₂ LAST)
-      last-so =
-          let s = part-short in
-          let w = v .twelve in
-          prefix-is (take (at work₂ LAST) last) work₂ (at work₂ LAST) (length-take-le (at work₂ LAST) last (omega arith)) (λ j m. at-take (at work₂ LAST) last j m ∙ v .values j m)
-
       pub part-call : Call b pairs block record { from = from; upto = upto; limit = limit; out = list; answer = means r; list = list₂; tally = tally₂; last = take (at work₂ LAST) last }
       unfolding lastPart
-      part-call = record { answers = answers-so; leaves = leaves-so; counts = counts-so; stands = last-so ∙ stands-so }
+      part-call = record { answers = answers-so; leaves = leaves-so; counts = counts-so; stands = valued-last work₂ last part-short v ∙ stands-so }

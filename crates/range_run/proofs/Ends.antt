@@ -1,37 +1,34 @@
 -- Before the walk along a part and after it: the path put in `work`, and what the call holds then. Assumes nothing.
-use mathlib.Core.Path.{_≡_, refl, sym, ap, ap₂, _∙_, subst}
+use mathlib.Core.Path.{_≡_, refl, sym, ap, _∙_, subst}
 use mathlib.Core.Bool.{Bool, true, false}
-use mathlib.Core.Logic.{_⊎_, inl, inr}
-use mathlib.Core.List.{List, [], _∷_, _++_, map, List·Memᴰ}
-use Prim.Native.Nat.{ℕ, zero, suc, _+_, _-_, _*_, _^_, _≤_, _<_, min}
-use native.Mathlib.Nat.{sub-zero}
-use native.Mathlib.Numerals.{add-one}
+use mathlib.Core.List.{List}
+use Prim.Native.Nat.{ℕ, _+_, _-_, _≤_, _<_, min}
+use native.Mathlib.Decide.{ℕ-discrete}
 use native.Mathlib.Omega.{arith}
-use lib.Dec.{T, eqb, ltb}
+use lib.Dec.{T, eqb}
 use lib.ListN.{length, take, set, length-set, length-take}
 use lib.Seq.{length-take-le}
-use borrow.Author.Tests.{eqb-true, eqb-false, ltb-true, ltb-false}
-use Rattle.model.specs.Lists.{at, flat}
+use borrow.Author.Tests.{eqb-true, eqb-false}
+use Rattle.model.specs.Lists.{at}
 use Rattle.model.specs.Problem.{Problem}
-use Rattle.model.specs.Search.{setsAt, nodes, isLive}
-use Rattle.model.specs.Run.{Tally, search}
-use Rattle.model.proofs.Lists.{at-set, at-set-other, at-take, keep-e}
-use Rattle.parts.specs.Parts.{nodesBetween, lastOf}
-use Rattle.layout.specs.Places.{LIMIT, ROOM, PLANS, LAST, MARKS, ALL, DEEPER}
+use Rattle.model.specs.Search.{setsAt, isLive}
+use Rattle.model.specs.Run.{Tally}
+use Rattle.model.proofs.Lists.{at-set, at-set-other, at-take}
+use Rattle.layout.specs.Places.{ROOM, PLANS, LAST, DEEPER}
 use Rattle.prune.specs.Node.{Holds, Marked}
 use Rattle.prune.proofs.Marks.{marked-on}
-use Rattle.walk.specs.Walk.{noNodes, walk}
-use Rattle.walk.specs.Pair.{prefixOf, orderIn, ownIn, stateOf, Cleared, ListRoom, AtPrefix, Walked}
-use Rattle.walk.proofs.Prefix.{prefix-zero, prefix-ext, prefix-is, length-prefix}
+use Rattle.walk.specs.Walk.{noNodes}
+use Rattle.walk.specs.Pair.{prefixOf, ownIn, Cleared, ListRoom, AtPrefix, Walked}
+use Rattle.walk.proofs.Prefix.{prefix-zero, prefix-is}
 use Rattle.settle.proofs.Turns.{ready-on}
 use Rattle.ranges.specs.Within.{within}
-use Rattle.range_run.specs.Steps.{AtBelow, PutPath, Parted}
+use Rattle.range_run.specs.Steps.{AtBelow, PutPath, Valued, Parted}
 
 -- ---- `put_path`
 pub record Putting (path work₀ work : List ℕ) (i : ℕ) : Type 0 where
   pub values : (j : ℕ) → j < i → at work j ≡ at path j
   pub bytes : (j : ℕ) → j < i → at work j < 256
-  pub others : (j : ℕ) → 12 ≤ j → at work j ≡ at work₀ j
+  pub others : (j : ℕ) → i ≤ j → at work j ≡ at work₀ j
   pub same : length work ≡ length work₀
 
 pub putting-start : (path work : List ℕ) → Putting path work work 0
@@ -41,7 +38,7 @@ pub putting-next : (path work₀ work : List ℕ) (i v : ℕ) → Putting path w
 putting-next path work₀ work i v h n l e b = record {
   values = λ j k. by-case (eqb j i) refl (λ q. ap (at (set work i v)) q ∙ here ∙ e ∙ ap (at path) (sym q)) (λ q. at-set-other work i v j q ∙ h .values j (omega arith));
   bytes = λ j k. by-case2 (eqb j i) refl (λ q. subst (λ (x : ℕ). x < 256) (sym (ap (at (set work i v)) q ∙ here)) b) (λ q. subst (λ (x : ℕ). x < 256) (sym (at-set-other work i v j q)) (h .bytes j (omega arith)));
-  others = λ j k. at-set-other work i v j (λ q. omega arith) ∙ h .others j k;
+  others = λ j k. at-set-other work i v j (λ q. omega arith) ∙ h .others j (omega arith);
   same = length-set work i v ∙ h .same;
 }
   where
@@ -56,14 +53,14 @@ putting-next path work₀ work i v h n l e b = record {
     by-case2 {j} true q f g = f (eqb-true j i q)
     by-case2 {j} false q f g = g (eqb-false j i q)
 
-pub putting-done : (path work₀ work : List ℕ) (i end : ℕ) → Putting path work₀ work i → length work₀ ≡ 256 → end ≡ min (length path) 12 → end ≤ i → PutPath path work₀ (set work LAST end)
-putting-done path work₀ work i end h n e l =
+pub putting-done : (path work₀ work : List ℕ) (i end : ℕ) → Putting path work₀ work i → length work₀ ≡ 256 → end ≡ min (length path) 12 → end ≤ i → i ≤ end → PutPath path work₀ (set work LAST end)
+putting-done path work₀ work i end h n e l u =
     let here : at (set work LAST end) LAST ≡ end = at-set work LAST end (let s = h .same in omega arith) in
     record {
       values = λ j k m. at-set-other work LAST end j (λ q. omega arith) ∙ h .values j (omega arith);
       last = here ∙ e;
       bytes = λ j k. let m : j < end = subst (λ (x : ℕ). j < x) here k in subst (λ (x : ℕ). x < 256) (sym (at-set-other work LAST end j (λ q. omega arith))) (h .bytes j (omega arith));
-      others = λ j k q. at-set-other work LAST end j q ∙ h .others j k;
+      others = λ j k q. at-set-other work LAST end j q ∙ h .others j (omega arith);
       work-length = length-set work LAST end ∙ h .same;
     }
 
@@ -76,7 +73,7 @@ pub record Begun (path work work′ : List ℕ) : Type 0 where
   pub sized : length work′ ≡ 256
 
 pub begun-so : (path work copy work′ : List ℕ) → length copy ≡ 256 → ((i : ℕ) → i < 256 → at copy i ≡ at work i) → PutPath path copy work′ → Begun path work work′
-begun-so path work copy work′ n c h = record { values = h .values; last = h .last; bytes = h .bytes; others = λ i l u q. h .others i l q ∙ c i u; sized = h .work-length ∙ n }
+begun-so path work copy work′ n c h = record { values = h .values; last = h .last; bytes = h .bytes; others = λ i l u q. h .others i (omega arith) q ∙ c i u; sized = h .work-length ∙ n }
 
 module _ (path work work′ : List ℕ) (h : Begun path work work′) where
   pub put-last : prefixOf work′ (at work′ LAST) ≡ take 12 path
@@ -106,6 +103,22 @@ module _ (path work work′ : List ℕ) (h : Begun path work work′) where
 
   pub put-asks : {p : Problem} {stack supports tables numbers list : List ℕ} {tally : Tally} → AtPrefix p stack work supports tables numbers list tally 0 → AtBelow p path stack work′ supports tables numbers list tally 0
   put-asks g = record { prefix = put-prefix g; stands = λ i l z. ap (at work′) (let e : 0 + i ≡ i = omega arith in e) ∙ h .values i l (omega arith); short = λ z. put-short }
+
+-- ---- `last_values`
+pub record Valuing (work : List ℕ) (i : ℕ) (last : List ℕ) : Type 0 where
+  pub twelve : length last ≡ 12
+  pub values : (j : ℕ) → j < i → at last j ≡ at work j
+
+pub valuing-next : (work last : List ℕ) (i : ℕ) → i < 12 → Valuing work i last → Valuing work (i + 1) (set last i (at work i))
+valuing-next work last i l h = record { twelve = length-set last i (at work i) ∙ h .twelve; values = λ j m. go j m (ℕ-discrete j i) }
+  where
+    go : (j : ℕ) → j < i + 1 → Dec (j ≡ i) → at (set last i (at work i)) j ≡ at work j
+    go j m (yes e) = subst (λ (x : ℕ). at (set last i (at work i)) x ≡ at work x) (sym e) (at-set last i (at work i) (let z = h .twelve in omega arith))
+    go j m (no e) = at-set-other last i (at work i) j e ∙ h .values j (omega arith)
+
+pub valued-last : (work last : List ℕ) → at work LAST ≤ 12 → Valued work last → take (at work LAST) last ≡ prefixOf work (at work LAST)
+valued-last work last l h =
+    prefix-is (take (at work LAST) last) work (at work LAST) (length-take-le (at work LAST) last (let z = h .twelve in omega arith)) (λ i m. at-take (at work LAST) last i m ∙ h .values i m)
 
 -- ---- `copied`
 pub copying : (copy work : List ℕ) (i : ℕ) → length copy ≡ 256 → i < 256 → ((j : ℕ) → j < i → at copy j ≡ at work j) → (j : ℕ) → j < i + 1 → at (set copy i (at work i)) j ≡ at work j

@@ -2,39 +2,39 @@
 use mathlib.Core.Path.{_≡_, refl, sym, ap, ap₂, _∙_, subst}
 use mathlib.Core.Bool.{Bool, true, false, not}
 use mathlib.Core.List.{List, [], _∷_, _++_}
-use Prim.Native.Nat.{ℕ, suc, _+_, _-_, _*_, _^_, _≤_, _<_}
+use Prim.Native.Nat.{ℕ, _+_, _-_, _*_, _^_, _<_}
 use native.Mathlib.Nat.{pos-of-ne-zero}
 use native.Mathlib.Numerals.{add-one}
 use native.Mathlib.Omega.{arith}
 use lib.Bits.{bitAnd}
 use lib.Dec.{T, eqb, ltb, eqb→eq, eqb-refl}
-use lib.ListN.{length, take, set, length-set}
+use lib.ListN.{length, set, length-set}
 use borrow.Author.Tests.{not-true, not-false}
-use Rattle.model.specs.Lists.{at, both, any, keep, below}
+use Rattle.model.specs.Lists.{at, both, keep, below}
 use Rattle.model.specs.ValueSets.{has, maskOf, fullMask, members, lowestOf}
 use Rattle.model.specs.Problem.{Problem}
 use Rattle.model.specs.Search.{setsAt, isLive}
 use Rattle.model.specs.Run.{Tally}
-use Rattle.model.proofs.Lists.{T-of, of-T, not-of, of-not, both-l, among-i, among-e, keep-ext, below-e, at-set, at-set-other}
+use Rattle.model.proofs.Lists.{T-of, not-of, of-not, both-l, among-i, among-e, keep-ext, below-e, at-set, at-set-other}
 use Rattle.model.proofs.Tree.{well-sized}
 use Rattle.model.proofs.Prune.{setsAt-sets}
 use Rattle.model.proofs.Sets.{has-none, has-lt, has-mask, mask-lt, mask-ext, mask-i, mask-e, members-i, members-e}
 use Rattle.model.proofs.Masks.{common-op}
 use Rattle.model.proofs.Lowest.{lowest-in}
 use Rattle.parts.specs.Parts.{nodesOf, candidatesAt}
-use Rattle.layout.specs.Places.{LIMIT, ROOM, PLANS, LAST, MARKS, ALL, SPENT}
+use Rattle.layout.specs.Places.{LIMIT, ROOM, LAST, ALL, SPENT}
 use Rattle.prune.specs.Node.{AtNode, Reached, longer}
 use Rattle.prune.proofs.BlockCut.{not-below}
-use Rattle.walk.specs.Walk.{withNode, Summed, walk, nodesFor, exhausted}
+use Rattle.walk.specs.Walk.{withNode, walk, nodesFor, exhausted}
 use Rattle.walk.specs.Pair.{prefixOf, settling, orderIn, ownIn, stateOf, AtPrefix, AtValues, AtValue, Walked, tried, lowestNode}
 use Rattle.walk.proofs.Walk.{walk-append, walk-stopped, visit-spent}
 use Rattle.walk.proofs.Prefix.{length-prefix, prefix-ext, prefix-take}
 use Rattle.settle.proofs.Turns.{all-values, prefix-on}
 use Rattle.settle.proofs.Turns as turns
-use Rattle.resume.proofs.Prefixes as pre
-use Rattle.ranges.specs.Within.{within, given, leaves, intoNodes, ontoNodes, inRange, midNodes}
+use Rattle.ranges.specs.Within.{within, given, leaves, intoNodes, inRange, midNodes}
 use Rattle.ranges.proofs.Within.{within-dead}
 use Rattle.ranges.proofs.Between.{keep-keep}
+use Rattle.range_run.proofs.Prefixes as pre
 use Rattle.range_run.specs.Steps.{rangeMask, AtStep, Stepped, AtPut, PutNode}
 
 -- ---- the values of a range

@@ -2,7 +2,7 @@
 use mathlib.Core.Path.{_≡_, refl, sym, ap, ap₂, _∙_, subst}
 use mathlib.Core.Bool.{Bool, true, false, not}
 use mathlib.Core.List.{List, [], _∷_, _++_}
-use Prim.Native.Nat.{ℕ, zero, suc, _+_, _-_, _*_, _^_, _≤_, _<_}
+use Prim.Native.Nat.{ℕ, suc, _+_, _-_, _*_, _^_, _≤_, _<_}
 use native.Mathlib.Numerals.{add-one}
 use native.Mathlib.Omega.{arith}
 use lib.Dec.{T}
@@ -10,7 +10,6 @@ use lib.ListN.{length, drop}
 use Rattle.model.specs.Lists.{at}
 use Rattle.model.specs.ValueSets.{has}
 use Rattle.model.specs.Problem.{Problem}
-use Rattle.model.specs.Search.{setsAt}
 use Rattle.model.specs.Run.{Tally}
 use Rattle.model.proofs.Lists.{T-of, of-T}
 use borrow.Author.Tests.{not-true, not-false}
@@ -21,7 +20,7 @@ use Rattle.walk.proofs.Prefix.{prefix-ext, prefix-snoc}
 use Rattle.walk.proofs.Written.{settling-inside}
 use Rattle.ranges.specs.Within.{within, given, leaves, intoNodes, ontoNodes, midNodes, upToNodes}
 use Rattle.ranges.proofs.Within.{within-zero, within-dead, within-ended, within-equal, within-back, within-open, within-less, last-values}
-use Rattle.range_run.specs.Steps.{rangeMask, Stands, AtStep, Stepped, AtPut, PutNode, AtBelow, AtInto, AtUpTo, AtOnto}
+use Rattle.range_run.specs.Steps.{rangeMask, AtStep, Stepped, AtPut, PutNode, AtBelow, AtInto, AtUpTo, AtOnto}
 use Rattle.range_run.proofs.Steps as st
 
 given-none : (b : Bool) → given b [] ≡ []

@@ -83,8 +83,13 @@ pub record PutPath (path work work′ : List ℕ) : Type 0 where
   pub values : (i : ℕ) → i < length path → i < 12 → at work′ i ≡ at path i
   pub last : at work′ LAST ≡ min (length path) 12
   pub bytes : (i : ℕ) → i < at work′ LAST → at work′ i < 256
-  pub others : (i : ℕ) → 12 ≤ i → (i ≡ LAST → ⊥) → at work′ i ≡ at work i
+  pub others : (i : ℕ) → min (length path) 12 ≤ i → (i ≡ LAST → ⊥) → at work′ i ≡ at work i
   pub work-length : length work′ ≡ length work
+
+-- the last node's values as bytes
+pub record Valued (work last : List ℕ) : Type 0 where
+  pub twelve : length last ≡ 12
+  pub values : (i : ℕ) → i < at work LAST → at last i ≡ at work i
 
 -- there are no nodes, or the part's are walked along
 pub record Parted (from upto stack work supports tables numbers list : List ℕ) (step : ℕ) (stack′ work′ list′ : List ℕ) (tally′ : Tally) (stop : ℕ) : Type 0 where

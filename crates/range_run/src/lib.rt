@@ -19,10 +19,10 @@ ghost use Rattle.model.specs.Run as Run;
 ghost use Rattle.walk.specs.Pair.{prefixOf, Countable, Counted, Walked};
 ghost use Rattle.walk.specs.Meaning.{tallyIn};
 ghost use Rattle.ranges.specs.Within.{within, intoNodes, ontoNodes, upToNodes};
-ghost use Rattle.range_run.specs.Steps.{rangeMask, AtStep, Stepped, AtPut, PutNode, AtBelow, AtInto, AtUpTo, AtOnto, PutPath, Parted};
+ghost use Rattle.range_run.specs.Steps.{rangeMask, AtStep, Stepped, AtPut, PutNode, AtBelow, AtInto, AtUpTo, AtOnto, PutPath, Valued, Parted};
 ghost use Rattle.range_run.specs.Calls.{held};
 ghost use Rattle.ranges.specs.Claims.{Call};
-ghost use Rattle.layout.specs.Places.{DEEPER};
+ghost use Rattle.layout.specs.Places.{LAST, DEEPER};
 ghost use Rattle.walk.specs.Walk.{noNodes};
 
 // What a part answers, what it counted, and where it stands: the last node that it made, else where it began, as many of the values as the length says.
@@ -336,7 +336,7 @@ fn lesser(a: usize, b: usize) -> usize
 }
 
 // Puts a path in `work`, of which twelve values are kept, as the last node made.
-fn put_path(work: &mut [u64; 256], path: &[u8])
+pub fn put_path(work: &mut [u64; 256], path: &[u8])
     requires { ⌜ length (now work) ≡ 256 ⌝ }
     ensures { λ _. ⌜ PutPath (now (path .entry)) (now (work .entry)) (now (work .exit)) ⌝ }
 {
@@ -347,6 +347,21 @@ fn put_path(work: &mut [u64; 256], path: &[u8])
         i += 1;
     }
     work[LAST] = end as u64;
+}
+
+// The values of the last node in `work`, as bytes.
+pub fn last_values(work: &[u64; 256]) -> [u8; 12]
+    requires { ⌜ (at (now work) LAST ≤ 12) × ((i : ℕ) → i < at (now work) LAST → at (now work) i < 256) ⌝ }
+    ensures { λ r. ⌜ Valued (now (work .entry)) r ⌝ }
+{
+    let mut last = [0u8; 12];
+    let length = work[LAST] as usize;
+    let mut i = 0;
+    while i < length {
+        last[i] = work[i] as u8;
+        i += 1;
+    }
+    last
 }
 
 // The numbers of `work` in an array of their own, whose length is known.
@@ -362,8 +377,8 @@ fn copied(work: &[u64; 256]) -> [u64; 256]
     copy
 }
 
-// The walk along the part, where there are nodes.
-fn walk_part(
+// The walk along the part, where there are nodes: the step says whether there are.
+pub fn walk_part(
     stack: &mut [u16; 208],
     work: &mut [u64; 256],
     supports: &[u16; 8192],
@@ -440,7 +455,7 @@ pub fn run_part(
     let counted = part.tally;
     let answer = search::answered(&begun, counted.nodes, part.stop);
     let length = begun[LAST] as usize;
-    let last = resume::last_values(&begun);
+    let last = last_values(&begun);
     PartRun {
         answer,
         tally: counted,

@@ -3,20 +3,19 @@ use mathlib.Core.Path.{_≡_, refl, sym, ap, ap₂, _∙_, subst}
 use mathlib.Core.Bool.{Bool, true, false, not}
 use mathlib.Core.Logic.{_⊎_, inl, inr}
 use mathlib.Core.List.{List, [], _∷_, _++_, List·Memᴰ, List·Memᴰ·head, List·Memᴰ·tail}
-use Prim.Native.Nat.{ℕ, zero, suc, _+_, _≤_, _<_}
+use Prim.Native.Nat.{ℕ, zero, suc, _≤_, _<_}
 use native.Mathlib.Omega.{arith}
 use lib.Dec.{T, eqb, ltb}
 use lib.ListN.{length, take, drop, length-append, take-append-drop}
 use lib.Seq.{take-append-seam}
 use borrow.Author.Tests.{le-ltb}
-use Rattle.model.specs.Lists.{both, any, keep, below, at}
-use Rattle.model.specs.ValueSets.{has, members}
+use Rattle.model.specs.Lists.{both, keep, at}
 use Rattle.model.specs.Problem.{Problem}
-use Rattle.model.specs.Search.{setsAt, nodes}
-use Rattle.model.proofs.Lists.{T-of, of-T, not-of, of-not, both-i, both-l, both-r, keep-yes, keep-no, keep-ext, keep-all, keep-none, keep-e, among-e, below-e, Sorted, sorted-keep}
-use Rattle.parts.specs.Parts.{after, nodesBetween, reached, candidatesAt, lastOf}
-use Rattle.parts.proofs.Parts.{after-not, after-trans, after-asym, after-later, after-ne, Later, nodes-ascend}
-use Rattle.parts.proofs.Resume.{node-reached, last-in, taken, after-lasts}
+use Rattle.model.specs.Search.{nodes}
+use Rattle.model.proofs.Lists.{T-of, of-T, not-of, of-not, both-i, both-l, both-r, keep-yes, keep-no, keep-ext, keep-none, keep-e, Sorted, sorted-keep}
+use Rattle.parts.specs.Parts.{after, nodesAfter, nodesBetween, lastOf}
+use Rattle.parts.proofs.Parts.{after-trans, after-later, after-ne, nil-after, Later, nodes-ascend, nodes-start}
+use Rattle.parts.proofs.Resume.{node-values, last-in, taken, after-lasts}
 
 -- after one path and not after another
 abbrev pub between : List ℕ → List ℕ → List ℕ → Bool
@@ -126,33 +125,30 @@ module _ (p : Problem) where
   unfolding nodesBetween
   none-between a = keep-none (between a a) (nodes p) (λ t m u. between-not a a t u (between-after a a t u))
 
-  -- ---- a node has no more values than there are variables, and each is below 16
-  pub node-short : (t : List ℕ) → List·Memᴰ t (nodes p) → length t ≤ p .variables
-  unfolding nodes
-  node-short t m = let r = node-reached p (p .variables) [] t m in subst (λ (z : List ℕ). length z ≤ p .variables) (sym (r .1)) (r .4)
+  -- no node is after the path 255
+  pub rest-between : (from : List ℕ) → nodesBetween p from (255 ∷ []) ≡ nodesAfter p from
+  unfolding nodesBetween nodesAfter at
+  rest-between from = keep-ext (between from (255 ∷ [])) (after from) (nodes p) (λ t m. ap (both (after from t)) (ap not (low t (node-values p t m .0))) ∙ both-true (after from t))
+    where
+      low : (t : List ℕ) → ((i : ℕ) → i < length t → at t i < 16) → after (255 ∷ []) t ≡ false
+      low [] h = nil-after (255 ∷ [])
+      low (v ∷ t) h = let l = h 0 (omega arith) in after-ne 255 v [] t (λ e. omega arith) ∙ le-ltb 255 v (omega arith)
+
+      both-true : (c : Bool) → both c true ≡ c
+      both-true true = refl
+      both-true false = refl
 
   pub whole-between : nodesBetween p [] (255 ∷ []) ≡ nodes p
-  unfolding nodesBetween nodes reached after members
-  whole-between = keep-all (between [] (255 ∷ [])) (nodes p) each
-    where
-      each : (t : List ℕ) → List·Memᴰ t (nodes p) → T (between [] (255 ∷ []) t)
-      each t m = let r = node-reached p (p .variables) [] t m in subst (λ (z : List ℕ). T (between [] (255 ∷ []) z)) (sym (r .1)) (first (r .0) (r .2) (r .3))
-        where
-          first : (r : List ℕ) → T (reached p [] r) → 0 < length r → T (between [] (255 ∷ []) r)
-          first [] q h = absurd (let z : 0 < 0 = h in omega arith)
-          first (v ∷ r) q h =
-              let m = keep-e (has (at (setsAt p []) 0)) (below 16) v (among-e v (candidatesAt p []) (both-l (any (eqb v) (candidatesAt p [])) (reached p (v ∷ []) r) q)) in
-              let l = below-e 16 v (m .0) in
-              between-i [] (255 ∷ []) (v ∷ r) tt (of-not (after (255 ∷ []) (v ∷ r)) (after-ne 255 v [] r (λ e. omega arith) ∙ le-ltb 255 v (omega arith)))
+  whole-between = rest-between [] ∙ nodes-start p
 
   -- ---- the first k of a part are the part up to the last of them
   pub short-between : (k : ℕ) (a b : List ℕ) → p .variables ≤ k → nodesBetween p (take k a) b ≡ nodesBetween p a b
   unfolding nodesBetween
   short-between k a b h = keep-ext (between (take k a) b) (between a b) (nodes p)
-      (λ t m. ap (λ (c : Bool). both c (not (after b t))) (after-short k a t (let n = node-short t m in omega arith)))
+      (λ t m. ap (λ (c : Bool). both c (not (after b t))) (after-short k a t (let n = node-values p t m .1 in omega arith)))
 
   pub short-before : (k : ℕ) (a b : List ℕ) → p .variables ≤ k → Before a b → Before (take k a) b
-  short-before k a b h f t m u = subst T (sym (after-short k a t (let n = node-short t m in omega arith))) (f t m u)
+  short-before k a b h f t m u = subst T (sym (after-short k a t (let n = node-values p t m .1 in omega arith))) (f t m u)
 
   -- where a part stands that has made k of its nodes
   pub record Stop (a b : List ℕ) (k : ℕ) (l : List ℕ) : Type 0 where
@@ -178,7 +174,7 @@ module _ (p : Problem) where
       made m = keep-e (between a b) (nodes p) l (taken p k ts l m)
 
       to-d : (t : List ℕ) → List·Memᴰ t (nodes p) → after d t ≡ after a t
-      to-d t m = after-short 12 a t (let n = node-short t m in omega arith)
+      to-d t m = after-short 12 a t (let n = node-values p t m .1 in omega arith)
 
       on : Before a l
       on t m u = go (last-in p d (take k ts))

@@ -1,23 +1,20 @@
 -- Parts of a run that are run apart hold together what the run holds (specs/Claims). Assumes nothing.
 use mathlib.Core.Path.{_≡_, refl, sym, ap, ap₂, _∙_, subst}
-use mathlib.Core.Bool.{Bool, true, false}
 use mathlib.Core.Logic.{_⊎_, inl, inr}
-use mathlib.Core.List.{List, [], _∷_, _++_, map, List·Memᴰ, Memᴰ·of-map}
-use Prim.Native.Nat.{ℕ, suc, _+_, _*_, _≤_, _<_}
+use mathlib.Core.List.{List, [], _∷_, _++_, map, Memᴰ·of-map}
+use Prim.Native.Nat.{ℕ, suc, _+_, _*_, _≤_}
 use native.Mathlib.Nat.{mul-le-mul-right}
 use native.Mathlib.Omega.{arith}
-use lib.Dec.{T, eqb, ltb}
+use lib.Dec.{T}
 use lib.ListN.{length, take, drop, replicate, length-append, length-map, take-append-drop}
 use lib.Seq.{take-all, length-take-le, take-append-seam, take-append-le}
-use borrow.Author.Tests.{ltb-true, ltb-false}
-use Rattle.model.specs.Lists.{keep, flat, at, total, tabulate}
+use Rattle.model.specs.Lists.{keep, flat, at, total}
 use Rattle.model.specs.Problem.{Problem}
 use Rattle.model.specs.Search.{nodes, isPlan}
 use Rattle.model.specs.Verdict.{Verdict, accepted, refused}
 use Rattle.model.specs.Sheet.{problemOf}
 use Rattle.model.specs.Run.{Ending, finished, spent, full, plansIn, nodesIn, Result, search, resultOf, Answer, refusal, ended, written, Tally, settledBy, countsBy, listedPlans}
-use Rattle.model.proofs.Lists.{keep-append, flat-append, map-append, at-out}
-use Rattle.model.proofs.Tally.{length-counts, at-counts}
+use Rattle.model.proofs.Lists.{keep-append, map-append}
 use Rattle.model.proofs.Runs.{Ended, Walk, walk}
 use Rattle.model.proofs.Demands.{listed-back}
 use Rattle.order.specs.Order.{Ordering}
@@ -25,11 +22,12 @@ use Rattle.order.specs.Reordered.{write}
 use Rattle.order.specs.RunBy.{resultBy, placeCounts}
 use Rattle.order.proofs.Reordered as O
 use Rattle.parts.specs.Parts.{after, Cuts, nodesBetween, lastOf}
+use Rattle.parts.proofs.Counts.{counts-append, counts-none}
 use Rattle.lent.specs.Lent.{verdictLent, problemWith, orderLent, problemLent, answerLentFor, answerLent, listLentFor, listLent, tallyLentFor, tallyLent}
 use Rattle.lent.proofs.Lent.{passed-all, well-lent, ordering-lent}
-use Rattle.ranges.specs.Ranges.{partNodes, resultPart, answerPartFor, answerPart, listPartFor, listPart, plansSaid, nodesSaid, madeBy, tallyPart, lastPart}
-use Rattle.ranges.specs.Claims.{Part, Call, plansHeld, Refused-part, WholeRun, Whole-run, Goes, reachedFor, reachedBy, Chain, allPlans, sumPlans, sumNodes, sumCounts, Together, Joined, Joined-run, One-piece, Done, CutAt, Cuts-run}
-use Rattle.ranges.proofs.Between.{Before, before-of, join-nodes, none-between, whole-between, Stop, stop}
+use Rattle.ranges.specs.Ranges.{resultPart, answerPartFor, answerPart, listPartFor, listPart, plansSaid, nodesSaid, madeBy, tallyPart, lastPart}
+use Rattle.ranges.specs.Claims.{Part, Call, plansHeld, Refused-part, Whole-run, Goes, reachedFor, reachedBy, Chain, allPlans, sumPlans, sumNodes, sumCounts, Together, Joined, Joined-run, One-piece, Done, CutAt, Cuts-run}
+use Rattle.ranges.proofs.Between.{Before, before-of, join-nodes, none-between, whole-between, stop}
 
 -- ---- a walk along some nodes
 module _ (p : Problem) (limit room : ℕ) (ts : List (List ℕ)) where
@@ -76,26 +74,6 @@ module _ (p : Problem) (limit room : ℕ) (ts : List (List ℕ)) where
           let a = ap (λ (l : List (List ℕ)). length (keep (isPlan p) l)) (sym (take-append-drop (suc n) ts)) ∙ ap length (keep-append (isPlan p) (take (suc n) ts) (drop (suc n) ts)) ∙ length-append (keep (isPlan p) (take (suc n) ts)) (keep (isPlan p) (drop (suc n) ts)) in
           let m : suc plans * p .variables ≤ length (keep (isPlan p) ts) * p .variables = mul-le-mul-right (p .variables) (omega (arith, q .2)) in
           omega (arith, q .1))
-
--- ---- counts of two lists
-counts-append : {A : Type 0} (f : A → ℕ) (l m : List A) (x : ℕ) → at (countsBy f (l ++ m)) x ≡ at (countsBy f l) x + at (countsBy f m) x
-counts-append {A} f l m x = go (ltb x 12) refl
-  where
-    out : (k : List A) → 12 ≤ x → at (countsBy f k) x ≡ 0
-    out k h = at-out (countsBy f k) x (subst (λ (n : ℕ). n ≤ x) (sym (length-counts f k)) h)
-
-    go : (b : Bool) → ltb x 12 ≡ b → at (countsBy f (l ++ m)) x ≡ at (countsBy f l) x + at (countsBy f m) x
-    go true e =
-        let h = ltb-true x 12 e in
-        at-counts f (l ++ m) x h ∙ ap length (keep-append (λ a. eqb (f a) x) l m) ∙ length-append (keep (λ a. eqb (f a) x) l) (keep (λ a. eqb (f a) x) m)
-        ∙ sym (ap₂ (λ (i j : ℕ). i + j) (at-counts f l x h) (at-counts f m x h))
-    go false e =
-        let h : 12 ≤ x = let z = ltb-false x 12 e in omega arith in
-        out (l ++ m) h ∙ sym (ap₂ (λ (i j : ℕ). i + j) (out l h) (out m h))
-
-pub counts-none : {A : Type 0} (f : A → ℕ) → countsBy f [] ≡ replicate 12 0
-unfolding countsBy tabulate keep
-counts-none f = refl
 
 module _ (b pairs block : List ℕ) (so : verdictLent b pairs block ≡ accepted) where
   abbrev p : Problem

@@ -2,7 +2,7 @@
 use mathlib.Core.Path.{_≡_, refl, sym, ap, ap₂, _∙_, subst}
 use mathlib.Core.Bool.{Bool, true, false, not}
 use mathlib.Core.List.{List, [], _∷_, _++_, map, List·Memᴰ, List·Memᴰ·head, List·Memᴰ·tail, append-nil}
-use Prim.Native.Nat.{ℕ, zero, suc, _+_, _≤_, _<_}
+use Prim.Native.Nat.{ℕ, suc, _+_, _≤_, _<_}
 use native.Mathlib.Omega.{arith}
 use lib.Dec.{T, eqb, ltb}
 use lib.ListN.{length}
@@ -12,7 +12,7 @@ use Rattle.model.specs.Lists.{both, either, any, keep, flat, below, at}
 use Rattle.model.specs.ValueSets.{has, members}
 use Rattle.model.specs.Problem.{Problem}
 use Rattle.model.specs.Search.{setsAt, isLive, nodesBelow, nodes}
-use Rattle.model.proofs.Lists.{T-of, of-T, not-of, of-not, both-i, both-l, both-r, any-cons, among-i, among-e, keep-yes, keep-no, keep-ext, keep-all, keep-none, keep-e, keep-i, keep-flat-map, map-ext, below-e, Sorted, sorted-keep}
+use Rattle.model.proofs.Lists.{T-of, of-T, not-of, of-not, both-l, both-r, any-cons, among-i, among-e, keep-yes, keep-no, keep-ext, keep-all, keep-none, keep-e, keep-i, keep-flat-map, map-ext, below-e, Sorted, sorted-keep}
 use Rattle.parts.specs.Parts.{after, nodesBetween, nodesOf, candidatesAt, reached}
 use Rattle.parts.proofs.Parts.{after-eq, after-ne, after-front, after-nil, nil-after, branch, branch-form, below-longer, sorted-candidates}
 use Rattle.parts.proofs.Resume.{dead-below, node-reached}

@@ -33,7 +33,6 @@ use Rattle.task.specs.Task.{ordered}
 use Rattle.settle.proofs.Laws.{dead-below}
 use Rattle.explore.proofs.Prepared.{Laid, numbers-kept, below-taken, first, order-put, start}
 use Rattle.resume.specs.Resume.{PreparedAgain}
-use Rattle.resume.proofs.Prefixes.{counted-so}
 
 pub no-nodes : nodes (problemOf []) ≡ []
 unfolding nodes nodesBelow problemOf headerOf «word» at
@@ -42,7 +41,7 @@ no-nodes = refl
 -- the bytes are refused
 pub again-refused : (b : List ℕ) (more size : ℕ) (work stack′ supports′ tables′ numbers′ images : List ℕ) (r : Bool) → Recompilation b numbers′ supports′ images r → r ≡ false → PreparedAgain b more size work stack′ work supports′ tables′ numbers′ ALL
 again-refused b more size work stack′ supports′ tables′ numbers′ images r left e = record {
-  none = λ n. ap (λ (c : Bool). nodes (problemOf (choose c b []))) (sym (left .answers) ∙ e) ∙ no-nodes;
+  none = λ n. (refl, ap (λ (c : Bool). nodes (problemOf (choose c b []))) (sym (left .answers) ∙ e) ∙ no-nodes);
   compiled = λ z. absurd (omega arith);
   bounded = λ z. absurd (omega arith);
   roomy = λ z. absurd (omega arith);
@@ -142,7 +141,7 @@ module _ (b numbers supports images : List ℕ) (r : Bool) (left : Recompilation
         pub again-dead : dead ≡ true → PreparedAgain b more size work stack′ work′ supports tables′ numbers′ ALL
         unfolding nodes
         again-dead e = record {
-          none = λ n. ap (λ (c : Bool). nodes (problemOf (choose c b []))) (sym (left .answers) ∙ is) ∙ dead-below p (p .variables) [] (not-true (isLive p []) (sym (q .answers) ∙ e));
+          none = λ n. (refl, ap (λ (c : Bool). nodes (problemOf (choose c b []))) (sym (left .answers) ∙ is) ∙ dead-below p (p .variables) [] (not-true (isLive p []) (sym (q .answers) ∙ e)));
           compiled = λ z. absurd (omega arith);
           bounded = λ z. absurd (omega arith);
           roomy = λ z. absurd (omega arith);
@@ -161,12 +160,12 @@ module _ (b numbers supports images : List ℕ) (r : Bool) (left : Recompilation
           bounded = λ z. first p p (below (p .variables)) bounded supports images bytes 0 laid tables indexed tables′ made numbers′ orders LIMIT (omega arith) ∙ at-limit;
           roomy = λ z. first p p (below (p .variables)) bounded supports images bytes 0 laid tables indexed tables′ made numbers′ orders ROOM (omega arith) ∙ at-room ∙ ap (λ (n : ℕ). size / n) same-variables;
           order = λ z. order-put p p (below (p .variables)) bounded supports images bytes 0 laid tables indexed tables′ made numbers′ orders;
-          live = λ z list sized plans. counted-so (start p p (below (p .variables)) bounded supports images bytes 0 laid tables indexed tables′ made numbers′ orders more room small at-limit at-room stack work stack′ work′ dead ls lw (at work PLANS) refl q e list
+          live = λ z list sized plans. start p p (below (p .variables)) bounded supports images bytes 0 laid tables indexed tables′ made numbers′ orders more room small at-limit at-room stack work stack′ work′ dead ls lw (at work PLANS) refl q e list
               record {
                 some = well .some;
                 fits = λ o. subst (λ (n : ℕ). room * n ≤ length list) same-variables (let d = div-mul-le-self size (at numbers VARIABLES) in omega arith);
                 listed = few-plans (at work PLANS) plans;
                 small = let d = div-le-self size (at numbers VARIABLES) in omega arith;
-              }) 0 refl;
+              };
           same = same;
         }

@@ -9,7 +9,8 @@ use borrow.Author.Tests.{eqb-true, eqb-false, lt-ltb, le-ltb, eq-eqb, ne-eqb}
 use Rattle.model.specs.Lists.{at, choose, below}
 use Rattle.model.proofs.Lists.{below-e}
 use Rattle.desk.specs.Desk.{goesOn, waits, seatAt, none-found, seat, toServe}
-use Rattle.desk.specs.Layout.{seatPlace, nextPlace, standingBy, plansAt, nodesAt, hallAt, seatOf, deskOf}
+use Rattle.desk.specs.Places.{STANDING, NEXT}
+use Rattle.desk.specs.Layout.{seatPlace, standingBy, plansAt, nodesAt, hallAt, seatOf, deskOf}
 use Rattle.desk.specs.Meaning.{found}
 use Rattle.desk.proofs.Desk.{none-first}
 use Rattle.desk.proofs.Seats.{first-at, seat-in, free-at, taken-at}
@@ -31,16 +32,16 @@ capped x = go (eqb x 0) refl
 pub free-quiet : (b : List ℕ) (k : ℕ) → at b (seatPlace k) ≡ 0 → false ≡ waits (seatOf b k)
 free-quiet b k e = sym (ap waits (free-at b k e))
 
-pub taken-waits : (b : List ℕ) (k : ℕ) → (at b (seatPlace k) ≡ 0 → ⊥) → eqb (at b (seatPlace k + 7)) 0 ≡ waits (seatOf b k)
+pub taken-waits : (b : List ℕ) (k : ℕ) → (at b (seatPlace k) ≡ 0 → ⊥) → eqb (at b (seatPlace k + STANDING)) 0 ≡ waits (seatOf b k)
 unfolding hallAt
 taken-waits b k n =
     let p = seatPlace k in
-    sym (ap waits (taken-at b k n) ∙ goes-by (min 3 (at b (p + 7))) (plansAt b p) (nodesAt b p) ∙ capped (at b (p + 7)))
+    sym (ap waits (taken-at b k n) ∙ goes-by (min 3 (at b (p + STANDING))) (plansAt b p) (nodesAt b p) ∙ capped (at b (p + STANDING)))
 
 -- ---- the round
 module _ (b : List ℕ) where
   abbrev pub place : ℕ → ℕ
-  place i = (at b nextPlace + i) % 8
+  place i = (at b NEXT + i) % 8
 
   abbrev pub Quiet : ℕ → Type 0
   Quiet i = (j : ℕ) → j < i → waits (seatOf b (place j)) ≡ false

@@ -1,5 +1,8 @@
 pub mod Finding
 pub mod Going
 pub mod Telling
+pub mod Counting
 pub mod Serving
 pub mod Rounding
+pub mod Held
+pub mod Tied

@@ -17,7 +17,8 @@ use Rattle.model.proofs.Filling.{gathered-is}
 use Rattle.model.proofs.Masks.{is-mask, has-and, has-not}
 use Rattle.model.proofs.Sets.{has-mask, mask-lt}
 use Rattle.desk.specs.Desk.{Seat, free, taken, waits, Desk, seatAt, roundFrom, due, dueAt, given, seatGiven, behindLast, roundsDesk, RoundsReply, gave, not-given, roundsReply}
-use Rattle.desk.specs.Layout.{size, seatPlace, nextPlace, hallAt, seatOf, deskOf, withRun, roundBytes, roundsBytes, roundsOn, roundsAfter}
+use Rattle.desk.specs.Places.{NEXT, size}
+use Rattle.desk.specs.Layout.{seatPlace, hallAt, seatOf, deskOf, withRun, roundBytes, roundsBytes, roundsOn, roundsAfter}
 use Rattle.desk.specs.Claims.{DeskBytes}
 use Rattle.desk.proofs.Seats.{seat-in, seat-out}
 use Rattle.desk.proofs.Rounds.{due-over, due-none}
@@ -70,12 +71,12 @@ module _ (b : List ℕ) (r : ℕ) where
   pub record RoundTo (i : ℕ) (cur : List ℕ) (best next : ℕ) : Type 0 where
     pub bytes : DeskBytes cur
     pub run : roundBytes r (rest i) cur ≡ roundBytes r (rest 0) b
-    pub behind : behindLast turns (rest i) best next ≡ behindLast turns (rest 0) 0 (at b nextPlace)
+    pub behind : behindLast turns (rest i) best next ≡ behindLast turns (rest 0) 0 (at b NEXT)
     pub some : 1 ≤ best
     pub others : (j : ℕ) → i ≤ j → j < 8 → seatOf cur (place b j) ≡ seatOf b (place b j)
 
-  pub round-begin : DeskBytes b → RoundTo 0 b 1 (at b nextPlace)
-  round-begin d = record { bytes = d; run = refl; behind = first-best turns (rest 0) (at b nextPlace); some = omega arith; others = λ j l m. refl }
+  pub round-begin : DeskBytes b → RoundTo 0 b 1 (at b NEXT)
+  round-begin d = record { bytes = d; run = refl; behind = first-best turns (rest 0) (at b NEXT); some = omega arith; others = λ j l m. refl }
 
   next-rest : (i : ℕ) → i < 8 → rest i ≡ place b i ∷ rest (i + 1)
   unfolding upFrom
@@ -126,7 +127,7 @@ module _ (b : List ℕ) (r : ℕ) where
             never true = refl
             never false = refl
 
-        kept : ((best ≤ took) × (next′ ≡ (k + 1) % 8) × (best′ ≡ took)) ⊎ ((took < best) × (next′ ≡ next) × (best′ ≡ best)) → behindLast turns (rest (i + 1)) best′ next′ ≡ behindLast turns (rest 0) 0 (at b nextPlace)
+        kept : ((best ≤ took) × (next′ ≡ (k + 1) % 8) × (best′ ≡ took)) ⊎ ((took < best) × (next′ ≡ next) × (best′ ≡ best)) → behindLast turns (rest (i + 1)) best′ next′ ≡ behindLast turns (rest 0) 0 (at b NEXT)
         kept (inl q) =
             ap₂ (behindLast turns (rest (i + 1))) (q .2) (q .1)
             ∙ sym (ap (λ (x : Bool). choose x (behindLast turns (rest (i + 1)) took ((k + 1) % 8)) (behindLast turns (rest (i + 1)) best next)) (yes (q .0))) ∙ sym step ∙ t .behind
@@ -134,7 +135,7 @@ module _ (b : List ℕ) (r : ℕ) where
             ap₂ (behindLast turns (rest (i + 1))) (q .2) (q .1)
             ∙ sym (ap (λ (x : Bool). choose x (behindLast turns (rest (i + 1)) took ((k + 1) % 8)) (behindLast turns (rest (i + 1)) best next)) (no (q .0))) ∙ sym step ∙ t .behind
 
-  pub round-end : (i : ℕ) (cur : List ℕ) (best next : ℕ) → 8 ≤ i → i ≤ 8 → RoundTo i cur best next → (cur ≡ roundBytes r (roundFrom (at b nextPlace)) b) × (next ≡ roundsDesk (deskOf b) r .next)
+  pub round-end : (i : ℕ) (cur : List ℕ) (best next : ℕ) → 8 ≤ i → i ≤ 8 → RoundTo i cur best next → (cur ≡ roundBytes r (roundFrom (at b NEXT)) b) × (next ≡ roundsDesk (deskOf b) r .next)
   unfolding roundBytes behindLast below upFrom
   round-end i cur best next h l t =
       let e : rest i ≡ [] = ap (λ (n : ℕ). map (place b) (upFrom i n)) (let z : 8 - i ≡ 0 = omega arith in z) in
@@ -164,7 +165,7 @@ module _ (b : List ℕ) (r : ℕ) where
   unfolding roundsOn roundsAfter
   rounds-255 n = let e = ne-eqb (length b) size n in (sym (ap (λ (t : Bool). choose t (roundsReply (deskOf b) r) (not-given 255 0)) e), sym (ap (λ (t : Bool). choose t (roundsBytes b r) b) e))
 
-  pub rounded : DeskBytes b → (before going next : ℕ) (c c′ : List ℕ) → before ≡ maskOf (λ k. waits (seatAt (deskOf b) k)) → c ≡ roundBytes r (roundFrom (at b nextPlace)) b → next ≡ roundsDesk (deskOf b) r .next → c′ ≡ set c nextPlace next →
+  pub rounded : DeskBytes b → (before going next : ℕ) (c c′ : List ℕ) → before ≡ maskOf (λ k. waits (seatAt (deskOf b) k)) → c ≡ roundBytes r (roundFrom (at b NEXT)) b → next ≡ roundsDesk (deskOf b) r .next → c′ ≡ set c NEXT next →
       going ≡ maskOf (λ k. waits (seatAt (deskOf c′) k)) → Rounded (gave (bitAnd before (65535 - going)) going) c′
   unfolding roundsOn roundsAfter roundsBytes
   rounded d before going next c c′ eb ec en es eg = (
@@ -177,7 +178,7 @@ module _ (b : List ℕ) (r : ℕ) where
       whole = eq-eqb (length b) size (d .0)
 
       whole-bytes : c′ ≡ roundsBytes b r
-      whole-bytes = es ∙ ap₂ (λ (x : List ℕ) (y : ℕ). set x nextPlace y) ec en
+      whole-bytes = es ∙ ap₂ (λ (x : List ℕ) (y : ℕ). set x NEXT y) ec en
 
       desk-is : deskOf c′ ≡ roundsDesk (deskOf b) r
       desk-is = ap deskOf whole-bytes ∙ rounds-call b r d .0

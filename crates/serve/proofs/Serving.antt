@@ -5,27 +5,31 @@ use mathlib.Core.List.{List}
 use Prim.Native.Nat.{ℕ, zero, suc, _+_, _-_, _*_, _/_, _%_, _^_, _≤_, _<_, min}
 use native.Mathlib.Omega.{arith}
 use lib.Dec.{T}
-use lib.ListN.{length, set}
+use lib.ListN.{length, set, length-take}
 use borrow.Author.Tests.{lt-ltb, le-ltb}
 use Rattle.model.specs.Lists.{at, flat, choose}
 use Rattle.model.specs.Written.{placed}
-use Rattle.model.specs.Run.{Ending, finished, spent, full, nodesIn, Result}
+use Rattle.model.specs.Run.{Ending, finished, spent, full, nodesIn, Result, Tally, settledBy, countsBy}
 use Rattle.model.proofs.Lists.{T-of, of-T}
+use Rattle.model.proofs.Written.{length-placed, placed-then}
+use Rattle.model.proofs.Tally.{length-counts}
 use Rattle.walk.specs.Pair.{prefixOf}
 use Rattle.walk.specs.Walk.{stopIn}
-use Rattle.parts.specs.Parts.{goOn}
+use Rattle.parts.specs.Parts.{nodesAfter, goOn, madeIn, added}
 use Rattle.desk.specs.Desk.{Standing, running, over, goesOn, Hall, deskRoom, standingAfter, hallAfter, hallTurned, turned, Seat, taken, waits, seatTurned, seatAt, Found, none-found, seat, roundFrom, toServe, turn, DeskReply, idle, served, servedAs, turnReply, denied, due, given}
-use Rattle.desk.specs.Layout.{size, seatPlace, nextPlace, long, standingBy, nodesAt, hallAt, seatOf, deskOf, standingByte, runBytes, withRun, turnBytes, replyOn, bytesAfter}
+use Rattle.desk.specs.Places.{LIMIT, STANDING, COUNTS, LIST, NEXT, size}
+use Rattle.desk.specs.Layout.{seatPlace, long, standingBy, nodesAt, countsAt, hallAt, seatOf, deskOf, standingByte, stateBytes, countBytes, runBytes, withRun, turnBytes, replyOn, bytesAfter}
 use Rattle.desk.specs.Claims.{DeskBytes}
 use Rattle.desk.specs.Meaning.{found}
 use Rattle.desk.proofs.Desk.{first-in}
 use Rattle.desk.proofs.Bytes.{placed-apart}
 use Rattle.desk.proofs.Seats.{long-small, seat-in, free-at, taken-at, reply-whole, reply-wrong, bytes-whole, bytes-wrong}
 use Rattle.desk.proofs.Turning.{Fits, at-fits}
-use Rattle.desk.proofs.Turned.{run-length, text-length}
+use Rattle.desk.proofs.Turned.{state-length, run-length, text-length}
+use Rattle.desk.proofs.Counts.{count-most, counts-most}
 use Rattle.desk.proofs.RoundCalls.{turns-fit}
 use Rattle.desk.proofs.Stretch.{stretchLimit, stretch, turnsFor, Stretched, stretched}
-use Rattle.layout.specs.Places.{LAST}
+use Rattle.layout.specs.Places.{PLANS, LAST}
 use Rattle.serve.specs.Served.{problemAt, goneOn, PartDone, Shows, ServedAt}
 use Rattle.serve.specs.declared.run.Served.{Served}
 
@@ -64,10 +68,10 @@ module _ (b : List ℕ) (k : ℕ) (d : DeskBytes b) (l : k < 8) (w : waits (seat
     fits-after = turns-fit b p (due r h) h fits
 
     -- what is known of the seat's limit and nodes
-    pub within : (limit made : ℕ) → limit ≡ long b (p + 3) → made ≡ nodesAt b p → (made ≤ limit) × (limit < 2 ^ 32)
-    within limit made e f = let z = long-small b (d .1) (p + 3) in (omega arith, omega arith)
+    pub within : (limit made : ℕ) → limit ≡ long b (p + LIMIT) → made ≡ nodesAt b p → (made ≤ limit) × (limit < 2 ^ 32)
+    within limit made e f = let z = long-small b (d .1) (p + LIMIT) in (omega arith, omega arith)
 
-    module _ (limit made more : ℕ) (el : limit ≡ long b (p + 3)) (em : made ≡ nodesAt b p) (es : more ≡ min (limit - made) (64 * r)) where
+    module _ (limit made more : ℕ) (el : limit ≡ long b (p + LIMIT)) (em : made ≡ nodesAt b p) (es : more ≡ min (limit - made) (64 * r)) where
       limits : h .progress .made + more ≡ stretchLimit r h
       unfolding hallAt
       limits = let z = within limit made el em .0 in omega arith
@@ -76,7 +80,10 @@ module _ (b : List ℕ) (k : ℕ) (d : DeskBytes b) (l : k < 8) (w : waits (seat
       unfolding hallAt
       same = ap (λ (x : ℕ). goOn (problemAt b p) x (deskRoom (problemAt b p)) (h .progress)) limits
 
-      module _ (c work : List ℕ) (stop nodes : ℕ) (q : PartDone b p more c work stop nodes) where
+      module _ (c work : List ℕ) (stop : ℕ) (tally : Tally) (q : PartDone b p more c work stop tally) where
+        abbrev nodes : ℕ
+        nodes = tally .nodes
+
         total-is : made + nodes ≡ nodesIn (stretch r h .ending)
         unfolding hallAt
         total-is = ap (λ (x : ℕ). x + nodes) em ∙ q .made ∙ ap (λ (x : Result). nodesIn (x .ending)) same
@@ -87,11 +94,29 @@ module _ (b : List ℕ) (k : ℕ) (d : DeskBytes b) (l : k < 8) (w : waits (seat
             let e = ap (λ (x : Hall). x .progress .made) (walk .whole) in
             let a = fits-after .allowed in
             let f = fits-after .limited in
-            let z = long-small b (d .1) (p + 3) in
+            let z = long-small b (d .1) (p + LIMIT) in
             omega arith
 
         pub fits-total : made + nodes < 2 ^ 64
         fits-total = let e = total-is in let z = total-small in omega arith
+
+        -- the counts before and those of this part fit, which are twelve
+        pub more-twelve : length (tally .counts) ≡ 12
+        more-twelve = ap length (q .counts) ∙ length-counts settledBy (madeIn (problemAt b p) (h .progress) (goneOn b p more))
+
+        pub sums-fit : (before : List ℕ) → before ≡ countsAt b p → (x : ℕ) → at before x + at (tally .counts) x < 2 ^ 32
+        unfolding hallAt
+        sums-fit before e x =
+            let ts = madeIn (problemAt b p) (h .progress) (goneOn b p more) in
+            let y = ap (λ (l : List ℕ). at l x) e in
+            let z = ap (λ (l : List ℕ). at l x) (q .counts) in
+            let u = counts-most b p x in
+            let v = count-most settledBy ts x in
+            let w = length-take (nodesIn (goneOn b p more .ending) - h .progress .made) (nodesAfter (problemAt b p) (h .progress .last)) in
+            let n = q .made in
+            let o = total-small in
+            let t = ap (λ (x : Result). nodesIn (x .ending)) same in
+            omega arith
 
         module _ (standing : ℕ) (est : (e : Ending) → stop ≡ stopIn e → made + nodes ≡ nodesIn e → standing ≡ standingByte (standingAfter limit e)) where
           pub shows : Shows g standing (made + nodes) work
@@ -113,23 +138,31 @@ module _ (b : List ℕ) (k : ℕ) (d : DeskBytes b) (l : k < 8) (w : waits (seat
                 narrow = omega arith;
               }
 
-          pub done : (bytes c′ : List ℕ) (turns : ℕ) (plans : ℕ) → bytes ≡ runBytes g → c′ ≡ placed c (p + 7) bytes → plans ≡ at work 12 → turns ≡ 1 + (nodes - 1) / 64 →
+          abbrev listed : List ℕ
+          listed = placed b (p + LIST) (flat (g .progress .rows))
+
+          pub done : (bytes c₁ before c′ : List ℕ) (turns : ℕ) (plans : ℕ) → bytes ≡ stateBytes g → c₁ ≡ placed c (p + STANDING) bytes → before ≡ countsAt b p →
+              c′ ≡ placed c₁ (p + COUNTS) (countBytes (added before (tally .counts))) → plans ≡ at work PLANS → turns ≡ 1 + (nodes - 1) / 64 →
               ServedAt b k r c′ record { standing = standing; plans = plans; nodes = made + nodes; turns = turns }
-          unfolding withRun hallAt
-          done bytes c′ turns plans e f n t =
+          unfolding withRun runBytes hallAt
+          done bytes c₁ before c′ turns plans e f m i n t =
               let s = shows in
               let x = run-length b k d l g fits-after in
+              let z = state-length b k d l g fits-after in
               let y = text-length b k d l g fits-after in
-              let list : c ≡ placed b (p + 55683) (flat (g .progress .rows)) = q .listed ∙ ap (λ (z : Result). placed b (p + 55683) (flat (z .rows))) same ∙ ap (λ (z : Hall). placed b (p + 55683) (flat (z .progress .rows))) (sym (walk .whole)) in
-              let i = q .made in
+              let list : c ≡ placed b (p + LIST) (flat (g .progress .rows)) = q .listed ∙ ap (λ (z : Result). placed b (p + LIST) (flat (z .rows))) same ∙ ap (λ (z : Hall). placed b (p + LIST) (flat (z .progress .rows))) (sym (walk .whole)) in
+              let counts : added before (tally .counts) ≡ g .progress .counts =
+              ap₂ added m (q .counts ∙ ap (λ (z : Result). countsBy settledBy (madeIn (problemAt b p) (h .progress) z)) same) ∙ sym (ap (λ (z : Hall). z .progress .counts) (walk .whole)) in
               record {
                 written =
-                    f ∙ ap₂ (λ (u v : List ℕ). placed u (p + 7) v) list e
-                    ∙ placed-apart b (p + 7) (p + 55683) (runBytes g) (flat (g .progress .rows)) (omega arith) (let z = d .0 in omega arith);
+                    i ∙ ap₂ (λ (u v : List ℕ). placed u (p + COUNTS) (countBytes v)) (f ∙ ap₂ (λ (u v : List ℕ). placed u (p + STANDING) v) list e) counts
+                    ∙ ap (λ (o : ℕ). placed (placed listed (p + STANDING) (stateBytes g)) o (countBytes (g .progress .counts))) (let w : p + COUNTS ≡ p + STANDING + length (stateBytes g) = omega arith in w)
+                    ∙ placed-then listed (p + STANDING) (stateBytes g) (let w = d .0 in let u = length-placed b (p + LIST) (flat (g .progress .rows)) (omega arith) in omega arith) (countBytes (g .progress .counts))
+                    ∙ placed-apart b (p + STANDING) (p + LIST) (runBytes g) (flat (g .progress .rows)) (omega arith) (let z = d .0 in omega arith);
                 standing = s .standing;
                 plans = n ∙ s .plans;
                 nodes = s .made;
-                turns = t ∙ ap turnsFor (let z : nodes ≡ nodesIn (stretch r h .ending) - h .progress .made = (let u = total-is in omega arith) in z) ∙ sym (walk .turns);
+                turns = t ∙ ap turnsFor (let w : nodes ≡ nodesIn (stretch r h .ending) - h .progress .made = (let u = total-is in omega arith) in w) ∙ sym (walk .turns);
               }
 
 -- ---- a turn
@@ -167,7 +200,7 @@ module _ (b : List ℕ) where
       unfolding due
       one = ap (λ (t : Bool). turned (choose t 1 0) now) (goes b k (whole, small) l waiting)
 
-      pub turn-served : (c : List ℕ) (s : Served) → ServedAt b k 1 c s → Turned (served k (standingBy (s .standing) (s .plans) (s .nodes)) (s .plans) (s .nodes)) (set c nextPlace ((k + 1) % 8))
+      pub turn-served : (c : List ℕ) (s : Served) → ServedAt b k 1 c s → Turned (served k (standingBy (s .standing) (s .plans) (s .nodes)) (s .plans) (s .nodes)) (set c NEXT ((k + 1) % 8))
       turn-served c s q =
           let r = by (seat k) serves in
           let f = fits-after b k (whole, small) l waiting 1 (omega arith) in
@@ -176,5 +209,5 @@ module _ (b : List ℕ) where
           ap (λ (x : ℕ). standingBy x (s .plans) (s .nodes)) (q .standing ∙ sym (byte-number (g .standing))) ∙ ap₂ (standingBy (min 3 (standingByte (g .standing)))) (q .plans) (q .nodes) ∙ f .figured in (
             ap (λ (x : Standing). served k x (s .plans) (s .nodes)) stands ∙ ap₂ (served k (g .standing)) (q .plans) (q .nodes) ∙ ap (λ (x : Hall). servedAs k (taken x)) one
                 ∙ sym (ap (λ (x : Seat). servedAs k (seatTurned x)) (seat-in b k l ∙ seat-is b k (whole, small) l waiting)) ∙ r .0,
-            ap (λ (x : List ℕ). set x nextPlace ((k + 1) % 8)) (q .written ∙ ap (withRun b (seatPlace k)) one) ∙ r .1,
+            ap (λ (x : List ℕ). set x NEXT ((k + 1) % 8)) (q .written ∙ ap (withRun b (seatPlace k)) one) ∙ r .1,
           )

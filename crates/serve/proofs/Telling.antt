@@ -14,7 +14,7 @@ use Rattle.model.proofs.Lists.{at-ext, at-append, at-skip, at-replicate}
 use Rattle.layout.specs.Places.{PLANS}
 use Rattle.walk.proofs.Prefix.{length-prefix, prefix-at}
 use Rattle.desk.specs.Desk.{Hall}
-use Rattle.desk.specs.Layout.{standingByte, figureBytes, runBytes}
+use Rattle.desk.specs.Layout.{standingByte, figureBytes, stateBytes}
 use Rattle.layout.specs.Places.{LAST}
 use Rattle.serve.specs.Served.{Shows}
 
@@ -46,32 +46,32 @@ module _ (h : Hall) (number total : ℕ) (work bytes : List ℕ) (s : Shows h nu
   unfolding figureBytes fourBytes
   figures-length = refl
 
-  run-is : runBytes h ≡ figureBytes h ++ (last ++ replicate (12 - n) 0)
-  unfolding runBytes
-  run-is = append-assoc (figureBytes h) last (replicate (12 - n) 0)
+  state-is : stateBytes h ≡ figureBytes h ++ (last ++ replicate (12 - n) 0)
+  unfolding stateBytes
+  state-is = append-assoc (figureBytes h) last (replicate (12 - n) 0)
 
-  pub told : bytes ≡ runBytes h
-  told = at-ext bytes (runBytes h) (size-is ∙ sym run-size) (λ x l. each x (ltb x 8) refl (ltb x (8 + n)) refl (let e = size-is in omega arith))
+  pub told : bytes ≡ stateBytes h
+  told = at-ext bytes (stateBytes h) (size-is ∙ sym state-size) (λ x l. each x (ltb x 8) refl (ltb x (8 + n)) refl (let e = size-is in omega arith))
     where
       size-is : length bytes ≡ 20
       size-is = f .size
 
-      run-size : length (runBytes h) ≡ 20
-      run-size =
-          ap length run-is ∙ length-append (figureBytes h) (last ++ replicate (12 - n) 0)
+      state-size : length (stateBytes h) ≡ 20
+      state-size =
+          ap length state-is ∙ length-append (figureBytes h) (last ++ replicate (12 - n) 0)
           ∙ (let a = figures-length in let b = length-append last (replicate (12 - n) 0) in let c = length-replicate {A = ℕ} (12 - n) 0 in let d = s .short in let e = length-last in omega arith)
 
-      behind : (x : ℕ) → 8 ≤ x → at (runBytes h) x ≡ at (last ++ replicate (12 - n) 0) (x - 8)
-      behind x l = ap (λ (r : List ℕ). at r x) run-is ∙ at-skip (figureBytes h) (last ++ replicate (12 - n) 0) 8 x figures-length l
+      behind : (x : ℕ) → 8 ≤ x → at (stateBytes h) x ≡ at (last ++ replicate (12 - n) 0) (x - 8)
+      behind x l = ap (λ (r : List ℕ). at r x) state-is ∙ at-skip (figureBytes h) (last ++ replicate (12 - n) 0) 8 x figures-length l
 
       kept : (x : ℕ) → ((v : ℕ) → v < at work LAST → 8 + v ≡ x → ⊥) → at bytes x ≡ at (figureBytes h ++ replicate 12 0) x
       kept x o = f .other x o ∙ ap (λ (r : List ℕ). at r x) figures
 
-      each : (x : ℕ) (p : Bool) → ltb x 8 ≡ p → (q : Bool) → ltb x (8 + n) ≡ q → x < 20 → at bytes x ≡ at (runBytes h) x
+      each : (x : ℕ) (p : Bool) → ltb x 8 ≡ p → (q : Bool) → ltb x (8 + n) ≡ q → x < 20 → at bytes x ≡ at (stateBytes h) x
       each x true e q g m =
           let l = ltb-true x 8 e in
           let z = figures-length in
-          kept x (λ v o w. omega arith) ∙ at-append (figureBytes h) (replicate 12 0) x (omega arith) ∙ sym (ap (λ (r : List ℕ). at r x) run-is ∙ at-append (figureBytes h) (last ++ replicate (12 - n) 0) x (omega arith))
+          kept x (λ v o w. omega arith) ∙ at-append (figureBytes h) (replicate 12 0) x (omega arith) ∙ sym (ap (λ (r : List ℕ). at r x) state-is ∙ at-append (figureBytes h) (last ++ replicate (12 - n) 0) x (omega arith))
       each x false e true g m =
           let l = ltb-false x 8 e in
           let o = ltb-true x (8 + n) g in

@@ -8,11 +8,12 @@ use Rattle.model.specs.Lists.{at, flat, choose}
 use Rattle.model.specs.Problem.{Problem}
 use Rattle.model.specs.Sheet.{problemOf}
 use Rattle.model.specs.Written.{placed}
-use Rattle.model.specs.Run.{nodesIn, Result}
+use Rattle.model.specs.Run.{nodesIn, Result, Tally, settledBy, countsBy}
 use Rattle.layout.specs.Places.{PLANS, LAST}
-use Rattle.parts.specs.Parts.{goOn, lastAfter}
+use Rattle.parts.specs.Parts.{goOn, madeIn, lastAfter}
 use Rattle.walk.specs.Pair.{prefixOf}
 use Rattle.walk.specs.Walk.{stopIn}
+use Rattle.desk.specs.Places.{LIST}
 use Rattle.desk.specs.Desk.{Hall, deskRoom, given, due, dueAt}
 use Rattle.desk.specs.Layout.{seatPlace, sheetAt, hallAt, seatOf, standingByte, withRun}
 use Rattle.serve.specs.declared.run.Served.{Served}
@@ -25,14 +26,15 @@ abbrev pub goneOn : List ℕ → ℕ → ℕ → Result
 goneOn b p more = goOn (problemAt b p) (hallAt b p .progress .made + more) (deskRoom (problemAt b p)) (hallAt b p .progress)
 
 -- its plans stand in the list, and where it stands in `work`
-pub record PartDone (b : List ℕ) (p more : ℕ) (c work : List ℕ) (stop nodes : ℕ) : Type 0 where
+pub record PartDone (b : List ℕ) (p more : ℕ) (c work : List ℕ) (stop : ℕ) (tally : Tally) : Type 0 where
   pub stopped : stop ≡ stopIn (goneOn b p more .ending)
-  pub made : hallAt b p .progress .made + nodes ≡ nodesIn (goneOn b p more .ending)
+  pub made : hallAt b p .progress .made + tally .nodes ≡ nodesIn (goneOn b p more .ending)
+  pub counts : tally .counts ≡ countsBy settledBy (madeIn (problemAt b p) (hallAt b p .progress) (goneOn b p more))
   pub plans : at work PLANS ≡ length (goneOn b p more .rows)
   pub last : prefixOf work (at work LAST) ≡ lastAfter (problemAt b p) (hallAt b p .progress) (goneOn b p more)
   pub short : at work LAST ≤ 12
   pub bytes : (i : ℕ) → i < at work LAST → at work i < 256
-  pub listed : c ≡ placed b (p + 55683) (flat (goneOn b p more .rows))
+  pub listed : c ≡ placed b (p + LIST) (flat (goneOn b p more .rows))
 
 -- a hall that stands so
 pub record Shows (h : Hall) (number total : ℕ) (work : List ℕ) : Type 0 where

@@ -10,12 +10,7 @@ use round::go_round;
 use run::serve;
 use seats::to_serve;
 use seats::waiting;
-ghost use mathlib.Core.Path.{_≡_};
-ghost use mathlib.Core.List.{[]};
-ghost use Rattle.desk.specs.Desk.{turn};
-ghost use Rattle.desk.specs.Layout.{replyOn, bytesAfter, roundsOn, roundsAfter};
-ghost use Rattle.desk.specs.Meaning.{means};
-ghost use Rattle.serve.specs.Meaning.{meansRounds};
+ghost use Rattle.serve.specs.Calls.{Turned, Rounded};
 
 // What rounds answer: the seats whose run ended in them and those whose run goes on, bit k for seat k.
 pub enum Reply {
@@ -26,8 +21,7 @@ pub enum Reply {
 
 // Gives a turn to the next seat whose run hasn't ended.
 pub fn turn(desk: &mut [u8]) -> Answer
-    ensures { λ r. ⌜ means r [] ≡ replyOn (now (desk .entry)) turn ⌝ }
-    ensures { λ _. ⌜ now (desk .exit) ≡ bytesAfter (now (desk .entry)) turn ⌝ }
+    ensures { λ r. ⌜ Turned (now (desk .entry)) (now (desk .exit)) r ⌝ }
 {
     if desk.len() != DESK_BYTES {
         return Answer::Refused {
@@ -51,8 +45,7 @@ pub fn turn(desk: &mut [u8]) -> Answer
 
 // Gives each seat whose run hasn't ended up to so many turns; each sheet is prepared once.
 pub fn rounds(desk: &mut [u8], turns: u32) -> Reply
-    ensures { λ r. ⌜ meansRounds r ≡ roundsOn (now (desk .entry)) turns ⌝ }
-    ensures { λ _. ⌜ now (desk .exit) ≡ roundsAfter (now (desk .entry)) turns ⌝ }
+    ensures { λ r. ⌜ Rounded (now (desk .entry)) turns (now (desk .exit)) r ⌝ }
 {
     if desk.len() != DESK_BYTES {
         return Reply::Refused {

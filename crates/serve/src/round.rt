@@ -7,7 +7,8 @@ ghost use Prim.Native.Nat.{_<_};
 ghost use lib.ListN.{length};
 ghost use Rattle.model.specs.Lists.{at};
 ghost use Rattle.desk.specs.Desk.{roundFrom, roundsDesk};
-ghost use Rattle.desk.specs.Layout.{size, nextPlace, deskOf, roundBytes};
+ghost use Rattle.desk.specs.Places.{NEXT, size};
+ghost use Rattle.desk.specs.Layout.{deskOf, roundBytes};
 ghost use Rattle.serve.specs.Served.{GivenAt};
 
 // Gives seat k up to so many turns, where its run hasn't ended; answers how many it took.
@@ -28,7 +29,7 @@ fn give(desk: &mut [u8], k: usize, turns: u32) -> usize
 // Gives each seat up to so many turns, going round; answers where the turn after them begins to look.
 pub fn go_round(desk: &mut [u8], turns: u32) -> u8
     requires { ⌜ length (now desk) ≡ size ⌝ }
-    ensures { λ r. ⌜ (now (desk .exit) ≡ roundBytes turns (roundFrom (at (now (desk .entry)) nextPlace)) (now (desk .entry))) × (r ≡ roundsDesk (deskOf (now (desk .entry))) turns .next) ⌝ }
+    ensures { λ r. ⌜ (now (desk .exit) ≡ roundBytes turns (roundFrom (at (now (desk .entry)) NEXT)) (now (desk .entry))) × (r ≡ roundsDesk (deskOf (now (desk .entry))) turns .next) ⌝ }
 {
     let first = desk[NEXT] as usize;
     let mut next = desk[NEXT];

@@ -1,9 +1,16 @@
 // The run of a seat: going on with it, and putting down where it stands then.
+use desk::COUNTS;
+use desk::DEPTH;
+use desk::LENGTH;
+use desk::LIMIT;
 use desk::LIST;
 use desk::SEAT;
 use desk::SHEET;
+use desk::SHEET_BYTES;
+use desk::STANDING;
 use desk::bounded;
 use desk::byte;
+use desk::counts_at;
 use desk::nodes_at;
 use desk::place;
 use desk::read_long;
@@ -11,15 +18,20 @@ use layout::ALL;
 use layout::FULL;
 use layout::LAST;
 use layout::PLANS;
-use settle::Part;
+use settle::CountedPart;
 ghost use mathlib.Core.Path.{_≡_};
 ghost use mathlib.Core.Bool.{true};
-ghost use Prim.Native.Nat.{_+_, _-_, _*_, _/_, _^_, _≤_, _<_, min};
+ghost use Prim.Native.Nat.{ℕ, _+_, _-_, _*_, _/_, _^_, _≤_, _<_, min};
 ghost use lib.ListN.{length};
+ghost use Rattle.model.specs.Lists.{at};
 ghost use Rattle.model.specs.Run.{Ending, nodesIn};
+ghost use Rattle.model.specs.Written.{placed};
+ghost use Rattle.parts.specs.Parts.{added};
+ghost use Rattle.walk.specs.Meaning.{tallyIn};
 ghost use Rattle.walk.specs.Walk.{stopIn};
 ghost use Rattle.desk.specs.Desk.{Hall, waits, standingAfter};
-ghost use Rattle.desk.specs.Layout.{size, seatOf, standingByte, runBytes};
+ghost use Rattle.desk.specs.Places.{COUNTS, SHEET, SEAT, size};
+ghost use Rattle.desk.specs.Layout.{seatOf, standingByte, stateBytes, countBytes};
 ghost use Rattle.serve.specs.Served.{PartDone, Shows, ServedAt};
 
 // How a seat stands after its turns, and how many it took.
@@ -68,10 +80,10 @@ fn standing_after(stop: u8, made: usize, limit: usize) -> u8
     2
 }
 
-// The bytes of a seat that say where its run stands.
+// The bytes of a seat that say where its run stands, but for its counts.
 fn run_bytes(standing: u8, made: usize, work: &[u64; 256]) -> [u8; 20]
     requires { ⌜ ((h : Hall) × Shows h standing made (now work)) ⌝ }
-    ensures { λ r. ⌜ ((h : Hall) → Shows h standing made (now (work .entry)) → r ≡ runBytes h) ⌝ }
+    ensures { λ r. ⌜ ((h : Hall) → Shows h standing made (now (work .entry)) → r ≡ stateBytes h) ⌝ }
 {
     let plans = work[PLANS];
     let last = work[LAST] as usize;
@@ -105,21 +117,40 @@ fn run_bytes(standing: u8, made: usize, work: &[u64; 256]) -> [u8; 20]
     bytes
 }
 
+// Puts the counts of the seat at p: those before, and those of its last part.
+fn put_counts(desk: &mut [u8], p: usize, before: [u32; 12], more: [u32; 12])
+    requires { ⌜ (p + SHEET ≤ length (now desk)) × (length before ≡ 12) × (length more ≡ 12) × ((x : ℕ) → at before x + at more x < 2 ^ 32) ⌝ }
+    ensures { λ _. ⌜ now (desk .exit) ≡ placed (now (desk .entry)) (p + COUNTS) (countBytes (added before more)) ⌝ }
+{
+    let mut x = 0;
+    while x < 12 {
+        let k = before[x] + more[x];
+        let bytes = [
+            (k % 256) as u8,
+            (k / 256 % 256) as u8,
+            (k / 65536 % 256) as u8,
+            (k / 16777216) as u8,
+        ];
+        place(&bytes, desk, p + COUNTS + 4 * x);
+        x += 1;
+    }
+}
+
 // Goes on with the run of the seat at p by so many nodes at most; the plans go to its list, where it stands to `work`.
-fn go_on(desk: &mut [u8], p: usize, more: u32, work: &mut [u64; 256]) -> Part
-    requires { ⌜ (p + 104835 ≤ length (now desk)) × (length (now work) ≡ 256) ⌝ }
-    ensures { λ r. ⌜ PartDone (now (desk .entry)) p more (now (desk .exit)) (now (work .exit)) (r .stop) (r .nodes) ⌝ }
+fn go_on(desk: &mut [u8], p: usize, more: u32, work: &mut [u64; 256]) -> CountedPart
+    requires { ⌜ (p + SEAT ≤ length (now desk)) × (length (now work) ≡ 256) ⌝ }
+    ensures { λ r. ⌜ PartDone (now (desk .entry)) p more (now (desk .exit)) (now (work .exit)) (r .stop) (tallyIn (r .tally)) ⌝ }
 {
     let mut stack = [0u16; 208];
     let mut supports = [0u16; 8192];
     let mut tables = [0u16; 55296];
     let mut numbers = [0u64; 2432];
-    let plans = bounded(desk, p + 12, 4096);
-    let last = p + 15;
-    let after = last + byte(desk, p + 14, 12) as usize;
+    let plans = bounded(desk, p + desk::PLANS, 4096);
+    let last = p + desk::LAST;
+    let after = last + byte(desk, p + DEPTH, 12) as usize;
     resume::put_progress(work, plans, &desk[last..after]);
     let sheet = p + SHEET;
-    let end = sheet + bounded(desk, p + 1, 55656);
+    let end = sheet + bounded(desk, p + LENGTH, SHEET_BYTES);
     let size = 4096 * bounded(desk, sheet, 12);
     let step = resume::prepare_again(
         &mut stack,
@@ -150,19 +181,23 @@ pub fn serve(desk: &mut [u8], k: usize, turns: u32) -> Served
     ensures { λ r. ⌜ ServedAt (now (desk .entry)) k turns (now (desk .exit)) r ⌝ }
 {
     let p = SEAT * k;
-    let limit = read_long(desk, p + 3);
+    let limit = read_long(desk, p + LIMIT);
     let made = nodes_at(desk, p);
+    let before = counts_at(desk, p);
     let more = share(limit - made, turns);
     let mut work = [0u64; 256];
     let part = go_on(desk, p, more, &mut work);
-    let nodes = made + part.nodes as usize;
+    let counted = part.tally;
+    let nodes = made + counted.nodes as usize;
     let standing = standing_after(part.stop, nodes, limit);
     let bytes = run_bytes(standing, nodes, &work);
-    place(&bytes, desk, p + 7);
+    place(&bytes, desk, p + STANDING);
+    let counts = counted.counts;
+    put_counts(desk, p, before, counts);
     Served {
         standing,
         plans: work[PLANS] as usize,
         nodes,
-        turns: turns_for(part.nodes),
+        turns: turns_for(counted.nodes),
     }
 }

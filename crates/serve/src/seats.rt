@@ -1,12 +1,14 @@
 // The seats whose run hasn't ended.
 use desk::NEXT;
 use desk::SEAT;
+use desk::STANDING;
 ghost use mathlib.Core.Path.{_≡_};
 ghost use Prim.Native.Nat.{_<_};
 ghost use lib.ListN.{length};
 ghost use Rattle.model.specs.ValueSets.{maskOf, oneIf};
 ghost use Rattle.desk.specs.Desk.{waits, seatAt, toServe};
-ghost use Rattle.desk.specs.Layout.{size, seatOf, deskOf};
+ghost use Rattle.desk.specs.Places.{size};
+ghost use Rattle.desk.specs.Layout.{seatOf, deskOf};
 ghost use Rattle.desk.specs.Meaning.{found};
 
 // Whether somebody sits at seat k whose run hasn't ended.
@@ -18,7 +20,7 @@ pub fn waits(desk: &[u8], k: usize) -> bool
     if desk[p] == 0 {
         return false;
     }
-    desk[p + 7] == 0
+    desk[p + STANDING] == 0
 }
 
 // The seat that the next turn serves, or 8.

@@ -8,8 +8,7 @@ use model::ValueSet;
 use walk::Tally;
 ghost use Rattle.model.specs.Problem.{Problem};
 ghost use Rattle.model.specs.Run as Run;
-ghost use Rattle.walk.specs.Walk.{begun};
-ghost use Rattle.walk.specs.Pair.{AtValues, AtValue, Walked, Entered, tried, lowestTried, WalkedOn, SameSlice};
+ghost use Rattle.walk.specs.Pair.{AtValues, AtValue, Walked, Entered, tried, lowestTried, SameSlice};
 ghost use Rattle.walk.specs.Meaning.{tallyIn};
 
 // Makes the node of the lowest of the values m of variable k: ALL where it is dead or its plan was listed, FULL where a plan has no room,
@@ -151,42 +150,4 @@ pub fn walk_counted(
         m,
     );
     CountedPart { stop, tally }
-}
-
-// How a part of a run stopped, and the nodes made by then.
-pub struct Part {
-    pub stop: u8,
-    pub nodes: u32,
-}
-
-// Walks along the nodes of the values m of variable k, lowest first, in a run that has made so many nodes.
-pub fn walk_values(
-    stack: &mut [u16; 208],
-    work: &mut [u64; 256],
-    supports: &[u16; 8192],
-    tables: &[u16; 55296],
-    numbers: &[u64; 2432],
-    list: &mut [u8],
-    made: u32,
-    k: usize,
-    m: u16,
-) -> Part
-    requires { ⌜ ((p : Problem) × AtValues p (now stack) (now work) (now supports) (now tables) (now numbers) (now list) (begun made) k m) ⌝ }
-    ensures { λ r. ⌜ ((p : Problem) → AtValues p (now (stack .entry)) (now (work .entry)) (now (supports .entry)) (now (tables .entry)) (now (numbers .entry)) (now (list .entry)) (begun made) k m → WalkedOn p (tried p (now (work .entry)) k m) (now (stack .entry)) (now (work .entry)) (now (numbers .entry)) (now (list .entry)) made k (now (stack .exit)) (now (work .exit)) (now (list .exit)) (r .nodes) (r .stop)) ⌝ }
-{
-    let mut sink = &mut *list;
-    let mut tally = walk::nodes_before(made);
-    let stop = settle(
-        stack,
-        work,
-        supports,
-        tables,
-        numbers,
-        &mut sink,
-        &mut tally,
-        k,
-        m,
-    );
-    let nodes = walk::nodes_made(&tally);
-    Part { stop, nodes }
 }

@@ -15,7 +15,7 @@ use Rattle.order.specs.Order.{Ordering}
 use Rattle.order.specs.Reordered.{write}
 use Rattle.layout.specs.Places.{SYMMETRIES, LIMIT, ROOM, ORDER, PLANS, LAST, MARKS, ALL, DEEPER}
 use Rattle.prune.specs.Node.{withOrderings, Ready, Holds, Marked}
-use Rattle.walk.specs.Walk.{Summed, withNode, noNodes, begun, State, listed, walk, nodesFor}
+use Rattle.walk.specs.Walk.{Summed, withNode, noNodes, State, listed, walk, nodesFor}
 
 -- the same slice, at a list as long
 abbrev pub SameSlice : RefT (List ℕ) → RefT (List ℕ) → Type 0
@@ -123,8 +123,3 @@ pub record Entered (p : Problem) (stack work supports tables numbers list : List
   pub then : step ≡ DEEPER → (stack″ work″ list″ : List ℕ) (tally″ : Tally) (stop : ℕ) →
       Walked p (tried p work′ (k + 1) (at stack′ (17 * (k + 1)))) stack′ work′ numbers list′ (withNode (settling numbers k) tally) (k + 1) stack″ work″ list″ tally″ stop →
       Walked p (lowestTried p work k m) stack work numbers list tally k stack″ work″ list″ tally″ stop
-
--- a walk along the nodes ts in a run that had made so many nodes, and has made so many now
-abbrev pub WalkedOn : Problem → List (List ℕ) → List ℕ → List ℕ → List ℕ → List ℕ → ℕ → ℕ → List ℕ → List ℕ → List ℕ → ℕ → ℕ → Type 0
-WalkedOn p ts stack work numbers list made k stack′ work′ list′ made′ stop =
-    (tally : Tally) × (tally .nodes ≡ made′) × Walked p ts stack work numbers list (begun made) k stack′ work′ list′ tally stop

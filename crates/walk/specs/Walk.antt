@@ -22,10 +22,6 @@ withNode x t = record { nodes = t .nodes + 1; counts = set (t .counts) x (at (t 
 abbrev pub noNodes : Tally
 noNodes = record { nodes = 0; counts = replicate 12 0 }
 
--- so many nodes, all counted as the first variable's
-abbrev pub begun : ℕ → Tally
-begun made = record { nodes = made; counts = set (replicate 12 0) 0 made }
-
 -- twelve counts, which add up to the nodes: so it is at every moment of a run (paper 02, #107)
 pub record Summed (t : Tally) : Type 0 where
   pub twelve : length (t .counts) ≡ 12

@@ -15,7 +15,7 @@ ghost use Rattle.model.specs.ValueSets.{withoutMask, lowestOf};
 ghost use Rattle.order.specs.Order.{Ordering};
 ghost use Rattle.order.specs.Reordered.{write};
 ghost use Rattle.layout.specs.Places.{VARIABLES, LIMIT, ROOM, PLANS};
-ghost use Rattle.walk.specs.Walk.{begun, overwritten, noted};
+ghost use Rattle.walk.specs.Walk.{overwritten, noted};
 ghost use Rattle.walk.specs.Pair.{prefixOf, settling, orderIn, Countable, Counted, Cleared, ListRoom, Listed, SameSlice};
 ghost use Rattle.walk.specs.Meaning.{tallyIn};
 
@@ -132,16 +132,4 @@ pub fn variable_at(numbers: &[u64; 2432], k: usize) -> usize
     ensures { λ r. ⌜ r ≡ settling (now (numbers .entry)) k ⌝ }
 {
     numbers[ORDER + k] as usize
-}
-
-// The tally of so many nodes, all counted as the first variable's.
-pub fn nodes_before(made: u32) -> Tally
-    ensures { λ r. ⌜ tallyIn r ≡ begun made ⌝ }
-{
-    let mut counts = [0; 12];
-    counts[0] = made;
-    Tally {
-        nodes: made,
-        counts: counts,
-    }
 }

@@ -7,28 +7,62 @@ use lib.ListN.{length}
 use Rattle.model.specs.Bytes.{fourBytes}
 use Rattle.model.specs.Written.{placed}
 use Rattle.model.proofs.Written.{placed-then}
+use Rattle.desk.specs.Places.{LENGTH, LIMIT, STANDING, NODES, PLANS, DEPTH, LAST, COUNTS, SHEET, SHEET-BYTES, LIST, LIST-BYTES, SEAT, NEXT, size}
 use Rattle.desk.specs.Layout.{headBytes, seatBytes}
 use borrow.Author.Needs.{needs}
 use Rattle.desk.proofs.fill.Statement.{statement}
 use Rattle.desk.proofs.fill.Tie as tie
 
-cast-t8 : tie.Need-cast-t8
-cast-t8 c = search needs
+array-write-head : tie.Need-array-write-head
+array-write-head c = search needs
 
-cast-t10 : tie.Need-cast-t10
-cast-t10 c = search needs
+cast-head : tie.Need-cast-head
+cast-head c = search needs
 
-cast-t12 : tie.Need-cast-t12
-cast-t12 c = search needs
+array-write-head-2 : tie.Need-array-write-head-2
+array-write-head-2 c = search needs
 
-cast-t15 : tie.Need-cast-t15
-cast-t15 c = search needs
+cast-head-2 : tie.Need-cast-head-2
+cast-head-2 c = search needs
 
-cast-t18 : tie.Need-cast-t18
-cast-t18 c = search needs
+add-head : tie.Need-add-head
+add-head c = search needs
 
-cast-t20 : tie.Need-cast-t20
-cast-t20 c = search needs
+array-write-head-3 : tie.Need-array-write-head-3
+array-write-head-3 c = search needs
+
+cast-head-3 : tie.Need-cast-head-3
+cast-head-3 c = search needs
+
+array-write-head-4 : tie.Need-array-write-head-4
+array-write-head-4 c = search needs
+
+cast-head-4 : tie.Need-cast-head-4
+cast-head-4 c = search needs
+
+add-head-2 : tie.Need-add-head-2
+add-head-2 c = search needs
+
+array-write-head-5 : tie.Need-array-write-head-5
+array-write-head-5 c = search needs
+
+cast-head-5 : tie.Need-cast-head-5
+cast-head-5 c = search needs
+
+add-head-3 : tie.Need-add-head-3
+add-head-3 c = search needs
+
+array-write-head-6 : tie.Need-array-write-head-6
+array-write-head-6 c = search needs
+
+cast-head-6 : tie.Need-cast-head-6
+cast-head-6 c = search needs
+
+add-head-4 : tie.Need-add-head-4
+add-head-4 c = search needs
+
+array-write-head-7 : tie.Need-array-write-head-7
+array-write-head-7 c = search needs
 
 slice-aggregate-place : tie.Need-slice-aggregate-place
 slice-aggregate-place c = search needs
@@ -50,19 +84,30 @@ unfolding seatBytes headBytes fourBytes
 returns c =
     let a = c .before .before .before .before .before .before .before .before .before .before .before .args in
     let n = length (a .sheet .now) in
-    c .before .before .place2 .ensures ∙ ap (λ (l : List ℕ). placed l (a .p + 27) (a .sheet .now)) (c .before .before .before .before .before .before .place .ensures)
+    c .before .before .place2 .ensures ∙ ap (λ (l : List ℕ). placed l (a .p + SHEET) (a .sheet .now)) (c .before .before .before .before .before .before .place .ensures)
     ∙ placed-then (a .desk .now) (a .p) (headBytes n (a .limit)) (omega (arith, c .before .before .before .before .before .before .before .before .before .before .before .pre .0)) (a .sheet .now)
 
 pub fill-spec : {M : Type 1} → statement M
 fill-spec =
     tie.close
     (tie.spec
-    cast-t8
-    cast-t10
-    cast-t12
-    cast-t15
-    cast-t18
-    cast-t20
+    array-write-head
+    cast-head
+    array-write-head-2
+    cast-head-2
+    add-head
+    array-write-head-3
+    cast-head-3
+    array-write-head-4
+    cast-head-4
+    add-head-2
+    array-write-head-5
+    cast-head-5
+    add-head-3
+    array-write-head-6
+    cast-head-6
+    add-head-4
+    array-write-head-7
     slice-aggregate-place
     place-requires
     add-place

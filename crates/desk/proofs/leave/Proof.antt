@@ -3,16 +3,18 @@ use mathlib.Core.Path.{refl}
 use Prim.Native.Nat.{_+_, _-_, _*_}
 use native.Mathlib.Omega.{arith}
 use Rattle.model.specs.Lists.{at}
+use Rattle.desk.specs.Places.{LIST, SEAT}
 use Rattle.desk.proofs.Seats.{leave-255, leave-out, leave-free, leave-22, leave-yes}
+use Rattle.desk.proofs.Held.{gone}
 use borrow.Author.Needs.{needs}
 use Rattle.desk.proofs.leave.Statement.{statement}
 use Rattle.desk.proofs.leave.Tie as tie
 
 returns : tie.Need-returns
-returns c = let a = c .before .before .before .args in leave-255 (a .desk .now) (a .seat) (a .room .now) (c .if1 .taken)
+returns c = let a = c .before .before .before .args in gone (leave-255 (a .desk .now) (a .seat) (a .room .now) (c .if1 .taken))
 
 returns-2 : tie.Need-returns-2
-returns-2 c = let a = c .before .before .before .before .args in leave-out (a .desk .now) (a .seat) (a .room .now) (omega (arith, c .before .if1 .left)) (c .if2 .taken)
+returns-2 c = let a = c .before .before .before .before .args in gone (leave-out (a .desk .now) (a .seat) (a .room .now) (omega (arith, c .before .if1 .left)) (c .if2 .taken))
 
 mul-p : tie.Need-mul-p
 mul-p c = search needs
@@ -24,7 +26,7 @@ returns-3 : tie.Need-returns-3
 unfolding at
 returns-3 c =
     let a = c .before .before .before .before .before .before .args in
-    leave-free (a .desk .now) (a .seat) (a .room .now) (omega (arith, c .before .before .before .if1 .left)) (c .before .before .if2 .left) (c .if3 .taken)
+    gone (leave-free (a .desk .now) (a .seat) (a .room .now) (omega (arith, c .before .before .before .if1 .left)) (c .before .before .if2 .left) (c .if3 .taken))
 
 list-length-requires : tie.Need-list-length-requires
 list-length-requires c κs = search needs
@@ -37,7 +39,7 @@ unfolding at
 returns-4 c =
     let a = c .before .before .before .before .before .before .before .before .before .args in
     let n = c .before .list-length .ensures in
-    leave-22 (a .desk .now) (a .seat) (a .room .now) (omega (arith, c .before .before .before .before .before .before .if1 .left)) (c .before .before .before .before .before .if2 .left) _ (n .0) (n .1) (c .before .before .before .if3 .left) (c .if4 .taken)
+    gone (leave-22 (a .desk .now) (a .seat) (a .room .now) (omega (arith, c .before .before .before .before .before .before .if1 .left)) (c .before .before .before .before .before .if2 .left) _ (n .0) (n .1) (c .before .before .before .if3 .left) (c .if4 .taken))
 
 add-list : tie.Need-add-list
 add-list c = search needs
@@ -71,8 +73,8 @@ unfolding at
 returns-5 c =
     let a = c .before .before .before .before .before .before .before .before .before .before .before .before .before .before .before .args in
     let n = c .before .before .before .before .before .before .before .list-length .ensures in
-    let from = 104835 * a .seat + 55683 in
-    leave-yes (a .desk .now) (a .seat) (a .room .now) (omega (arith, c .before .before .before .before .before .before .before .before .before .before .before .before .if1 .left)) (c .before .before .before .before .before .before .before .before .before .before .before .if2 .left) _ (n .0) (n .1) (from + c .before .before .before .before .before .before .before .list-length .result - from) _ _ (omega arith) (c .before .before .before .before .before .before .before .before .before .if3 .left) (c .before .before .before .before .before .before .if4 .left) (c .before .before .place .ensures) refl
+    let from = SEAT * a .seat + LIST in
+    gone (leave-yes (a .desk .now) (a .seat) (a .room .now) (omega (arith, c .before .before .before .before .before .before .before .before .before .before .before .before .if1 .left)) (c .before .before .before .before .before .before .before .before .before .before .before .if2 .left) _ (n .0) (n .1) (from + c .before .before .before .before .before .before .before .list-length .result - from) _ _ (omega arith) (c .before .before .before .before .before .before .before .before .before .if3 .left) (c .before .before .before .before .before .before .if4 .left) (c .before .before .place .ensures) refl)
 
 pub leave-spec : {M : Type 1} → statement M
 leave-spec =

@@ -2,15 +2,22 @@
 use native.Mathlib.Omega.{arith}
 use Rattle.model.specs.Lists.{at}
 use Rattle.desk.proofs.Seats.{look-255, look-out, look-free, look-yes}
+use Rattle.desk.proofs.Held.{looked, unseen}
 use borrow.Author.Needs.{needs}
 use Rattle.desk.proofs.look.Statement.{statement}
 use Rattle.desk.proofs.look.Tie as tie
 
+unseen-requires : tie.Need-unseen-requires
+unseen-requires c κs = search needs
+
 returns : tie.Need-returns
-returns c = let a = c .before .before .args in look-255 (a .desk .now) (a .seat) (c .if1 .taken)
+returns c = let a = c .before .before .before .args in unseen (c .unseen .ensures) (look-255 (a .desk .now) (a .seat) (c .before .if1 .taken))
+
+unseen-requires-2 : tie.Need-unseen-requires-2
+unseen-requires-2 c κs = search needs
 
 returns-2 : tie.Need-returns-2
-returns-2 c = let a = c .before .before .before .args in look-out (a .desk .now) (a .seat) (omega (arith, c .before .if1 .left)) (c .if2 .taken)
+returns-2 c = let a = c .before .before .before .before .args in unseen (c .unseen2 .ensures) (look-out (a .desk .now) (a .seat) (omega (arith, c .before .before .if1 .left)) (c .before .if2 .taken))
 
 mul-p : tie.Need-mul-p
 mul-p c = search needs
@@ -18,9 +25,14 @@ mul-p c = search needs
 shared-slice-read-if3 : tie.Need-shared-slice-read-if3
 shared-slice-read-if3 c = search needs
 
+unseen-requires-3 : tie.Need-unseen-requires-3
+unseen-requires-3 c κs = search needs
+
 returns-3 : tie.Need-returns-3
 unfolding at
-returns-3 c = let a = c .before .before .before .before .before .args in look-free (a .desk .now) (a .seat) (omega (arith, c .before .before .before .if1 .left)) (c .before .before .if2 .left) (c .if3 .taken)
+returns-3 c =
+    let a = c .before .before .before .before .before .before .args in
+    unseen (c .unseen3 .ensures) (look-free (a .desk .now) (a .seat) (omega (arith, c .before .before .before .before .if1 .left)) (c .before .before .before .if2 .left) (c .before .if3 .taken))
 
 add-byte : tie.Need-add-byte
 add-byte c = search needs
@@ -37,24 +49,31 @@ bounded-requires c κs = search needs
 nodes-at-requires : tie.Need-nodes-at-requires
 nodes-at-requires c κs = search needs
 
+counts-at-requires : tie.Need-counts-at-requires
+counts-at-requires c κs = search needs
+
 returns-4 : tie.Need-returns-4
 unfolding at
 returns-4 c =
-    let a = c .before .before .before .before .before .before .before .before .args in
-    look-yes (a .desk .now) (a .seat) _ _ _ (omega (arith, c .before .before .before .before .before .before .if1 .left)) (c .before .before .before .before .before .if2 .left) (c .before .before .before .if3 .left) (c .before .before .byte .ensures) (c .before .bounded .ensures) (c .nodes-at .ensures)
+    let a = c .before .before .before .before .before .before .before .before .before .args in
+    looked (look-yes (a .desk .now) (a .seat) (omega (arith, c .before .before .before .before .before .before .before .if1 .left)) (c .before .before .before .before .before .before .if2 .left) _ _ _ _ (c .before .before .before .before .if3 .left) (c .before .before .before .byte .ensures) (c .before .before .bounded .ensures) (c .before .nodes-at .ensures) (c .counts-at .ensures))
 
 pub look-spec : {M : Type 1} → statement M
 look-spec =
     tie.close
     (tie.spec
+    unseen-requires
     returns
+    unseen-requires-2
     returns-2
     mul-p
     shared-slice-read-if3
+    unseen-requires-3
     returns-3
     add-byte
     byte-requires
     add-bounded
     bounded-requires
     nodes-at-requires
+    counts-at-requires
     returns-4)

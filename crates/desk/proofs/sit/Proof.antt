@@ -4,12 +4,13 @@ use native.Mathlib.Omega.{arith}
 use Rattle.sheet.specs.Meaning.{means}
 use Rattle.desk.proofs.Sheets.{answered-length}
 use Rattle.desk.proofs.Seats.{sit-255, sit-37, sit-refused, sit-yes}
+use Rattle.desk.proofs.Held.{sat}
 use borrow.Author.Needs.{needs}
 use Rattle.desk.proofs.sit.Statement.{statement}
 use Rattle.desk.proofs.sit.Tie as tie
 
 returns : tie.Need-returns
-returns c = let a = c .before .before .before .args in sit-255 (a .desk .now) (a .sheet .now) (a .limit) (c .if1 .taken)
+returns c = let a = c .before .before .before .args in sat (sit-255 (a .desk .now) (a .sheet .now) (a .limit) (c .if1 .taken))
 
 lowest-free-requires : tie.Need-lowest-free-requires
 lowest-free-requires c κs = search needs
@@ -20,7 +21,7 @@ same-length c = search needs
 returns-2 : tie.Need-returns-2
 returns-2 c =
     let a = c .before .before .before .before .before .before .args in
-    sit-37 (a .desk .now) (a .sheet .now) (a .limit) (omega (arith, c .before .before .before .if1 .left)) _ (c .before .lowest-free .ensures) (c .if2 .taken)
+    sat (sit-37 (a .desk .now) (a .sheet .now) (a .limit) (omega (arith, c .before .before .before .if1 .left)) _ (c .before .lowest-free .ensures) (c .if2 .taken))
 
 question-requires : tie.Need-question-requires
 question-requires c κs = search needs
@@ -35,7 +36,7 @@ returns-3 : tie.Need-returns-3
 returns-3 c =
     let a = c .before .before .before .before .before .before .before .before .before .before .args in
     let g = c .before .asked .given in
-    sit-refused (a .desk .now) (a .sheet .now) (a .limit) (omega (arith, c .before .before .before .before .before .before .before .if1 .left)) _ _ _ (c .before .before .before .before .before .lowest-free .ensures) (c .before .before .before .before .if2 .left) (sym (ap means (g .1)) ∙ c .before .before .before .question .ensures)
+    sat (sit-refused (a .desk .now) (a .sheet .now) (a .limit) (omega (arith, c .before .before .before .before .before .before .before .if1 .left)) _ _ _ (c .before .before .before .before .before .lowest-free .ensures) (c .before .before .before .before .if2 .left) (sym (ap means (g .1)) ∙ c .before .before .before .question .ensures))
 
 enum-told : tie.Need-enum-told
 enum-told c = search needs
@@ -55,7 +56,7 @@ same-length-3 c = search needs
 returns-4 : tie.Need-returns-4
 returns-4 c =
     let a = c .before .before .before .before .before .before .before .before .before .before .before .before .before .args in
-    sit-yes (a .desk .now) (a .sheet .now) (a .limit) (omega (arith, c .before .before .before .before .before .before .before .before .before .before .if1 .left)) _ _ (c .before .before .before .before .before .before .before .before .lowest-free .ensures) (c .before .before .before .before .before .before .before .if2 .left) (sym (ap means (c .before .before .before .before .enum-told .given .1)) ∙ c .before .before .before .before .before .before .question .ensures) (c .before .before .fill .ensures)
+    sat (sit-yes (a .desk .now) (a .sheet .now) (a .limit) (omega (arith, c .before .before .before .before .before .before .before .before .before .before .if1 .left)) _ _ (c .before .before .before .before .before .before .before .before .lowest-free .ensures) (c .before .before .before .before .before .before .before .if2 .left) (sym (ap means (c .before .before .before .before .enum-told .given .1)) ∙ c .before .before .before .before .before .before .question .ensures) (c .before .before .fill .ensures))
 
 pub sit-spec : {M : Type 1} → statement M
 sit-spec =

@@ -2,10 +2,10 @@
 use mathlib.Core.Path.{sym, _∙_, subst}
 use mathlib.Core.List.{[]}
 use Rattle.model.specs.Lists.{at}
-use Rattle.desk.specs.Desk.{leave, DeskReply}
+use Rattle.desk.specs.Desk.{DeskReply}
 use Rattle.desk.specs.Meaning.{means}
 use Rattle.export_desk.specs.Told.{Holds}
-use Rattle.export_desk.proofs.Replies.{code-any, answer-any, holds-any, leave-reply, unanswered, answered, unleft, left-room}
+use Rattle.export_desk.proofs.Replies.{code-any, answer-any, holds-any, leave-reply, unleft, left-room}
 use borrow.Author.Needs.{needs}
 use Rattle.export_desk.proofs.leave.Statement.{statement}
 use Rattle.export_desk.proofs.leave.Tie as tie
@@ -13,8 +13,7 @@ use Rattle.export_desk.proofs.leave.Tie as tie
 returns : tie.Need-returns
 returns c =
     let a = c .before .before .before .before .args in
-    let u = unanswered (a .desk .now) (leave (a .seat) (a .room .now)) (a .answer .now) (c .if1 .taken) in
-    (u .0, (u .1 .0, (unleft (a .desk .now) (a .seat) (a .room .now) (a .answer .now) (c .if1 .taken), u .1 .1)))
+    unleft (a .desk .now) (a .seat) (a .room .now) (a .answer .now) (c .if1 .taken)
 
 leave-requires : tie.Need-leave-requires
 leave-requires c κs = search needs
@@ -24,7 +23,7 @@ unfolding at
 told-requires c κs =
     let a = c .before .before .before .before .before .before .before .before .before .before .before .before .args in
     let f = c .before .before .before .before .before .leave in
-    subst (Holds (means (f .result) [])) (sym (c .before .before .before .before .before .before .before .before .if1 .left)) (holds-any (f .result) _ 12 (subst (λ (q : DeskReply). Holds q 12) (sym (f .ensures .0)) (leave-reply (a .desk .now) (λ i. c .before .before .before .before .before .before .before .before .before .before .before .slice-known .given i .fits) (a .seat) (a .room .now))))
+    subst (Holds (means (f .result) [])) (sym (c .before .before .before .before .before .before .before .before .if1 .left)) (holds-any (f .result) _ 12 (subst (λ (q : DeskReply). Holds q 12) (sym (f .ensures .answers)) (leave-reply (a .desk .now) (λ i. c .before .before .before .before .before .before .before .before .before .before .before .slice-known .given i .fits) (a .seat) (a .room .now))))
 
 same-length : tie.Need-same-length
 same-length c = search needs
@@ -41,8 +40,7 @@ returns-2 c =
     let f = c .before .before .before .before .before .before .before .before .leave in
     let t = c .before .before .told in
     let l = c .before .before .before .before .before .before .before .before .before .before .before .if1 .left in
-    let u = answered (a .desk .now) (leave (a .seat) (a .room .now)) (a .answer .now) l _ (f .ensures .0) (t .result) _ (t .last .0) (t .ensures .0 ∙ code-any (f .result) _) (f .ensures .1 .1) (t .ensures .1 ∙ answer-any (f .result) _ (a .answer .now)) in
-    (u .0, (u .1 .0, (left-room (a .desk .now) (a .seat) (a .room .now) (a .answer .now) l _ (f .ensures .1 .0), u .1 .1)))
+    left-room (a .desk .now) (a .seat) (a .room .now) (a .answer .now) l _ (f .ensures .answers) (t .result) _ _ (t .last .0) (t .ensures .0 ∙ code-any (f .result) _) (f .ensures .leaves) (f .ensures .writes) (t .ensures .1 ∙ answer-any (f .result) _ (a .answer .now))
 
 pub leave-spec : {M : Type 1} → statement M
 leave-spec =

@@ -4,8 +4,9 @@ use mathlib.Core.List.{[]}
 use Rattle.model.specs.Lists.{at}
 use Rattle.desk.specs.Desk.{DeskReply}
 use Rattle.desk.specs.Meaning.{means}
-use Rattle.export_desk.specs.Told.{Holds}
-use Rattle.export_desk.proofs.Replies.{look-reply, unlooked, looked}
+use Rattle.export_lent.specs.Inner.{Twelve}
+use Rattle.export_desk.specs.Told.{Sees}
+use Rattle.export_desk.proofs.Replies.{look-reply, look-twelve, unlooked, looked}
 use borrow.Author.Needs.{needs}
 use Rattle.export_desk.proofs.look.Statement.{statement}
 use Rattle.export_desk.proofs.look.Tie as tie
@@ -16,22 +17,24 @@ returns c = let a = c .before .before .before .args in unlooked (a .desk .now) (
 look-requires : tie.Need-look-requires
 look-requires c κs = search needs
 
-told-requires : tie.Need-told-requires
+seen-requires : tie.Need-seen-requires
 unfolding at
-told-requires c κs =
-    let a = c .before .before .before .before .before .args in
-    let f = c .before .look in
-    subst (Holds (means (f .result) [])) (sym (c .before .before .if1 .left)) (subst (λ (q : DeskReply). Holds q 16) (sym (f .ensures)) (look-reply (a .desk .now) (λ i. c .before .before .before .before .shared-slice-known .given i .fits) (a .seat)))
+seen-requires c κs =
+    let a = c .before .before .before .before .before .before .args in
+    let f = c .before .before .look in (
+      subst (Sees (means (f .result .answer) [])) (sym (c .before .before .before .if1 .left)) (subst (λ (q : DeskReply). Sees q 64) (sym (f .ensures .answers)) (look-reply (a .desk .now) (λ i. c .before .before .before .before .before .shared-slice-known .given i .fits) (a .seat))),
+      subst Twelve (sym (f .ensures .counts)) (look-twelve (a .desk .now) (λ i. c .before .before .before .before .before .shared-slice-known .given i .fits) (a .seat)),
+    )
 
 same-length : tie.Need-same-length
 same-length c = search needs
 
 returns-2 : tie.Need-returns-2
 returns-2 c =
-    let a = c .before .before .before .before .before .before .before .before .args in
-    let f = c .before .before .before .before .look in
-    let t = c .before .before .told in
-    looked (a .desk .now) (a .seat) (a .answer .now) (c .before .before .before .before .before .if1 .left) (means (f .result) []) (f .ensures) (t .result) (t .last .0) (t .ensures .0) (t .ensures .1)
+    let a = c .before .before .before .before .before .before .before .before .before .args in
+    let f = c .before .before .before .before .before .look in
+    let t = c .before .before .seen in
+    looked (a .desk .now) (a .seat) (a .answer .now) (c .before .before .before .before .before .before .if1 .left) (means (f .result .answer) []) (f .result .counts) (f .ensures .answers) (f .ensures .counts) (t .result) (t .last .0) (t .ensures .0) (t .ensures .1)
 
 pub look-spec : {M : Type 1} → statement M
-look-spec = tie.close (tie.spec returns look-requires told-requires same-length returns-2)
+look-spec = tie.close (tie.spec returns look-requires seen-requires same-length returns-2)

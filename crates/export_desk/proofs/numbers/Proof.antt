@@ -1,4 +1,4 @@
--- `numbers`: four numbers, which fill the sixteen bytes. Assumes nothing.
+-- `numbers`: four numbers, one after the other. Assumes nothing.
 use native.Mathlib.Omega.{arith}
 use Rattle.model.specs.Bytes.{fourBytes}
 use Rattle.export_desk.proofs.Replies.{put-four}

@@ -18,7 +18,7 @@ enum-known-r c = search needs
 code-requires : tie.Need-code-requires
 code-requires c κs =
     let g = c .before .r .given in
-    refused-item _ _ (g .0 .0) (g .0 .1 .0) (sym (ap meansRounds (g .1)) ∙ c .before .before .before .before .before .rounds .ensures .0)
+    refused-item _ _ (g .0 .0) (g .0 .1 .0) (sym (ap meansRounds (g .1)) ∙ c .before .before .before .before .before .rounds .ensures .answers)
 
 enum-known-r-2 : tie.Need-enum-known-r-2
 enum-known-r-2 c = search needs
@@ -40,7 +40,7 @@ returns-2 c =
     let a = c .before .before .before .before .before .before .before .before .before .before .before .args in
     let f = c .before .before .before .before .before .before .rounds in
     let e = ap meansRounds (c .before .before .r .given .1) in
-    rounded (a .desk .now) (a .turns) (a .answer .now) (c .before .before .before .before .before .before .before .before .if1 .left) _ (sym e ∙ f .ensures .0) (c .code .result) (f .last .0) (a .answer .now) (c .code .ensures) (f .ensures .1) refl
+    rounded (a .desk .now) (a .turns) (a .answer .now) (c .before .before .before .before .before .before .before .before .if1 .left) _ (sym e ∙ f .ensures .answers) (c .code .result) (f .last .0) (a .answer .now) (c .code .ensures) (f .ensures .leaves) refl
 
 same-length-2 : tie.Need-same-length-2
 same-length-2 c = search needs
@@ -54,7 +54,7 @@ returns-3 c =
     let f = c .before .before .before .before .before .before .before .before .before .rounds in
     let e = ap meansRounds (c .before .before .before .before .before .r2 .given .1) in
     let t = c .before .before .three in
-    rounded (a .desk .now) (a .turns) (a .answer .now) (c .before .before .before .before .before .before .before .before .before .before .before .if1 .left) _ (sym e ∙ f .ensures .0) 0 (f .last .0) (t .last .0) refl (f .ensures .1) (t .ensures)
+    rounded (a .desk .now) (a .turns) (a .answer .now) (c .before .before .before .before .before .before .before .before .before .before .before .if1 .left) _ (sym e ∙ f .ensures .answers) 0 (f .last .0) (t .last .0) refl (f .ensures .leaves) (t .ensures)
 
 pub rounds-spec : {M : Type 1} → statement M
 rounds-spec =

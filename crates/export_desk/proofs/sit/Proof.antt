@@ -21,7 +21,7 @@ unfolding at
 told-requires c κs =
     let a = c .before .before .before .before .before .before .before .before .before .args in
     let f = c .before .before .before .sit in
-    subst (Holds (means (f .result) [])) (sym (c .before .before .before .before .before .if1 .left)) (subst (λ (q : DeskReply). Holds q 12) (sym (f .ensures .0)) (sit-reply (a .desk .now) (λ i. c .before .before .before .before .before .before .before .before .slice-known .given i .fits) (a .sheet .now) (a .limit)))
+    subst (Holds (means (f .result) [])) (sym (c .before .before .before .before .before .if1 .left)) (subst (λ (q : DeskReply). Holds q 12) (sym (f .ensures .answers)) (sit-reply (a .desk .now) (λ i. c .before .before .before .before .before .before .before .before .slice-known .given i .fits) (a .sheet .now) (a .limit)))
 
 same-length : tie.Need-same-length
 same-length c = search needs
@@ -34,7 +34,7 @@ returns-2 c =
     let a = c .before .before .before .before .before .before .before .before .before .before .before .before .args in
     let f = c .before .before .before .before .before .before .sit in
     let t = c .before .before .told in
-    answered (a .desk .now) (sit (a .sheet .now) (a .limit)) (a .answer .now) (c .before .before .before .before .before .before .before .before .if1 .left) (means (f .result) []) (f .ensures .0) (t .result) (f .last .0) (t .last .0) (t .ensures .0) (f .ensures .1) (t .ensures .1)
+    answered (a .desk .now) (sit (a .sheet .now) (a .limit)) (a .answer .now) (c .before .before .before .before .before .before .before .before .if1 .left) (means (f .result) []) (f .ensures .answers) (t .result) (f .last .0) (t .last .0) (t .ensures .0) (f .ensures .leaves) (t .ensures .1)
 
 pub sit-spec : {M : Type 1} → statement M
 sit-spec =

@@ -7,7 +7,7 @@ use lib.ListN.{length}
 use Rattle.desk.specs.declared.Answer.{Answer}
 use Rattle.desk.specs.Meaning.{means}
 use Rattle.export_desk.specs.Told.{fourNumbers, replyCode, replyAnswer, Holds}
-use Rattle.export_desk.proofs.Replies.{kind-is}
+use Rattle.export_desk.proofs.Replies.{sixteen, all-four}
 use borrow.Author.Needs.{needs}
 use Rattle.export_desk.proofs.told.Statement.{statement}
 use Rattle.export_desk.proofs.told.Tie as tie
@@ -30,7 +30,7 @@ enum-told : tie.Need-enum-told
 enum-told c = search needs
 
 numbers-requires : tie.Need-numbers-requires
-numbers-requires c κs = (subst (λ (q : Answer). Holds (means q []) (length (c .before .before .before .before .args .answer .now))) (c .before .enum-told .given .1) (c .before .before .before .before .pre), omega arith, omega arith, omega arith, omega arith)
+numbers-requires c κs = (sixteen (subst (λ (q : Answer). Holds (means q []) (length (c .before .before .before .before .args .answer .now))) (c .before .enum-told .given .1) (c .before .before .before .before .pre)), omega arith, omega arith, omega arith, omega arith)
 
 enum-known-r-3 : tie.Need-enum-known-r-3
 enum-known-r-3 c = search needs
@@ -41,7 +41,7 @@ kind-requires c κs = search needs
 numbers-requires-2 : tie.Need-numbers-requires-2
 numbers-requires-2 c κs =
     let h = subst (λ (q : Answer). Holds (means q []) (length (c .before .before .before .before .before .before .args .answer .now))) (c .before .before .before .r3 .given .1) (c .before .before .before .before .before .before .pre) in
-    (h .0, omega (arith, c .kind .ensures), h .1, h .2, h .3)
+    (sixteen (h .0), omega (arith, c .kind .ensures .1), h .1, h .2, h .3)
 
 enum-known-r-4 : tie.Need-enum-known-r-4
 enum-known-r-4 c = search needs
@@ -69,8 +69,10 @@ same-length-2 c = search needs
 
 returns-3 : tie.Need-returns-3
 returns-3 c =
-    let e = sym (c .before .before .before .before .enum-told .given .1) in
-    (ap (λ (q : Answer). replyCode (means q [])) e, c .before .before .numbers .ensures ∙ ap (λ (q : Answer). replyAnswer (means q []) (c .before .before .before .before .before .before .before .args .answer .now)) e)
+    let g = c .before .before .before .before .enum-told .given .1 in
+    let e = sym g in
+    let h = subst (λ (q : Answer). Holds (means q []) (length (c .before .before .before .before .before .before .before .args .answer .now))) g (c .before .before .before .before .before .before .before .pre) in
+    (ap (λ (q : Answer). replyCode (means q [])) e, all-four 0 0 0 0 h (c .before .before .numbers .ensures) ∙ ap (λ (q : Answer). replyAnswer (means q []) (c .before .before .before .before .before .before .before .args .answer .now)) e)
 
 same-length-3 : tie.Need-same-length-3
 same-length-3 c = search needs
@@ -79,8 +81,9 @@ returns-4 : tie.Need-returns-4
 returns-4 c =
     let g = c .before .before .before .before .before .before .r3 .given in
     let e = sym (g .1) in
-    let k = c .before .before .before .kind .ensures ∙ kind-is (g .0 .1 .0) (g .0 .1 .1 .0) (g .0 .1 .1 .1 .0) in
-    (ap (λ (q : Answer). replyCode (means q [])) e, c .before .before .numbers2 .ensures ∙ ap (λ (i : ℕ). fourNumbers i (g .0 .0) (g .0 .1 .1 .0) (g .0 .1 .1 .1 .0)) k ∙ ap (λ (q : Answer). replyAnswer (means q []) (c .before .before .before .before .before .before .before .before .before .args .answer .now)) e)
+    let k = c .before .before .before .kind .ensures .0 (g .0 .1 .1 .0) (g .0 .1 .1 .1 .0) in
+    let h = subst (λ (q : Answer). Holds (means q []) (length (c .before .before .before .before .before .before .before .before .before .args .answer .now))) (g .1) (c .before .before .before .before .before .before .before .before .before .pre) in
+    (ap (λ (q : Answer). replyCode (means q [])) e, all-four _ (g .0 .0) (g .0 .1 .1 .0) (g .0 .1 .1 .1 .0) (h .0) (c .before .before .numbers2 .ensures) ∙ ap (λ (i : ℕ). fourNumbers i (g .0 .0) (g .0 .1 .1 .0) (g .0 .1 .1 .1 .0)) k ∙ ap (λ (q : Answer). replyAnswer (means q []) (c .before .before .before .before .before .before .before .before .before .args .answer .now)) e)
 
 same-length-4 : tie.Need-same-length-4
 same-length-4 c = search needs

@@ -20,7 +20,7 @@ told-requires : tie.Need-told-requires
 unfolding at
 told-requires c κs =
     let f = c .before .before .before .turn in
-    subst (Holds (means (f .result) [])) (sym (c .before .before .before .before .before .if1 .left)) (subst (λ (q : DeskReply). Holds q 16) (sym (f .ensures .0)) (turn-reply (c .before .before .before .before .before .before .before .before .args .desk .now) (λ i. c .before .before .before .before .before .before .before .slice-known .given i .fits)))
+    subst (Holds (means (f .result) [])) (sym (c .before .before .before .before .before .if1 .left)) (subst (λ (q : DeskReply). Holds q 16) (sym (f .ensures .answers)) (turn-reply (c .before .before .before .before .before .before .before .before .args .desk .now) (λ i. c .before .before .before .before .before .before .before .slice-known .given i .fits)))
 
 same-length : tie.Need-same-length
 same-length c = search needs
@@ -33,7 +33,7 @@ returns-2 c =
     let a = c .before .before .before .before .before .before .before .before .before .before .before .args in
     let f = c .before .before .before .before .before .before .turn in
     let t = c .before .before .told in
-    answered (a .desk .now) turn (a .answer .now) (c .before .before .before .before .before .before .before .before .if1 .left) (means (f .result) []) (f .ensures .0) (t .result) (f .last .0) (t .last .0) (t .ensures .0) (f .ensures .1) (t .ensures .1)
+    answered (a .desk .now) turn (a .answer .now) (c .before .before .before .before .before .before .before .before .if1 .left) (means (f .result) []) (f .ensures .answers) (t .result) (f .last .0) (t .last .0) (t .ensures .0) (f .ensures .leaves) (t .ensures .1)
 
 pub turn-spec : {M : Type 1} → statement M
 turn-spec =

@@ -61,7 +61,7 @@ element-write-work-2 c = search needs
 -- src/lib.rt:330:1
 returns : tie.Need-returns Inv-loop μ-loop
 unfolding at
-returns c = putting-done _ _ _ _ _ (c .before .loop .inv .0) (c .before .before .before .before .pre) (c .before .before .lesser .ensures) (c .loop-test .left)
+returns c = putting-done _ _ _ _ _ (c .before .loop .inv .0) (c .before .before .before .before .pre) (c .before .before .lesser .ensures) (c .loop-test .left) (c .before .loop .inv .1)
 
 pub put-path-spec : {M : Type 1} → statement M
 put-path-spec =

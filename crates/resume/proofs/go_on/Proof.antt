@@ -1,76 +1,54 @@
 -- `resume::go_on` meets its contract: proofs/Going. Assumes nothing.
+use mathlib.Core.Path.{sym}
+use native.Mathlib.Omega.{arith}
+use lib.Seq.{length-take-le}
 use borrow.Author.Needs.{needs}
 use Rattle.model.specs.Lists.{at}
-use Rattle.resume.proofs.Going.{gone-none, goes-down, go-few, go-byte, go-asks, go-climbs, gone-on}
+use Rattle.resume.proofs.Going.{walks-from, gone-so}
 use Rattle.resume.proofs.go_on.Statement.{statement}
 use Rattle.resume.proofs.go_on.Tie as tie
 
-returns : tie.Need-returns
-returns c = λ p s limit room h. gone-none p s limit room _ _ _ _ _ _ _ h (c .if1 .taken)
-
-descend-requires : tie.Need-descend-requires
-descend-requires c κs =
-    let on = c .before .before in
-    let a = on .before .before in
-    (_, _, _, goes-down (a .pre .0) (a .pre .1) (a .pre .2) (a .pre .3) _ _ _ _ _ _ _ (a .pre .4) (on .if1 .left))
-
-first-values-requires : tie.Need-first-values-requires
+last-values-requires : tie.Need-last-values-requires
 unfolding at
-first-values-requires c κs =
-    let d = c .before .before in
-    let on = d .before .before .before in
-    let a = on .before .before in
-    let e = on .if1 .left in
-    let g = goes-down (a .pre .0) (a .pre .1) (a .pre .2) (a .pre .3) _ _ _ _ _ _ _ (a .pre .4) e in
-    let r = d .descend .ensures _ _ _ g in
-    (go-few (a .pre .0) (a .pre .1) (a .pre .2) (a .pre .3) _ _ _ _ _ _ _ (a .pre .4) e _ _ _ r, go-byte (a .pre .0) (a .pre .1) (a .pre .2) (a .pre .3) _ _ _ _ _ _ _ (a .pre .4) e _ _ _ r)
+last-values-requires c κs = let h = c .before .before .pre .4 .stands in (h .short, h .bytes)
 
-walk-values-requires : tie.Need-walk-values-requires
-unfolding at
-walk-values-requires c κs =
-    let f = c .before .before .before in
-    let d = f .before .before .before in
-    let on = d .before .before .before in
-    let a = on .before .before in
-    let e = on .if1 .left in
-    let g = goes-down (a .pre .0) (a .pre .1) (a .pre .2) (a .pre .3) _ _ _ _ _ _ _ (a .pre .4) e in
-    (_, go-asks (a .pre .0) (a .pre .1) (a .pre .2) (a .pre .3) _ _ _ _ _ _ _ (a .pre .4) e _ _ _ (d .descend .ensures _ _ _ g) _ (f .first-values .ensures))
+element-copy-out-length : tie.Need-element-copy-out-length
+element-copy-out-length c = search needs
 
-climb-requires : tie.Need-climb-requires
+array-share-prefix-last : tie.Need-array-share-prefix-last
 unfolding at
-climb-requires c κs =
-    let w = c .before .before .before .before .before in
-    let f = w .before .before .before .before in
-    let d = f .before .before .before in
-    let on = d .before .before .before in
-    let a = on .before .before in
-    let e = on .if1 .left in
-    let g = goes-down (a .pre .0) (a .pre .1) (a .pre .2) (a .pre .3) _ _ _ _ _ _ _ (a .pre .4) e in
-    let r = d .descend .ensures _ _ _ g in (
-      _,
-      _,
-      _,
-      go-climbs (a .pre .0) (a .pre .1) (a .pre .2) (a .pre .3) _ _ _ _ _ _ _ (a .pre .4) e _ _ _ r _ (f .first-values .ensures) _ _ _ _ _
-          (w .walk-values .ensures _ (go-asks (a .pre .0) (a .pre .1) (a .pre .2) (a .pre .3) _ _ _ _ _ _ _ (a .pre .4) e _ _ _ r _ (f .first-values .ensures))),
-    )
+array-share-prefix-last c = omega (arith, c .before .before .before .before .last-values .ensures .twelve, c .before .before .before .before .before .before .before .pre .4 .stands .short)
+
+slice-aggregate-walk-part : tie.Need-slice-aggregate-walk-part
+unfolding at
+slice-aggregate-walk-part c =
+    sym (length-take-le _ _ (omega (arith, c .before .before .before .before .before .last-values .ensures .twelve, c .before .before .before .before .before .before .before .before .pre .4 .stands .short)))
+
+slice-aggregate-walk-part-2 : tie.Need-slice-aggregate-walk-part-2
+slice-aggregate-walk-part-2 c = search needs
+
+walk-part-requires : tie.Need-walk-part-requires
+unfolding at
+walk-part-requires c κs = λ e.
+    let a = c .before .before .before .before .before .before .before .before .before in
+    (_, walks-from (a .pre .0) (a .pre .1) (a .pre .2) (a .pre .3) _ _ _ _ _ _ _ (a .pre .4) _ (c .before .before .before .before .before .before .last-values .ensures) e)
 
 same-length : tie.Need-same-length
 same-length c = search needs
 
-returns-2 : tie.Need-returns-2
+returns : tie.Need-returns
 unfolding at
-returns-2 c =
-    let k = c .before .before in
-    let w = k .before .before .before .before .before .before in
-    let f = w .before .before .before .before in
-    let d = f .before .before .before in
-    let on = d .before .before .before in
-    let e = on .if1 .left in λ p s limit room h.
-    let r = d .descend .ensures _ _ _ (goes-down p s limit room _ _ _ _ _ _ _ h e) in
-    let v = go-asks p s limit room _ _ _ _ _ _ _ h e _ _ _ r _ (f .first-values .ensures) in
-    gone-on p s limit room _ _ _ _ _ _ _ h e _ _ _ _
-    (k .climb .ensures _ _ _ (go-climbs p s limit room _ _ _ _ _ _ _ h e _ _ _ r _ (f .first-values .ensures) _ _ _ _ _ (w .walk-values .ensures _ v)))
+returns c = λ p s limit room h. gone-so p s limit room _ _ _ _ _ _ _ h _ (c .before .before .before .before .before .before .before .before .before .last-values .ensures) _ _ _ _ _ (c .before .before .walk-part .ensures)
 
 pub go-on-spec : {M : Type 1} → statement M
 go-on-spec =
-    tie.close (tie.spec returns descend-requires first-values-requires walk-values-requires climb-requires same-length returns-2)
+    tie.close
+    (tie.spec
+    last-values-requires
+    element-copy-out-length
+    array-share-prefix-last
+    slice-aggregate-walk-part
+    slice-aggregate-walk-part-2
+    walk-part-requires
+    same-length
+    returns)

@@ -4,12 +4,13 @@ use native.Mathlib.Omega.{arith}
 use lib.ListN.{length-set}
 use Rattle.model.specs.Lists.{at}
 use Rattle.serve.proofs.Rounding.{rounds-255, rounded}
+use Rattle.serve.proofs.Held as held
 use borrow.Author.Needs.{needs}
 use Rattle.serve.proofs.rounds.Statement.{statement}
 use Rattle.serve.proofs.rounds.Tie as tie
 
 returns : tie.Need-returns
-returns c = rounds-255 _ _ (c .if1 .taken)
+returns c = held.rounded (rounds-255 _ _ (c .if1 .taken))
 
 waiting-requires : tie.Need-waiting-requires
 waiting-requires c κs = search needs
@@ -28,7 +29,7 @@ same-length c = search needs
 
 returns-2 : tie.Need-returns-2
 unfolding at
-returns-2 c = rounded _ _ (c .before .before .before .before .before .before .before .before .if1 .left, λ i. c .before .before .before .before .before .before .before .before .before .slice-known .given i .fits) _ _ _ _ _ (c .before .before .before .before .before .before .waiting .ensures) (c .before .before .before .before .go-round .ensures .0) (c .before .before .before .before .go-round .ensures .1) refl (c .waiting2 .ensures)
+returns-2 c = held.rounded (rounded _ _ (c .before .before .before .before .before .before .before .before .if1 .left, λ i. c .before .before .before .before .before .before .before .before .before .slice-known .given i .fits) _ _ _ _ _ (c .before .before .before .before .before .before .waiting .ensures) (c .before .before .before .before .go-round .ensures .0) (c .before .before .before .before .go-round .ensures .1) refl (c .waiting2 .ensures))
 
 pub rounds-spec : {M : Type 1} → statement M
 rounds-spec =

@@ -2,13 +2,14 @@
 use native.Mathlib.Omega.{arith}
 use Rattle.model.specs.Lists.{at}
 use Rattle.serve.proofs.Serving.{turn-255, turn-idle, waiting, turn-served}
+use Rattle.serve.proofs.Held.{turned}
 use borrow.Author.Needs.{needs}
 use Rattle.serve.proofs.turn.Statement.{statement}
 use Rattle.serve.proofs.turn.Tie as tie
 
 returns : tie.Need-returns
 unfolding at
-returns c = turn-255 (c .before .before .args .desk .now) (c .if1 .taken)
+returns c = turned (turn-255 (c .before .before .args .desk .now) (c .if1 .taken))
 
 to-serve-requires : tie.Need-to-serve-requires
 to-serve-requires c κs = search needs
@@ -18,7 +19,7 @@ same-length c = search needs
 
 returns-2 : tie.Need-returns-2
 unfolding at
-returns-2 c = turn-idle (c .before .before .before .before .before .args .desk .now) (c .before .before .before .if1 .left) _ (c .before .to-serve .ensures) (c .if2 .taken)
+returns-2 c = turned (turn-idle (c .before .before .before .before .before .args .desk .now) (c .before .before .before .if1 .left) _ (c .before .to-serve .ensures) (c .if2 .taken))
 
 serve-requires : tie.Need-serve-requires
 unfolding at
@@ -38,7 +39,7 @@ same-length-2 c = search needs
 
 returns-3 : tie.Need-returns-3
 unfolding at
-returns-3 c = turn-served (c .before .before .before .before .before .before .before .before .before .args .desk .now) (c .before .before .before .before .before .before .before .if1 .left) (λ i. c .before .before .before .before .before .before .before .before .slice-known .given i .fits) _ (c .before .before .before .before .before .to-serve .ensures) (c .before .before .before .before .if2 .left) _ _ (c .before .before .serve .ensures)
+returns-3 c = turned (turn-served (c .before .before .before .before .before .before .before .before .before .args .desk .now) (c .before .before .before .before .before .before .before .if1 .left) (λ i. c .before .before .before .before .before .before .before .before .slice-known .given i .fits) _ (c .before .before .before .before .before .to-serve .ensures) (c .before .before .before .before .if2 .left) _ _ (c .before .before .serve .ensures))
 
 pub turn-spec : {M : Type 1} → statement M
 turn-spec =

@@ -5,6 +5,7 @@ use Prim.Native.Nat.{_-_, _≤_}
 use native.Mathlib.Omega.{arith}
 use Rattle.model.specs.Lists.{at}
 use Rattle.serve.proofs.Rounding.{RoundTo, round-begin, round-more, round-end}
+use Rattle.desk.specs.Places.{NEXT}
 use borrow.Author.Needs.{needs}
 use Rattle.serve.proofs.round.go_round.Statement.{statement}
 use Rattle.serve.proofs.round.go_round.Tie as tie
@@ -19,7 +20,7 @@ slice-read-first : tie.Need-slice-read-first Inv-loop μ-loop
 slice-read-first c = search needs
 
 cast-first : tie.Need-cast-first Inv-loop μ-loop
-cast-first c = omega (arith, c .slice-known2 .given 838680)
+cast-first c = omega (arith, c .slice-known2 .given NEXT)
 
 slice-read-next : tie.Need-slice-read-next Inv-loop μ-loop
 slice-read-next c = search needs
@@ -29,7 +30,7 @@ unfolding at
 loop-holds c = (omega arith, round-begin _ _ (c .before .before .before .pre, λ i. c .before .before .slice-known .given i .fits))
 
 add-k : tie.Need-add-k Inv-loop μ-loop
-add-k c = omega (arith, c .before .before .before .slice-known2 .given 838680)
+add-k c = omega (arith, c .before .before .before .slice-known2 .given NEXT)
 
 give-requires : tie.Need-give-requires Inv-loop μ-loop
 give-requires c κs = (c .before .before .loop .inv .1 .bytes .0, omega arith)

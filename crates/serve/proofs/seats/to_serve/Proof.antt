@@ -4,6 +4,7 @@ use Prim.Native.Nat.{_≤_, _-_}
 use native.Mathlib.Omega.{arith}
 use Rattle.model.specs.Lists.{at}
 use Rattle.serve.proofs.Finding.{Quiet, quiet-more, serve-is, serve-none}
+use Rattle.desk.specs.Places.{NEXT}
 use borrow.Author.Needs.{needs}
 use Rattle.serve.proofs.seats.to_serve.Statement.{statement}
 use Rattle.serve.proofs.seats.to_serve.Tie as tie
@@ -18,13 +19,13 @@ shared-slice-read-next : tie.Need-shared-slice-read-next Inv-loop μ-loop
 shared-slice-read-next c = search needs
 
 cast-next : tie.Need-cast-next Inv-loop μ-loop
-cast-next c = omega (arith, c .shared-slice-known2 .given 838680)
+cast-next c = omega (arith, c .shared-slice-known2 .given NEXT)
 
 loop-holds : tie.Need-loop-holds Inv-loop μ-loop
 loop-holds c = (search needs, λ j h. absurd (omega arith))
 
 add-k : tie.Need-add-k Inv-loop μ-loop
-add-k c = omega (arith, c .before .before .shared-slice-known2 .given 838680)
+add-k c = omega (arith, c .before .before .shared-slice-known2 .given NEXT)
 
 waits-requires : tie.Need-waits-requires Inv-loop μ-loop
 waits-requires c κs = search needs

@@ -1,0 +1,92 @@
+-- `counts_at`: after x turns of the loop the first x counts are read. Assumes nothing.
+use mathlib.Core.Path.{_≡_, refl, sym, ap₂, _∙_}
+use Prim.Native.Nat.{ℕ, _+_, _-_, _*_, _≤_, _<_, min}
+use native.Mathlib.Omega.{arith}
+use Rattle.model.specs.Lists.{at}
+use Rattle.model.specs.Filling.{Filled}
+use Rattle.model.proofs.Filling.{filled-begin, filled-turn, filled-end}
+use Rattle.desk.specs.Places.{LIMIT, COUNTS}
+use Rattle.desk.specs.Layout.{long, nodesAt}
+use Rattle.desk.proofs.Counts.{counts-as}
+use Rattle.desk.proofs.Seats.{long-small}
+use borrow.Author.Needs.{needs}
+use Rattle.desk.proofs.counts_at.Statement.{statement}
+use Rattle.desk.proofs.counts_at.Tie as tie
+
+abbrev Inv-loop : tie.InvT-loop
+Inv-loop desk p nodes counts₀ x₀ counts x = (x ≤ 12) × Filled (λ i. i) (λ i w. w ≡ min (nodesAt desk p) (long desk (p + COUNTS + 4 * i))) x counts₀ counts
+
+abbrev μ-loop : tie.MeasureT-loop
+μ-loop desk p nodes counts₀ x₀ counts x = 12 - x
+
+nodes-at-requires : tie.Need-nodes-at-requires Inv-loop μ-loop
+nodes-at-requires c κs = search needs
+
+cast-nodes : tie.Need-cast-nodes Inv-loop μ-loop
+unfolding at
+cast-nodes c =
+    let z = long-small (c .before .before .args .desk .now) (λ i. omega (arith, c .before .shared-slice-known .given i)) (c .before .before .args .p + LIMIT) in
+    search (needs, z, c .nodes-at .ensures)
+
+loop-holds : tie.Need-loop-holds Inv-loop μ-loop
+loop-holds c = (omega arith, filled-begin _ _ _)
+
+add-read-long : tie.Need-add-read-long Inv-loop μ-loop
+add-read-long c = search needs
+
+mul-read-long : tie.Need-mul-read-long Inv-loop μ-loop
+mul-read-long c = search needs
+
+add-read-long-2 : tie.Need-add-read-long-2 Inv-loop μ-loop
+add-read-long-2 c = search needs
+
+read-long-requires : tie.Need-read-long-requires Inv-loop μ-loop
+read-long-requires c κs = search needs
+
+capped-requires : tie.Need-capped-requires Inv-loop μ-loop
+capped-requires c κs = search needs
+
+mul-counts : tie.Need-mul-counts Inv-loop μ-loop
+mul-counts c = search needs
+
+array-write-counts : tie.Need-array-write-counts Inv-loop μ-loop
+array-write-counts c = search needs
+
+add-x : tie.Need-add-x Inv-loop μ-loop
+add-x c = search needs
+
+loop-less : tie.Need-loop-less Inv-loop μ-loop
+loop-less c = search needs
+
+loop-again : tie.Need-loop-again Inv-loop μ-loop
+unfolding at
+loop-again c =
+    let l = c .before .before .before .loop in
+    (omega (arith, c .before .before .loop-test .taken), filled-turn (λ i. i) _ _ _ (l .x) _ _ (l .inv .1) refl (omega (arith, c .before .before .loop-test .taken)) (λ v k e. omega arith) (c .capped .ensures ∙ ap₂ min (c .before .before .before .before .nodes-at .ensures) (c .before .read-long .ensures)))
+
+returns : tie.Need-returns Inv-loop μ-loop
+returns c =
+    let l = c .before .loop in
+    let f = filled-end (λ i. i) _ _ _ 12 (l .x) (c .loop-test .left) (l .inv .0) (l .inv .1) in
+    sym (counts-as _ _ (l .counts) (f .size) (λ x k. sym (f .here x k)))
+
+pub counts-at-spec : {M : Type 1} → statement M
+counts-at-spec =
+    tie.close
+    (tie.spec
+    Inv-loop
+    μ-loop
+    nodes-at-requires
+    cast-nodes
+    loop-holds
+    add-read-long
+    mul-read-long
+    add-read-long-2
+    read-long-requires
+    capped-requires
+    mul-counts
+    array-write-counts
+    add-x
+    loop-less
+    loop-again
+    returns)

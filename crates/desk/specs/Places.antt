@@ -1,0 +1,62 @@
+-- Where a desk's bytes have what: the constants of src/lib.rt.
+use Prim.Native.Nat.{ℕ}
+
+-- ---- in a seat, low bytes first
+-- whether it is taken (0: free)
+abbrev pub FLAG : ℕ
+FLAG = 0
+
+-- the sheet's length, two bytes
+abbrev pub LENGTH : ℕ
+LENGTH = 1
+
+-- the allowance, four bytes
+abbrev pub LIMIT : ℕ
+LIMIT = 3
+
+-- how the run stands (0 running, 1 finished, 2 spent, 3 full)
+abbrev pub STANDING : ℕ
+STANDING = 7
+
+-- its nodes, four bytes
+abbrev pub NODES : ℕ
+NODES = 8
+
+-- its plans, two bytes
+abbrev pub PLANS : ℕ
+PLANS = 12
+
+-- the length of the last node, and its values, twelve bytes
+abbrev pub DEPTH : ℕ
+DEPTH = 14
+
+abbrev pub LAST : ℕ
+LAST = 15
+
+-- the nodes by variable, twelve counts of four bytes
+abbrev pub COUNTS : ℕ
+COUNTS = 27
+
+-- the sheet, 55,656 bytes at the most
+abbrev pub SHEET : ℕ
+SHEET = 75
+
+abbrev pub SHEET-BYTES : ℕ
+SHEET-BYTES = 55656
+
+-- the list, 4,096 plans of twelve bytes at the most
+abbrev pub LIST : ℕ
+LIST = 55731
+
+abbrev pub LIST-BYTES : ℕ
+LIST-BYTES = 49152
+
+-- ---- eight seats, and the byte that says where the next turn begins to look
+abbrev pub SEAT : ℕ
+SEAT = 104883
+
+abbrev pub NEXT : ℕ
+NEXT = 839064
+
+abbrev pub size : ℕ
+size = 839065
