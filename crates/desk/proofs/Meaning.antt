@@ -77,7 +77,7 @@ module _ (b c : List ℕ) (p : ℕ) (e : length c ≡ length b) (room : p + SEAT
       let w = width-same (λ i g h. at-o i (omega arith) (omega arith)) in
       let list = part-is c b (p + LIST) (p + LIST) LIST-BYTES (omega arith) (omega arith) (λ i h. at-o (p + LIST + i) (omega arith) (omega arith)) in
       let counts : countsAt c p ≡ countsAt b p = counts-as c p (countsAt b p) (counts-length b p) (λ x z.
-          ap₂ min m (long-same (p + COUNTS + 4 * x) (λ i g h. at-o i (omega arith) (omega arith))) ∙ sym (counts-is b p x z)) in
+      ap₂ min m (long-same (p + COUNTS + 4 * x) (λ i g h. at-o i (omega arith) (omega arith))) ∙ sym (counts-is b p x z)) in
       let n = min 12 (at b (p + DEPTH)) in
       let l : n ≤ 12 = omega arith in
       hall-is (sheet-same (λ i g h. at-o i (omega arith) (omega arith)) (λ i g h. at-o i (omega arith) (omega arith))) a m counts
