@@ -1,14 +1,16 @@
 -- The figure from a bare run. Assumes nothing.
-use mathlib.Core.Path.{_≡_, refl, sym, ap, _∙_, subst}
+use mathlib.Core.Path.{_≡_, refl, sym, ap, ap₂, _∙_, subst}
 use mathlib.Core.Logic.{inl, ⊎-elim}
+use mathlib.Core.Bool.{Bool, true, false}
 use mathlib.Core.List.{List, [], _∷_, map}
 use Prim.Native.Nat.{ℕ, _+_, _*_, _≤_, _<_}
 use native.Mathlib.Omega.{arith}
-use lib.Dec.{T}
-use lib.ListN.{length}
+use lib.Dec.{T, leb}
+use lib.ListN.{length, replicate, length-replicate}
 use types.Run.{OneOf}
 use denote.Enum.Declared.{tagOf}
-use Rattle.model.specs.Lists.{at, below, upFrom}
+use borrow.Author.Tests.{le-leb, lt-leb, leb-true, leb-false}
+use Rattle.model.specs.Lists.{choose, both, below, upFrom}
 use Rattle.model.specs.Problem.{Problem}
 use Rattle.model.specs.Verdict.{Verdict, accepted, refused, isAccepted}
 use Rattle.model.specs.Sheet.{word, headerOf, tableAt, problemOf, verdictOf}
@@ -32,22 +34,47 @@ use Rattle.search.specs.declared.Ending.the-variants.{Finished, Spent, Full}
 use Rattle.search.proofs.Ending.{the-type}
 use Rattle.counting.specs.Told.{Told, told, toldFor, countedLent}
 use Rattle.counting.specs.Told as T
-use Rattle.counting.specs.Held.{Sized, Solved, Ran}
+use Rattle.counting.specs.Held.{namedVariables, Sized, Solved, Ran}
 
 -- ---- the number of variables
 accepted-of : (b : List ℕ) → verdictOf b ≡ accepted → T (isAccepted (verdictOf b))
 accepted-of b e = subst (λ (v : Verdict). T (isAccepted v)) (sym e) tt
 
-pub sized-short : (b : List ℕ) → length b < 2 → Sized b 0
+sized-short : (b : List ℕ) → length b < 2 → Sized b 0
 sized-short b h = record { most = omega arith; true-of = λ e. absurd (omega (arith, passed b (accepted-of b e) .header .long)) }
 
-pub sized-large : (b : List ℕ) → 12 < at b 0 + 256 * at b 1 → Sized b 0
-unfolding headerOf word
+sized-large : (b : List ℕ) → 12 < word b 0 → Sized b 0
+unfolding headerOf
 sized-large b h = record { most = omega arith; true-of = λ e. absurd (omega (arith, passed b (accepted-of b e) .header .few)) }
 
-pub sized : (b : List ℕ) → at b 0 + 256 * at b 1 ≤ 12 → Sized b (at b 0 + 256 * at b 1)
-unfolding problemOf headerOf word
+sized : (b : List ℕ) → word b 0 ≤ 12 → Sized b (word b 0)
+unfolding problemOf headerOf
 sized b h = record { most = h; true-of = λ e. refl }
+
+pub named-sized : (b : List ℕ) (n : ℕ) → n ≡ namedVariables b → Sized b n
+unfolding namedVariables
+named-sized b n e = subst (λ (k : ℕ). Sized b k) (sym e) (cases (leb 2 (length b)) refl (leb (word b 0) 12) refl)
+  where
+    cases : (t : Bool) → leb 2 (length b) ≡ t → (u : Bool) → leb (word b 0) 12 ≡ u → Sized b (choose (both t u) (word b 0) 0)
+    cases true p true q = sized b (leb-true (word b 0) 12 q)
+    cases true p false q = sized-large b (leb-false (word b 0) 12 q)
+    cases false p u q = sized-short b (leb-false 2 (length b) p)
+
+pub named-short : (b : List ℕ) → length b < 2 → 0 ≡ namedVariables b
+unfolding namedVariables
+named-short b h = sym (ap (λ (t : Bool). choose (both t (leb (word b 0) 12)) (word b 0) 0) (lt-leb 2 (length b) h))
+
+pub named-large : (b : List ℕ) → 2 ≤ length b → 12 < word b 0 → 0 ≡ namedVariables b
+unfolding namedVariables
+named-large b l h = sym (ap₂ (λ (t u : Bool). choose (both t u) (word b 0) 0) (le-leb 2 (length b) l) (lt-leb (word b 0) 12 h))
+
+pub named-so : (b : List ℕ) → 2 ≤ length b → word b 0 ≤ 12 → word b 0 ≡ namedVariables b
+unfolding namedVariables
+named-so b l h = sym (ap₂ (λ (t u : Bool). choose (both t u) (word b 0) 0) (le-leb 2 (length b) l) (le-leb (word b 0) 12 h))
+
+-- room for the plans
+pub room-long : (r : List ℕ) → r ≡ replicate 49152 0 → 49152 ≡ length r
+room-long r e = sym (ap length e ∙ length-replicate {A = ℕ} 49152 0)
 
 -- ---- the count
 -- what `families::families` is lent
@@ -140,11 +167,9 @@ module _ (b : List ℕ) (limit : ℕ) (e : Ending) (f : Ran b limit e) where
   report-dash k = families-lent b [] [] limit (4096 * problemOf b .variables) accepts .dashed (inl (λ r. k (r .0) (r .1) (sym so-lent ∙ r .2)))
 
 -- without symmetries each plan is a family
-pub report-plans : (b : List ℕ) (limit plans nodes : ℕ) → Ran b limit (finished plans nodes) → at b 6 ≡ 0 → told (number plans) ≡ told (reportFigure b limit)
-unfolding headerOf word problemOf below upFrom
-report-plans b limit plans nodes f z =
-    let g = passed b (accepted-of b (f .verdict)) .header .symmetries in
-    let none : headerOf b .symmetries ≡ 0 = omega arith in
+pub report-plans : (b : List ℕ) (limit plans nodes : ℕ) → Ran b limit (finished plans nodes) → word b 6 ≡ 0 → told (number plans) ≡ told (reportFigure b limit)
+unfolding headerOf problemOf below upFrom
+report-plans b limit plans nodes f none =
     let no-tables : problemOf b .symmetries ≡ [] = ap (λ (k : ℕ). map (tableAt b (headerOf b)) (below k)) none in
     ap told (sym (figure-none b [] [] limit (4096 * problemOf b .variables) (accepts b limit _ f) plans nodes (ap (λ (q : Problem). q .symmetries) (nothing-lent b .problem) ∙ no-tables) (so-lent b limit _ f)))
 

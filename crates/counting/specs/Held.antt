@@ -2,11 +2,18 @@
 use mathlib.Core.Path.{_≡_}
 use mathlib.Core.List.{List}
 use Prim.Native.Nat.{ℕ, _*_, _≤_}
+use lib.Dec.{leb}
+use lib.ListN.{length}
+use Rattle.model.specs.Lists.{choose, both}
 use Rattle.model.specs.Verdict.{accepted}
-use Rattle.model.specs.Sheet.{verdictOf, problemOf}
+use Rattle.model.specs.Sheet.{word, verdictOf, problemOf}
 use Rattle.model.specs.Run.{Ending, finished, resultOf, written}
 use Rattle.lent.specs.Lent.{verdictLent}
 use Rattle.search.specs.Tasks.{bareLent}
+
+-- the number of variables that a sheet names, 0 where it has no such number or it is above 12
+unfoldable pub namedVariables : List ℕ → ℕ
+namedVariables b = choose (both (leb 2 (length b)) (leb (word b 0) 12)) (word b 0) 0
 
 -- n is the number of variables of a sheet that is accepted, and never above 12
 pub record Sized (b : List ℕ) (n : ℕ) : Type 0 where

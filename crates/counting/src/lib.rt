@@ -1,7 +1,7 @@
 // The number of families on a sheet, or a dash (paper 02, #104): a run without symmetries lists all solutions, whose families are counted.
 ghost use mathlib.Core.Path.{_≡_};
 ghost use Prim.Native.Nat.{ℕ, _*_};
-ghost use lib.ListN.{length};
+ghost use lib.ListN.{length, replicate};
 ghost use Rattle.model.specs.Verdict.{accepted};
 ghost use Rattle.model.specs.Run as Run;
 ghost use Rattle.lent.specs.Lent.{verdictLent, problemLent};
@@ -9,7 +9,7 @@ ghost use Rattle.orderings.specs.Asked.{Put};
 ghost use Rattle.families.specs.Families.{familiesOf};
 ghost use Rattle.figure.specs.Figure.{reportFigure};
 ghost use Rattle.counting.specs.Told.{countedLent, told, means};
-ghost use Rattle.counting.specs.Held.{Sized, Solved, Ran};
+ghost use Rattle.counting.specs.Held.{namedVariables, Sized, Solved, Ran};
 use layout::SYMMETRIES;
 use layout::VARIABLES;
 use search::Ending;
@@ -23,21 +23,21 @@ pub enum Answer {
 
 // The number of variables that a sheet names, or 0 where an accepted sheet names none such.
 pub fn variables(sheet: &[u8]) -> usize
-    ensures { λ r. ⌜ Sized (now (sheet .entry)) r ⌝ }
+    ensures { λ r. ⌜ r ≡ namedVariables (now (sheet .entry)) ⌝ }
 {
     if sheet.len() < 2 {
         return 0;
     }
-    let n = sheet[0] as usize + 256 * sheet[1] as usize;
+    let n = reader::read_word(sheet, 0);
     if 12 < n {
         return 0;
     }
     n
 }
 
-// Room for 4,096 plans of 12 values. The contract gives only the length, which lending a part of it needs.
+// Room for 4,096 plans of 12 values.
 pub fn plan_room() -> [u8; 49152]
-    ensures { λ r. ⌜ 49152 ≡ length r ⌝ }
+    ensures { λ r. ⌜ r ≡ replicate 49152 0 ⌝ }
 {
     [0; 49152]
 }
@@ -111,7 +111,7 @@ pub fn finished(sheet: &[u8], limit: u32, plans: usize) -> Answer
     requires { ⌜ ((nodes : ℕ) × Ran (now sheet) limit (Run.finished plans nodes)) ⌝ }
     ensures { λ r. ⌜ means r ≡ told (reportFigure (now (sheet .entry)) limit) ⌝ }
 {
-    if sheet[6] == 0 {
+    if reader::read_word(sheet, 6) == 0 {
         return Answer::Number(plans);
     }
     let none = [0u8; 0];

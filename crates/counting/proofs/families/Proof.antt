@@ -3,6 +3,7 @@ use mathlib.Core.Path.{sym}
 use Prim.Native.Nat.{_*_}
 use native.Mathlib.Omega.{arith}
 use lib.Seq.{length-take-le}
+use Rattle.counting.proofs.Bare.{named-sized, room-long}
 use borrow.Author.Needs.{needs}
 use Rattle.counting.proofs.families.Statement.{statement}
 use Rattle.counting.proofs.families.Tie as tie
@@ -11,25 +12,25 @@ variables-requires : tie.Need-variables-requires
 variables-requires c κs = search needs
 
 mul-used : tie.Need-mul-used
-mul-used c = search needs
+mul-used c = omega (arith, named-sized _ _ (c .variables .ensures) .most)
 
 plan-room-requires : tie.Need-plan-room-requires
 plan-room-requires c κs = search needs
 
 array-borrow-prefix-list : tie.Need-array-borrow-prefix-list
-array-borrow-prefix-list c = search needs
+array-borrow-prefix-list c = omega (arith, named-sized _ _ (c .before .variables .ensures) .most, room-long _ (c .plan-room .ensures))
 
 slice-aggregate-counted : tie.Need-slice-aggregate-counted
 slice-aggregate-counted c =
     let v = c .before .before in
     let p = c .before in
-    sym (length-take-le (4096 * v .variables .result) (p .plan-room .result) (omega (arith, v .variables .ensures .most, p .plan-room .ensures)))
+    sym (length-take-le (4096 * v .variables .result) (p .plan-room .result) (omega (arith, named-sized _ _ (v .variables .ensures) .most, room-long _ (p .plan-room .ensures))))
 
 counted-requires : tie.Need-counted-requires
 counted-requires c κs =
     let v = c .before .before in
     let p = c .before in
-    (v .variables .ensures, length-take-le (4096 * v .variables .result) (p .plan-room .result) (omega (arith, v .variables .ensures .most, p .plan-room .ensures)))
+    (named-sized _ _ (v .variables .ensures), length-take-le (4096 * v .variables .result) (p .plan-room .result) (omega (arith, named-sized _ _ (v .variables .ensures) .most, room-long _ (p .plan-room .ensures))))
 
 returns : tie.Need-returns
 returns c = search needs

@@ -1,17 +1,16 @@
 -- The sheet's number of symmetries; with some, the families of the bare run. Assumes nothing.
+use mathlib.Core.Path.{sym, _∙_}
 use native.Mathlib.Omega.{arith}
 use borrow.Author.Needs.{needs}
-use Rattle.model.specs.Lists.{at}
 use Rattle.counting.proofs.Bare.{long-enough, report-plans, report-told}
 use Rattle.counting.proofs.finished.Statement.{statement}
 use Rattle.counting.proofs.finished.Tie as tie
 
-shared-slice-read-if1 : tie.Need-shared-slice-read-if1
-shared-slice-read-if1 c = let f = long-enough _ _ _ (c .before .before .pre .1) in omega arith
+read-word-requires : tie.Need-read-word-requires
+read-word-requires c κs = let f = long-enough _ _ _ (c .before .pre .1) in omega arith
 
 returns : tie.Need-returns
-unfolding at
-returns c = report-plans _ _ _ _ (c .before .before .before .pre .1) (c .if1 .taken)
+returns c = report-plans _ _ _ _ (c .before .before .before .pre .1) (sym (c .before .read-word .ensures) ∙ c .if1 .taken)
 
 slice-aggregate-families : tie.Need-slice-aggregate-families
 slice-aggregate-families c = search needs
@@ -29,7 +28,7 @@ pub finished-spec : {M : Type 1} → statement M
 finished-spec =
     tie.close
     (tie.spec
-    shared-slice-read-if1
+    read-word-requires
     returns
     slice-aggregate-families
     slice-aggregate-families-2

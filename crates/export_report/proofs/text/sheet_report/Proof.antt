@@ -1,5 +1,6 @@
 -- `sheet_report`: room for the plans of as many variables as the sheet names. Assumes nothing.
 use native.Mathlib.Omega.{arith}
+use Rattle.counting.proofs.Bare.{named-sized, room-long}
 use borrow.Author.Needs.{needs}
 use Rattle.export_report.proofs.text.sheet_report.Statement.{statement}
 use Rattle.export_report.proofs.text.sheet_report.Tie as tie
@@ -11,12 +12,12 @@ plan-room-requires : tie.Need-plan-room-requires
 plan-room-requires c κs = search needs
 
 slice-aggregate-run-report : tie.Need-slice-aggregate-run-report
-slice-aggregate-run-report c = c .before .plan-room .ensures
+slice-aggregate-run-report c = room-long _ (c .before .plan-room .ensures)
 
 run-report-requires : tie.Need-run-report-requires
 run-report-requires c κs =
     let v = c .before .before .before in
-    (v .variables .ensures, omega (arith, v .variables .ensures .most, c .before .before .plan-room .ensures))
+    (named-sized _ _ (v .variables .ensures), omega (arith, named-sized _ _ (v .variables .ensures) .most, room-long _ (c .before .before .plan-room .ensures)))
 
 same-length : tie.Need-same-length
 same-length c = search needs
