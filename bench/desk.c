@@ -25,7 +25,7 @@ static struct file sheets[PLANNER_SEATS];
 static int count;
 static struct figures alone[PLANNER_SEATS];
 static uint32_t turns;
-static uint8_t desk[PLANNER_DESK_BYTES], list[12 * PLANS], answer[PLANNER_ANSWER_BYTES], seat_answer[PLANNER_SEAT_ANSWER_BYTES];
+static uint8_t desk[PLANNER_DESK_BYTES], list[12 * PLANS], answer[PLANNER_ANSWER_BYTES], seat_answer[PLANNER_TURN_BYTES], look_answer[PLANNER_LOOK_BYTES];
 
 static uint32_t number(const uint8_t *bytes) {
     return bytes[0] | (uint32_t)bytes[1] << 8 | (uint32_t)bytes[2] << 16 | (uint32_t)bytes[3] << 24;
@@ -57,7 +57,7 @@ static void run_at_desk(int way) {
     }
     for (;; turns++) {
         done(planner_desk_turn(desk, sizeof desk, seat_answer, sizeof seat_answer));
-        if (number(seat_answer) == PLANNER_SEAT_NONE)
+        if (number(seat_answer) == PLANNER_NONE)
             return;
     }
 }
@@ -65,8 +65,8 @@ static void run_at_desk(int way) {
 /* Each hall has ended as alone. */
 static void compare(void) {
     for (int i = 0; i < count; i++) {
-        done(planner_desk_look(desk, sizeof desk, (uint32_t)i, seat_answer, sizeof seat_answer));
-        const struct figures stands = {number(seat_answer) - 1, number(seat_answer + 8), number(seat_answer + 12)};
+        done(planner_desk_look(desk, sizeof desk, (uint32_t)i, look_answer, sizeof look_answer));
+        const struct figures stands = {number(look_answer), number(look_answer + 8), number(look_answer + 12)};
         if (memcmp(&stands, &alone[i], sizeof stands) != 0)
             exit(1);
     }

@@ -12,7 +12,7 @@ struct sheet {
 };
 
 static uint8_t desk[PLANNER_DESK_BYTES], list[12 * PLANS];
-static uint8_t answer[PLANNER_ANSWER_BYTES], seat_answer[PLANNER_SEAT_ANSWER_BYTES];
+static uint8_t answer[PLANNER_ANSWER_BYTES], seat_answer[PLANNER_TURN_BYTES], look_answer[PLANNER_LOOK_BYTES];
 
 static uint32_t number(const uint8_t *bytes) {
     return bytes[0] | (uint32_t)bytes[1] << 8 | (uint32_t)bytes[2] << 16 | (uint32_t)bytes[3] << 24;
@@ -55,11 +55,19 @@ static void sit(struct sheet sheet, uint32_t node_limit) {
         printf("seat %u, allowance %u\n", number(answer + 4), node_limit);
 }
 
-/* How the seat of the answer stands. */
-static void say(void) {
-    static const char *const kinds[] = {"none", "goes on", "finished", "spent", "full"};
-    printf("seat %u %s, %u plans, %u trials\n", number(seat_answer + 4), kinds[number(seat_answer)], number(seat_answer + 8),
-           number(seat_answer + 12));
+/* How the seat of an answer stands. */
+static void say(const uint8_t *stands) {
+    static const char *const kinds[] = {"none", "finished", "spent", "full", "goes on"};
+    printf("seat %u %s, %u plans, %u trials\n", number(stands + 4), kinds[number(stands)], number(stands + 8), number(stands + 12));
+}
+
+/* The same, and the trials of each place. */
+static void look(uint32_t seat) {
+    planner_desk_look(desk, sizeof desk, seat, look_answer, sizeof look_answer);
+    say(look_answer);
+    for (int place = 0; place < 12; place++)
+        printf("%s%u", place == 0 ? "by place " : " ", number(look_answer + 16 + 4 * place));
+    printf("\n");
 }
 
 static void leave(uint32_t seat, size_t room) {
@@ -74,13 +82,13 @@ static void leave(uint32_t seat, size_t room) {
 static void serve_all(void) {
     for (uint32_t turn = 1;; turn++) {
         planner_desk_turn(desk, sizeof desk, seat_answer, sizeof seat_answer);
-        if (number(seat_answer) == PLANNER_SEAT_NONE) {
+        if (number(seat_answer) == PLANNER_NONE) {
             printf("%u turns\n", turn - 1);
             return;
         }
-        if (number(seat_answer) != PLANNER_SEAT_RUNNING) {
+        if (number(seat_answer) != PLANNER_RUNNING) {
             printf("turn %u: ", turn);
-            say();
+            say(seat_answer);
         }
     }
 }
@@ -105,8 +113,7 @@ int main(void) {
     sit(hall(4, 8, 4), 1000000);
     planner_desk_rounds(desk, sizeof desk, 72, answer, sizeof answer);
     printf("ended %u, go on %u\n", number(answer + 4), number(answer + 8));
-    planner_desk_look(desk, sizeof desk, 2, seat_answer, sizeof seat_answer);
-    say();
+    look(2);
     serve_all();
     return 0;
 }

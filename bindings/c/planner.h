@@ -223,20 +223,20 @@ uint32_t planner_store_drop(uint8_t *store, size_t store_len, uint32_t course, u
  * Any bytes are a desk. Each of its eight seats, 0 to 7, holds a copy of a hall's sheet, its node limit, a list with
  * room for PLANNER_SEAT_PLANS plans and the run so far, without pairs or block. What happens at one seat changes
  * nothing at another. A hall that stays seated and not ended gets a turn within any eight turns, however others come
- * and go; when it ends, its list, ending and figures are those of planner_run with the same node_limit and that
- * room. */
-#define PLANNER_DESK_BYTES 838681
+ * and go; when it ends, its list, ending and figures, its trials by window too, are those of planner_run_lent without
+ * pairs and block, with the same node_limit and that room. */
+#define PLANNER_DESK_BYTES 839065
 #define PLANNER_SEATS 8
 #define PLANNER_SEAT_PLANS 4096
 
-/* The answer of planner_desk_turn and planner_desk_look: four 32-bit numbers, low byte first: the kind, the seat, its
- * plans and its trials so far. */
-#define PLANNER_SEAT_ANSWER_BYTES 16
-#define PLANNER_SEAT_NONE 0     /* no run is waiting; the other numbers are 0 */
-#define PLANNER_SEAT_RUNNING 1  /* the run goes on */
-#define PLANNER_SEAT_FINISHED 2 /* it ended: nothing is left to try */
-#define PLANNER_SEAT_SPENT 3    /* it ended: a further trial is due, and the allowance is reached */
-#define PLANNER_SEAT_FULL 4     /* it ended: the last trial found a plan that the list has no room for */
+/* How a seat stands: four 32-bit numbers, low byte first: the kind, the seat, its plans and its trials so far. The kind
+ * is PLANNER_FINISHED, PLANNER_SPENT or PLANNER_FULL where the run has ended, as of a run, else PLANNER_RUNNING;
+ * PLANNER_NONE, and three zeros, where no run is waiting for a turn. A turn answers these PLANNER_TURN_BYTES bytes; a
+ * look PLANNER_LOOK_BYTES: these, then twelve 32-bit numbers, the seat's trials by the window that each settles. */
+#define PLANNER_TURN_BYTES 16
+#define PLANNER_LOOK_BYTES 64
+#define PLANNER_NONE 0
+#define PLANNER_RUNNING 4
 
 /* Seats a newcomer at the lowest free seat; its run waits for its first turn. The answer is 1, the seat, 0. Refusals:
  * 37 (a seat is free), then 1 to 16 as planner_question gives them. */
@@ -245,8 +245,8 @@ uint32_t planner_desk_sit(uint8_t *desk, size_t desk_len, const uint8_t *sheet, 
 
 /* Goes round to the next seat after the one last served (at first, from seat 0) whose run hasn't ended and makes 64
  * trials of it, fewer only if it ends; an ending that needs no further trial falls in the same turn. The answer, of
- * PLANNER_SEAT_ANSWER_BYTES bytes, says which seat was served and how it stands; with no such seat the desk is left as
- * it is, and the answer is PLANNER_SEAT_NONE, 0, 0, 0. */
+ * PLANNER_TURN_BYTES bytes, says which seat was served and how it stands; with no such seat the desk is left as it is,
+ * and the answer is PLANNER_NONE, 0, 0, 0. */
 uint32_t planner_desk_turn(uint8_t *desk, size_t desk_len, uint8_t *answer, size_t answer_len);
 
 /* Gives each seat whose run hasn't ended up to `rounds` turns: the desk afterwards is that of so many turns one by
@@ -255,7 +255,7 @@ uint32_t planner_desk_turn(uint8_t *desk, size_t desk_len, uint8_t *answer, size
  * s). */
 uint32_t planner_desk_rounds(uint8_t *desk, size_t desk_len, uint32_t rounds, uint8_t *answer, size_t answer_len);
 
-/* How a seat stands, as a turn answers it. Refusal: 38 (somebody holds the seat). */
+/* How a seat stands, with its trials by window. Refusal: 38 (somebody holds the seat). */
 uint32_t planner_desk_look(const uint8_t *desk, size_t desk_len, uint32_t seat, uint8_t *answer, size_t answer_len);
 
 /* Writes the plans listed so far, n bytes each, to the front of out and frees the seat; the bytes after them are

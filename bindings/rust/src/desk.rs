@@ -3,7 +3,7 @@
 use crate::{number, Ending, Refusal};
 
 /// A desk's size in bytes.
-pub const DESK_BYTES: usize = 838_681;
+pub const DESK_BYTES: usize = 839_065;
 /// Its seats are numbered from 0.
 pub const SEATS: u32 = 8;
 /// A seat's list has room for so many plans.
@@ -47,6 +47,11 @@ mod exported {
     }
 }
 
+/// No run was waiting for a turn.
+const NONE: u32 = 0;
+/// A run that hasn't ended; else the kind is that of its ending.
+const RUNNING: u32 = 4;
+
 /// How a seat stands: its run's ending, if it has ended, its plans and its trials so far.
 #[derive(Clone, Copy, Debug, PartialEq, Eq)]
 pub struct Standing {
@@ -57,12 +62,19 @@ pub struct Standing {
 }
 
 impl Standing {
-    /// What an answer of four numbers says; `None` where no run was waiting.
-    fn from_answer(answer: &[u8; 16]) -> Option<Standing> {
+    /// What the first four numbers of an answer say; `None` where no run was waiting.
+    fn from_answer(answer: &[u8]) -> Option<Standing> {
         let [kind, seat, plans, nodes] = [0, 1, 2, 3].map(|i| number(answer, i));
-        let ending = (kind > 1).then(|| Ending::from_kind(kind - 1));
-        (kind > 0).then_some(Standing { seat, ending, plans, nodes })
+        let ending = (kind != RUNNING).then(|| Ending::from_kind(kind));
+        (kind != NONE).then_some(Standing { seat, ending, plans, nodes })
     }
+}
+
+/// What a look at a seat says: how it stands, and its trials by the place that each settles.
+#[derive(Clone, Copy, Debug, PartialEq, Eq)]
+pub struct Look {
+    pub standing: Standing,
+    pub counts: [u32; 12],
 }
 
 /// What rounds of turns did: the seats whose run ended in them, and those whose run goes on.
@@ -74,8 +86,8 @@ pub struct Rounds {
 
 /// Eight seats. Each holds a copy of a hall's sheet, its node limit, a list with room for [`SEAT_PLANS`] plans and the run so far, without
 /// pairs or block. What happens at one seat changes nothing at another. A hall that stays seated and not ended gets a turn within any eight
-/// turns; when it ends, its list, ending and figures are those of [`crate::run`] with the same node limit and that room. A refusal changes
-/// nothing.
+/// turns; when it ends, its list, ending and figures, its trials by window too, are those of [`crate::run_lent`] with the same node limit
+/// and that room. A refusal changes nothing.
 #[derive(Clone)]
 pub struct Desk {
     /// DESK_BYTES of them.
@@ -150,8 +162,8 @@ impl Desk {
     }
 
     /// How a seat stands.
-    pub fn look(&self, seat: u32) -> Result<Standing, Refusal> {
-        let mut answer = [0; 16];
+    pub fn look(&self, seat: u32) -> Result<Look, Refusal> {
+        let mut answer = [0; 64];
         Refusal::from_code(unsafe {
             exported::planner_desk_look(
                 self.bytes.as_ptr(),
@@ -161,7 +173,8 @@ impl Desk {
                 answer.len(),
             )
         })?;
-        Ok(Standing::from_answer(&answer).expect("a seat that somebody holds"))
+        let standing = Standing::from_answer(&answer).expect("a seat that somebody holds");
+        Ok(Look { standing, counts: std::array::from_fn(|place| number(&answer, 4 + place)) })
     }
 
     /// Frees a seat: the plans listed so far go to the front of the room; the answer is their length in bytes.

@@ -20,7 +20,7 @@ mod words;
 
 pub use closed::{closed, Closed};
 pub use columns::{columns, rows};
-pub use desk::{Desk, Rounds, Standing, DESK_BYTES, SEATS, SEAT_PLANS};
+pub use desk::{Desk, Look, Rounds, Standing, DESK_BYTES, SEATS, SEAT_PLANS};
 pub use enough::{at_least, Enough};
 pub use families::families;
 pub use lent::{question_lent, run_lent, LentAnswer};

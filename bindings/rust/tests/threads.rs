@@ -65,7 +65,7 @@ fn the_stack_is_enough() {
         assert_eq!((desk.sit(&sheet, 1_000_000), desk.sit(&sheet, 1_000_000)), (Ok(0), Ok(1)));
         assert_eq!(desk.turn().map(|standing| standing.nodes), Some(64));
         assert_eq!(desk.rounds(3), Rounds { ended: vec![0, 1], going_on: vec![] });
-        assert_eq!(desk.look(1).map(|standing| (standing.plans, standing.nodes)), Ok((16, 192)));
+        assert_eq!(desk.look(1).map(|look| (look.standing.plans, look.standing.nodes)), Ok((16, 192)));
         assert_eq!(desk.leave(1, &mut list), Ok(16 * 12));
     };
     thread::Builder::new().stack_size(STACK_BYTES).spawn(calls).unwrap().join().unwrap();

@@ -57,9 +57,10 @@ pub enum Call {
 }
 
 impl Call {
-    fn answer_bytes(&self) -> usize {
+    pub fn answer_bytes(&self) -> usize {
         match self {
-            Call::Turn | Call::Look(_) => 16,
+            Call::Turn => 16,
+            Call::Look(_) => 64,
             _ => 12,
         }
     }
@@ -101,10 +102,10 @@ pub fn reply(call: &Call, desk: &mut [u8], answer_bytes: usize, pattern: u8) -> 
 /// How a seat stands: kind, seat, plans, trials.
 fn stands(seat: usize, hall: &Hall) -> Vec<u32> {
     let kind = match hall.ending {
-        None => 1,
-        Some(Ending::Finished) => 2,
-        Some(Ending::Spent) => 3,
-        Some(Ending::Full) => 4,
+        Some(Ending::Finished) => 1,
+        Some(Ending::Spent) => 2,
+        Some(Ending::Full) => 3,
+        None => 4,
     };
     vec![kind, seat as u32, hall.plans.len() as u32, hall.nodes]
 }
@@ -133,7 +134,9 @@ fn done(call: &Call, desk: &mut Desk, bytes: &mut [u8], room: &mut [u8]) -> Resu
             (0..SEATS).filter(|&seat| had[seat] > 0).for_each(|seat| served(desk, bytes, seat));
             Ok(vec![1, before & !waiting(desk), waiting(desk)])
         }
-        Call::Look(seat) => desk.look(*seat).map(|hall| stands(*seat as usize, hall)),
+        Call::Look(seat) => {
+            desk.look(*seat).map(|hall| [&stands(*seat as usize, hall)[..], &hall.counts].concat())
+        }
         Call::Leave(seat, _) => {
             let length = desk.leave(*seat, room)?;
             bytes[*seat as usize * SEAT_BYTES + desk::FLAG] = 0;
@@ -276,8 +279,12 @@ fn damaged_seat(seat: &mut [u8], sheet: &[u8], rng: &mut Rng) {
     let listed = rng.pick(&[0, 0, 0, 1, 1, 7, 7, 30, 4090, 4095, 4096, 65_535]);
     seat[desk::LISTED..][..2].copy_from_slice(&(listed as u16).to_le_bytes());
     seat[desk::LAST] = rng.pick(&[0, 0, 1, 2, 3, 5, 11, 12, 13, 255]);
-    for value in &mut seat[desk::LAST + 1..desk::SHEET] {
+    for value in &mut seat[desk::LAST + 1..desk::COUNTS] {
         *value = if rng.chance(90) { rng.below(4) as u8 } else { *value };
+    }
+    for count in seat[desk::COUNTS..desk::SHEET].chunks_mut(4) {
+        let trials = rng.pick(&[0, 1, 64, nodes, nodes.wrapping_add(1), allowance, u32::MAX]);
+        count.copy_from_slice(&trials.to_le_bytes());
     }
 }
 
@@ -351,7 +358,11 @@ fn wrong_sizes(start: &[u8], call: &Call, rng: &mut Rng, tally: &mut Tally) {
     let size = rng.pick(&[0, 1, DESK_BYTES - 1, DESK_BYTES + 1]);
     let mut other: Vec<u8> = start.iter().copied().cycle().take(size).collect();
     let mut whole = start.to_vec();
-    let length = rng.pick(&[0, 1, 11, 13, 15, 17, 28 - call.answer_bytes()]);
+    let others: Vec<usize> = [0, 1, 11, 12, 13, 15, 16, 17, 63, 64, 65]
+        .into_iter()
+        .filter(|&length| length != call.answer_bytes())
+        .collect();
+    let length = rng.pick(&others);
     for (bytes, answer_bytes) in [(&mut other, call.answer_bytes()), (&mut whole, length)] {
         let before = bytes.clone();
         let pattern = rng.word() as u8;

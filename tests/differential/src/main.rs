@@ -80,7 +80,7 @@ const FAMILIES: [&str; 2] = ["families counted", "dash"];
 /// Likewise of exchanges; these are asked once a case, so a tenth of the cases will do.
 const CLOSED: [&str; 2] = ["closed", "product missing"];
 /// Likewise of turns at a desk, whose run then goes on or has ended.
-const TURNS: [&str; 4] = ["goes on", "finished", "spent", "full"];
+const TURNS: [&str; 4] = ["finished", "spent", "full", "goes on"];
 /// Likewise of heads.
 const JOINS: [&str; 2] = ["joined", "missing"];
 

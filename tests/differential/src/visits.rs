@@ -2,10 +2,13 @@
 //! of the run alone.
 
 use crate::desk::{allowance, reply, Call};
-use crate::planner;
+use crate::lent::{Lent, ANSWER_BYTES};
 use crate::tally::{Guarded, Tally};
 use oracle::desk::{DESK_BYTES, PLANS, SEATS};
 use sheets::Rng;
+
+/// The kind of a seat whose run hasn't ended.
+const RUNNING: u32 = 4;
 
 /// Calls of one sequence.
 const VISITS: usize = 24;
@@ -54,7 +57,7 @@ impl Visits {
 
     /// The numbers of a call that answers with a seat.
     fn stands(&mut self, call: &Call) -> Vec<u32> {
-        numbers(reply(call, &mut self.desk, 16, 0).1)
+        numbers(reply(call, &mut self.desk, call.answer_bytes(), 0).1)
     }
 
     /// A turn. A hall that others' turns have passed over eight times has ended.
@@ -64,7 +67,7 @@ impl Visits {
             let kind = self.stands(&Call::Look(seat as u32))[0];
             if let Some(visitor) = &mut self.seats[seat] {
                 visitor.waited = if served[1] as usize == seat { 0 } else { visitor.waited + 1 };
-                let is_served = kind > 1 || visitor.waited < SEATS;
+                let is_served = kind != RUNNING || visitor.waited < SEATS;
                 tally.same("a turn within any eight", is_served, true, &visitor.sheet);
             }
         }
@@ -78,12 +81,13 @@ impl Visits {
         };
         let stands = self.stands(&Call::Look(seat as u32));
         let room = PLANS * sheet[0] as usize;
-        let (mut list, mut answer) = (Guarded::new(room, 0), Guarded::new(12, 0));
-        let limit = if stands[0] == 1 { stands[3] } else { limit };
-        planner::run(&sheet, limit, list.lent(), answer.lent());
+        let (mut list, mut answer) = (Guarded::new(room, 0), Guarded::new(ANSWER_BYTES, 0));
+        let limit = if stands[0] == RUNNING { stands[3] } else { limit };
+        let lent = Lent { sheet: sheet.clone(), pairs: Vec::new(), block: Vec::new() };
+        lent.run(limit, list.lent(), answer.lent());
         let alone = numbers(answer);
-        let ending = if stands[0] == 1 { alone[0] } else { stands[0] - 1 };
-        tally.same("figures alone", [ending, stands[2], stands[3]].to_vec(), alone, &sheet);
+        let ending = if stands[0] == RUNNING { alone[0] } else { stands[0] };
+        tally.same("figures alone", [&[ending], &stands[2..]].concat(), alone, &sheet);
         let left = reply(&Call::Leave(seat as u32, room), &mut self.desk, 12, 0);
         tally.same("list alone", left.2, list, &sheet);
     }

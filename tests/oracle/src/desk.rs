@@ -16,6 +16,8 @@ pub const PLANS: usize = 4096;
 pub struct Hall {
     pub allowance: u32,
     pub nodes: u32,
+    /// These by the place that each settles.
+    pub counts: [u32; 12],
     pub plans: Vec<Vec<u8>>,
     pub ending: Option<Ending>,
     /// The last trial made.
@@ -49,7 +51,16 @@ fn trials_below(problem: &Problem, prefix: &[usize]) -> Vec<Vec<usize>> {
 impl Hall {
     pub fn new(problem: Problem, allowance: u32) -> Hall {
         let due = trials_below(&problem, &[]);
-        Hall { allowance, nodes: 0, plans: Vec::new(), ending: None, last: Vec::new(), problem, due }
+        Hall {
+            allowance,
+            nodes: 0,
+            counts: [0; 12],
+            plans: Vec::new(),
+            ending: None,
+            last: Vec::new(),
+            problem,
+            due,
+        }
     }
 
     /// Takes the trial that is due first, and puts those below it in its place.
@@ -87,6 +98,7 @@ impl Hall {
     pub fn try_next(&mut self) {
         let trial = self.take().expect("a trial that is due");
         self.nodes += 1;
+        self.counts[trial.len() - 1] += 1;
         self.last = trial.iter().map(|&value| value as u8).collect();
         if trial.len() == self.problem.variables && sets_at(&self.problem, &trial).is_some() {
             if self.plans.len() == PLANS {
@@ -180,7 +192,9 @@ pub const NODES: usize = 8;
 pub const LISTED: usize = 12;
 /// The length of the last trial made, then its values, twelve bytes.
 pub const LAST: usize = 14;
-pub const SHEET: usize = 27;
+/// The trials by place, twelve numbers of four bytes.
+pub const COUNTS: usize = 27;
+pub const SHEET: usize = COUNTS + 12 * 4;
 pub const SHEET_BYTES: usize = 55_656;
 pub const LIST: usize = SHEET + SHEET_BYTES;
 pub const SEAT_BYTES: usize = LIST + 12 * PLANS;
@@ -202,13 +216,14 @@ pub fn meaning(bytes: &[u8]) -> Desk {
     desk
 }
 
-/// The hall at a seat. A number that is too large counts as the largest, trials above the allowance as the allowance. A sheet that is
-/// refused, question 16 left out, has no trials. Those that come after the last one are due.
+/// The hall at a seat. A number that is too large counts as the largest, trials above the allowance as the allowance, trials of a place above
+/// all trials as all. A sheet that is refused, question 16 left out, has no trials. Those that come after the last one are due.
 fn hall_in(seat: &[u8]) -> Hall {
     let sheet = &seat[SHEET..][..number(seat, LENGTH, 2).min(SHEET_BYTES)];
     let none = Problem { variables: 0, values: 0, initial: vec![], constraints: vec![], symmetries: vec![] };
     let mut hall = Hall::new(question_without_16(sheet).unwrap_or(none), number(seat, ALLOWANCE, 4) as u32);
     hall.nodes = hall.allowance.min(number(seat, NODES, 4) as u32);
+    hall.counts = std::array::from_fn(|place| hall.nodes.min(number(seat, COUNTS + 4 * place, 4) as u32));
     let width = number(seat, SHEET, 2).min(12);
     let listed = number(seat, LISTED, 2).min(PLANS);
     hall.plans = (0..listed).map(|plan| seat[LIST + plan * width..][..width].to_vec()).collect();
@@ -228,11 +243,17 @@ fn hall_in(seat: &[u8]) -> Hall {
 
 /// A newcomer's bytes; those after its sheet stay.
 pub fn write_newcomer(bytes: &mut [u8], seat: usize, sheet: &[u8], allowance: u32) {
-    let head = [&[1][..], &(sheet.len() as u16).to_le_bytes(), &allowance.to_le_bytes(), &[0; 20], sheet];
+    let head = [
+        &[1][..],
+        &(sheet.len() as u16).to_le_bytes(),
+        &allowance.to_le_bytes(),
+        &[0; SHEET - STANDING],
+        sheet,
+    ];
     write(bytes, seat * SEAT_BYTES, &head.concat());
 }
 
-/// A hall's run so far: how it stands, its figures, its last trial, its list; all other bytes stay.
+/// A hall's run so far: how it stands, its figures, its last trial, its trials by place, its list; all other bytes stay.
 pub fn write_run(bytes: &mut [u8], seat: usize, hall: &Hall) {
     let standing = match hall.ending {
         None => 0,
@@ -243,7 +264,8 @@ pub fn write_run(bytes: &mut [u8], seat: usize, hall: &Hall) {
     let mut last = hall.last.clone();
     last.resize(12, 0);
     let (nodes, listed) = (hall.nodes.to_le_bytes(), (hall.plans.len() as u16).to_le_bytes());
-    let run = [&[standing][..], &nodes, &listed, &[hall.last.len() as u8], &last];
+    let counts: Vec<u8> = hall.counts.iter().flat_map(|count| count.to_le_bytes()).collect();
+    let run = [&[standing][..], &nodes, &listed, &[hall.last.len() as u8], &last, &counts];
     write(bytes, seat * SEAT_BYTES + STANDING, &run.concat());
     write(bytes, seat * SEAT_BYTES + LIST, &hall.plans.concat());
 }

@@ -98,7 +98,7 @@ impl<'a> Day<'a> {
     /// How the halls stand, by seat.
     fn standings(&self) -> Vec<(&'a Input, Standing)> {
         let stands = |(seat, hall): (usize, &Option<&'a Input>)| {
-            hall.and_then(|hall| Some((hall, self.desk.look(seat as u32).ok()?)))
+            hall.and_then(|hall| Some((hall, self.desk.look(seat as u32).ok()?.standing)))
         };
         self.seats.iter().enumerate().filter_map(stands).collect()
     }
@@ -106,7 +106,7 @@ impl<'a> Day<'a> {
     /// Prints the plans of a hall whose run has ended, and frees its seat.
     fn leave(&mut self, seat: u32) -> Result<Status, Stop> {
         let hall = self.seats[seat as usize].take().expect("somebody at the seat");
-        let Standing { ending, plans, nodes, .. } = hall.accepted(self.desk.look(seat))?;
+        let Standing { ending, plans, nodes, .. } = hall.accepted(self.desk.look(seat))?.standing;
         let answer = Answer { ending: ending.expect("a run that has ended"), plans, nodes };
         let mut list = vec![0; hall.made.problem.variables.len() * plans as usize];
         hall.accepted(self.desk.leave(seat, &mut list))?;
