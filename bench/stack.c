@@ -22,12 +22,12 @@ struct sheet {
 static struct sheet bare, exchanged;
 static uint8_t table[PLANNER_TABLE_BYTES], list[WINDOWS * PLANNER_SEAT_PLANS];
 static uint8_t out[2 * sizeof list + PLANNER_REPORT_ROOM];
-static uint8_t answer[PLANNER_LENT_ANSWER_BYTES];
+static uint8_t answer[PLANNER_PART_BYTES], whole[PLANNER_JOIN_BYTES];
 static const uint8_t pairs[2] = {0, 1}, block[2] = {10, 2};
 
 /* What a call leaves for another, seen from every process. */
 static struct {
-    uint8_t desk[PLANNER_DESK_BYTES], store[PLANNER_STORE_BYTES], columns[8 + sizeof list];
+    uint8_t desk[PLANNER_DESK_BYTES], store[PLANNER_STORE_BYTES], columns[8 + sizeof list], head[PLANNER_PART_BYTES];
 } *kept;
 
 static void add(struct sheet *sheet, unsigned word) {
@@ -68,7 +68,6 @@ static void deepest(struct sheet *sheet, unsigned ruled, unsigned exchanges) {
 #define SHEET(s) s.bytes, s.length
 #define LENT SHEET(exchanged), pairs, 2, block, 2
 #define ANSWER answer, PLANNER_ANSWER_BYTES
-#define SEAT_ANSWER answer, PLANNER_SEAT_ANSWER_BYTES
 #define DESK kept->desk, PLANNER_DESK_BYTES
 #define STORE kept->store, PLANNER_STORE_BYTES
 #define COLUMNS kept->columns, sizeof kept->columns
@@ -80,6 +79,13 @@ static uint32_t run(void) { return planner_run(SHEET(exchanged), 1000000, list, 
 static uint32_t run_bare(void) { return planner_run(SHEET(bare), 1000000, list, sizeof list, ANSWER); }
 static uint32_t run_lent(void) {
     return planner_run_lent(LENT, 1000000, list, sizeof list, answer, PLANNER_LENT_ANSWER_BYTES);
+}
+static uint32_t run_part(void) {
+    static const uint8_t start[1], end[1] = {255};
+    return planner_run_part(LENT, start, 0, end, 1, 1000000, list, sizeof list, kept->head, PLANNER_PART_BYTES);
+}
+static uint32_t join(void) {
+    return planner_join(kept->head, PLANNER_PART_BYTES, whole, PLANNER_JOIN_BYTES);
 }
 static uint32_t at_least(void) { return planner_at_least(LENT, 5000, 1000000, ANSWER); }
 static uint32_t families(void) { return planner_families(LENT, 1000000, ANSWER); }
@@ -100,9 +106,9 @@ static uint32_t store_put(void) { return planner_store_put(STORE, 3, 9, table, s
 static uint32_t store_fetch(void) { return planner_store_fetch(STORE, 3, 9, OUT, ANSWER); }
 static uint32_t store_drop(void) { return planner_store_drop(STORE, 3, 9, ANSWER); }
 static uint32_t desk_sit(void) { return planner_desk_sit(DESK, SHEET(exchanged), 1000000, ANSWER); }
-static uint32_t desk_turn(void) { return planner_desk_turn(DESK, SEAT_ANSWER); }
+static uint32_t desk_turn(void) { return planner_desk_turn(DESK, answer, PLANNER_TURN_BYTES); }
 static uint32_t desk_rounds(void) { return planner_desk_rounds(DESK, 1000000, ANSWER); }
-static uint32_t desk_look(void) { return planner_desk_look(DESK, 0, SEAT_ANSWER); }
+static uint32_t desk_look(void) { return planner_desk_look(DESK, 0, answer, PLANNER_LOOK_BYTES); }
 static uint32_t desk_leave(void) { return planner_desk_leave(DESK, 0, OUT, ANSWER); }
 static uint32_t small_sheet(void) { return planner_small_sheet(500, OUT, ANSWER); }
 static uint32_t version(void) { return planner_version() == 0; }
@@ -118,6 +124,8 @@ static const struct call {
     {"run, no exchanges", run_bare, 0},
     {"question_lent", question_lent, 0},
     {"run_lent", run_lent, 0},
+    {"run_part", run_part, 0},
+    {"join", join, run_part},
     {"at_least", at_least, 0},
     {"families", families, 0},
     {"closed", closed, 0},

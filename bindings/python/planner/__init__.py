@@ -33,7 +33,7 @@ from ._calls import (
     version,
     words,
 )
-from ._kept import DESK_BYTES, SEAT_PLANS, SEATS, STORE_BYTES, TABLE_BYTES, Desk, Rounds, Standing, Store
+from ._kept import DESK_BYTES, SEAT_PLANS, SEATS, STORE_BYTES, TABLE_BYTES, Desk, Look, Rounds, Standing, Store
 from ._library import Refusal, __version__
 from ._parts import END, JOIN_BYTES, PART_BYTES, START, Joined, Missing, Part, join, run_part
 
@@ -58,6 +58,7 @@ __all__ = [
     "FilterEnding",
     "Joined",
     "LentRun",
+    "Look",
     "Missing",
     "Part",
     "Plan",

@@ -10,13 +10,13 @@ from ._library import Lent, ask, room_for, written
 STORE_BYTES = 32_832
 TABLE_BYTES = 2_048
 #: A desk's size, its seats, numbered from 0, and the plans that a seat's list has room for.
-DESK_BYTES = 838_681
+DESK_BYTES = 839_065
 SEATS = 8
 SEAT_PLANS = 4_096
 
-#: The kinds of a seat whose run goes on, and of those that ended.
-_RUNNING = 1
-_ENDED = {2: Ending.FINISHED, 3: Ending.SPENT, 4: Ending.FULL}
+#: The kinds of a turn that served nobody, and of a seat whose run goes on; else a seat's kind is its ending.
+_NONE = 0
+_RUNNING = 4
 
 
 class _Kept:
@@ -62,6 +62,13 @@ class Standing(NamedTuple):
     nodes: int
 
 
+class Look(NamedTuple):
+    """How a seat stands, and its trials by the window that each settles."""
+
+    standing: Standing
+    counts: List[int]
+
+
 class Rounds(NamedTuple):
     """What rounds of turns did: the seats whose run ended in them, and those whose run goes on."""
 
@@ -69,16 +76,16 @@ class Rounds(NamedTuple):
     going_on: List[int]
 
 
-def _standing(answer: Sequence[int]) -> Optional[Standing]:
-    """What four numbers say; None where no run was waiting."""
+def _standing(answer: Sequence[int]) -> Standing:
+    """What four numbers say of a seat."""
     kind, seat, plans, nodes = answer
-    return Standing(seat, _ENDED.get(kind), plans, nodes) if kind in (_RUNNING, *_ENDED) else None
+    return Standing(seat, None if kind == _RUNNING else Ending(kind), plans, nodes)
 
 
 class Desk(_Kept):
     """Eight seats. Each holds a copy of a hall's sheet, its node limit, a list with room for SEAT_PLANS plans and the run
-    so far. When a run ends, its list, ending and figures are those of `run` with the same node limit and that room. A
-    refusal changes nothing."""
+    so far. When a run ends, its list, ending, figures and counts are those of `run_lent` with the same node limit and that
+    room. A refusal changes nothing."""
 
     def __init__(self, start: Optional[Lent] = None) -> None:
         super().__init__(DESK_BYTES, start)
@@ -89,18 +96,18 @@ class Desk(_Kept):
 
     def turn(self) -> Optional[Standing]:
         """A turn of 64 trials for the next seat whose run hasn't ended: how it stands then, or None if there is none."""
-        return _standing(ask("desk_turn", self._bytes, numbers=4))
+        answer = ask("desk_turn", self._bytes, numbers=4)
+        return None if answer[0] == _NONE else _standing(answer)
 
     def rounds(self, rounds: int) -> Rounds:
         """Gives each seat whose run hasn't ended up to so many turns."""
         _, ended, going_on = ask("desk_rounds", self._bytes, rounds)
         return Rounds(*([seat for seat in range(SEATS) if bits >> seat & 1] for bits in (ended, going_on)))
 
-    def look(self, seat: int) -> Standing:
-        """How a seat stands."""
-        standing = _standing(ask("desk_look", self._bytes, seat, numbers=4))
-        assert standing is not None
-        return standing
+    def look(self, seat: int) -> Look:
+        """How a seat stands, with its trials by window."""
+        answer = ask("desk_look", self._bytes, seat, numbers=16)
+        return Look(_standing(answer[:4]), list(answer[4:]))
 
     def leave(self, seat: int, room: int = 12 * SEAT_PLANS) -> bytes:
         """Frees a seat: the rows of the plans listed so far; `plans_of` parts them."""

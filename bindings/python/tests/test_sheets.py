@@ -37,7 +37,9 @@ class Sheets(unittest.TestCase):
         desk = planner.Desk()
         desk.sit(sheet)
         desk.rounds(2**32 - 1)
-        self.assertEqual(desk.look(0), (0, ending, len(plans), nodes))
+        look = desk.look(0)
+        self.assertEqual(look.standing, (0, ending, len(plans), nodes))
+        self.assertEqual(look.counts, planner.run_lent(sheet).counts)
         self.lists(desk.leave(0), sheet[0], plans)
 
     def lists(self, rows: bytes, n: int, plans: List[Plan]) -> None:
