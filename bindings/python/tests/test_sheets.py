@@ -39,7 +39,7 @@ class Sheets(unittest.TestCase):
         desk.rounds(2**32 - 1)
         look = desk.look(0)
         self.assertEqual(look.standing, (0, ending, len(plans), nodes))
-        self.assertEqual(look.counts, planner.run_lent(sheet).counts)
+        self.assertEqual(look.counts, lent.counts)
         self.lists(desk.leave(0), sheet[0], plans)
 
     def lists(self, rows: bytes, n: int, plans: List[Plan]) -> None:
