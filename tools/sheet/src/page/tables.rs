@@ -2,6 +2,7 @@
 //! plans here; a cell's class `d3` is its duty's number.
 
 use super::escaped;
+use crate::listing::Plans;
 use crate::problem::Problem;
 
 /// What stands in the tables' heads and cells, escaped.
@@ -9,11 +10,11 @@ pub struct Tables<'a> {
     windows: Vec<String>,
     duties: Vec<String>,
     problem: &'a Problem,
-    plans: &'a [Vec<u8>],
+    plans: &'a Plans,
 }
 
 impl Tables<'_> {
-    pub fn new<'a>(problem: &'a Problem, plans: &'a [Vec<u8>]) -> Tables<'a> {
+    pub fn new<'a>(problem: &'a Problem, plans: &'a Plans) -> Tables<'a> {
         let names = |names: &[String]| names.iter().map(|name| escaped(name)).collect();
         Tables { windows: names(&problem.variables), duties: names(&problem.values), problem, plans }
     }
@@ -21,7 +22,7 @@ impl Tables<'_> {
     /// The plans, a column for each window and, where a plan leaves a duty over, one for those that are free.
     pub fn list(&self) -> String {
         let has_free = self.plans.iter().any(|plan| !self.free(plan).is_empty());
-        let row = |(number, plan): (usize, &Vec<u8>)| {
+        let row = |(number, plan): (usize, &[u8])| {
             let cell = |&duty: &u8| format!("<td class=\"d{duty}\">{}</td>", self.duties[duty as usize]);
             let cells: String = plan.iter().map(cell).collect();
             let free =
