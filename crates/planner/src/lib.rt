@@ -4,6 +4,7 @@ mod lists;
 mod parts;
 mod runs;
 
+ghost use mathlib.Core.Path.{_≡_};
 ghost use Rattle.export_filter.specs.FilterBytes.{CallBytes};
 ghost use Rattle.export_report.specs.Report.{CallReport};
 
