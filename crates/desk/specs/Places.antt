@@ -1,11 +1,7 @@
 -- Where a desk's bytes have what: the constants of src/lib.rt.
 use Prim.Native.Nat.{ℕ}
 
--- ---- in a seat, low bytes first
--- whether it is taken (0: free)
-abbrev pub FLAG : ℕ
-FLAG = 0
-
+-- ---- in a seat, low bytes first; its first byte says whether it is taken (0: free)
 -- the sheet's length, two bytes
 abbrev pub LENGTH : ℕ
 LENGTH = 1
