@@ -1,0 +1,5 @@
+-- The laws, in the order of the argument.
+pub mod Twelve
+pub mod HeadsRead
+pub mod Taken
+pub mod Held

@@ -1,0 +1,72 @@
+-- What the holder of all parts of a run has, by what `join` answered to their heads; the statements can be read without the proofs. That the heads are of calls
+-- of one sheet, one list of pairs and one block is supposed (HeldHeads): heads whose names differ are refused, and who has the bytes can compare them.
+use mathlib.Core.Path.{_≡_}
+use mathlib.Core.Logic.{_↔_}
+use mathlib.Core.List.{List, [], _∷_, map, List·Memᴰ}
+use Prim.Native.Nat.{ℕ, _*_, _≤_, _<_}
+use lib.Dec.{T}
+use lib.ListN.{length, take}
+use Rattle.model.specs.Lists.{at, rowsAscend}
+use Rattle.model.specs.Problem.{isSolution}
+use Rattle.model.specs.Sheet.{problemOf}
+use Rattle.model.specs.Verdict.{accepted}
+use Rattle.model.specs.Run.{finished, ended, written, Tally}
+use Rattle.order.specs.Reordered.{read, LeaderBy, ChainBy}
+use Rattle.lent.specs.Lent.{verdictLent, problemWith, orderLent, problemLent, answerLent, listLent, tallyLent}
+use Rattle.ranges.specs.Claims.{Part, Call, Chain, allPlans}
+use Rattle.parts.specs.Parts.{nodesBetween}
+use Rattle.join.specs.Join.{headsIn}
+use Rattle.join.specs.Calls.{CallJoin}
+use Rattle.join.specs.declared.Answer.the-variants.{Joined}
+use Rattle.join.specs.declared.Joining.{Joining}
+use Rattle.joined.specs.Heads.{HeadOf, cutTwelve, HeldHeads, takenParts, headBytes, HeldBytes, partAt}
+
+-- ---- twelve values
+-- a path's values behind the twelfth bound no range, so a call is a call with both paths cut to twelve values
+abbrev pub Twelve-nodes : Type 0
+Twelve-nodes =
+    (b pairs block from upto : List ℕ) → verdictLent b pairs block ≡ accepted →
+    nodesBetween (problemLent b pairs block) from upto ≡ nodesBetween (problemLent b pairs block) (take 12 from) (take 12 upto)
+
+abbrev pub Twelve-values : Type 0
+Twelve-values = (b pairs block : List ℕ) (c : Part) → verdictLent b pairs block ≡ accepted → Call b pairs block c → Call b pairs block (cutTwelve c)
+
+-- ---- heads
+-- the 115 bytes of a call's head say what the call said ..
+abbrev pub Head-says : Type 0
+Head-says = (b pairs block : List ℕ) (c : Part) → verdictLent b pairs block ≡ accepted → Call b pairs block c → HeadOf (headBytes b pairs block c) 0 c × (length (headBytes b pairs block c) ≡ 115)
+
+-- .. and so does each of many heads, one behind the other
+abbrev pub Heads-say : Type 0
+Heads-say =
+    (b pairs block : List ℕ) (cs : List Part) (l : List ℕ) → HeldBytes b pairs block cs l → HeldHeads b pairs block l (partAt b pairs block cs) × (headsIn l ≡ length cs)
+
+-- ---- joined
+-- the run with limit and list enough: finished with the plans and nodes answered; its list is the plans of the parts taken, one behind the other; its counts are
+-- those answered
+pub record RunHeld (b pairs block : List ℕ) (cs : List Part) (r : Joining) (limit : ℕ) (out : List ℕ) (tally : Tally) : Type 0 where
+  pub answer : answerLent b pairs block limit out ≡ ended (finished (r .plans) (r .nodes))
+  pub list : listLent b pairs block limit out ≡ written (allPlans (problemOf b .variables) cs) out
+  pub nodes : tallyLent b pairs block limit out tally .nodes ≡ r .nodes
+  pub counts : (x : ℕ) → x < 12 → at (tallyLent b pairs block limit out tally .counts) x ≡ at (r .counts) x
+
+-- demands 2 and 3 of some plans: they are the leaders in the settling order, ascending strictly, so each stands there once; s is a solution exactly when one of
+-- them becomes s by symmetries, one after another, each giving a solution that reads later; there are none exactly when there is no solution
+pub record DemandsHeld (b pairs block : List ℕ) (plans : List (List ℕ)) (number : ℕ) : Type 0 where
+  pub many : length plans ≡ number
+  pub leaders : (s : List ℕ) → List·Memᴰ s plans ↔ LeaderBy (orderLent b pairs) (problemWith b block) s
+  pub ascend : T (rowsAscend (map (read (orderLent b pairs)) plans))
+  pub chains : (s : List ℕ) → length s ≡ problemOf b .variables →
+      T (isSolution (problemOf b) s) ↔ ∥ ((t : List ℕ) × List·Memᴰ t plans × ChainBy (orderLent b pairs) (problemWith b block) t s) ∥₁
+  pub nothing : (number ≡ 0) ↔ ((s : List ℕ) → T (isSolution (problemOf b) s) → ⊥)
+
+-- the heads taken are parts one behind the other from the first to the last path. The limit is any number: also one beyond what a call can be allowed
+pub record JoinedHeld (b pairs block : List ℕ) (cs : List Part) (r : Joining) : Type 0 where
+  pub chain : Chain b pairs block [] cs (255 ∷ [])
+  pub run : (limit : ℕ) (out : List ℕ) (tally : Tally) → r .nodes ≤ limit → r .plans * problemOf b .variables ≤ length out → RunHeld b pairs block cs r limit out tally
+  pub demands : DemandsHeld b pairs block (allPlans (problemOf b .variables) cs) (r .plans)
+
+abbrev pub Joined-held : Type 0
+Joined-held =
+    (b pairs block l : List ℕ) (part : ℕ → Part) → HeldHeads b pairs block l part → (r : Joining) → CallJoin l r → r .answer ≡ Joined →
+    JoinedHeld b pairs block (takenParts l part) r

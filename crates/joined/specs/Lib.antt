@@ -1,0 +1,3 @@
+-- What the holder of all parts of a run has.
+pub mod Heads
+pub mod Claims
