@@ -212,4 +212,6 @@ heads-held b pairs block cs l h = (record { lent = h .lent; calls = λ k m. call
     call k m = h .calls (getD cs k none) (mem-getD cs k none m)
 
     head : (k : ℕ) → k < length cs → HeadOf l k (getD cs k none)
-    head k m = subst (λ (x : List ℕ). HeadOf x k (getD cs k none)) (sym (h .bytes)) (bytes-read b pairs block (getD cs k none) (call k m) (h .lent) (flat (map (headBytes b pairs block) cs)) k (each-found b pairs block (h .lent) cs (h .calls) k none m))
+    head k m =
+        subst (λ (x : List ℕ). HeadOf x k (getD cs k none)) (sym (h .bytes))
+        (bytes-read b pairs block (getD cs k none) (call k m) (h .lent) (flat (map (headBytes b pairs block) cs)) k (each-found b pairs block (h .lent) cs (h .calls) k none m))

@@ -82,13 +82,15 @@ module _ (b pairs block : List ℕ) (cs : List Part) (so : verdictLent b pairs b
         many = ap length (sym (whole .plans)) ∙ length-listed n (sumPlans cs) (listLent b pairs block (sumNodes cs) room);
         leaders = λ s. subst (λ (rows : List (List ℕ)). List·Memᴰ s rows ↔ LeaderBy order p s) (sym leaders) (up .1 s);
         ascend = subst (λ (rows : List (List ℕ)). T (rowsAscend (map (read order) rows))) (sym leaders) (up .0);
-        chains = λ s l. subst (λ (rows : List (List ℕ)). T (isSolution (problemOf b) s) ↔ ∥ ((t : List ℕ) × List·Memᴰ t rows × ChainBy order p t s) ∥₁) (whole .plans) (chains-lent b pairs block (sumNodes cs) room (sumPlans cs) (sumNodes cs) a s l);
+        chains = λ s l.
+            subst (λ (rows : List (List ℕ)). T (isSolution (problemOf b) s) ↔ ∥ ((t : List ℕ) × List·Memᴰ t rows × ChainBy order p t s) ∥₁) (whole .plans)
+            (chains-lent b pairs block (sumNodes cs) room (sumPlans cs) (sumNodes cs) a s l);
         nothing = nothing-listed-lent b pairs block (sumNodes cs) room (sumPlans cs) (sumNodes cs) a;
       }
 
 pub joined-held : Joined-held
 unfolding taken
-joined-held b pairs block l part held r call is = record { chain = chain; run = run; demands = subst (DemandsHeld b pairs block (allPlans (problemOf b .variables) cs)) (sym plans) (demands-held b pairs block cs (held .lent) chain) }
+joined-held b pairs block l part held r call is = record { chain = chain; run = run; demands = demands }
   where
     cs : List Part
     cs = takenParts l part
@@ -115,6 +117,9 @@ joined-held b pairs block l part held r call is = record { chain = chain; run = 
     counts x h =
         call .counts x h ∙ accept (countOf l x)
         ∙ same-total (λ k. fourAt l (115 * k + 12 + 4 * x)) (λ c. at (c .tally .counts) x) (λ k. cutTwelve (part k)) (taken l) (λ k m. held .heads k (inside k m) .counts x h)
+
+    demands : DemandsHeld b pairs block (allPlans (problemOf b .variables) cs) (r .plans)
+    demands = subst (DemandsHeld b pairs block (allPlans (problemOf b .variables) cs)) (sym plans) (demands-held b pairs block cs (held .lent) chain)
 
     run : (limit : ℕ) (out : List ℕ) (tally : Tally) → r .nodes ≤ limit → r .plans * problemOf b .variables ≤ length out → RunHeld b pairs block cs r limit out tally
     run limit out tally h i =

@@ -3,3 +3,4 @@ pub mod Twelve
 pub mod HeadsRead
 pub mod Taken
 pub mod Held
+pub mod JoinedExamples

@@ -103,11 +103,14 @@ module _ (b pairs block : List ℕ) (c : Part) (so : verdictLent b pairs block �
   last-is = call .stands ∙ ap (λ (a : Answer). lastOf (take 12 (c .from)) (madeBy a b pairs block (c .from) (c .upto))) (sym (call .answers))
 
   -- at the beginning, or at a node of the range
-  pub last-stands : (c .last ≡ take 12 (c .from)) ⊎ (List·Memᴰ (c .last) (nodes p) × T (between (c .from) (c .upto) (c .last)))
+  abbrev Stands : Type 0
+  Stands = (c .last ≡ take 12 (c .from)) ⊎ (List·Memᴰ (c .last) (nodes p) × T (between (c .from) (c .upto) (c .last)))
+
+  pub last-stands : Stands
   unfolding nodesBetween
   last-stands = go (last-in p (take 12 (c .from)) made)
     where
-      go : (lastOf (take 12 (c .from)) made ≡ take 12 (c .from)) ⊎ List·Memᴰ (lastOf (take 12 (c .from)) made) made → (c .last ≡ take 12 (c .from)) ⊎ (List·Memᴰ (c .last) (nodes p) × T (between (c .from) (c .upto) (c .last)))
+      go : (lastOf (take 12 (c .from)) made ≡ take 12 (c .from)) ⊎ List·Memᴰ (lastOf (take 12 (c .from)) made) made → Stands
       go (inl e) = inl (last-is ∙ e)
       go (inr m) = inr (subst (λ (x : List ℕ). List·Memᴰ x (nodes p) × T (between (c .from) (c .upto) x)) (sym last-is)
           (keep-e (between (c .from) (c .upto)) (nodes p) (lastOf (take 12 (c .from)) made) (taken p (nodesSaid (c .answer)) (nodesBetween p (c .from) (c .upto)) (lastOf (take 12 (c .from)) made) m)))
@@ -115,7 +118,7 @@ module _ (b pairs block : List ℕ) (c : Part) (so : verdictLent b pairs block �
   pub last-twelve : take 12 (c .last) ≡ c .last
   last-twelve = take-all 12 (c .last) (go last-stands)
     where
-      go : (c .last ≡ take 12 (c .from)) ⊎ (List·Memᴰ (c .last) (nodes p) × T (between (c .from) (c .upto) (c .last))) → length (c .last) ≤ 12
+      go : Stands → length (c .last) ≤ 12
       go (inl e) = let n = length-take 12 (c .from) in let m = ap length e in omega arith
       go (inr m) = let n = node-short p (c .last) (m .0) in let s = small-lent b pairs block so in omega arith
 
@@ -146,7 +149,8 @@ module _ (b pairs block l : List ℕ) (part : ℕ → Part) (held : HeldHeads b 
       onward : T (after (take 12 (part k .from)) (reachAt l k))
       onward = subst (λ (x : List ℕ). T (after x (reachAt l k))) (sym begin) t
 
-      by : (a : Answer) → part k .answer ≡ a → Goes a → reachedFor a (take 12 (part k .upto)) (part k .last) ≡ reachAt l k → (T (after (take 12 (part k .upto)) (take 12 (part k .from))) → ⊥) → Linked s k
+      by : (a : Answer) → part k .answer ≡ a → Goes a → reachedFor a (take 12 (part k .upto)) (part k .last) ≡ reachAt l k →
+          (T (after (take 12 (part k .upto)) (take 12 (part k .from))) → ⊥) → Linked s k
       by a q g r f = record { begins = begin; forth = f; call = is-call; goes = subst Goes (sym q) g; reaches = ap (λ (x : Answer). reachedFor x (take 12 (part k .upto)) (part k .last)) q ∙ r }
 
       go : (x : Ending) → part k .answer ≡ ended x → Linked s k
@@ -161,7 +165,7 @@ module _ (b pairs block l : List ℕ) (part : ℕ → Part) (held : HeldHeads b 
           by (ended (spent plans made)) q tt r (back (subst (λ (x : List ℕ). T (after (take 12 (part k .from)) x)) (sym r) onward) (last-stands b pairs block c (held .lent) is-call))
         where
           back : T (after (take 12 (part k .from)) (part k .last)) →
-              (part k .last ≡ take 12 (take 12 (part k .from))) ⊎ (List·Memᴰ (part k .last) (nodes (problemLent b pairs block)) × T (between (take 12 (part k .from)) (take 12 (part k .upto)) (part k .last))) →
+              Stands b pairs block c (held .lent) is-call →
               T (after (take 12 (part k .upto)) (take 12 (part k .from))) → ⊥
           back t (inl z) u = after-not (take 12 (part k .from)) (subst (λ (x : List ℕ). T (after (take 12 (part k .from)) x)) (z ∙ twelve-again (part k .from)) t)
           back t (inr m) u =
@@ -187,5 +191,6 @@ module _ (b pairs block l : List ℕ) (part : ℕ → Part) (held : HeldHeads b 
             m .forth,
             m .call,
             m .goes,
-            subst (λ (x : List ℕ). Chain b pairs block x (map (λ k. cutTwelve (part k)) (takenFrom l left (suc k))) (standPath l (standAfter (suc k) (takenFrom l left (suc k))))) (sym (m .reaches)) (ih (suc k)),
+            subst (λ (x : List ℕ). Chain b pairs block x (map (λ k. cutTwelve (part k)) (takenFrom l left (suc k))) (standPath l (standAfter (suc k) (takenFrom l left (suc k)))))
+                (sym (m .reaches)) (ih (suc k)),
           )

@@ -52,7 +52,8 @@ module _ (b pairs block from upto from′ upto′ : List ℕ) (limit : ℕ) (out
   same-tally : tallyPart b pairs block from upto limit out ≡ tallyPart b pairs block from′ upto′ limit out
   unfolding tallyPart
   same-tally =
-      ap₂ (λ (a : Answer) (ts : List (List ℕ)). let t : Tally = record { nodes = nodesSaid a; counts = countsBy (λ t. at (orderLent b pairs) (settledBy t)) (take (nodesSaid a) ts) } in t) same-answer q
+      let place : List ℕ → ℕ = λ t. at (orderLent b pairs) (settledBy t) in
+      ap₂ (λ (a : Answer) (ts : List (List ℕ)). let t : Tally = record { nodes = nodesSaid a; counts = countsBy place (take (nodesSaid a) ts) } in t) same-answer q
 
   same-last : take 12 from ≡ take 12 from′ → lastPart b pairs block from upto limit out ≡ lastPart b pairs block from′ upto′ limit out
   unfolding lastPart
