@@ -149,12 +149,12 @@ module _ (b pairs block : List ℕ) (c : Part) (call : Call b pairs block c) whe
       ap (λ (t : Tally). length (t .counts)) (call .counts) ∙ length-counts (λ (t : List ℕ). at (orderLent b pairs) (settledBy t)) (madeBy a b pairs block (c .from) (c .upto))
 
   module _ (so : verdictLent b pairs block ≡ accepted) where
-    pub ends : (e : Ending) × (c .answer ≡ ended e)
+    pub answered : c .answer ≡ ended (search (problemLent b pairs block) (c .limit) (length (c .out)) (partNodes b pairs block (c .from) (c .upto)) 0 [] .ending)
     unfolding answerPart answerPartFor resultPart
-    ends = (
-      search (problemLent b pairs block) (c .limit) (length (c .out)) (partNodes b pairs block (c .from) (c .upto)) 0 [] .ending,
-      call .answers ∙ ap (λ (v : Verdict). answerPartFor v b pairs block (c .from) (c .upto) (c .limit) (length (c .out))) so,
-    )
+    answered = call .answers ∙ ap (λ (v : Verdict). answerPartFor v b pairs block (c .from) (c .upto) (c .limit) (length (c .out))) so
+
+    pub ends : (e : Ending) × (c .answer ≡ ended e)
+    ends = (search (problemLent b pairs block) (c .limit) (length (c .out)) (partNodes b pairs block (c .from) (c .upto)) 0 [] .ending, answered)
 
     head-is : headBytes b pairs block c ≡ headOf b pairs block c (ends .0)
     head-is = ap (λ (a : Answer). headFor b pairs block c a []) (ends .1)

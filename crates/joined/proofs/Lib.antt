@@ -4,3 +4,5 @@ pub mod HeadsRead
 pub mod Taken
 pub mod Held
 pub mod JoinedExamples
+pub mod Stuck
+pub mod Spent

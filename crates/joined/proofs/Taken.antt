@@ -98,7 +98,7 @@ module _ (b pairs block : List ℕ) (c : Part) (so : verdictLent b pairs block �
   abbrev made : List (List ℕ)
   made = take (nodesSaid (c .answer)) (nodesBetween p (c .from) (c .upto))
 
-  last-is : c .last ≡ lastOf (take 12 (c .from)) made
+  pub last-is : c .last ≡ lastOf (take 12 (c .from)) made
   unfolding lastPart
   last-is = call .stands ∙ ap (λ (a : Answer). lastOf (take 12 (c .from)) (madeBy a b pairs block (c .from) (c .upto))) (sym (call .answers))
 

@@ -3,21 +3,22 @@
 use mathlib.Core.Path.{_≡_}
 use mathlib.Core.Logic.{_↔_}
 use mathlib.Core.List.{List, [], _∷_, map, List·Memᴰ}
-use Prim.Native.Nat.{ℕ, _*_, _≤_, _<_}
+use Prim.Native.Nat.{ℕ, suc, _*_, _≤_, _<_}
 use lib.Dec.{T}
 use lib.ListN.{length, take}
 use Rattle.model.specs.Lists.{at, rowsAscend}
 use Rattle.model.specs.Problem.{isSolution}
 use Rattle.model.specs.Sheet.{problemOf}
 use Rattle.model.specs.Verdict.{accepted}
-use Rattle.model.specs.Run.{finished, ended, written, Tally}
+use Rattle.model.specs.Run.{finished, spent, full, ended, written, Tally}
 use Rattle.order.specs.Reordered.{read, LeaderBy, ChainBy}
 use Rattle.lent.specs.Lent.{verdictLent, problemWith, orderLent, problemLent, answerLent, listLent, tallyLent}
-use Rattle.ranges.specs.Claims.{Part, Call, Chain, allPlans}
-use Rattle.parts.specs.Parts.{nodesBetween}
-use Rattle.join.specs.Join.{headsIn}
+use Rattle.ranges.specs.Ranges.{nodesSaid}
+use Rattle.ranges.specs.Claims.{Part, Call, plansHeld, Chain, allPlans}
+use Rattle.parts.specs.Parts.{after, nodesBetween}
+use Rattle.join.specs.Join.{fromAt, reachAt, headsIn, standPath, beginOr}
 use Rattle.join.specs.Calls.{CallJoin}
-use Rattle.join.specs.declared.Answer.the-variants.{Joined}
+use Rattle.join.specs.declared.Answer.the-variants.{Joined, Missing}
 use Rattle.join.specs.declared.Joining.{Joining}
 use Rattle.joined.specs.Heads.{HeadOf, cutTwelve, HeldHeads, takenParts, headBytes, HeldBytes, partAt}
 
@@ -70,3 +71,41 @@ abbrev pub Joined-held : Type 0
 Joined-held =
     (b pairs block l : List ℕ) (part : ℕ → Part) → HeldHeads b pairs block l part → (r : Joining) → CallJoin l r → r .answer ≡ Joined →
     JoinedHeld b pairs block (takenParts l part) r
+
+-- ---- missing
+-- from where one stands no head goes on: none begins there and reaches anything after it; and none begins after it and before the end of the missing range
+pub record MissingHeld (l from upto : List ℕ) : Type 0 where
+  pub stuck : (k : ℕ) → k < headsIn l → fromAt l k ≡ from → T (after from (reachAt l k)) → ⊥
+  pub clear : (k : ℕ) → k < headsIn l → T (after from (fromAt l k)) → T (after (fromAt l k) upto) → ⊥
+  pub before : from ≡ 255 ∷ [] → ⊥
+
+abbrev pub Missing-held : Type 0
+Missing-held = (l : List ℕ) (r : Joining) → CallJoin l r → (stand near : ℕ) → r .answer ≡ Missing stand near → MissingHeld l (standPath l stand) (beginOr l near)
+
+-- up to there the heads taken are parts one behind the other
+abbrev pub Missing-chain : Type 0
+Missing-chain =
+    (b pairs block l : List ℕ) (part : ℕ → Part) → HeldHeads b pairs block l part → (r : Joining) → CallJoin l r → (stand near : ℕ) → r .answer ≡ Missing stand near →
+    Chain b pairs block [] (takenParts l part) (standPath l stand)
+
+-- ---- a spent part and a full part
+-- a spent part is a finished part of the range up to its last node: a call of that range, with limit and room enough, is finished with what the part holds
+pub record SameHeld (n : ℕ) (c d : Part) : Type 0 where
+  pub plans : plansHeld n d ≡ plansHeld n c
+  pub nodes : d .tally .nodes ≡ nodesSaid (c .answer)
+  pub counts : (x : ℕ) → at (d .tally .counts) x ≡ at (c .tally .counts) x
+
+abbrev pub Spent-finished : Type 0
+Spent-finished =
+    (b pairs block : List ℕ) (c : Part) → verdictLent b pairs block ≡ accepted → Call b pairs block c → (T (after (c .upto) (c .from)) → ⊥) →
+    (plans made : ℕ) → c .answer ≡ ended (spent plans made) →
+    (d : Part) → Call b pairs block d → d .from ≡ c .from → d .upto ≡ c .last → made ≤ d .limit → plans * problemOf b .variables ≤ length (d .out) →
+    (d .answer ≡ ended (finished plans made)) × SameHeld (problemOf b .variables) c d
+
+-- a full part is not: a call of that range finds one plan more than the part listed
+abbrev pub Full-lacks : Type 0
+Full-lacks =
+    (b pairs block : List ℕ) (c : Part) → verdictLent b pairs block ≡ accepted → Call b pairs block c → (T (after (c .upto) (c .from)) → ⊥) →
+    (plans made : ℕ) → c .answer ≡ ended (full plans made) →
+    (d : Part) → Call b pairs block d → d .from ≡ c .from → d .upto ≡ c .last → made ≤ d .limit → suc plans * problemOf b .variables ≤ length (d .out) →
+    d .answer ≡ ended (finished (suc plans) made)
