@@ -17,11 +17,11 @@ use Rattle.model.specs.Run.{Ending, finished, spent, full, Answer, ended}
 use Rattle.model.proofs.Lists.{T-of, of-T, of-not, both-r, keep-e, same-eq}
 use Rattle.parts.specs.Parts.{after, nodesBetween, lastOf}
 use Rattle.parts.proofs.Parts.{after-trans, after-asym, after-not}
-use Rattle.parts.proofs.Resume.{last-in, taken}
+use Rattle.parts.proofs.Resume.{node-values, last-in, taken}
 use Rattle.lent.specs.Lent.{verdictLent, problemLent}
 use Rattle.ranges.specs.Ranges.{nodesSaid, madeBy, lastPart}
 use Rattle.ranges.specs.Claims.{Part, Call, Goes, reachedFor, reachedBy, Chain}
-use Rattle.ranges.proofs.Between.{between, node-short}
+use Rattle.ranges.proofs.Between.{between}
 use Rattle.join.specs.Join.{pathAt, kindAt, fromAt, reachAt, headsIn, headShaped, alike, wholeHeads, joinVerdict, standPath, reachOr, bestOf, stepOf, takenFrom, standAfter}
 use Rattle.join.proofs.Orders.{each-below, both-first, both-second}
 use Rattle.join.proofs.Questions.{place-end, place-last}
@@ -120,7 +120,7 @@ module _ (b pairs block : List ℕ) (c : Part) (so : verdictLent b pairs block �
     where
       go : Stands → length (c .last) ≤ 12
       go (inl e) = let n = length-take 12 (c .from) in let m = ap length e in omega arith
-      go (inr m) = let n = node-short p (c .last) (m .0) in let s = small-lent b pairs block so in omega arith
+      go (inr m) = let n = node-values p (c .last) (m .0) .1 in let s = small-lent b pairs block so in omega arith
 
 -- ---- a head that is taken
 module _ (b pairs block l : List ℕ) (part : ℕ → Part) (held : HeldHeads b pairs block l part) (v : joinVerdict l ≡ accepted) where

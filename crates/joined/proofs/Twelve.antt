@@ -19,7 +19,8 @@ use Rattle.lent.specs.Lent.{verdictLent, orderLent, problemLent}
 use Rattle.lent.proofs.Lent.{passed-all, well-lent}
 use Rattle.ranges.specs.Ranges.{partNodes, resultPart, answerPartFor, answerPart, listPartFor, listPart, nodesSaid, tallyPart, lastPart}
 use Rattle.ranges.specs.Claims.{Part, Call}
-use Rattle.ranges.proofs.Between.{between, after-short, node-short}
+use Rattle.parts.proofs.Resume.{node-values}
+use Rattle.ranges.proofs.Between.{between, after-short}
 use Rattle.joined.specs.Heads.{cutTwelve}
 
 pub twelve-again : (l : List ℕ) → take 12 (take 12 l) ≡ take 12 l
@@ -28,7 +29,7 @@ twelve-again l = take-all 12 (take 12 l) (let n = length-take 12 l in omega arit
 pub twelve-between : (p : Problem) (from upto : List ℕ) → p .variables ≤ 12 → nodesBetween p from upto ≡ nodesBetween p (take 12 from) (take 12 upto)
 unfolding nodesBetween
 twelve-between p from upto h = keep-ext (between from upto) (between (take 12 from) (take 12 upto)) (nodes p) (λ t m.
-    let n = node-short p t m in
+    let n = node-values p t m .1 in
     sym (ap₂ (λ (x y : Bool). both x (not y)) (after-short 12 from t (omega arith)) (after-short 12 upto t (omega arith))))
 
 -- the definitions of a part, by its nodes
