@@ -24,7 +24,7 @@ use Rattle.export_parts.proofs.Pieces.{length-path}
 use Rattle.joined.specs.Heads.{kindSaid, HeadOf, HeldHeads, headBytes, HeldBytes, partAt}
 
 -- ---- bytes that stand at an offset of other bytes
-abbrev Found : List ℕ → ℕ → List ℕ → Type 0
+abbrev pub Found : List ℕ → ℕ → List ℕ → Type 0
 Found l o ys = (i : ℕ) → i < length ys → at l (o + i) ≡ at ys i
 
 module _ (l : List ℕ) (o : ℕ) where
@@ -88,7 +88,7 @@ length-ending (finished plans made) = refl
 length-ending (spent plans made) = refl
 length-ending (full plans made) = refl
 
-length-name : (b pairs block : List ℕ) → length (nameBytes b pairs block) ≡ 16
+pub length-name : (b pairs block : List ℕ) → length (nameBytes b pairs block) ≡ 16
 unfolding nameBytes numbersOf fourBytes
 length-name b pairs block = refl
 
@@ -120,24 +120,43 @@ module _ (b pairs block : List ℕ) (c : Part) (e : Ending) (twelve : length (c 
   length-head =
       length-append named paths ∙ (let y = length-named in let x = length-append range (pathBytes (c .last)) in let z = length-range in let w = length-path (c .last) in omega arith)
 
-  head-read : (l : List ℕ) (k : ℕ) → c .answer ≡ ended e → Found l (115 * k) (headOf b pairs block c e) → HeadOf l k c
+  -- where its pieces stand
+  pub record Pieces (l : List ℕ) (o : ℕ) : Type 0 where
+    pub ending : Found l o (endingBytes e)
+    pub numbers : Found l (o + 12) (numbersOf (c .tally .counts))
+    pub name : Found l (o + 60) (nameBytes b pairs block)
+    pub from : Found l (o + 76) (pathBytes (c .from))
+    pub upto : Found l (o + 89) (pathBytes (c .upto))
+    pub last : Found l (o + 102) (pathBytes (c .last))
+
+  pub head-pieces : (l : List ℕ) (o : ℕ) → Found l o (headOf b pairs block c e) → Pieces l o
   unfolding headOf
-  head-read l k so f =
-      let o = 115 * k in
+  head-pieces l o f =
       let front = found-front l o named paths f in
       let fig = found-front l o figures (nameBytes b pairs block) front in
-      let ending = found-ending l o e (found-front l o (endingBytes e) (numbersOf (c .tally .counts)) fig) in
-      let numbers = found-behind l o (endingBytes e) (numbersOf (c .tally .counts)) (o + 12) (let n = length-ending e in omega arith) fig in
       let three = found-behind l o named paths (o + 76) (let n = length-named in omega arith) f in
       let two = found-front l (o + 76) range (pathBytes (c .last)) three in
+      record {
+        ending = found-front l o (endingBytes e) (numbersOf (c .tally .counts)) fig;
+        numbers = found-behind l o (endingBytes e) (numbersOf (c .tally .counts)) (o + 12) (let n = length-ending e in omega arith) fig;
+        name = found-behind l o figures (nameBytes b pairs block) (o + 60) (let n = length-figures in omega arith) front;
+        from = found-front l (o + 76) (pathBytes (c .from)) (pathBytes (c .upto)) two;
+        upto = found-behind l (o + 76) (pathBytes (c .from)) (pathBytes (c .upto)) (o + 89) (let n = length-path (c .from) in omega arith) two;
+        last = found-behind l (o + 76) range (pathBytes (c .last)) (o + 102) (let n = length-range in omega arith) three;
+      }
+
+  head-read : (l : List ℕ) (k : ℕ) → c .answer ≡ ended e → Pieces l (115 * k) → HeadOf l k c
+  head-read l k so f =
+      let o = 115 * k in
+      let ending = found-ending l o e (f .ending) in
       record {
         kind = ending .0 ∙ ap kindSaid (sym so);
         plans = ending .1 ∙ ap plansSaid (sym so);
         nodes = ending .2 ∙ ap nodesSaid (sym so);
-        counts = λ x h. found-numbers l (o + 12) (c .tally .counts) numbers x (omega arith);
-        from = found-path l (o + 76) (c .from) (found-front l (o + 76) (pathBytes (c .from)) (pathBytes (c .upto)) two);
-        upto = found-path l (o + 89) (c .upto) (found-behind l (o + 76) (pathBytes (c .from)) (pathBytes (c .upto)) (o + 89) (let n = length-path (c .from) in omega arith) two);
-        last = found-path l (o + 102) (c .last) (found-behind l (o + 76) range (pathBytes (c .last)) (o + 102) (let n = length-range in omega arith) three);
+        counts = λ x h. found-numbers l (o + 12) (c .tally .counts) (f .numbers) x (omega arith);
+        from = found-path l (o + 76) (c .from) (f .from);
+        upto = found-path l (o + 89) (c .upto) (f .upto);
+        last = found-path l (o + 102) (c .last) (f .last);
       }
 
 -- ---- a call
@@ -162,8 +181,11 @@ module _ (b pairs block : List ℕ) (c : Part) (call : Call b pairs block c) whe
     pub length-bytes : length (headBytes b pairs block c) ≡ 115
     length-bytes = ap length head-is ∙ length-head b pairs block c (ends .0) twelve-counts
 
+    pub bytes-pieces : (l : List ℕ) (k : ℕ) → Found l (115 * k) (headBytes b pairs block c) → Pieces b pairs block c (ends .0) twelve-counts l (115 * k)
+    bytes-pieces l k f = head-pieces b pairs block c (ends .0) twelve-counts l (115 * k) (subst (Found l (115 * k)) head-is f)
+
     bytes-read : (l : List ℕ) (k : ℕ) → Found l (115 * k) (headBytes b pairs block c) → HeadOf l k c
-    bytes-read l k f = head-read b pairs block c (ends .0) twelve-counts l k (ends .1) (subst (Found l (115 * k)) head-is f)
+    bytes-read l k f = head-read b pairs block c (ends .0) twelve-counts l k (ends .1) (bytes-pieces l k f)
 
     -- the bytes of a call's head, by themselves
     pub own-head : HeadOf (headBytes b pairs block c) 0 c
@@ -193,25 +215,30 @@ module _ (b pairs block : List ℕ) (so : verdictLent b pairs block ≡ accepted
       ap (at (headBytes b pairs block c ++ lay cs)) z ∙ getD-append-add (headBytes b pairs block c) (lay cs) (115 * k + i) 0
       ∙ each-found cs (λ d m. h d (List·Memᴰ·tail m)) k d (let q : suc k < suc (length cs) = l in omega arith) i m
 
-pub heads-held : (b pairs block : List ℕ) (cs : List Part) (l : List ℕ) → HeldBytes b pairs block cs l → HeldHeads b pairs block l (partAt b pairs block cs) × (headsIn l ≡ length cs)
-heads-held b pairs block cs l h = (record { lent = h .lent; calls = λ k m. call k (inside k m); heads = λ k m. head k (inside k m) }, many)
-  where
-    none : Part
-    none = partAt b pairs block [] 0
+-- ---- what a holder lends
+module _ (b pairs block : List ℕ) (cs : List Part) (l : List ℕ) (h : HeldBytes b pairs block cs l) where
+  abbrev part : ℕ → Part
+  part = partAt b pairs block cs
 
-    size : length l ≡ 115 * length cs
-    size = ap length (h .bytes) ∙ length-heads b pairs block (h .lent) cs (h .calls)
+  pub size-held : length l ≡ 115 * length cs
+  size-held = ap length (h .bytes) ∙ length-heads b pairs block (h .lent) cs (h .calls)
 
-    many : headsIn l ≡ length cs
-    many = let n = size in omega arith
+  pub many-held : headsIn l ≡ length cs
+  many-held = let n = size-held in omega arith
 
-    inside : (k : ℕ) → k < headsIn l → k < length cs
-    inside k m = let n = many in omega arith
+  pub call-held : (k : ℕ) → k < length cs → Call b pairs block (partAt b pairs block cs k)
+  call-held k m = h .calls (part k) (mem-getD cs k (partAt b pairs block [] 0) m)
 
-    call : (k : ℕ) → k < length cs → Call b pairs block (getD cs k none)
-    call k m = h .calls (getD cs k none) (mem-getD cs k none m)
+  pub found-held : (k : ℕ) → k < length cs → Found l (115 * k) (headBytes b pairs block (partAt b pairs block cs k))
+  found-held k m =
+      subst (λ (x : List ℕ). Found x (115 * k) (headBytes b pairs block (part k))) (sym (h .bytes)) (each-found b pairs block (h .lent) cs (h .calls) k (partAt b pairs block [] 0) m)
 
-    head : (k : ℕ) → k < length cs → HeadOf l k (getD cs k none)
-    head k m =
-        subst (λ (x : List ℕ). HeadOf x k (getD cs k none)) (sym (h .bytes))
-        (bytes-read b pairs block (getD cs k none) (call k m) (h .lent) (flat (map (headBytes b pairs block) cs)) k (each-found b pairs block (h .lent) cs (h .calls) k none m))
+  pub heads-held : HeldHeads b pairs block l (partAt b pairs block cs) × (headsIn l ≡ length cs)
+  heads-held = (
+    record {
+      lent = h .lent;
+      calls = λ k m. call-held k (let n = many-held in omega arith);
+      heads = λ k m. let i : k < length cs = (let n = many-held in omega arith) in bytes-read b pairs block (part k) (call-held k i) (h .lent) l k (found-held k i);
+    },
+    many-held,
+  )

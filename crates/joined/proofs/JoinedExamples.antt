@@ -16,17 +16,20 @@ use Rattle.block.specs.Block.{tablesLent, blockLent}
 use Rattle.lent.specs.Lent.{verdictLent}
 use Rattle.parts.specs.Parts.{after, nodesBetween, lastOf}
 use Rattle.ranges.specs.Ranges.{resultPart, answerPartFor, answerPart, listPartFor, listPart, tallyPart, lastPart}
-use Rattle.ranges.specs.Claims.{Part, Call}
+use Rattle.ranges.specs.Claims.{Part, Call, Done}
 use Rattle.wire.specs.Wire.{threeNumbers}
 use Rattle.export_lent.specs.Tallied.{numbersOf}
 use Rattle.export_parts.specs.Head.{digestFrom, digest, nameBytes, pathBytes, headOf}
 use Rattle.join.specs.Join.{pathAt, wholeHeads, pathShaped, headShaped, alike, joinVerdict, countOf, bestOf, stepOf, takenFrom, taken, standAfter, nearestOf}
-use Rattle.join.specs.Calls.{answerFor, figureFor}
+use Rattle.join.specs.Calls.{answerFor, figureFor, CallJoin}
+use Rattle.join.specs.declared.Answer.the-variants.{Joined}
+use Rattle.join.specs.declared.Joining.{Joining}
 use Rattle.joined.specs.Heads.{takenParts, partAt}
-use Rattle.joined.specs.Claims.{JoinedHeld}
-use Rattle.joined.specs.JoinedExamples.{partA, cutA, spentA, headsA, joiningA, testsJoined, HeldA}
+use Rattle.joined.specs.Claims.{JoinedHeld, rangesOf, CutHeld}
+use Rattle.joined.specs.JoinedExamples.{partA, cutA, spentA, cutsA, headsA, joiningA, testsJoined, HeldA}
 use Rattle.joined.proofs.HeadsRead.{heads-held}
 use Rattle.joined.proofs.Held.{joined-held}
+use Rattle.joined.proofs.Cut.{cuts-joined}
 
 -- every definition of parts and heads that computes
 unfoldable pub openedParts : ℕ
@@ -35,7 +38,7 @@ openedParts = 0
 
 pub examples-joined : Each testsJoined
 unfolding openedParts
-examples-joined = (refl, (refl, (refl, (refl, (refl, (refl, (refl, (refl, (refl, (refl, (refl, (refl, (refl, (refl, (refl, (refl, (refl, (refl, (refl, (refl, (refl, (refl, (refl, (refl, tt))))))))))))))))))))))))
+examples-joined = (refl, (refl, (refl, (refl, (refl, (refl, (refl, (refl, (refl, (refl, (refl, (refl, (refl, (refl, (refl, (refl, (refl, (refl, (refl, (refl, (refl, (refl, (refl, (refl, (refl, (refl, (refl, tt)))))))))))))))))))))))))))
 
 -- ---- what is supposed of joined heads is met
 own : (from upto : List ℕ) (limit room : ℕ) → Call sheetA [] [] (partA from upto limit room)
@@ -66,3 +69,30 @@ spent-held = (
 -- so the holder of these heads has the run
 pub cut-joined : JoinedHeld sheetA [] [] (takenParts (headsA cutA) (partAt sheetA [] [] cutA)) (joiningA cutA)
 cut-joined = joined-held sheetA [] [] (headsA cutA) (partAt sheetA [] [] cutA) (heads-held sheetA [] [] cutA (headsA cutA) (cut-held .0) .0) (joiningA cutA) (cut-held .1) refl
+
+-- and so do those of the cuts, by Cuts-joined
+cut-all : CutHeld cutsA cutA
+unfolding openedParts
+cut-all = record { each = each; all = every }
+  where
+    first : Part
+    first = partA [] (0 ∷ 2 ∷ []) 1000000 18
+
+    second : Part
+    second = partA (0 ∷ 2 ∷ []) (255 ∷ []) 1000000 18
+
+    each : (c : Part) → List·Memᴰ c cutA → Done (c .answer) × List·Memᴰ (c .from, c .upto) (rangesOf [] cutsA)
+    each c (List·Memᴰ·head e) = subst (λ (c : Part). Done (c .answer) × List·Memᴰ (c .from, c .upto) (rangesOf [] cutsA)) (sym e) (tt, List·Memᴰ·tail (List·Memᴰ·head refl))
+    each c (List·Memᴰ·tail (List·Memᴰ·head e)) = subst (λ (c : Part). Done (c .answer) × List·Memᴰ (c .from, c .upto) (rangesOf [] cutsA)) (sym e) (tt, List·Memᴰ·head refl)
+    each c (List·Memᴰ·tail (List·Memᴰ·tail (List·Memᴰ·head e))) =
+        subst (λ (c : Part). Done (c .answer) × List·Memᴰ (c .from, c .upto) (rangesOf [] cutsA)) (sym e) (tt, List·Memᴰ·tail (List·Memᴰ·head refl))
+    each c (List·Memᴰ·tail (List·Memᴰ·tail (List·Memᴰ·tail m))) = absurd (List·Memᴰ·not-nil m)
+
+    every : (from upto : List ℕ) → List·Memᴰ (from, upto) (rangesOf [] cutsA) → (c : Part) × List·Memᴰ c cutA × (c .from ≡ from) × (c .upto ≡ upto)
+    every from upto (List·Memᴰ·head e) = (first, List·Memᴰ·tail (List·Memᴰ·head refl), sym (ap (λ (x : List ℕ × List ℕ). x .0) e), sym (ap (λ (x : List ℕ × List ℕ). x .1) e))
+    every from upto (List·Memᴰ·tail (List·Memᴰ·head e)) = (second, List·Memᴰ·head refl, sym (ap (λ (x : List ℕ × List ℕ). x .0) e), sym (ap (λ (x : List ℕ × List ℕ). x .1) e))
+    every from upto (List·Memᴰ·tail (List·Memᴰ·tail m)) = absurd (List·Memᴰ·not-nil m)
+
+pub cut-answers : (r : Joining) → CallJoin (headsA cutA) r → r .answer ≡ Joined
+unfolding after lastOf
+cut-answers = cuts-joined sheetA [] [] cutsA cutA (headsA cutA) (cut-held .0) (omega arith) (λ t. t, (λ t. t, tt)) refl cut-all

@@ -3,6 +3,8 @@ pub mod Twelve
 pub mod HeadsRead
 pub mod Taken
 pub mod Held
-pub mod JoinedExamples
 pub mod Stuck
 pub mod Spent
+pub mod Lays
+pub mod Cut
+pub mod JoinedExamples

@@ -122,6 +122,9 @@ module _ (b pairs block : List ℕ) (c : Part) (so : verdictLent b pairs block �
       go (inl e) = let n = length-take 12 (c .from) in let m = ap length e in omega arith
       go (inr m) = let n = node-values p (c .last) (m .0) .1 in let s = small-lent b pairs block so in omega arith
 
+pub finished-reaches : (l : List ℕ) (k : ℕ) (c : Part) → HeadOf l k c → (plans made : ℕ) → c .answer ≡ ended (finished plans made) → take 12 (c .upto) ≡ reachAt l k
+finished-reaches l k c h plans made q = let kind : kindAt l k ≡ 1 = h .kind ∙ ap kindSaid q in sym (h .upto) ∙ ap (pathAt l) (place-end l k 1 (sym kind) refl)
+
 -- ---- a head that is taken
 module _ (b pairs block l : List ℕ) (part : ℕ → Part) (held : HeldHeads b pairs block l part) (v : joinVerdict l ≡ accepted) where
   pub record Linked (s : List ℕ) (k : ℕ) : Type 0 where
@@ -155,8 +158,7 @@ module _ (b pairs block l : List ℕ) (part : ℕ → Part) (held : HeldHeads b 
 
       go : (x : Ending) → part k .answer ≡ ended x → Linked s k
       go (finished plans made) q =
-          let kind : kindAt l k ≡ 1 = h .kind ∙ ap kindSaid q in
-          let r : take 12 (part k .upto) ≡ reachAt l k = sym (h .upto) ∙ ap (pathAt l) (place-end l k 1 (sym kind) refl) in
+          let r = finished-reaches l k (part k) h plans made q in
           by (ended (finished plans made)) q tt r (λ u. after-asym (take 12 (part k .from)) (take 12 (part k .upto)) (subst (λ (x : List ℕ). T (after (take 12 (part k .from)) x)) (sym r) onward) u)
       go (spent plans made) q =
           let kind : kindAt l k ≡ 2 = h .kind ∙ ap kindSaid q in

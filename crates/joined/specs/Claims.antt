@@ -14,9 +14,9 @@ use Rattle.model.specs.Run.{finished, spent, full, ended, written, Tally}
 use Rattle.order.specs.Reordered.{read, LeaderBy, ChainBy}
 use Rattle.lent.specs.Lent.{verdictLent, problemWith, orderLent, problemLent, answerLent, listLent, tallyLent}
 use Rattle.ranges.specs.Ranges.{nodesSaid}
-use Rattle.ranges.specs.Claims.{Part, Call, plansHeld, Chain, allPlans}
-use Rattle.parts.specs.Parts.{after, nodesBetween}
-use Rattle.join.specs.Join.{fromAt, reachAt, headsIn, standPath, beginOr}
+use Rattle.ranges.specs.Claims.{Part, Call, plansHeld, Goes, Done, Chain, allPlans}
+use Rattle.parts.specs.Parts.{after, nodesBetween, Cuts, lastOf}
+use Rattle.join.specs.Join.{fromAt, reachAt, headsIn, joinVerdict, standPath, beginOr}
 use Rattle.join.specs.Calls.{CallJoin}
 use Rattle.join.specs.declared.Answer.the-variants.{Joined, Missing}
 use Rattle.join.specs.declared.Joining.{Joining}
@@ -109,3 +109,26 @@ Full-lacks =
     (plans made : ℕ) → c .answer ≡ ended (full plans made) →
     (d : Part) → Call b pairs block d → d .from ≡ c .from → d .upto ≡ c .last → made ≤ d .limit → suc plans * problemOf b .variables ≤ length (d .out) →
     d .answer ≡ ended (finished (suc plans) made)
+
+-- ---- heads that join
+-- heads of calls of one lending, none of them full and not too many, are not refused
+abbrev pub Heads-accepted : Type 0
+Heads-accepted =
+    (b pairs block : List ℕ) (cs : List Part) (l : List ℕ) → HeldBytes b pairs block cs l → length cs ≤ 16777216 → ((c : Part) → List·Memᴰ c cs → Goes (c .answer)) →
+    joinVerdict l ≡ accepted
+
+-- the ranges between cuts, from a path on
+abbrev pub rangesOf : List ℕ → List (List ℕ) → List (List ℕ × List ℕ)
+rangesOf from [] = []
+rangesOf from (cut ∷ cuts) = (from, cut) ∷ rangesOf cut cuts
+
+-- finished calls of these ranges, all of them and no others, in any order, repeats too
+pub record CutHeld (cuts : List (List ℕ)) (cs : List Part) : Type 0 where
+  pub each : (c : Part) → List·Memᴰ c cs → Done (c .answer) × List·Memᴰ (c .from, c .upto) (rangesOf [] cuts)
+  pub all : (from upto : List ℕ) → List·Memᴰ (from, upto) (rangesOf [] cuts) → (c : Part) × List·Memᴰ c cs × (c .from ≡ from) × (c .upto ≡ upto)
+
+-- the cuts in order, the last of them the path 255: their heads join
+abbrev pub Cuts-joined : Type 0
+Cuts-joined =
+    (b pairs block : List ℕ) (cuts : List (List ℕ)) (cs : List Part) (l : List ℕ) → HeldBytes b pairs block cs l → length cs ≤ 16777216 → Cuts [] cuts → lastOf [] cuts ≡ 255 ∷ [] →
+    CutHeld cuts cs → (r : Joining) → CallJoin l r → r .answer ≡ Joined

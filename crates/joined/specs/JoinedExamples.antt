@@ -48,6 +48,10 @@ testsJoined =
     ∷ (partA [] (255 ∷ []) 2 18 .last ≡ 0 ∷ 1 ∷ [])
     ∷ (partA (0 ∷ 1 ∷ []) (255 ∷ []) many 18 .answer ≡ ended (finished 2 4))
     ∷ (partA [] (255 ∷ []) many 3 .answer ≡ ended (full 1 3))
+    -- up to its last node the spent part is finished with its figures; the full part isn't: its last node is a plan more
+    ∷ (partA [] (0 ∷ 1 ∷ []) 2 2 .answer ≡ ended (finished 1 2))
+    ∷ (partA [] (255 ∷ []) many 3 .last ≡ 0 ∷ 2 ∷ [])
+    ∷ (partA [] (0 ∷ 2 ∷ []) 3 4 .answer ≡ ended (finished 2 3))
     -- a cut
     ∷ (length (headsA cutA) ≡ 345)
     ∷ (joinVerdict (headsA cutA) ≡ accepted)
@@ -70,6 +74,10 @@ testsJoined =
     ∷ (missingUpto (headsA (partA (0 ∷ 2 ∷ []) (255 ∷ []) many 18 ∷ [])) ≡ 0 ∷ 2 ∷ [])
     ∷ (joinVerdict (headsA (partA [] (255 ∷ []) many 3 ∷ [])) ≡ refused 44 0)
     ∷ []
+
+-- the cuts of the first
+abbrev pub cutsA : List (List ℕ)
+cutsA = (0 ∷ 2 ∷ []) ∷ (255 ∷ []) ∷ []
 
 -- ---- nothing that is supposed of joined heads is impossible: calls, their heads, and a call of `join` that answers joined
 abbrev pub HeldA : List Part → Type 0
