@@ -11,10 +11,10 @@
  *
  * Stack. The most that a call takes below the caller, on the sheets that go deepest (12 windows of 16 duties, 16
  * exchanges, pairs and a block), in KB of 1,000 bytes:
- *   planner_report 287, planner_families 240, planner_run, planner_run_lent and planner_at_least, with pairs and
- *   a block or without, 182, planner_desk_turn and planner_desk_rounds 178, planner_question_lent and
- *   planner_closed 69, planner_question, planner_desk_sit and planner_small_sheet 41, every other call 4 (most of
- *   it where the C library's functions are bound at their first call).
+ *   planner_report 358, planner_families 311, planner_at_least 244, planner_run, planner_run_lent and
+ *   planner_run_part, with pairs and a block or without, 182, planner_desk_turn and planner_desk_rounds 181,
+ *   planner_question_lent and planner_closed 69, planner_question, planner_desk_sit and planner_small_sheet 41,
+ *   every other call 4 (most of it where the C library's functions are bound at their first call).
  * With less the process ends by a fault at the guard page. A thread of PLANNER_STACK_BYTES is enough for
  * each; some systems give a thread less unless asked (musl: 128 KB).
  *
@@ -68,7 +68,7 @@ uint32_t planner_version(void);
 #define PLANNER_WRONG_SIZE (255u * 256u)
 
 /* A stack that is enough for every call, with some to spare for the thread itself. */
-#define PLANNER_STACK_BYTES 327680
+#define PLANNER_STACK_BYTES 393216
 
 /* The answer of most calls: three 32-bit numbers, low byte first. Where nothing else is said they are 1, the number
  * that the call is asked for, and 0. */

@@ -7,7 +7,7 @@ from ._library import Lent, Refusal, ask, call, refuse, room_for, written
 from ._words import REFUSALS
 
 #: A stack that is enough for every call; `threading.stack_size` sets that of threads, if the system gives less.
-STACK_BYTES = 327_680
+STACK_BYTES = 393_216
 #: In the filter's lists: no value here.
 ABSENT = 255
 #: The trials that a run may make, and the plans that it has room for, where nothing else is said.

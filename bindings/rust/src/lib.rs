@@ -68,7 +68,7 @@ mod exported {
 pub const ABSENT: u8 = 255;
 
 /// A stack that is enough for every call, with some to spare for the thread itself; planner.h has the figures.
-pub const STACK_BYTES: usize = 320 * 1024;
+pub const STACK_BYTES: usize = 384 * 1024;
 
 /// No report is longer.
 const REPORT_ROOM: usize = 217_160;
