@@ -5,3 +5,4 @@ pub mod Walks
 pub mod Ends
 pub mod Done
 pub mod Claimed
+pub mod Tied

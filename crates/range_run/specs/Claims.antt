@@ -12,13 +12,9 @@ use Rattle.walk.specs.declared.Tally.{Tally}
 use Rattle.search.specs.Meaning.{means}
 use Rattle.search.specs.Calls.{CallLent}
 use Rattle.search.specs.declared.Answer.{Answer}
-use Rattle.ranges.specs.Claims.{Part, Call, Chain, sumPlans, sumNodes, Together}
-use Rattle.range_run.specs.Calls.{held}
+use Rattle.ranges.specs.Claims.{Part, Chain, sumPlans, sumNodes, Together}
+use Rattle.range_run.specs.Calls.{CallPart}
 use Rattle.range_run.specs.declared.PartRun.{PartRun}
-
--- a call of `run_part`: r came back, `after` is the list at the end. This is its contract
-abbrev pub CallPart : List ℕ → List ℕ → List ℕ → List ℕ → List ℕ → ℕ → List ℕ → PartRun → List ℕ → Type 0
-CallPart b pairs block from upto limit out r after = Call b pairs block (held from upto limit out r after)
 
 -- parts that go one behind the other from the empty path to the path 255, each finished or spent, whatever their limits and lists: a run with limit and room
 -- enough is finished; its plans are theirs, one behind the other, its nodes and each of its counts are the sums

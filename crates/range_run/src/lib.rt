@@ -20,8 +20,7 @@ ghost use Rattle.walk.specs.Pair.{prefixOf, Countable, Counted, Walked};
 ghost use Rattle.walk.specs.Meaning.{tallyIn};
 ghost use Rattle.ranges.specs.Within.{within, intoNodes, ontoNodes, upToNodes};
 ghost use Rattle.range_run.specs.Steps.{rangeMask, AtStep, Stepped, AtPut, PutNode, AtBelow, AtInto, AtUpTo, AtOnto, PutPath, Valued, Parted};
-ghost use Rattle.range_run.specs.Calls.{held};
-ghost use Rattle.ranges.specs.Claims.{Call};
+ghost use Rattle.range_run.specs.Calls.{CallPart};
 ghost use Rattle.layout.specs.Places.{LAST, DEEPER};
 ghost use Rattle.walk.specs.Walk.{noNodes};
 
@@ -420,7 +419,7 @@ pub fn run_part(
     limit: u32,
     list: &mut [u8],
 ) -> PartRun
-    ensures { λ r. ⌜ Call (now (sheet .entry)) (now (pairs .entry)) (now (block .entry)) (held (now (from .entry)) (now (upto .entry)) limit (now (list .entry)) r (now (list .exit))) ⌝ }
+    ensures { λ r. ⌜ CallPart (now (sheet .entry)) (now (pairs .entry)) (now (block .entry)) (now (from .entry)) (now (upto .entry)) limit (now (list .entry)) r (now (list .exit)) ⌝ }
 {
     let mut stack = [0u16; 208];
     let mut work = [0u64; 256];

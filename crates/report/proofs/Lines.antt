@@ -6,7 +6,7 @@ use native.Mathlib.Nat.{zero-mul, suc-mul, mul-le-mul-right, add-comm, add-zero,
 use native.Mathlib.Numerals.{add-one}
 use native.Mathlib.Omega.{arith}
 use lib.ListN.{length, take, drop, getD, length-append, take-append-drop}
-use lib.Seq.{take-suc, drop-drop, take-all, take-append-seam}
+use lib.Seq.{take-suc, take-add, drop-drop, take-all, take-append-seam}
 use Rattle.model.specs.Lists.{flat}
 use Rattle.model.specs.Run.{Ending, plansIn, listedPlans}
 use Rattle.report.specs.Report.{decimal, line, planWord, figureLine, endingLine, resultText}
@@ -117,6 +117,28 @@ plans-turn {d} {e} {r} {f} {s} n i at l p fits v w =
 pub lines-step : (n i at : ℕ) (l : List ℕ) → at ≡ i * n → length (planLines n (i + 1) l) ≡ length (planLines n i l) + length (line planWord (take (at + n - at) (drop at l)))
 lines-step n i at l p =
     ap length (plans-snoc n i l) ∙ length-append (planLines n i l) (line planWord (take n (drop (i * n) l))) ∙ ap (λ (r : List ℕ). length (planLines n i l) + length (line planWord r)) (sym (row-at n i at l p))
+
+-- the lines of k plans are five bytes each beside the fields of their values
+fields-append : (a b : List ℕ) → fields (a ++ b) ≡ fields a ++ fields b
+unfolding fields
+fields-append a b = ap flat (map-append field a b) ∙ flat-append (map field a) (map field b)
+
+pub lines-length : (n k : ℕ) (l : List ℕ) → length (planLines n k l) ≡ 5 * k + length (fields (take (k * n) l))
+unfolding listedPlans flat fields
+lines-length n zero l =
+    let e : length (planLines n 0 l) ≡ 0 = refl in
+    let f : length (fields (take 0 l)) ≡ 0 = refl in
+    omega (arith, e, f, ap (λ (j : ℕ). length (fields (take j l))) (zero-mul n))
+lines-length n (suc k) l =
+    let e = lines-step n k (k * n) l refl in
+    let row = take n (drop (k * n) l) in
+    let f = ap (λ (r : List ℕ). length (line planWord r)) (row-at n k (k * n) l refl) in
+    let g = ap (λ (j : ℕ). length (fields (take j l))) (suc-mul k n) in
+    let h = ap (λ (r : List ℕ). length (fields r)) (take-add (k * n) n l) in
+    let i = ap length (fields-append (take (k * n) l) row) in
+    let j = length-append (fields (take (k * n) l)) (fields row) in
+    let m = ap (λ (m : ℕ). length (planLines n m l)) (add-one k) in
+    omega (arith, e, f, g, h, i, j, m, line-length row, lines-length n k l)
 
 lines-more : (n i k : ℕ) (l : List ℕ) → length (planLines n i l) ≤ length (planLines n (i + k) l)
 lines-more n i zero l = omega (arith, ap (λ (m : ℕ). length (planLines n m l)) (add-zero i))

@@ -107,31 +107,16 @@ fn digit_count(x: u8) -> usize
     3
 }
 
-// The length of a plan's line, of at most 12 values.
-fn line_length(row: &[u8]) -> usize
-    requires { ⌜ length (now row) ≤ 12 ⌝ }
-    ensures { λ r. ⌜ (r ≡ length (line planWord (now (row .entry)))) × (r ≤ 53) ⌝ }
-{
-    let mut length = 5;
-    let mut i = 0;
-    while i < row.len() {
-        length += 1 + digit_count(row[i]);
-        i += 1;
-    }
-    length
-}
-
-// The length of the lines of the plans listed.
+// The length of the lines of the plans listed: five bytes each, and for each value a space and its digits.
 fn lines_length(list: &[u8], n: usize, plans: usize) -> usize
     requires { ⌜ (n ≤ 12) × (plans ≤ 4096) × (plans * n ≤ length (now list)) ⌝ }
     ensures { λ r. ⌜ (r ≡ length (planLines n plans (now (list .entry)))) × (r ≤ 53 * plans) ⌝ }
 {
-    let mut length = 0;
-    let mut at = 0;
+    let values = plans * n;
+    let mut length = 5 * plans;
     let mut i = 0;
-    while i < plans {
-        length += line_length(&list[at..at + n]);
-        at += n;
+    while i < values {
+        length += 1 + digit_count(list[i]);
         i += 1;
     }
     length

@@ -1,86 +1,84 @@
--- `lines_length`: after i turns the lines of the first i rows are counted, at most 53 bytes each. Assumes nothing.
-use mathlib.Core.Path.{_≡_, refl, sym, ap, _∙_, subst}
+-- `lines_length`: after i turns five bytes a plan and the fields of the first i values are counted. Assumes nothing.
+use mathlib.Core.Path.{_≡_, refl, sym, ap, _∙_}
 use mathlib.Core.List.{List}
-use Prim.Native.Nat.{ℕ, _+_, _*_, _-_, _≤_}
-use native.Mathlib.Nat.{zero-mul, suc-mul}
-use native.Mathlib.Numerals.{add-one}
+use Prim.Native.Nat.{ℕ, _+_, _*_, _-_, _≤_, _<_}
+use native.Mathlib.Nat.{mul-le-mul-left}
 use native.Mathlib.Omega.{arith}
-use lib.ListN.{length, drop, length-take}
+use lib.ListN.{length, take}
 use Rattle.model.specs.Lists.{flat}
-use Rattle.model.specs.Run.{listedPlans}
-use Rattle.report.specs.Text.{planLines}
-use Rattle.report.proofs.Lines.{row-inside, lines-step}
+use Rattle.report.specs.Text.{fields}
+use Rattle.report.proofs.Lines.{fields-step, lines-length}
 use borrow.Author.Needs.{needs}
 use Rattle.report.proofs.lines_length.Statement.{statement}
 use Rattle.report.proofs.lines_length.Tie as tie
 
 abbrev Inv-loop : tie.InvT-loop
-Inv-loop list n plans total₀ at₀ i₀ total at i = (i ≤ plans) × (at ≡ i * n) × (total ≡ length (planLines n i list)) × (total ≤ 53 * i)
+Inv-loop list n plans values total₀ i₀ total i = (i ≤ values) × (total ≡ 5 * plans + length (fields (take i list))) × (total ≤ 5 * plans + 4 * i)
 
 abbrev μ-loop : tie.MeasureT-loop
-μ-loop list n plans total₀ at₀ i₀ total at i = plans - i
+μ-loop list n plans values total₀ i₀ total i = values - i
 
--- at a turn: the row lies inside the list
-inside : (c : tie.In-loop Inv-loop μ-loop) → c .before .loop .at + c .before .before .before .args .n ≤ length (c .before .before .before .args .list .now)
-inside c =
-    let l = c .before in
-    let s = l .before .before in
-    row-inside (s .args .n) (l .loop .i) (s .args .plans) (l .loop .at) (length (s .args .list .now)) (c .loop-test .taken) (l .loop .inv .1) (s .pre .2)
+-- at most twelve values a plan
+few : (plans n : ℕ) → n ≤ 12 → plans * n ≤ 12 * plans
+few plans n h = omega (arith, mul-le-mul-left plans h)
 
-start : (n : ℕ) (list : List ℕ) → 0 ≡ length (planLines n 0 list)
-unfolding listedPlans flat
-start n list = refl
+start : (plans : ℕ) (list : List ℕ) → 5 * plans ≡ 5 * plans + length (fields (take 0 list))
+unfolding fields flat
+start plans list = omega arith
+
+mul-values : tie.Need-mul-values Inv-loop μ-loop
+mul-values c = let s = c .before in omega (arith, few (s .args .plans) (s .args .n) (s .pre .0), s .pre)
+
+mul-length : tie.Need-mul-length Inv-loop μ-loop
+mul-length c = omega (arith, c .before .pre .1)
 
 loop-holds : tie.Need-loop-holds Inv-loop μ-loop
-loop-holds c = let a = c .before .args in (search needs, sym (zero-mul (a .n)), start (a .n) (a .list .now), omega arith)
+loop-holds c = let a = c .before .args in (omega arith, start (a .plans) (a .list .now), omega arith)
 
-add-line-length : tie.Need-add-line-length Inv-loop μ-loop
-add-line-length c = omega (arith, inside c)
+shared-slice-read-digit-count : tie.Need-shared-slice-read-digit-count Inv-loop μ-loop
+shared-slice-read-digit-count c = omega (arith, c .before .loop-test .taken, c .before .before .before .before .pre .2)
 
-sub-line-length : tie.Need-sub-line-length Inv-loop μ-loop
-sub-line-length c = omega arith
-
-part-line-length-start : tie.Need-part-line-length-start Inv-loop μ-loop
-part-line-length-start c = omega arith
-
-part-line-length-end : tie.Need-part-line-length-end Inv-loop μ-loop
-part-line-length-end c = omega (arith, inside c)
-
-line-length-requires : tie.Need-line-length-requires Inv-loop μ-loop
-line-length-requires c κs =
-    let l = c .before .before in
-    let s = l .before .before in
-    omega (arith, length-take (l .loop .at + s .args .n - l .loop .at) (drop (l .loop .at) (s .args .list .now)), s .pre .0)
+digit-count-requires : tie.Need-digit-count-requires Inv-loop μ-loop
+digit-count-requires c κs = search needs
 
 add-length : tie.Need-add-length Inv-loop μ-loop
-add-length c = let l = c .before .before .before in omega (arith, c .line-length .ensures .1, l .loop .inv .3, l .before .before .pre .1, c .before .before .loop-test .taken)
+add-length c = omega (arith, c .digit-count .ensures .1)
 
-add-at : tie.Need-add-at Inv-loop μ-loop
-add-at c = omega (arith, inside (c .before .before))
+add-length-2 : tie.Need-add-length-2 Inv-loop μ-loop
+add-length-2 c =
+    let l = c .before .before .before in
+    let s = l .before .before in
+    omega (arith, few (s .args .plans) (s .args .n) (s .pre .0), s .pre .1, c .digit-count .ensures .1, l .loop .inv .2, c .before .before .loop-test .taken)
 
 add-i : tie.Need-add-i Inv-loop μ-loop
-add-i c = omega arith
+add-i c = search needs
 
 loop-less : tie.Need-loop-less Inv-loop μ-loop
-loop-less c = omega arith
+loop-less c = search needs
 
 loop-again : tie.Need-loop-again Inv-loop μ-loop
 loop-again c =
     let l = c .before .before .before in
-    let a = l .before .before .args in
-    let i = l .loop .i in (
-      omega arith,
-      ap (λ (k : ℕ). k + a .n) (l .loop .inv .1) ∙ sym (suc-mul i (a .n)) ∙ ap (λ (k : ℕ). k * a .n) (sym (add-one i)),
-      omega (arith, lines-step (a .n) i (l .loop .at) (a .list .now) (l .loop .inv .1), c .line-length .ensures .0, l .loop .inv .2),
-      omega (arith, c .line-length .ensures .1, l .loop .inv .3),
+    let s = l .before .before in
+    let list = s .args .list .now in
+    let i = l .loop .i in
+    let inside : i < length list = omega (arith, c .before .before .loop-test .taken, s .pre .2) in (
+      omega (arith, c .before .before .loop-test .taken),
+      omega (arith, fields-step list i inside, c .digit-count .ensures .0, l .loop .inv .1),
+      omega (arith, c .digit-count .ensures .1, l .loop .inv .2),
     )
 
 returns : tie.Need-returns Inv-loop μ-loop
 returns c =
     let l = c .before in
-    let a = l .before .before .args in
-    let last : l .loop .i ≡ a .plans = omega arith in
-    (l .loop .inv .2 ∙ ap (λ (k : ℕ). length (planLines (a .n) k (a .list .now))) last, omega (arith, l .loop .inv .3))
+    let s = l .before .before in
+    let values = s .args .plans * s .args .n in
+    let list = s .args .list .now in
+    let last : l .loop .i ≡ values = omega (arith, c .loop-test .left, l .loop .inv .0) in
+    let counted = ap (λ (k : ℕ). length (fields (take k list))) last in (
+      omega (arith, counted, l .loop .inv .1, lines-length (s .args .n) (s .args .plans) list),
+      omega (arith, last, l .loop .inv .2, few (s .args .plans) (s .args .n) (s .pre .0)),
+    )
 
 pub lines-length-spec : {M : Type 1} → statement M
 lines-length-spec =
@@ -88,14 +86,13 @@ lines-length-spec =
     (tie.spec
     Inv-loop
     μ-loop
+    mul-values
+    mul-length
     loop-holds
-    add-line-length
-    sub-line-length
-    part-line-length-start
-    part-line-length-end
-    line-length-requires
+    shared-slice-read-digit-count
+    digit-count-requires
     add-length
-    add-at
+    add-length-2
     add-i
     loop-less
     loop-again
