@@ -2,7 +2,7 @@
 use mathlib.Core.Path.{_≡_, refl, sym, ap, ap₂, _∙_, subst}
 use mathlib.Core.List.{List, [], _∷_, _++_, map, map-append, append-assoc, append-nil}
 use Prim.Native.Nat.{ℕ, zero, suc, _+_, _*_, _-_, _≤_, _<_}
-use native.Mathlib.Nat.{zero-mul, suc-mul, mul-le-mul-right, add-comm, add-zero, add-sub-cancel-left}
+use native.Mathlib.Nat.{zero-mul, suc-mul, mul-le-mul-left, mul-le-mul-right, add-comm, add-zero, add-sub-cancel-left}
 use native.Mathlib.Numerals.{add-one}
 use native.Mathlib.Omega.{arith}
 use lib.ListN.{length, take, drop, getD, length-append, take-append-drop}
@@ -15,7 +15,7 @@ use Rattle.model.proofs.Lists.{flat-append}
 use Rattle.report.specs.Text.{field, fields, planLines, endedText, room, Fitted}
 use Rattle.model.specs.Written.{Written, Fronted}
 use Rattle.model.proofs.Written.{written-then, fronted}
-use Rattle.report.proofs.Digits.{decimal-most}
+use Rattle.report.proofs.Digits.{decimal-most, decimal-below}
 
 -- ---- fields
 pub field-most : (n : ℕ) → length (field n) ≤ 21
@@ -139,6 +139,18 @@ lines-length n (suc k) l =
     let j = length-append (fields (take (k * n) l)) (fields row) in
     let m = ap (λ (m : ℕ). length (planLines n m l)) (add-one k) in
     omega (arith, e, f, g, h, i, j, m, line-length row, lines-length n k l)
+
+-- a value of one byte has at most three digits, and a plan of twelve such values 53 bytes
+fields-most : (k : ℕ) (l : List ℕ) → ((i : ℕ) → getD l i 0 < 256) → length (fields (take k l)) ≤ 4 * k
+unfolding fields flat
+fields-most zero l h = omega arith
+fields-most (suc k) [] h = omega arith
+fields-most (suc k) (x ∷ l) h =
+    let e = length-append (field x) (fields (take k l)) in
+    omega (arith, e, decimal-below 2 x (omega (arith, h 0)), fields-most k l (λ i. h (suc i)))
+
+pub lines-most : (n k : ℕ) (l : List ℕ) → n ≤ 12 → ((i : ℕ) → getD l i 0 < 256) → length (planLines n k l) ≤ 53 * k
+lines-most n k l few h = omega (arith, lines-length n k l, fields-most (k * n) l h, mul-le-mul-left k few)
 
 lines-more : (n i k : ℕ) (l : List ℕ) → length (planLines n i l) ≤ length (planLines n (i + k) l)
 lines-more n i zero l = omega (arith, ap (λ (m : ℕ). length (planLines n m l)) (add-zero i))

@@ -1,12 +1,12 @@
 // The text of the report, made in a lent buffer (paper 01, "The report").
 ghost use mathlib.Core.Path.{_≡_};
 ghost use mathlib.Core.List.{[], _∷_, _++_};
-ghost use Prim.Native.Nat.{_+_, _*_, _≤_, _<_};
+ghost use Prim.Native.Nat.{_+_, _*_, _≤_, _<_, min};
 ghost use lib.ListN.{length};
 ghost use Rattle.model.specs.Run.{finished, spent, full};
 ghost use Rattle.figure.specs.Figure.{number, dash};
 ghost use Rattle.report.specs.Report.{decimal, line, figureLine, planWord, refusedWord};
-ghost use Rattle.report.specs.Text.{field, fields, planLines, endedText, Fitted};
+ghost use Rattle.report.specs.Text.{field, fields, planLines, endedText, room, Fitted};
 ghost use Rattle.model.specs.Written.{Written, Fronted};
 
 // The room that every report fits.
@@ -122,17 +122,28 @@ fn lines_length(list: &[u8], n: usize, plans: usize) -> usize
     length
 }
 
-// Puts at the front the lines of the plans listed and the last line, where there is room for them. Answers their length either way.
+// Puts at the front the lines of the plans listed and the last line, which the buffer holds.
+fn put_lines(list: &[u8], n: usize, plans: usize, last: &[u8], out: &mut [u8]) -> usize
+    requires { ⌜ (plans * n ≤ length (now list)) × (length (planLines n plans (now list)) + length (now last) ≤ min room (length (now out))) ⌝ }
+    ensures { λ r. ⌜ Fitted (now (out .entry)) (planLines n plans (now (list .entry)) ++ now (last .entry)) (now (out .exit)) r ⌝ }
+{
+    let at = plan_lines(out, list, n, plans);
+    put(out, at, last)
+}
+
+// The same where there is room for them; answers their length either way, which is worked out only where 53 bytes a plan may not fit.
 fn put_report(list: &[u8], n: usize, plans: usize, last: &[u8], out: &mut [u8]) -> usize
     requires { ⌜ (n ≤ 12) × (plans ≤ 4096) × (plans * n ≤ length (now list)) × (length (now last) ≤ 72) ⌝ }
     ensures { λ r. ⌜ Fitted (now (out .entry)) (planLines n plans (now (list .entry)) ++ now (last .entry)) (now (out .exit)) r ⌝ }
 {
+    if 53 * plans + last.len() <= out.len() {
+        return put_lines(list, n, plans, last, out);
+    }
     let length = lines_length(list, n, plans) + last.len();
     if out.len() < length {
         return length;
     }
-    let at = plan_lines(out, list, n, plans);
-    put(out, at, last)
+    put_lines(list, n, plans, last, out)
 }
 
 // Puts the line of an ending: its word, plans, nodes and families.
