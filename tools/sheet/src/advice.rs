@@ -24,16 +24,16 @@ struct Tried {
 }
 
 /// What helps, as a line of its own, for a run that made so many trials at each window.
-pub fn advice(made: &Made, counts: &[u32; 12], limits: Limits) -> String {
+pub fn advice(made: &Made, counts: &[u64; 12], limits: Limits) -> String {
     let windows = &made.problem.variables;
-    let total: u64 = counts.iter().map(|&count| u64::from(count)).sum();
+    let total: u64 = counts.iter().sum();
     if total < LEAST {
         return String::new();
     }
     let mut ranked: Vec<usize> = (0..windows.len()).collect();
     ranked.sort_by_key(|&window| std::cmp::Reverse(counts[window]));
-    let sum = |some: &[usize]| some.iter().map(|&window| u64::from(counts[window])).sum::<u64>();
-    let busy = (1..=ranked.len()).find(|&count| sum(&ranked[..count]) * 100 >= total * MOST);
+    let sum = |some: &[usize]| some.iter().map(|&window| counts[window]).sum::<u64>();
+    let busy = (1..=ranked.len()).find(|&count| sum(&ranked[..count]) >= total / 100 * MOST);
     let mut busy = ranked[..busy.unwrap_or(ranked.len())].to_vec();
     busy.sort();
     let went = format!("{} of the trials went to {}", share(sum(&busy), total), names(made, &busy));
@@ -54,7 +54,7 @@ pub fn advice_of(made: &Made, limits: Limits) -> String {
     let mut room = vec![0; made.problem.variables.len() * limits.plans as usize];
     let trials = limits.trials.min(ATTEMPT);
     match planner::run_lent(&made.sheet, &made.pairs, &made.block, trials, &mut room) {
-        Ok(lent) if lent.answer.ending == Ending::Spent => advice(made, &lent.counts, limits),
+        Ok(lent) if lent.answer.ending == Ending::Spent => advice(made, &lent.counts.map(u64::from), limits),
         _ => String::new(),
     }
 }

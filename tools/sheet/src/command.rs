@@ -4,13 +4,15 @@
 use crate::problem::Problem;
 use crate::text::Fault;
 use crate::words::nearest;
-use crate::{best, columns, desk, enough, explain, import, make, merge, page, plans, show, why};
+use crate::{
+    best, columns, desk, enough, explain, import, join, make, merge, page, part, plans, show, split, why,
+};
 use std::io::{BufWriter, Read, StdoutLock, Write};
 use std::ops::RangeInclusive;
 use std::sync::atomic::{AtomicBool, Ordering};
 
 /// The commands, in the order of the help.
-const COMMANDS: [Command; 13] = [
+const COMMANDS: [Command; 16] = [
     import::COMMAND,
     plans::COMMAND,
     best::COMMAND,
@@ -18,6 +20,9 @@ const COMMANDS: [Command; 13] = [
     why::COMMAND,
     page::COMMAND,
     desk::COMMAND,
+    split::COMMAND,
+    part::COMMAND,
+    join::COMMAND,
     make::COMMAND,
     show::COMMAND,
     explain::COMMAND,
@@ -73,7 +78,7 @@ impl Command {
     }
 }
 
-/// An option, with a name for its value if it takes one.
+/// An option, with a name for its value if it takes one, or two names for two words.
 pub struct Choice {
     pub name: &'static str,
     pub value: Option<&'static str>,
@@ -113,13 +118,14 @@ impl Arguments {
                 _ => (word.as_str(), None),
             };
             match command.choices().find(|choice| choice.name == name) {
-                Some(Choice { name, value: Some(kind), .. }) => match given.or_else(|| words.next().cloned())
-                {
-                    Some(value) => options.push((*name, value)),
-                    None if *kind == "FILE" => return refuse(format!("{name} takes a file")),
-                    None if *kind == "N" => return refuse(format!("{name} takes a number")),
-                    None => return refuse(format!("{name} takes {kind}")),
-                },
+                Some(Choice { name, value: Some(kind), .. }) => {
+                    match given.or_else(|| value(kind, &mut words)) {
+                        Some(value) => options.push((*name, value)),
+                        None if *kind == "FILE" => return refuse(format!("{name} takes a file")),
+                        None if *kind == "N" => return refuse(format!("{name} takes a number")),
+                        None => return refuse(format!("{name} takes {kind}")),
+                    }
+                }
                 Some(choice) if given.is_none() => options.push((choice.name, String::new())),
                 None if word == "-" || !word.starts_with('-') => sources.push(Source(word.clone())),
                 _ => return refuse(format!("{} takes no {word}", command.name)),
@@ -165,6 +171,12 @@ impl Arguments {
             _ => refuse(format!("{name} takes a number from 0 to {most}, not `{value}`")),
         }
     }
+}
+
+/// The words of an option's value, as many as it has names.
+fn value<'a>(kind: &str, words: &mut impl Iterator<Item = &'a String>) -> Option<String> {
+    let value: Option<Vec<&str>> = kind.split(' ').map(|_| words.next().map(String::as_str)).collect();
+    value.map(|words| words.join(" "))
 }
 
 /// A file, or `-` for standard input.

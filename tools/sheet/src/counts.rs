@@ -5,9 +5,9 @@ const WIDTH: usize = 40;
 
 /// A line for each window, in the sheet's order: name, trials, share of all trials in percent, and a bar whose length is that of
 /// the largest count's share. `counts` has at least as many numbers as there are names; without trials every share is 0.
-pub fn drawn(names: &[String], counts: &[u32]) -> String {
+pub fn drawn(names: &[String], counts: &[u64]) -> String {
     let counts = &counts[..names.len()];
-    let total: u64 = counts.iter().map(|&count| u64::from(count)).sum();
+    let total = counts.iter().sum();
     let most = counts.iter().copied().max().unwrap_or(0);
     let name_width = names.iter().map(|name| name.chars().count()).max().unwrap_or(0);
     let count_width = most.to_string().len();
@@ -15,7 +15,7 @@ pub fn drawn(names: &[String], counts: &[u32]) -> String {
     for (name, &count) in names.iter().zip(counts) {
         let line = format!(
             "{name:<name_width$}  {count:>count_width$}  {:>5}  {}",
-            share(u64::from(count), total),
+            share(count, total),
             "#".repeat(bar(count, most))
         );
         text.push_str(line.trim_end());
@@ -29,16 +29,17 @@ pub fn share(count: u64, total: u64) -> String {
     if total == 0 {
         return "0.0%".into();
     }
+    let [count, total] = [count, total].map(u128::from);
     let tenths = (count * 2000 + total) / (2 * total);
     format!("{}.{}%", tenths / 10, tenths % 10)
 }
 
 /// A bar's length: the largest count has the widest, and a count that is not 0 has at least one mark.
-fn bar(count: u32, most: u32) -> usize {
+fn bar(count: u64, most: u64) -> usize {
     if count == 0 {
         return 0;
     }
-    (count as usize * WIDTH / most as usize).max(1)
+    ((u128::from(count) * WIDTH as u128 / u128::from(most)) as usize).max(1)
 }
 
 #[cfg(test)]
@@ -73,7 +74,7 @@ mod tests {
 
     #[test]
     fn a_small_count_is_seen_and_large_ones_do_not_wrap() {
-        let text = drawn(&names(&["a", "b", "c"]), &[u32::MAX, 1, u32::MAX]);
+        let text = drawn(&names(&["a", "b", "c"]), &[u64::MAX / 2, 1, u64::MAX / 2]);
         let marks: Vec<usize> = text.lines().map(|line| line.matches('#').count()).collect();
         assert_eq!(marks, [WIDTH, 1, WIDTH]);
         assert!(text.lines().all(|line| line.contains('%')));

@@ -13,9 +13,9 @@ const NOT_COUNTED: &str =
 const ONE_OF_EACH: &str = "one plan of each family, the one that reads earliest: the exchanges are closed";
 
 /// How many families a finished run's plans are of, where they were counted: without exchanges each plan is one.
-pub fn number(listing: &Listing, input: &Input) -> Option<u32> {
+pub fn number(listing: &Listing, input: &Input) -> Option<u64> {
     match listing.families {
-        Some(families) => families.count,
+        Some(families) => families.count.map(u64::from),
         None if listing.ending != Ending::Finished => None,
         None if listing.listed == 0 || !input.made.has_exchanges() => Some(listing.listed),
         None => None,
@@ -36,7 +36,7 @@ pub fn words(listing: &Listing, input: &Input) -> Vec<String> {
 pub fn closed(listing: &Listing, input: &Input) -> Option<String> {
     let families = listing.families?;
     let several = match families.count {
-        Some(count) if count == listing.listed => "one plan of each family, though",
+        Some(count) if u64::from(count) == listing.listed => "one plan of each family, though",
         Some(_) => "some family has several plans, as",
         None => "a family may have several plans, as",
     };

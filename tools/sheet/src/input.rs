@@ -39,6 +39,9 @@ const STRICT_OPTION: Choice = Choice {
 /// What every command takes that runs a hall.
 pub const HALL_OPTIONS: &[Choice] = &[FIX_OPTION, STRICT_OPTION, TRIALS_OPTION, PAIRS_OPTION, BLOCK_OPTION];
 
+/// What every command takes that says which hall is run.
+pub const TEXT_OPTIONS: &[Choice] = &[FIX_OPTION, STRICT_OPTION, PAIRS_OPTION, BLOCK_OPTION];
+
 pub const WHERE_OPTION: Choice = Choice {
     name: "--where",
     value: Some("WINDOW=DUTY"),

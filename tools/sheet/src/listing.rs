@@ -99,6 +99,14 @@ impl Plans {
     }
 }
 
+/// What a run came to: its ending, its plans, its trials and these by window.
+pub struct Ran {
+    pub ending: Ending,
+    pub plans: Plans,
+    pub trials: u64,
+    pub counts: [u64; 12],
+}
+
 /// The plans that a run listed, and how it ended.
 #[derive(Clone, Debug, PartialEq, Eq)]
 pub struct Listing {
@@ -106,12 +114,12 @@ pub struct Listing {
     /// The plans to be shown.
     pub plans: Plans,
     /// How many the run listed.
-    pub listed: u32,
+    pub listed: u64,
     /// Which of them are shown, where not all are.
     pub shown: Option<String>,
-    pub trials: u32,
+    pub trials: u64,
     /// The trials by window.
-    pub counts: [u32; 12],
+    pub counts: [u64; 12],
     /// What is known of the families, where a finished run lists plans under exchanges.
     pub families: Option<Families>,
     pub limits: Limits,
@@ -145,7 +153,7 @@ pub fn list(
         }
         allowance = allowance.saturating_mul(2).min(limits.trials);
     };
-    Ok(Listing { counts: lent.counts, ..Listing::alone(made, lent.answer, room, limits)? })
+    Ok(Listing { counts: lent.counts.map(u64::from), ..Listing::alone(made, lent.answer, room, limits)? })
 }
 
 /// Lists the plans, and shows on a terminal how far a long run has come.
@@ -184,7 +192,18 @@ impl Listing {
     /// What a run without counts by window answered, and the plans at the front of its list.
     pub fn alone(made: &Made, answer: Answer, list: Vec<u8>, limits: Limits) -> Result<Listing, Refusal> {
         let plans = Plans::new(made.problem.variables.len(), list, answer.plans as usize);
-        let has_families = answer.ending == Ending::Finished && answer.plans > 0 && made.has_exchanges();
+        Listing::of(
+            made,
+            Ran { ending: answer.ending, plans, trials: answer.nodes.into(), counts: [0; 12] },
+            limits,
+        )
+    }
+
+    /// What a run came to.
+    pub fn of(made: &Made, ran: Ran, limits: Limits) -> Result<Listing, Refusal> {
+        let Ran { ending, plans, trials, counts } = ran;
+        let listed = plans.len() as u64;
+        let has_families = ending == Ending::Finished && listed > 0 && made.has_exchanges();
         let families = match has_families && !limits.first {
             true => Some(Families {
                 count: planner::families(&made.sheet, &made.pairs, &made.block, limits.trials)?,
@@ -192,14 +211,13 @@ impl Listing {
             }),
             false => None,
         };
-        let Answer { ending, plans: listed, nodes: trials } = answer;
         let hint = match ending {
             _ if limits.first && listed > 0 => "",
             Ending::Finished => "",
             Ending::Full => " (--plans N makes room)",
             Ending::Spent => " (--trials N allows more)",
         };
-        let (shown, counts, hint) = (None, [0; 12], hint.to_string());
+        let (shown, hint) = (None, hint.to_string());
         Ok(Listing { ending, plans, listed, shown, trials, counts, families, limits, hint })
     }
 

@@ -209,7 +209,7 @@ impl Page<'_> {
     /// Where the trials went: a bar for each window, the longest for the largest count.
     fn trials(&self) -> String {
         let windows = &self.problem().variables;
-        let counts = self.listing.counts.map(u64::from);
+        let counts = self.listing.counts;
         let total = counts.iter().sum();
         let most = counts.iter().copied().max().unwrap_or(0);
         let row = |(window, count): (&String, u64)| {

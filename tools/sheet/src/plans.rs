@@ -20,23 +20,11 @@ pub const COMMAND: Command = Command {
         &[
             CSV_OPTION,
             BOM_OPTION,
-            Choice { name: "--json", value: None, about: "as one JSON object" },
-            Choice {
-                name: "--rows",
-                value: None,
-                about: "as plain bytes, a number for each window's duty; the ending goes to standard error",
-            },
+            JSON_OPTION,
+            ROWS_OPTION,
             Choice { name: "--first", value: None, about: "one plan is enough" },
-            Choice {
-                name: FREE,
-                value: None,
-                about: "with each plan who is free, and after the plans how often each stands and is free",
-            },
-            Choice {
-                name: BY_WINDOW,
-                value: None,
-                about: "after the ending, a line for each window: its trials, their share and a bar",
-            },
+            FREE_OPTION,
+            BY_WINDOW_OPTION,
             EXPLAIN_OPTION,
             WHERE_OPTION,
             PLANS_OPTION,
@@ -54,6 +42,26 @@ pub const BOM_OPTION: Choice = Choice {
     name: "--bom",
     value: None,
     about: "as CSV with a byte order mark, by which a spreadsheet knows the letters",
+};
+
+pub const JSON_OPTION: Choice = Choice { name: "--json", value: None, about: "as one JSON object" };
+
+pub const ROWS_OPTION: Choice = Choice {
+    name: "--rows",
+    value: None,
+    about: "as plain bytes, a number for each window's duty; the ending goes to standard error",
+};
+
+pub const FREE_OPTION: Choice = Choice {
+    name: FREE,
+    value: None,
+    about: "with each plan who is free, and after the plans how often each stands and is free",
+};
+
+pub const BY_WINDOW_OPTION: Choice = Choice {
+    name: BY_WINDOW,
+    value: None,
+    about: "after the ending, a line for each window: its trials, their share and a bar",
 };
 
 pub const EXPLAIN_OPTION: Choice = Choice {
@@ -77,6 +85,14 @@ pub fn as_csv(arguments: &Arguments) -> bool {
 }
 
 fn run(arguments: &Arguments) -> Result<Outcome, Stop> {
+    let forms = forms(arguments)?;
+    let limits = Limits::of(arguments)?;
+    let input = Input::read(&arguments.sources[0])?.lent(arguments)?;
+    shown(arguments, forms, &input, &input.list(limits)?)
+}
+
+/// Are plans to be written as CSV, as JSON, as rows?
+pub fn forms(arguments: &Arguments) -> Result<[bool; 3], Stop> {
     let forms = [as_csv(arguments), arguments.has("--json"), arguments.has("--rows")];
     if forms.iter().filter(|form| **form).count() > 1 {
         return refuse("plans takes one of --csv, --json and --rows");
@@ -84,18 +100,26 @@ fn run(arguments: &Arguments) -> Result<Outcome, Stop> {
     if let Some(name) = [BY_WINDOW, FREE].iter().find(|name| arguments.has(name) && forms.contains(&true)) {
         return refuse(format!("{name} goes with the table alone"));
     }
-    let limits = Limits::of(arguments)?;
-    let input = Input::read(&arguments.sources[0])?.lent(arguments)?;
-    let (problem, listing) = (&input.made.problem, input.list(limits)?);
+    Ok(forms)
+}
+
+/// Writes a listing as the options ask for.
+pub fn shown(
+    arguments: &Arguments,
+    forms: [bool; 3],
+    input: &Input,
+    listing: &Listing,
+) -> Result<Outcome, Stop> {
+    let problem = &input.made.problem;
     let ending = listing.ending() + listing.hint() + "\n";
     let mut out = out();
     let note = match forms {
         [true, _, _] => {
-            out.all(|out| write_all_csv(out, arguments, &input, &listing))?;
+            out.all(|out| write_all_csv(out, arguments, input, listing))?;
             ending
         }
         [_, true, _] => {
-            out.all(|out| write_json(out, problem, &listing, number(&listing, &input)))?;
+            out.all(|out| write_json(out, problem, listing, number(listing, input)))?;
             String::new()
         }
         [_, _, true] => {
@@ -103,7 +127,7 @@ fn run(arguments: &Arguments) -> Result<Outcome, Stop> {
             ending
         }
         _ => {
-            write_shown(&mut out, &input, &listing, arguments)?;
+            write_shown(&mut out, input, listing, arguments)?;
             String::new()
         }
     };

@@ -110,7 +110,7 @@ pub fn write_json(
     out: &mut dyn Write,
     problem: &Problem,
     listing: &Listing,
-    families: Option<u32>,
+    families: Option<u64>,
 ) -> Result<()> {
     let list = |names: &[String]| names.iter().map(|name| quoted(name)).collect::<Vec<_>>().join(", ");
     writeln!(out, "{{\n  \"windows\": [{}],", list(&problem.variables))?;
