@@ -9,9 +9,11 @@ use crate::input::{Input, HALL_OPTIONS, WHERE_OPTION};
 use crate::listing::{Limits, Plans};
 use crate::parts::{Parts, Read};
 use crate::plans::{as_csv, write_bom, BOM_OPTION, CSV_OPTION};
+use crate::runner::count;
 use crate::score::Score;
 use crate::table::{write_counts, write_csv, write_table, Columns};
 use crate::text::{Stated, Statement};
+use crate::watch::{Cause, Watch};
 use crate::words::{counted, grouped, written};
 use planner::{Ending, Refusal};
 
@@ -61,8 +63,11 @@ fn run(arguments: &Arguments) -> Result<Outcome, Stop> {
     let input = Input::read(source)?.lent(arguments)?;
     let files: Vec<Source> = arguments.all("--near").cloned().map(Source).collect();
     let score = Score::new(&input.text, source, &files)?;
-    let best = input.accepted(best(&input, &score, count, limits.trials))?;
-    let shown = Shown { input: &input, score: &score, best: &best, limits };
+    let watch = Watch::of(arguments)?;
+    let best = input.accepted(best(&input, &score, count, limits.trials, &watch))?;
+    let stop = watch.stopped();
+    drop(watch);
+    let shown = Shown { input: &input, score: &score, best: &best, limits, stop };
     let mut out = out();
     let ending = shown.ending();
     let note = match (as_csv(arguments), arguments.has(FIXED)) {
@@ -109,11 +114,11 @@ pub struct Best {
 }
 
 /// The best plans of a hall, but those that exchanges which keep every preference make of earlier ones.
-pub fn best(input: &Input, score: &Score, count: usize, trials: u32) -> Result<Best, Refusal> {
+pub fn best(input: &Input, score: &Score, count: usize, trials: u32, watch: &Watch) -> Result<Best, Refusal> {
     let made = &input.made;
     let same = Same::new(input, score);
     let room = if same.is_empty() { count.min(ROOM) } else { ROOM };
-    let mut parts = Parts::new(&made.problem, &made.pairs, trials, room);
+    let mut parts = Parts::new(&made.problem, &made.pairs, trials, room, watch);
     let mut best = Best {
         plans: Vec::new(),
         ending: Read::Done,
@@ -122,7 +127,7 @@ pub fn best(input: &Input, score: &Score, count: usize, trials: u32) -> Result<B
         trials: 0,
         exchanges: same.exchanges,
     };
-    if has_none(input, &mut parts)? {
+    if has_none(input, &mut parts, watch)? {
         best.all = true;
     } else {
         let classes = Classes::new(input, score);
@@ -138,13 +143,10 @@ pub fn best(input: &Input, score: &Score, count: usize, trials: u32) -> Result<B
 }
 
 /// Has the hall no plan, as the planner finds under all its exchanges with a part of the trials?
-fn has_none(input: &Input, parts: &mut Parts) -> Result<bool, Refusal> {
-    let made = &input.made;
-    let mut room = vec![0; made.problem.variables.len()];
-    let trials = parts.trials / 4;
-    let answer = planner::run_lent(&made.sheet, &made.pairs, &made.block, trials, &mut room)?.answer;
-    parts.trials -= answer.nodes;
-    Ok(answer.ending == Ending::Finished && answer.plans == 0)
+fn has_none(input: &Input, parts: &mut Parts, watch: &Watch) -> Result<bool, Refusal> {
+    let sum = count(&input.made, 1, (parts.trials / 4).into(), watch)?;
+    parts.trials -= sum.trials as u32;
+    Ok(sum.ending == Some(Ending::Finished) && sum.plans == 0)
 }
 
 /// Adds the plans of one total, as many as are wanted still; the answer is the next total.
@@ -325,6 +327,8 @@ struct Shown<'a> {
     score: &'a Score,
     best: &'a Best,
     limits: Limits,
+    /// Why the runs stopped before their limits, if they did.
+    stop: Option<Cause>,
 }
 
 impl Shown<'_> {
@@ -379,11 +383,16 @@ impl Shown<'_> {
         let count = self.best.plans.len();
         let plans = if count == 0 { "no plan".to_string() } else { counted(count as u64, "plan") };
         let trials = counted(self.best.trials, "trial");
+        let (spent, hint) = match self.stop {
+            Some(cause) => (format!("{} and {trials}", cause.words()), ""),
+            None => {
+                let allowance = counted(self.limits.trials, "trial");
+                (format!("stopped at the allowance of {allowance}"), " (--trials N allows more)")
+            }
+        };
         let words = match self.best.ending {
             Read::Spent => format!(
-                "stopped at the allowance of {}, {plans} so far: none costs less, but plans that cost {} or more may be \
-                 missing (--trials N allows more)",
-                counted(self.limits.trials, "trial"),
+                "{spent}, {plans} so far: none costs less, but plans that cost {} or more may be missing{hint}",
                 self.best.cost
             ),
             Read::Done if self.best.all && count > 0 => {

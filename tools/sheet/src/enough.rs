@@ -4,6 +4,7 @@ use crate::advice::advice_of;
 use crate::command::{refuse, Arguments, Command, Outcome, Status, Stop};
 use crate::input::{Input, HALL_OPTIONS};
 use crate::listing::Limits;
+use crate::watch::{Cause, Watch};
 use crate::words::counted;
 use planner::Enough;
 
@@ -27,15 +28,19 @@ fn run(arguments: &Arguments) -> Result<Outcome, Stop> {
     };
     let limits = Limits::of(arguments)?;
     let input = Input::read(source)?.lent(arguments)?;
-    let enough = input.at_least(plans, limits)?;
-    let (words, status) = said(enough);
-    let advice = if status == Status::UNKNOWN { advice_of(&input.made, limits) } else { String::new() };
+    let watch = Watch::of(arguments)?;
+    let enough = input.at_least(plans, limits, &watch)?;
+    let (words, status) = said(enough, watch.stopped());
+    let advice = match (status, watch.stopped()) {
+        (Status::UNKNOWN, None) => advice_of(&input.made, limits),
+        _ => String::new(),
+    };
     let left = if input.made.has_exchanges() { LEFT_OUT } else { "" };
     Ok(Outcome { output: format!("{words}{advice}\n{left}").into_bytes(), note: input.notes(), status })
 }
 
-/// The answer in words, and as status.
-fn said(enough: Enough) -> (String, Status) {
+/// The answer in words, and as status; where it isn't known because of a cause, with that.
+fn said(enough: Enough, stop: Option<Cause>) -> (String, Status) {
     match enough {
         Enough::Yes { plans, nodes } => {
             (format!("yes: at least {}, {}", counted(plans, "plan"), counted(nodes, "trial")), Status::YES)
@@ -43,14 +48,16 @@ fn said(enough: Enough) -> (String, Status) {
         Enough::No { plans, nodes } => {
             (format!("no: {} in all, {}", number(plans), counted(nodes, "trial")), Status::NO)
         }
-        Enough::Spent { plans, nodes } => (
-            format!(
-                "not known: stopped at the allowance of {}, {} so far (--trials N allows more)",
-                counted(nodes, "trial"),
-                number(plans)
-            ),
-            Status::UNKNOWN,
-        ),
+        Enough::Spent { plans, nodes } => {
+            let (plans, trials) = (number(plans), counted(nodes, "trial"));
+            let words = match stop {
+                Some(cause) => format!("{} and {trials}, {plans} so far", cause.words()),
+                None => {
+                    format!("stopped at the allowance of {trials}, {plans} so far (--trials N allows more)")
+                }
+            };
+            (format!("not known: {words}"), Status::UNKNOWN)
+        }
     }
 }
 

@@ -23,13 +23,17 @@ pub fn number(listing: &Listing, input: &Input) -> Option<u64> {
 }
 
 /// Why they weren't counted, where they weren't.
-pub fn not_counted(listing: &Listing) -> Option<&'static str> {
-    listing.families.filter(|families| families.count.is_none()).map(|_| NOT_COUNTED)
+pub fn not_counted(listing: &Listing) -> Option<String> {
+    let families = listing.families.filter(|families| families.count.is_none())?;
+    Some(match families.stop {
+        Some(cause) => format!("families aren't counted: {}", cause.words()),
+        None => NOT_COUNTED.to_string(),
+    })
 }
 
 /// What is to be said beside their number.
 pub fn words(listing: &Listing, input: &Input) -> Vec<String> {
-    not_counted(listing).map(String::from).into_iter().chain(closed(listing, input)).collect()
+    not_counted(listing).into_iter().chain(closed(listing, input)).collect()
 }
 
 /// Are the exchanges closed? Every family has a listed plan, so as many plans as families are one of each.

@@ -4,10 +4,12 @@ use crate::advice::advice;
 use crate::command::{refuse, Arguments, Choice, Source, Status, Stop};
 use crate::compose::full_set;
 use crate::fixed::{kept, kept_block, Broken};
-use crate::listing::{at_least, list_on_terminal, Limits, Listing, TRIALS_OPTION};
+use crate::listing::{at_least, list, Limits, Listing, TRIALS_OPTION};
 use crate::make::{make_all, of_block, Made};
 use crate::parse::parse;
+use crate::runner::Manner;
 use crate::text::{Fault, Stated, Statement, Text};
+use crate::watch::{Watch, EVERY_OPTION, SECONDS_OPTION};
 use crate::words::{counted, name_of, nearest, written};
 use crate::{alike, pairs};
 use planner::{Ending, Enough, Refusal};
@@ -37,7 +39,8 @@ const STRICT_OPTION: Choice = Choice {
 };
 
 /// What every command takes that runs a hall.
-pub const HALL_OPTIONS: &[Choice] = &[FIX_OPTION, STRICT_OPTION, TRIALS_OPTION, PAIRS_OPTION, BLOCK_OPTION];
+pub const HALL_OPTIONS: &[Choice] =
+    &[FIX_OPTION, STRICT_OPTION, TRIALS_OPTION, SECONDS_OPTION, EVERY_OPTION, PAIRS_OPTION, BLOCK_OPTION];
 
 /// What every command takes that says which hall is run.
 pub const TEXT_OPTIONS: &[Choice] = &[FIX_OPTION, STRICT_OPTION, PAIRS_OPTION, BLOCK_OPTION];
@@ -165,9 +168,9 @@ impl Input {
     }
 
     /// The plans, those that `--where` chooses.
-    pub fn list(&self, limits: Limits) -> Result<Listing, Stop> {
-        let mut listing = self.accepted(list_on_terminal(&self.made, limits))?;
-        if listing.ending == Ending::Spent {
+    pub fn list(&self, limits: Limits, manner: &Manner, watch: &Watch) -> Result<Listing, Stop> {
+        let mut listing = self.accepted(list(&self.made, limits, manner, watch))?;
+        if listing.ending == Ending::Spent && listing.stop.is_none() {
             listing.hint += &advice(&self.made, &listing.counts, limits);
         }
         Ok(self.chosen(listing))
@@ -213,8 +216,8 @@ impl Input {
     }
 
     /// Are there at least so many plans?
-    pub fn at_least(&self, plans: u32, limits: Limits) -> Result<Enough, Stop> {
-        self.accepted(at_least(&self.made, plans, limits))
+    pub fn at_least(&self, plans: u32, limits: Limits, watch: &Watch) -> Result<Enough, Stop> {
+        self.accepted(at_least(&self.made, plans, limits, watch))
     }
 
     /// What the planner answers, or its refusal.

@@ -9,6 +9,7 @@ use crate::plans::{
     ROWS_OPTION,
 };
 use crate::result::{Hall, Part};
+use crate::watch::Watch;
 use planner::{join, Ending, Head, Join, Sums, END, START};
 use std::collections::BTreeMap;
 use std::path::Path;
@@ -50,7 +51,8 @@ fn run(arguments: &Arguments) -> Result<Outcome, Stop> {
     let heads: Vec<u8> = parts.iter().flat_map(|part| &part.heads).flat_map(|head| *head.bytes()).collect();
     match input.accepted(join(&heads))? {
         Join::Joined(sums) => {
-            let listing = input.accepted(Listing::of(&input.made, whole(&input, parts, sums)?, limits))?;
+            let ran = whole(&input, parts, sums)?;
+            let listing = input.accepted(Listing::of(&input.made, ran, limits, &Watch::nobody()))?;
             let outcome = shown(arguments, forms, &input, &input.chosen(listing))?;
             Ok(Outcome { note: notes + &outcome.note, ..outcome })
         }
@@ -139,7 +141,9 @@ fn whole(input: &Input, parts: Vec<Part>, sums: Sums) -> Result<Ran, Stop> {
     match rows.len() as u64 == sums.plans * windows as u64 {
         true => {
             let plans = Plans::new(windows, rows, sums.plans as usize);
-            Ok(Ran { ending: Ending::Finished, plans, trials: sums.nodes, counts: sums.counts })
+            let Sums { nodes: trials, counts, .. } = sums;
+            let (from, at) = (START.to_vec(), END.to_vec());
+            Ok(Ran { ending: Ending::Finished, plans, trials, counts, from, at, stop: None })
         }
         false => refuse("the parts don't have the plans that their heads tell of"),
     }

@@ -35,13 +35,17 @@ pub mod path;
 pub mod plans;
 pub mod problem;
 pub mod result;
+pub mod runner;
 pub mod score;
 pub mod show;
+pub mod signals;
 pub mod sketch;
 pub mod split;
 pub mod table;
+pub mod team;
 pub mod text;
 pub mod walker;
+pub mod watch;
 pub mod why;
 pub mod words;
 

@@ -1,11 +1,15 @@
-//! Runs of the proved planner: but for halls at a desk, the only place that calls it for plans.
+//! What runs came to, and how they ended in words.
 
 use crate::command::{refuse, Arguments, Choice, Status, Stop};
 use crate::make::Made;
+use crate::path::word;
+use crate::runner::{self, Manner};
+use crate::watch::{Cause, Watch};
 use crate::words::{counted, families};
-use planner::{Answer, Closed, Ending, Enough, Refusal};
-use std::io::{IsTerminal, Write};
-use std::time::{Duration, Instant};
+use planner::{Answer, Closed, Ending, Enough, Refusal, STACK_BYTES, START};
+use std::sync::mpsc;
+use std::thread;
+use std::time::Duration;
 
 /// The allowance and the room of the report (paper 01).
 const TRIALS: u32 = 1_000_000;
@@ -14,9 +18,8 @@ const PLANS: u32 = 4_096;
 /// The most plans that room is made for.
 const MOST_PLANS: u32 = 10_000_000;
 
-/// The first step of a run that is watched, and of one for the first plan.
-const WATCHED: u32 = 1 << 20;
-const FIRST: u32 = 1 << 10;
+/// So long is waited for the number of families before it is asked again whether to stop.
+const PATIENCE: Duration = Duration::from_millis(50);
 
 pub const TRIALS_OPTION: Choice = Choice {
     name: "--trials",
@@ -58,6 +61,8 @@ impl Limits {
 pub struct Families {
     /// How many there are, where they were counted.
     pub count: Option<u32>,
+    /// Why their count stopped, if it did.
+    pub stop: Option<Cause>,
     pub closed: Closed,
 }
 
@@ -105,6 +110,11 @@ pub struct Ran {
     pub plans: Plans,
     pub trials: u64,
     pub counts: [u64; 12],
+    /// The path after which it began, and where it stands.
+    pub from: Vec<u8>,
+    pub at: Vec<u8>,
+    /// Why it stopped before its limits, if it did; its ending is then spent.
+    pub stop: Option<Cause>,
 }
 
 /// The plans that a run listed, and how it ended.
@@ -125,100 +135,80 @@ pub struct Listing {
     pub limits: Limits,
     /// What to ask for to go further.
     pub hint: String,
+    /// The path after which the run began, and where it stands.
+    pub from: Vec<u8>,
+    pub at: Vec<u8>,
+    /// Why it stopped before its limits, if it did.
+    pub stop: Option<Cause>,
 }
 
-/// Lists the plans of a sheet, in the order of its pairs. A watched run, and one for the first plan, raises its
-/// allowance in steps, each twice the one before; `watch` is told of each step.
-pub fn list(
-    made: &Made,
-    limits: Limits,
-    mut watch: Option<&mut dyn FnMut(Answer)>,
-) -> Result<Listing, Refusal> {
-    let n = made.problem.variables.len();
-    let mut room = vec![0; n * limits.plans as usize];
-    let mut allowance = match watch {
-        _ if limits.first => FIRST.min(limits.trials),
-        Some(_) => WATCHED.min(limits.trials),
-        None => limits.trials,
-    };
-    let lent = loop {
-        let lent = planner::run_lent(&made.sheet, &made.pairs, &made.block, allowance, &mut room)?;
-        let answer = lent.answer;
-        let enough = limits.first && answer.plans > 0;
-        if answer.ending != Ending::Spent || allowance == limits.trials || enough {
-            break lent;
-        }
-        if let Some(watch) = &mut watch {
-            watch(answer);
-        }
-        allowance = allowance.saturating_mul(2).min(limits.trials);
-    };
-    Ok(Listing { counts: lent.counts.map(u64::from), ..Listing::alone(made, lent.answer, room, limits)? })
-}
-
-/// Lists the plans, and shows on a terminal how far a long run has come.
-pub fn list_on_terminal(made: &Made, limits: Limits) -> Result<Listing, Refusal> {
-    if !std::io::stderr().is_terminal() {
-        return list(made, limits, None);
-    }
-    let start = Instant::now();
-    let mut shown = false;
-    let listing = list(
-        made,
-        limits,
-        Some(&mut |answer| {
-            if start.elapsed() > Duration::from_secs(1) {
-                shown = true;
-                let _ = write!(std::io::stderr(), "\r\x1b[K{}", so_far(answer));
-            }
-        }),
-    );
-    if shown {
-        let _ = write!(std::io::stderr(), "\r\x1b[K");
-    }
+/// Lists the plans of a hall, in the order of its pairs.
+pub fn list(made: &Made, limits: Limits, manner: &Manner, watch: &Watch) -> Result<Listing, Refusal> {
+    let listing = Listing::of(made, runner::list(made, limits, manner, watch)?, limits, watch);
+    watch.clear();
     listing
 }
 
 /// Are there at least so many plans? The allowance alone matters of the limits.
-pub fn at_least(made: &Made, plans: u32, limits: Limits) -> Result<Enough, Refusal> {
-    planner::at_least(&made.sheet, &made.pairs, &made.block, plans, limits.trials)
+pub fn at_least(made: &Made, plans: u32, limits: Limits, watch: &Watch) -> Result<Enough, Refusal> {
+    let Some(room) = plans.checked_sub(1) else { return Ok(Enough::Yes { plans, nodes: 0 }) };
+    let sum = runner::count(made, room.into(), limits.trials.into(), watch)?;
+    watch.clear();
+    let [found, nodes] = [sum.plans, sum.trials].map(|number| number as u32);
+    Ok(match sum.ending {
+        Some(Ending::Full) => Enough::Yes { plans, nodes },
+        Some(Ending::Finished) => Enough::No { plans: found, nodes },
+        _ => Enough::Spent { plans: found, nodes },
+    })
 }
 
-fn so_far(answer: Answer) -> String {
-    format!("{} and {} so far", counted(answer.nodes, "trial"), counted(answer.plans, "plan"))
+/// The families of a finished run's plans, counted on a thread of their own that is left behind when they are to stop.
+fn families_of(made: &Made, limits: Limits, watch: &Watch) -> Result<Families, Refusal> {
+    let Made { sheet, pairs, block, .. } = made;
+    let closed = planner::closed(sheet, pairs, block)?;
+    let [sheet, pairs, block] = [sheet, pairs, block].map(Vec::clone);
+    let (send, receive) = mpsc::channel();
+    let count = move || send.send(planner::families(&sheet, &pairs, &block, limits.trials));
+    let thread = thread::Builder::new().stack_size(2 * STACK_BYTES).spawn(count);
+    loop {
+        match receive.recv_timeout(PATIENCE) {
+            Ok(count) => return Ok(Families { count: count?, stop: None, closed }),
+            Err(_) if watch.stops().is_some() || thread.is_err() => {
+                return Ok(Families { count: None, stop: watch.stops(), closed })
+            }
+            Err(_) => {}
+        }
+    }
 }
 
 impl Listing {
     /// What a run without counts by window answered, and the plans at the front of its list.
     pub fn alone(made: &Made, answer: Answer, list: Vec<u8>, limits: Limits) -> Result<Listing, Refusal> {
         let plans = Plans::new(made.problem.variables.len(), list, answer.plans as usize);
-        Listing::of(
-            made,
-            Ran { ending: answer.ending, plans, trials: answer.nodes.into(), counts: [0; 12] },
-            limits,
-        )
+        let Answer { ending, nodes, .. } = answer;
+        let (from, at) = (START.to_vec(), START.to_vec());
+        let ran = Ran { ending, plans, trials: nodes.into(), counts: [0; 12], from, at, stop: None };
+        Listing::of(made, ran, limits, &Watch::nobody())
     }
 
     /// What a run came to.
-    pub fn of(made: &Made, ran: Ran, limits: Limits) -> Result<Listing, Refusal> {
-        let Ran { ending, plans, trials, counts } = ran;
+    pub fn of(made: &Made, ran: Ran, limits: Limits, watch: &Watch) -> Result<Listing, Refusal> {
+        let Ran { ending, plans, trials, counts, from, at, stop } = ran;
         let listed = plans.len() as u64;
-        let has_families = ending == Ending::Finished && listed > 0 && made.has_exchanges();
-        let families = match has_families && !limits.first {
-            true => Some(Families {
-                count: planner::families(&made.sheet, &made.pairs, &made.block, limits.trials)?,
-                closed: planner::closed(&made.sheet, &made.pairs, &made.block)?,
-            }),
+        let is_whole = ending == Ending::Finished && from == START && !limits.first;
+        let families = match is_whole && listed > 0 && made.has_exchanges() {
+            true => Some(families_of(made, limits, watch)?),
             false => None,
         };
         let hint = match ending {
-            _ if limits.first && listed > 0 => "",
-            Ending::Finished => "",
-            Ending::Full => " (--plans N makes room)",
-            Ending::Spent => " (--trials N allows more)",
+            _ if limits.first && listed > 0 => String::new(),
+            _ if stop.is_some() => format!(" (plans --from {} goes on)", word(&at)),
+            Ending::Finished => String::new(),
+            Ending::Full => " (--plans N makes room)".to_string(),
+            Ending::Spent => " (--trials N allows more)".to_string(),
         };
-        let (shown, hint) = (None, hint.to_string());
-        Ok(Listing { ending, plans, listed, shown, trials, counts, families, limits, hint })
+        let shown = None;
+        Ok(Listing { ending, plans, listed, shown, trials, counts, families, limits, hint, from, at, stop })
     }
 
     /// A listing that shows a plan, or that has none to show.
@@ -245,6 +235,7 @@ impl Listing {
     /// The ending as a word.
     pub fn word(&self) -> &'static str {
         match self.ending {
+            _ if self.stop.is_some() => "stopped",
             Ending::Finished => "finished",
             Ending::Spent => "spent",
             Ending::Full => "full",
@@ -254,7 +245,11 @@ impl Listing {
     /// The ending in words, and which plans are shown.
     pub fn ending(&self) -> String {
         let shown = self.shown.as_ref().map_or(String::new(), |shown| format!("; {shown}"));
-        self.ended() + &shown
+        let after = match &self.from[..] {
+            START => String::new(),
+            from => format!("; only what comes after {}", word(from)),
+        };
+        self.ended() + &after + &shown
     }
 
     fn ended(&self) -> String {
@@ -262,7 +257,10 @@ impl Listing {
             0 => "no plan".to_string(),
             count => counted(count, "plan"),
         };
-        let spent = format!("stopped at the allowance of {}", counted(self.limits.trials, "trial"));
+        let spent = match self.stop {
+            Some(cause) => format!("{} and {}", cause.words(), counted(self.trials, "trial")),
+            None => format!("stopped at the allowance of {}", counted(self.limits.trials, "trial")),
+        };
         match self.ending {
             Ending::Finished => {
                 let count = self.families.and_then(|families| families.count);

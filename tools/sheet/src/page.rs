@@ -10,7 +10,9 @@ use crate::input::{Input, HALL_OPTIONS, WHERE_OPTION};
 use crate::listing::{Limits, Listing, PLANS_OPTION};
 use crate::pairs::settled;
 use crate::problem::Problem;
+use crate::runner::Manner;
 use crate::text::{Stated, Statement};
+use crate::watch::Watch;
 use crate::why::narrow;
 use planner::Ending;
 use std::path::Path;
@@ -47,13 +49,14 @@ fn run(arguments: &Arguments) -> Result<Outcome, Stop> {
     let limits = Limits::of(arguments)?;
     let source = &arguments.sources[0];
     let input = Input::read(source)?.lent(arguments)?;
-    let listing = input.list(limits)?.some_shown()?;
+    let watch = Watch::of(arguments)?;
+    let listing = input.list(limits, &Manner::default(), &watch)?.some_shown()?;
     let title = match source.0.as_str() {
         "-" => "Hall".to_string(),
         file => Path::new(file).file_stem().map_or(file.into(), |stem| stem.to_string_lossy().into_owned()),
     };
     let why = match listing.ending {
-        Ending::Finished if listing.plans.is_empty() => narrow(&input.text, limits.first()).lines,
+        Ending::Finished if listing.plans.is_empty() => narrow(&input.text, limits.first(), &watch).lines,
         _ => Vec::new(),
     };
     let page = Page { title, input: &input, listing: &listing, why };

@@ -4,11 +4,12 @@ use crate::command::{refuse, Arguments, Choice, Command, Outcome, Source, Status
 use crate::cut::cut;
 use crate::input::{Input, TEXT_OPTIONS};
 use crate::path::{path, word};
-use crate::result::{Hall, Part};
+use crate::result::{is_part, Hall, Part};
 use crate::split::{number, MOST_PARTS};
 use crate::walker::{Tree, Walker};
+use crate::watch::{Progress, Watch, EVERY_OPTION, SECONDS_OPTION};
 use crate::words::grouped;
-use planner::Ending;
+use planner::{Ending, Refusal};
 use std::fs;
 use std::io::Write;
 use std::path::Path;
@@ -23,7 +24,9 @@ pub const COMMAND: Command = Command {
             Choice { name: PART, value: Some("K/N"), about: "the K-th of N parts, as `sheet split N` cuts them" },
             Choice { name: RANGE, value: Some("FROM UPTO"), about: "the trials after FROM and not after UPTO" },
             Choice { name: OUT, value: Some("FILE"), about: "the file, written aside and then renamed" },
-            Choice { name: TRIALS, value: Some("N"), about: "stops after N trials; the same words then go on" },
+            Choice { name: TRIALS, value: Some("N"), about: "stop after N trials; the same words then go on" },
+            SECONDS_OPTION,
+            EVERY_OPTION,
         ],
         TEXT_OPTIONS,
     ],
@@ -40,11 +43,10 @@ const TRIALS: &str = "--trials";
 const MOST_PLANS: usize = 10_000_000;
 
 fn run(arguments: &Arguments) -> Result<Outcome, Stop> {
-    let Some(file) = arguments.file(OUT) else {
-        return refuse("part takes --out FILE");
+    let Some(file) = arguments.file(OUT).filter(|file| file.0 != "-") else {
+        return refuse("part takes --out FILE, which isn't standard output");
     };
-    let trials = allowance(arguments)?;
-    let wanted = Wanted::of(arguments)?;
+    let (trials, wanted) = (allowance(arguments)?, Wanted::of(arguments)?);
     let input = Input::read(&arguments.sources[0])?.lent(arguments)?;
     let [from, upto] = wanted.range(&input);
     let hall = input.accepted(Hall::new(&input.made))?;
@@ -53,7 +55,8 @@ fn run(arguments: &Arguments) -> Result<Outcome, Stop> {
         Some(part) => part,
         None => Part::new(hall),
     };
-    input.accepted(go_on(&input, [&from, &upto], trials, &mut part))?;
+    let task = Task { from, upto, trials, watch: Watch::of(arguments)? };
+    input.accepted(go_on(&input, &task, &mut part))?;
     leave(&file, &part.bytes())?;
     match part.is_finished() {
         true => Ok(silent(Status::Finished)),
@@ -70,13 +73,21 @@ fn stopped(part: &Part) -> String {
     format!("stopped short: {}; the same words go on", part.words())
 }
 
-/// The trials that may be made.
-fn allowance(arguments: &Arguments) -> Result<u64, Stop> {
-    let Some(value) = arguments.all(TRIALS).last() else { return Ok(u64::MAX) };
+/// How many trials may be made, if that is limited.
+fn allowance(arguments: &Arguments) -> Result<Option<u64>, Stop> {
+    let Some(value) = arguments.all(TRIALS).last() else { return Ok(None) };
     match value.replace([',', '_'], "").parse() {
-        Ok(trials) => Ok(trials),
+        Ok(trials) => Ok(Some(trials)),
         Err(_) => refuse(format!("{TRIALS} takes a number, not `{value}`")),
     }
+}
+
+/// A range, how many trials may be made, and who watches.
+struct Task {
+    from: Vec<u8>,
+    upto: Vec<u8>,
+    trials: Option<u64>,
+    watch: Watch,
 }
 
 /// What the words ask for.
@@ -127,11 +138,13 @@ impl Wanted {
 /// The part of a range that is in the file already. A file that holds something else stays; a damaged one is run anew.
 fn found(file: &Source, hall: &Hall, [from, upto]: [&[u8]; 2]) -> Result<Option<Part>, Stop> {
     match fs::metadata(&file.0) {
-        Err(_) => return Ok(None),
+        Err(_) => return folder(file).map(|()| None),
         Ok(about) if !about.is_file() => return refuse(format!("{}: no file to be written", file.0)),
         Ok(_) => {}
     }
-    match Part::read(&file.bytes()?) {
+    let bytes = file.bytes()?;
+    match Part::read(&bytes) {
+        None if !is_part(&bytes) => refuse(format!("{} is something else than a part, and stays", file.0)),
         Some(part) if !part.is_of(hall) => refuse(format!("{} is a part of another hall", file.0)),
         Some(part) if !part.has_range(from, upto) => {
             refuse(format!("{} is another part: {}", file.0, part.words()))
@@ -140,24 +153,31 @@ fn found(file: &Source, hall: &Hall, [from, upto]: [&[u8]; 2]) -> Result<Option<
     }
 }
 
-/// Goes on with a part, with so many trials more, as long as there is room for its plans.
-fn go_on(
-    input: &Input,
-    [from, upto]: [&[u8]; 2],
-    trials: u64,
-    part: &mut Part,
-) -> Result<(), planner::Refusal> {
-    let from = if part.heads.is_empty() { from } else { part.last() };
-    let mut walker = Walker::new(Tree::of(&input.made), from, upto);
-    let mut left = trials;
+/// Sees that there is a folder for the file before anything is run.
+fn folder(file: &Source) -> Result<(), Stop> {
+    let folder = Path::new(&file.0).parent().filter(|folder| *folder != Path::new(""));
+    let found = fs::metadata(folder.unwrap_or(Path::new("."))).map(|_| ());
+    found.map_err(|error| Stop { status: Status::Failed, text: format!("{}: {error}", file.0) })
+}
+
+/// Goes on with a part, with so many trials more, until it is finished or stopped or has no room for more plans.
+fn go_on(input: &Input, task: &Task, part: &mut Part) -> Result<(), Refusal> {
+    let from = if part.heads.is_empty() { &task.from } else { part.last() };
+    let mut walker = Walker::new(Tree::of(&input.made), from, &task.upto);
+    let mut made = 0;
     loop {
         let room = (MOST_PLANS - part.plans()) as u64;
-        let limit = left.min(part.trials_left()).min(room);
+        let limit = match task.watch.stops() {
+            Some(_) => 0,
+            None => (task.trials.unwrap_or(u64::MAX) - made).min(part.trials_left()).min(room),
+        };
         let step = walker.step(limit, limit)?;
         let answer = step.head.answer();
         part.take(step);
-        left -= u64::from(answer.nodes);
-        if answer.ending == Ending::Finished || left == 0 || room == 0 {
+        made += u64::from(answer.nodes);
+        let plans = Some(part.plans() as u64);
+        task.watch.hear(Progress { trials: made, plans, allowance: task.trials });
+        if answer.ending == Ending::Finished || limit == 0 {
             return Ok(());
         }
     }

@@ -1,17 +1,20 @@
-//! All solutions of a hall, part by part: a run whose list is full goes on with the parts of the hall that read later than
-//! its last plan, so that no list grows with the number of solutions.
+//! All solutions of a hall, in reading order, with a list that doesn't grow with their number.
 
 use crate::pairs::order;
 use crate::problem::Problem;
-use planner::{Ending, Refusal};
+use crate::walker::{Tree, Walker};
+use crate::watch::{Progress, Watch};
+use planner::{Ending, Refusal, END, START};
 
 /// A hall without exchanges, the order in which it is read, and the trials left to it.
-pub struct Parts {
+pub struct Parts<'a> {
     problem: Problem,
     pairs: Vec<u8>,
     pub order: Vec<usize>,
+    allowance: u32,
     pub trials: u32,
-    room: Vec<u8>,
+    room: usize,
+    watch: &'a Watch,
 }
 
 /// How the reading of a part ended.
@@ -19,56 +22,44 @@ pub struct Parts {
 pub enum Read {
     /// All was read, or enough of it.
     Done,
-    /// The trials are used up.
+    /// The trials are used up, or the run was stopped.
     Spent,
 }
 
-impl Parts {
-    /// Each run's list has room for so many plans.
-    pub fn new(problem: &Problem, pairs: &[u8], trials: u32, room: usize) -> Parts {
+impl<'a> Parts<'a> {
+    /// Each call's list has room for so many plans.
+    pub fn new(problem: &Problem, pairs: &[u8], trials: u32, room: usize, watch: &'a Watch) -> Parts<'a> {
         let problem = Problem { symmetries: Vec::new(), ..problem.clone() };
-        let windows = problem.variables.len();
-        let order = order(windows, pairs);
-        Parts { problem, pairs: pairs.to_vec(), order, trials, room: vec![0; windows * room.max(1)] }
+        let order = order(problem.variables.len(), pairs);
+        Parts { problem, pairs: pairs.to_vec(), order, allowance: trials, trials, room: room.max(1), watch }
     }
 
     /// Shows every solution from some sets in reading order, as long as `take` goes on.
     pub fn each(&mut self, sets: Vec<u16>, mut take: impl FnMut(&[u8]) -> bool) -> Result<Read, Refusal> {
         let windows = self.order.len();
-        let mut parts = vec![sets];
-        while let Some(sets) = parts.pop() {
-            let sheet = Problem { initial: sets.clone(), ..self.problem.clone() }.encode();
-            let answer = planner::run_lent(&sheet, &self.pairs, &[], self.trials, &mut self.room)?.answer;
+        let sheet = Problem { initial: sets, ..self.problem.clone() }.encode();
+        let tree = Tree { sheet: &sheet, pairs: &self.pairs, block: &[], windows };
+        let mut walker = Walker::new(tree, START, END);
+        while self.watch.stops().is_none() {
+            let step = walker.step(self.trials.into(), self.room as u64)?;
+            let answer = step.head.answer();
+            let plans = step.rows.chunks(windows);
+            let last = plans.clone().last().map(<[u8]>::to_vec);
             self.trials = self.trials.saturating_sub(answer.nodes.max(1));
-            let mut plans = self.room.chunks(windows).take(answer.plans as usize);
-            if !plans.all(&mut take) {
+            let made = u64::from(self.allowance - self.trials);
+            self.watch.hear(Progress { trials: made, plans: None, allowance: Some(self.allowance.into()) });
+            if !plans.into_iter().all(&mut take) {
                 return Ok(Read::Done);
             }
-            match answer.ending {
-                Ending::Finished => {}
-                Ending::Spent => return Ok(Read::Spent),
-                Ending::Full => {
-                    let last = windows * (answer.plans as usize - 1);
-                    parts.extend(self.later(&sets, &self.room[last..last + windows]));
+            match (answer.ending, last) {
+                (Ending::Finished, _) => return Ok(Read::Done),
+                (Ending::Full, Some(plan)) => {
+                    walker.at = self.order.iter().map(|&window| plan[window]).collect()
                 }
+                _ if self.trials == 0 => return Ok(Read::Spent),
+                _ => {}
             }
         }
-        Ok(Read::Done)
-    }
-
-    /// The parts that read later than a plan, the next one last: the windows before one are as in the plan, that one has a
-    /// later duty, those after it any.
-    fn later(&self, sets: &[u16], plan: &[u8]) -> Vec<Vec<u16>> {
-        let mut parts = Vec::new();
-        let mut front = sets.to_vec();
-        for &window in &self.order {
-            let mut part = front.clone();
-            part[window] &= (!1u16).checked_shl(plan[window].into()).unwrap_or(0);
-            if part[window] > 0 {
-                parts.push(part);
-            }
-            front[window] = 1 << plan[window];
-        }
-        parts
+        Ok(Read::Spent)
     }
 }

@@ -14,7 +14,7 @@ pub fn word(path: &[u8]) -> String {
     }
 }
 
-/// The path that a word stands for, if it stands for one.
+/// The path that a word stands for, if it stands for one; none comes after `end`.
 pub fn path(word: &str) -> Option<Vec<u8>> {
     match word {
         "start" => return Some(START.to_vec()),
@@ -26,7 +26,7 @@ pub fn path(word: &str) -> Option<Vec<u8>> {
         false => None,
     };
     let path = word.split('.').map(value).collect::<Option<Vec<u8>>>()?;
-    (path.len() <= LONGEST).then_some(path)
+    (path.len() <= LONGEST && path[..] <= *END).then_some(path)
 }
 
 #[cfg(test)]
@@ -41,7 +41,8 @@ mod tests {
         }
         assert_eq!(word(&[3, 0, 12]), "3.0.12");
         assert_eq!(path("255").as_deref(), Some(END));
-        for wrong in ["", "-", ".", "3.", ".3", "3..4", "256", "+3", "x", "3,4", "0.0.0.0.0.0.0.0.0.0.0.0.0"]
+        for wrong in
+            ["", "-", ".", "3.", ".3", "3..4", "256", "+3", "x", "3,4", "255.0", "0.0.0.0.0.0.0.0.0.0.0.0.0"]
         {
             assert_eq!(path(wrong), None, "{wrong}");
         }

@@ -7,7 +7,9 @@ use crate::families::{closed, not_counted, number};
 use crate::input::{Input, HALL_OPTIONS, WHERE_OPTION};
 use crate::listing::{Limits, Listing, PLANS_OPTION};
 use crate::pairs::settled;
+use crate::runner::{Manner, FROM_OPTION, JOBS_OPTION};
 use crate::table::{write_counts, write_csv, write_json, write_table, Columns};
+use crate::watch::Watch;
 use crate::words::written_all;
 use std::io::Write;
 
@@ -28,6 +30,8 @@ pub const COMMAND: Command = Command {
             EXPLAIN_OPTION,
             WHERE_OPTION,
             PLANS_OPTION,
+            FROM_OPTION,
+            JOBS_OPTION,
         ],
         HALL_OPTIONS,
     ],
@@ -86,9 +90,10 @@ pub fn as_csv(arguments: &Arguments) -> bool {
 
 fn run(arguments: &Arguments) -> Result<Outcome, Stop> {
     let forms = forms(arguments)?;
-    let limits = Limits::of(arguments)?;
+    let (limits, manner) = (Limits::of(arguments)?, Manner::of(arguments)?);
     let input = Input::read(&arguments.sources[0])?.lent(arguments)?;
-    shown(arguments, forms, &input, &input.list(limits)?)
+    let listing = input.list(limits, &manner, &Watch::of(arguments)?)?;
+    shown(arguments, forms, &input, &listing)
 }
 
 /// Are plans to be written as CSV, as JSON, as rows?
@@ -171,7 +176,7 @@ pub fn ended(input: &Input, listing: &Listing, hint: &str, explain: bool) -> Str
     let gap = if listing.plans.is_empty() { "" } else { "\n" };
     let left = if input.made.has_exchanges() { LEFT_OUT } else { "" };
     let closed = if explain { closed(listing, input) } else { None };
-    let exchanges = not_counted(listing).map(String::from).into_iter().chain(closed);
+    let exchanges = not_counted(listing).into_iter().chain(closed);
     let exchanges: String = exchanges.map(|words| format!("({words})\n")).collect();
     format!("{gap}{}{hint}\n{left}{exchanges}", listing.ending())
 }

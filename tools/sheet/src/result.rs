@@ -13,6 +13,11 @@ const MAGIC: &[u8] = b"sheet part 1\n";
 /// The bytes of the numbers after the lines: the hall's digest, the windows, the heads and the plans.
 const NUMBERS: usize = 24;
 
+/// Do bytes begin as a result does, whole or cut short?
+pub fn is_part(bytes: &[u8]) -> bool {
+    bytes.iter().zip(MAGIC).all(|(one, other)| one == other)
+}
+
 /// What tells a hall from others: the digests that its heads bear, and one of its own.
 #[derive(Clone, Copy, Debug, PartialEq, Eq)]
 pub struct Hall {

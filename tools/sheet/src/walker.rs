@@ -41,7 +41,7 @@ pub struct Walker<'a> {
     tree: Tree<'a>,
     /// The last trial made, else where the range begins.
     pub at: Vec<u8>,
-    upto: Vec<u8>,
+    pub upto: Vec<u8>,
     pace: u64,
     list: Vec<u8>,
 }

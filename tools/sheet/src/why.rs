@@ -1,12 +1,14 @@
 //! `sheet why`: where there is no plan, lines of the text that already have none, none of which can be left out.
 
-use crate::command::{Arguments, Command, Outcome, Stop};
+use crate::command::{Arguments, Command, Outcome, Status, Stop};
 use crate::input::{Input, HALL_OPTIONS};
-use crate::listing::{list_on_terminal, Limits, Listing};
+use crate::listing::{list, Limits, Listing};
 use crate::make::make_stated;
 use crate::problem::Problem;
+use crate::runner::Manner;
 use crate::table::table;
 use crate::text::{Stated, Statement, Text};
+use crate::watch::Watch;
 use crate::words::{counted, listed};
 use planner::{Ending, Refusal};
 
@@ -31,21 +33,26 @@ enum Known {
 fn run(arguments: &Arguments) -> Result<Outcome, Stop> {
     let limits = Limits::of(arguments)?.first();
     let input = Input::read(&arguments.sources[0])?.lent(arguments)?;
-    let listing = input.list(limits)?;
+    let watch = Watch::of(arguments)?;
+    let listing = input.list(limits, &Manner::default(), &watch)?;
     let output = match listing.ending {
         _ if listing.listed > 0 => a_plan(&input.made.problem, &listing),
-        Ending::Finished => no_plan(&input, limits),
+        Ending::Finished => no_plan(&input, limits, &watch),
         _ => listing.ending() + listing.hint() + "\n",
     };
-    Ok(Outcome { output: output.into_bytes(), note: input.notes(), status: listing.status() })
+    let status = match watch.stopped() {
+        Some(_) if listing.listed == 0 => Status::Short,
+        _ => listing.status(),
+    };
+    Ok(Outcome { output: output.into_bytes(), note: input.notes(), status })
 }
 
 fn a_plan(problem: &Problem, listing: &Listing) -> String {
     format!("there is a plan:\n\n{}", table(problem, listing))
 }
 
-fn no_plan(input: &Input, limits: Limits) -> String {
-    let left = narrow(&input.text, limits);
+fn no_plan(input: &Input, limits: Limits, watch: &Watch) -> String {
+    let left = narrow(&input.text, limits, watch);
     let mut words = match left.lines.len() {
         1 => "there is no plan: this line alone has none\n".to_string(),
         count => format!("there is no plan: these {count} lines together have none\n"),
@@ -56,7 +63,7 @@ fn no_plan(input: &Input, limits: Limits) -> String {
     if left.lines.len() > 1 {
         words += &needed(&left);
     }
-    words
+    words + &watch.stopped().map_or(String::new(), |cause| format!("({})\n", cause.words()))
 }
 
 /// Of which lines it is known that they are needed, and of which it isn't.
@@ -99,18 +106,18 @@ pub struct Left {
 
 /// Takes away each line in turn, last first and first first, as long as there is no plan without it; the shorter
 /// of the two rests.
-pub fn narrow(text: &Text, limits: Limits) -> Left {
+pub fn narrow(text: &Text, limits: Limits, watch: &Watch) -> Left {
     let narrowing: Vec<usize> =
         (0..text.statements.len()).filter(|&i| text.statements[i].statement.narrows()).collect();
     let backwards: Vec<usize> = narrowing.iter().rev().copied().collect();
-    let rests = [backwards, narrowing].map(|order| rest(text, &order, limits));
+    let rests = [backwards, narrowing].map(|order| rest(text, &order, limits, watch));
     rests.into_iter().min_by_key(|left| (left.open.len(), left.lines.len())).expect("two rests")
 }
 
-fn rest(text: &Text, order: &[usize], limits: Limits) -> Left {
+fn rest(text: &Text, order: &[usize], limits: Limits, watch: &Watch) -> Left {
     let mut kept = vec![true; text.statements.len()];
-    let open = tried(text, order, limits, &mut kept);
-    let open = tried(text, &open, limits, &mut kept);
+    let open = tried(text, order, (limits, watch), &mut kept);
+    let open = tried(text, &open, (limits, watch), &mut kept);
     let lines = part(text, &kept).statements;
     Left {
         lines: lines.into_iter().filter(|stated| stated.statement.narrows()).collect(),
@@ -119,7 +126,7 @@ fn rest(text: &Text, order: &[usize], limits: Limits) -> Left {
 }
 
 /// Takes away each of some statements that isn't needed; those stay of which it isn't known, and are the answer.
-fn tried(text: &Text, order: &[usize], limits: Limits, kept: &mut [bool]) -> Vec<usize> {
+fn tried(text: &Text, order: &[usize], limits: (Limits, &Watch), kept: &mut [bool]) -> Vec<usize> {
     let mut open = Vec::new();
     for &statement in order {
         kept[statement] = false;
@@ -141,10 +148,10 @@ fn part(text: &Text, kept: &[bool]) -> Text {
 }
 
 /// Has the text a plan? Exchanges say nothing of that: those that the other lines no longer bear are left out.
-fn ask(mut text: Text, limits: Limits) -> Known {
+fn ask(mut text: Text, (limits, watch): (Limits, &Watch)) -> Known {
     loop {
         match make_stated(&text) {
-            Ok(made) => return known(list_on_terminal(&made, limits)),
+            Ok(made) => return known(list(&made, limits, &Manner::default(), watch)),
             Err(faults) => {
                 let before = text.statements.len();
                 let wrong = |stated: &Stated| faults.iter().any(|fault| fault.line == stated.first);

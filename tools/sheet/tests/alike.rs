@@ -5,6 +5,8 @@ use sheet::listing::{list, Limits, Listing};
 use sheet::make;
 use sheet::pairs::order;
 use sheet::parse::parse;
+use sheet::runner::Manner;
+use sheet::watch::Watch;
 use sheets::Rng;
 use std::path::PathBuf;
 use std::process::{Command, Output};
@@ -21,7 +23,7 @@ const LINES: &str = "windows a b c d e\nduties x y z u\nmay a x y z\nat most 1 u
 const NAMES: [&str; 5] = ["a", "b", "c", "d", "e"];
 
 fn listed(text: &str) -> Listing {
-    let listing = list(&make(text).unwrap(), ALL, None).unwrap();
+    let listing = list(&make(text).unwrap(), ALL, &Manner::default(), &Watch::nobody()).unwrap();
     assert_eq!(listing.ending, Ending::Finished);
     listing
 }

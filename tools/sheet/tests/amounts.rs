@@ -4,7 +4,9 @@ use planner::Ending;
 use sheet::listing::{list, Limits};
 use sheet::make::make;
 use sheet::parse::parse;
+use sheet::runner::Manner;
 use sheet::text::{Statement, Text};
+use sheet::watch::Watch;
 use sheets::Rng;
 use std::collections::BTreeSet;
 
@@ -58,7 +60,7 @@ fn by_rules_on_three_windows() {
         let plans = enumerated(&text);
         match make(&source) {
             Ok(made) => {
-                let listing = list(&made, ALL, None).unwrap();
+                let listing = list(&made, ALL, &Manner::default(), &Watch::nobody()).unwrap();
                 assert_eq!(listing.ending, Ending::Finished);
                 let listed = listing.plans.iter().map(|plan| plan.iter().map(|&duty| duty.into()).collect());
                 assert_eq!(listed.collect::<Vec<Plan>>(), plans, "{source}");
@@ -90,7 +92,7 @@ fn put_together() {
             source += &format!("at most 1 d{duty} {}\n", windows[..7 + rng.below(3)].join(" "));
         }
         let made = make(&source).unwrap_or_else(|faults| panic!("{faults:?}\n{source}"));
-        let listing = list(&made, ALL, None).unwrap();
+        let listing = list(&made, ALL, &Manner::default(), &Watch::nobody()).unwrap();
         let listed = listing.plans.iter().map(|plan| plan.iter().map(|&duty| duty.into()).collect());
         assert_eq!(listed.collect::<Vec<Plan>>(), enumerated(&parse(&source).unwrap()), "{source}");
         assert!(made.problem.constraints.len() <= 32);

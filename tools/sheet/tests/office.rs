@@ -11,8 +11,10 @@ use sheet::pairs::order;
 use sheet::parse::parse;
 use sheet::parts::{Parts, Read};
 use sheet::problem::Problem;
+use sheet::runner::Manner;
 use sheet::score::Score;
 use sheet::text::Text;
+use sheet::watch::Watch;
 use sheets::Rng;
 use std::collections::BTreeSet;
 
@@ -90,7 +92,7 @@ fn tables(made: &Made) -> Vec<Vec<usize>> {
 }
 
 fn listed(made: &Made) -> Vec<Plan> {
-    let listing = list(made, ALL, None).unwrap();
+    let listing = list(made, ALL, &Manner::default(), &Watch::nobody()).unwrap();
     assert_eq!(listing.ending, Ending::Finished);
     listing.plans.iter().map(|plan| plan.iter().map(|&duty| duty.into()).collect()).collect()
 }
@@ -174,7 +176,7 @@ fn best_plans() {
         let (input, source) = input("best", &(hall(&mut rng) + &wishes(&mut rng) + before(&mut rng)));
         let score = Score::new(&input.text, &source, &[]).unwrap();
         let count = 1 + rng.below(12);
-        let found = best(&input, &score, count, 1_000_000).unwrap();
+        let found = best(&input, &score, count, 1_000_000, &Watch::nobody()).unwrap();
         let expected: Vec<Plan> = by_hand(&input, &score).into_iter().take(count).collect();
         let plans: Vec<Plan> =
             found.plans.iter().map(|plan| plan.iter().map(|&duty| duty.into()).collect()).collect();
@@ -194,7 +196,7 @@ fn stopped_short() {
     for _ in 0..200 {
         let (input, source) = input("short", &(hall(&mut rng) + &wishes(&mut rng)));
         let score = Score::new(&input.text, &source, &[]).unwrap();
-        let found = best(&input, &score, 1_000, 1 + rng.below(60) as u32).unwrap();
+        let found = best(&input, &score, 1_000, 1 + rng.below(60) as u32, &Watch::nobody()).unwrap();
         if found.ending == Read::Spent {
             short += 1;
             let cost = |plan: &[u8]| score.of_plan(plan);
@@ -217,7 +219,8 @@ fn parts() {
         let Text { statements, .. } = &text;
         let bare = statements.iter().filter(|stated| !stated.statement.exchanges()).cloned().collect();
         let made = make_all(&Text { statements: bare, ..text.clone() }).unwrap();
-        let mut parts = Parts::new(&made.problem, &made.pairs, u32::MAX, 1 + round % 4);
+        let watch = Watch::nobody();
+        let mut parts = Parts::new(&made.problem, &made.pairs, u32::MAX, 1 + round % 4, &watch);
         let mut shown = Vec::new();
         let read = parts.each(made.problem.initial.clone(), |plan| {
             shown.push(plan.iter().map(|&duty| duty.into()).collect::<Plan>());

@@ -6,6 +6,8 @@ use sheet::listing::{list, Limits};
 use sheet::make;
 use sheet::pairs::{order, settled, wrong};
 use sheet::parse::parse;
+use sheet::runner::Manner;
+use sheet::watch::Watch;
 use sheets::Rng;
 use std::path::PathBuf;
 use std::process::{Command, Output};
@@ -153,13 +155,13 @@ fn plans_in_the_order() {
         let mut plans = enumerated(&parse(&text).unwrap());
         plans.sort_by_key(|plan| order.iter().map(|&window| plan[window]).collect::<Vec<_>>());
         let all = Limits { trials: u32::MAX, plans: 1000, first: false };
-        let listing = list(&made, all, None).unwrap();
+        let listing = list(&made, all, &Manner::default(), &Watch::nobody()).unwrap();
         assert_eq!(listing.ending, Ending::Finished);
         let listed: Vec<Vec<usize>> =
             listing.plans.iter().map(|plan| plan.iter().map(|&duty| duty as usize).collect()).collect();
         assert_eq!(listed, plans, "{pairs:?}");
-        assert_eq!(list(&made, all, Some(&mut |_| {})).unwrap(), listing);
-        let first = list(&made, all.first(), None).unwrap();
+        assert_eq!(list(&made, all, &Manner::default(), &Watch::nobody()).unwrap(), listing);
+        let first = list(&made, all.first(), &Manner::default(), &Watch::nobody()).unwrap();
         assert_eq!(Some(first.plans.bytes()), listing.plans.iter().next());
         moved += usize::from(listed.windows(2).any(|two| two[0] > two[1]));
     }

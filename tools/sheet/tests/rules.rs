@@ -4,6 +4,8 @@ use planner::Ending;
 use sheet::listing::{list, Limits};
 use sheet::make::{make, Made};
 use sheet::parse::parse;
+use sheet::runner::Manner;
+use sheet::watch::Watch;
 use sheets::Rng;
 
 mod common;
@@ -13,7 +15,7 @@ const ALL: Limits = Limits { trials: u32::MAX, plans: 1_000_000, first: false };
 
 /// The plans that the proved planner lists; without exchanges these are all solutions.
 fn planned(made: &Made) -> Vec<Vec<usize>> {
-    let listing = list(made, ALL, None).expect("an accepted sheet");
+    let listing = list(made, ALL, &Manner::default(), &Watch::nobody()).expect("an accepted sheet");
     assert_eq!(listing.ending, Ending::Finished);
     listing.plans.iter().map(|plan| plan.iter().map(|&duty| duty as usize).collect()).collect()
 }

@@ -4,6 +4,7 @@ use sheet::listing::Limits;
 use sheet::make::make_stated;
 use sheet::parse::parse;
 use sheet::text::Text;
+use sheet::watch::Watch;
 use sheet::why::{narrow, Left};
 use sheets::Rng;
 
@@ -59,7 +60,7 @@ fn random_texts() {
         let text = parse(&random_text(&mut rng)).expect("a text");
         if make_stated(&text).is_ok() && enumerated(&text).is_empty() {
             none += 1;
-            each_is_needed(&text, &narrow(&text, LIMITS));
+            each_is_needed(&text, &narrow(&text, LIMITS, &Watch::nobody()));
         }
     }
     assert!(none > 50, "{none}");
@@ -72,7 +73,7 @@ fn exchanges() {
                 all different a b c d e f g h\nnever together a t b u\nnever together b t a u\n\
                 exchange windows a b\nexchange windows c d e f g h\nexchange duties v w x y z\n";
     let text = parse(text).unwrap();
-    let left = narrow(&text, LIMITS);
+    let left = narrow(&text, LIMITS, &Watch::nobody());
     assert_eq!(left.lines.iter().map(|stated| stated.first).collect::<Vec<_>>(), [5]);
     assert!(left.open.is_empty());
 }
@@ -83,7 +84,7 @@ fn stopped_short() {
     let text =
         "windows a b c d e f g h\nduties t u v w x y z\nall different a b c d e f g h\ndifferent a b\n";
     let text = parse(text).unwrap();
-    let left = narrow(&text, Limits { trials: 100, ..LIMITS });
+    let left = narrow(&text, Limits { trials: 100, ..LIMITS }, &Watch::nobody());
     assert_eq!(left.lines.iter().map(|stated| stated.first).collect::<Vec<_>>(), [3, 4]);
     assert_eq!(left.open, [4]);
 }
