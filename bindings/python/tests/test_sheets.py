@@ -84,12 +84,30 @@ class Sheets(unittest.TestCase):
         self.assertEqual(text.plans(words, trials=2).ending, Ending.SPENT)
         listing = text.plans(words, room=2)
         self.assertEqual((listing.ending, len(listing.plans)), (Ending.FULL, 2))
+        listing = text.plans(words, room=1)
+        self.assertEqual((listing.ending, len(listing.plans)), (Ending.FULL, 1))
+        listing = text.plans("windows a b\nduties x\ndifferent a b\nbefore b a\n")
+        self.assertEqual((listing.ending, listing.plans, listing.order), (Ending.FINISHED, [], ["b", "a"]))
 
     def test_faults(self) -> None:
         with self.assertRaises(text.Fault) as caught:
             text.plans("windows a\nduties x\nmay b x\n")
         self.assertEqual(caught.exception.status, 1)
         self.assertIn(":3: ", str(caught.exception))
+        told = text.Told("standard input", 3, None, None, "no window is called `b`")
+        self.assertEqual(caught.exception.faults, [told])
+
+    def test_refusals(self) -> None:
+        for call in [text.plans, text.make]:
+            with self.assertRaises(text.Fault) as caught:
+                call("windows a b\nduties x\nbefore a b\nbefore b a\n")
+            [told] = caught.exception.faults
+            self.assertEqual((caught.exception.status, told.line, told.number, told.item), (1, 4, 30, 0))
+        sheet = (ROOT / "examples" / "a.sheet").read_bytes()
+        with self.assertRaises(text.Fault) as caught:
+            text.show(sheet[:20])
+        [told] = caught.exception.faults
+        self.assertEqual((told.file, told.line, told.number), ("standard input", None, 6))
 
 
 if __name__ == "__main__":

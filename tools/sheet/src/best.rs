@@ -4,14 +4,16 @@
 //! window are run in the order of their total, so that the first plans found are the best, and no list is longer than
 //! the plans asked for.
 
+use crate::answers;
 use crate::command::{out, refuse, Arguments, Choice, Command, Out, Outcome, Source, Status, Stop};
 use crate::input::{Input, HALL_OPTIONS, WHERE_OPTION};
+use crate::json::{list, object, write_rows, Fields, Json, JSON_OPTION};
 use crate::listing::{Limits, Plans};
 use crate::parts::{Parts, Read};
 use crate::plans::{as_csv, write_bom, BOM_OPTION, CSV_OPTION};
 use crate::runner::count;
 use crate::score::Score;
-use crate::table::{write_counts, write_csv, write_table, Columns};
+use crate::table::{free, write_counts, write_csv, write_table, Columns};
 use crate::text::{Stated, Statement};
 use crate::watch::{Cause, Watch};
 use crate::words::{counted, grouped, written};
@@ -27,6 +29,7 @@ pub const COMMAND: Command = Command {
         &[
             CSV_OPTION,
             BOM_OPTION,
+            JSON_OPTION,
             Choice {
                 name: FIXED,
                 value: None,
@@ -59,6 +62,10 @@ fn run(arguments: &Arguments) -> Result<Outcome, Stop> {
         [count, source] => (number(&count.0)?, source),
         rest => (1, &rest[0]),
     };
+    let forms = [as_csv(arguments), arguments.has(JSON_OPTION.name), arguments.has(FIXED)];
+    if forms.iter().filter(|form| **form).count() > 1 {
+        return refuse("best takes one of --csv, --json and --fixed");
+    }
     let limits = Limits::of(arguments)?;
     let input = Input::read(source)?.lent(arguments)?;
     let files: Vec<Source> = arguments.all("--near").cloned().map(Source).collect();
@@ -69,27 +76,18 @@ fn run(arguments: &Arguments) -> Result<Outcome, Stop> {
     drop(watch);
     let shown = Shown { input: &input, score: &score, best: &best, limits, stop };
     let mut out = out();
-    let ending = shown.ending();
-    let note = match (as_csv(arguments), arguments.has(FIXED)) {
-        (true, true) => return refuse("best takes one of --csv and --fixed"),
-        (true, _) => {
+    match forms {
+        [true, _, _] => {
             out.all(|out| write_bom(out, arguments))?;
             out.all(|out| write_csv(out, &input.made.problem, &shown.plans()))?;
-            ending
         }
-        (_, true) => {
-            out.all(|out| write!(out, "{}", shown.fixed()))?;
-            ending
-        }
-        _ => {
-            shown.write(&mut out)?;
-            out.all(|out| write!(out, "{ending}"))?;
-            String::new()
-        }
-    };
+        [_, true, _] => shown.write_json(&mut out, count)?,
+        [_, _, true] => out.all(|out| write!(out, "{}", shown.fixed()))?,
+        _ => shown.write(&mut out)?,
+    }
     out.end()?;
-    let status = if best.ending == Read::Done { Status::Finished } else { Status::Short };
-    Ok(Outcome { output: Vec::new(), note: input.notes() + &score.notes + &note, status })
+    let note = if forms[0] || forms[2] { shown.ending() } else { String::new() };
+    Ok(Outcome { output: Vec::new(), note: shown.notes() + &note, status: best.status() })
 }
 
 fn number(word: &str) -> Result<usize, Stop> {
@@ -111,6 +109,16 @@ pub struct Best {
     pub trials: u32,
     /// How many exchanges keep every preference, and how many don't; alike windows count for one, or for one of each.
     pub exchanges: [usize; 2],
+}
+
+impl Best {
+    fn status(&self) -> Status {
+        match self.ending {
+            Read::Spent => Status::Short,
+            Read::Done if self.plans.is_empty() => Status::NoPlan,
+            Read::Done => Status::Finished,
+        }
+    }
 }
 
 /// The best plans of a hall, but those that exchanges which keep every preference make of earlier ones.
@@ -357,7 +365,7 @@ impl Shown<'_> {
         text
     }
 
-    /// The table, what each plan costs, and how often each duty stands.
+    /// The table, what each plan costs, how often each duty stands, and the ending.
     fn write(&self, out: &mut Out) -> Result<(), Stop> {
         let (plans, problem, present) = (self.plans(), &self.input.made.problem, self.input.present());
         let costs: Vec<u64> = plans.iter().map(|plan| self.score.of_plan(plan)).collect();
@@ -372,14 +380,65 @@ impl Shown<'_> {
             };
             out.all(|out| writeln!(out, "{gap}plan {} costs {broken}", number + 1))?;
         }
-        match plans.len() > 1 {
-            true => out.all(|out| write_counts(out, problem, &plans, present)),
-            false => Ok(()),
+        if plans.len() > 1 {
+            out.all(|out| write_counts(out, problem, &plans, present))?;
         }
+        out.all(|out| write!(out, "{}", self.ending()))
+    }
+
+    /// What is said beside the answer.
+    fn notes(&self) -> String {
+        self.input.notes() + &self.score.notes
+    }
+
+    /// The answer for machines to so many plans asked for.
+    fn write_json(&self, out: &mut Out, asked: usize) -> Result<(), Stop> {
+        let plans = self.plans();
+        let rows = plans.iter().map(|plan| self.row(plan));
+        out.all(|out| write_rows(out, &self.json(asked), "best", rows))
+    }
+
+    /// The same but for the plans.
+    fn json(&self, asked: usize) -> Fields {
+        let best = self.best;
+        let word = match (best.ending, self.stop) {
+            (Read::Done, _) => "finished",
+            (Read::Spent, Some(_)) => "stopped",
+            (Read::Spent, None) => "spent",
+        };
+        let ending = answers::ending(word, best.status(), &self.words());
+        let mut fields = answers::of_hall(COMMAND.name, self.input, &self.notes(), ending);
+        fields.extend([
+            ("asked", asked.into()),
+            ("listed", self.plans().len().into()),
+            ("found", best.plans.len().into()),
+            ("all", best.all.into()),
+            ("trials", best.trials.into()),
+            ("allowance", self.limits.trials.into()),
+            ("used_exchanges", best.exchanges[0].into()),
+            ("unused_exchanges", best.exchanges[1].into()),
+        ]);
+        fields
+    }
+
+    /// A plan for machines: what it costs and why, its duties, and who is free.
+    fn row(&self, plan: &[u8]) -> Json {
+        let problem = &self.input.made.problem;
+        object(vec![
+            ("cost", self.score.of_plan(plan).into()),
+            ("plan", answers::plan(problem, plan)),
+            ("free", answers::duties(problem, free(plan, self.input.present()))),
+            ("broken", list(self.score.broken(plan))),
+        ])
     }
 
     /// How it ended, and which exchanges were used.
     fn ending(&self) -> String {
+        format!("{}\n{}", self.words(), self.exchanges())
+    }
+
+    /// How it ended.
+    fn words(&self) -> String {
         let count = self.best.plans.len();
         let plans = if count == 0 { "no plan".to_string() } else { counted(count as u64, "plan") };
         let trials = counted(self.best.trials, "trial");
@@ -406,7 +465,7 @@ impl Shown<'_> {
             true => format!("; {}", self.input.shown(self.plans().len())),
             false => String::new(),
         };
-        format!("{words}{shown}\n{}", self.exchanges())
+        words + &shown
     }
 
     /// What is to be said of exchanges.

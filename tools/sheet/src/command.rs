@@ -1,12 +1,14 @@
 //! What all commands share: arguments, reading, writing and exit statuses. A command is a module with a
 //! `COMMAND`, which stands in the list below.
 
-use crate::problem::Problem;
+use crate::answers::failure;
+use crate::json::{rows_text, JSON_OPTION};
 use crate::text::Fault;
 use crate::words::nearest;
 use crate::{
     best, columns, desk, enough, explain, import, join, make, merge, page, part, plans, show, split, why,
 };
+use planner::Refusal;
 use std::io::{BufWriter, Read, StdoutLock, Write};
 use std::ops::RangeInclusive;
 use std::sync::atomic::{AtomicBool, Ordering};
@@ -32,9 +34,10 @@ const COMMANDS: [Command; 16] = [
 ];
 
 /// The exit statuses. A command that asks a question answers yes by the first, no by the second and that it isn't known by the
-/// third; the last then stands for refusals and faults too.
-#[derive(Clone, Copy, Debug, PartialEq, Eq, PartialOrd, Ord)]
+/// third; the fourth then stands for refusals and faults too.
+#[derive(Clone, Copy, Debug, PartialEq, Eq)]
 pub enum Status {
+    /// There is a plan, or all is done as asked.
     Finished = 0,
     /// Refused, or a fault in the text or the command.
     Refused = 1,
@@ -42,12 +45,20 @@ pub enum Status {
     Short = 2,
     /// Reading or writing failed.
     Failed = 3,
+    /// All was tried, and there is no plan.
+    NoPlan = 4,
 }
 
 impl Status {
     pub const YES: Status = Status::Finished;
     pub const NO: Status = Status::Refused;
     pub const UNKNOWN: Status = Status::Short;
+
+    /// Of several outcomes the one to be told first.
+    pub fn worst(self, other: Status) -> Status {
+        let order = [Status::Failed, Status::Refused, Status::Short, Status::NoPlan];
+        order.into_iter().find(|status| [self, other].contains(status)).unwrap_or(Status::Finished)
+    }
 }
 
 pub struct Command {
@@ -65,15 +76,35 @@ pub struct Command {
 }
 
 impl Command {
+    /// The name of the one hall that the command is about.
+    fn hall(&self, arguments: &Arguments) -> Option<String> {
+        let source = match self.usage {
+            "TEXT .." => None,
+            usage if usage.starts_with("TEXT") => arguments.sources.first(),
+            _ => arguments.sources.last(),
+        };
+        source.map(|source| source.name().to_string())
+    }
+
     fn choices(&self) -> impl Iterator<Item = &'static Choice> {
         self.options.iter().flat_map(|group| group.iter())
     }
 
     fn answer(&self, words: &[String]) -> Result<Outcome, Stop> {
-        let answer = Arguments::new(self, words).and_then(|arguments| (self.run)(&arguments));
-        answer.map_err(|stop| match self.asks {
-            true => Stop { status: Status::Failed, ..stop },
-            false => stop,
+        let arguments = Arguments::new(self, words);
+        let hall = arguments.as_ref().ok().and_then(|arguments| self.hall(arguments));
+        arguments.and_then(|arguments| (self.run)(&arguments)).or_else(|stop| {
+            let status = if self.asks { Status::Failed } else { stop.status };
+            let asked = words.iter().any(|word| word == JSON_OPTION.name);
+            let is_json = asked && self.choices().any(|choice| choice.name == JSON_OPTION.name);
+            match is_json && !stop.is_of_output() {
+                true => {
+                    let (fields, faults) = failure(self.name, hall.as_deref(), &stop, status);
+                    let output = rows_text(&fields, "faults", faults.into_iter()).into_bytes();
+                    Ok(Outcome { output, note: stop.said(), status })
+                }
+                false => Err(Stop { status, ..stop }),
+            }
         })
     }
 }
@@ -96,14 +127,65 @@ pub struct Outcome {
 #[derive(Debug)]
 pub struct Stop {
     pub status: Status,
-    pub text: String,
+    pub told: Vec<Told>,
+}
+
+impl Stop {
+    /// Could standard output not be written?
+    fn is_of_output(&self) -> bool {
+        self.told.iter().any(|told| told.file.as_deref() == Some(OUTPUT))
+    }
+
+    /// For people, a line for each fault.
+    pub fn said(&self) -> String {
+        self.told.iter().map(Told::said).collect::<Vec<_>>().join("\n")
+    }
+}
+
+/// A fault: where it stands, the planner's refusal if it comes from one, and the words.
+#[derive(Clone, Debug, Default)]
+pub struct Told {
+    pub file: Option<String>,
+    pub line: Option<usize>,
+    pub refusal: Option<Refusal>,
+    pub words: String,
+}
+
+impl Told {
+    pub fn words(words: impl Into<String>) -> Told {
+        Told { words: words.into(), ..Told::default() }
+    }
+
+    /// A fault of a file as a whole.
+    pub fn of(file: &str, words: impl Into<String>) -> Told {
+        Told { file: Some(file.to_string()), ..Told::words(words) }
+    }
+
+    /// A fault of a file's line.
+    pub fn at(file: &str, fault: &Fault) -> Told {
+        Told { line: Some(fault.line), refusal: fault.refusal, ..Told::of(file, &fault.text) }
+    }
+
+    /// For people.
+    pub fn said(&self) -> String {
+        match (&self.file, self.line) {
+            (Some(file), Some(line)) => format!("{file}:{line}: {}", self.words),
+            (Some(file), None) => format!("{file}: {}", self.words),
+            (None, _) => self.words.clone(),
+        }
+    }
 }
 
 pub fn refuse<T>(text: impl Into<String>) -> Result<T, Stop> {
-    Err(Stop { status: Status::Refused, text: text.into() })
+    refuse_told(Told::words(text))
+}
+
+pub fn refuse_told<T>(told: Told) -> Result<T, Stop> {
+    Err(Stop { status: Status::Refused, told: vec![told] })
 }
 
 pub struct Arguments {
+    pub command: &'static str,
     pub sources: Vec<Source>,
     options: Vec<(&'static str, String)>,
 }
@@ -138,7 +220,7 @@ impl Arguments {
         if names.chain(options.iter().map(|(_, value)| value)).filter(|name| *name == "-").count() > 1 {
             return refuse("standard input can stand for one file only");
         }
-        Ok(Arguments { sources, options })
+        Ok(Arguments { command: command.name, sources, options })
     }
 
     pub fn has(&self, name: &str) -> bool {
@@ -198,8 +280,9 @@ impl Source {
         std::fs::write(&self.0, bytes).map_err(|error| self.failed(error))
     }
 
-    fn failed(&self, error: std::io::Error) -> Stop {
-        Stop { status: Status::Failed, text: format!("{}: {error}", self.name()) }
+    /// The file can't be read or written.
+    pub fn failed(&self, error: std::io::Error) -> Stop {
+        Stop { status: Status::Failed, told: vec![Told::of(self.name(), error.to_string())] }
     }
 
     /// The file's name for people.
@@ -214,12 +297,12 @@ impl Source {
     pub fn text(&self) -> Result<String, Stop> {
         let bytes = self.bytes()?;
         if bytes.starts_with(&[0xff, 0xfe]) || bytes.starts_with(&[0xfe, 0xff]) {
-            return refuse(format!("{}:1: a text in UTF-16; save it as UTF-8", self.name()));
+            return Err(self.faults(&[Fault::new(1, "a text in UTF-16; save it as UTF-8")]));
         }
         if is_sheet(&bytes) {
-            return match explain::explain(&bytes) {
-                Ok(_) => Ok(show::show(&Problem::decode(&bytes))),
-                Err(text) => refuse(format!("{}: {text}", self.name())),
+            return match explain::question(&bytes) {
+                Ok(problem) => Ok(show::show(&problem)),
+                Err(refused) => refuse_told(refused.told(Some(self.name()))),
             };
         }
         String::from_utf8(bytes).or_else(|error| {
@@ -227,15 +310,14 @@ impl Source {
                 .iter()
                 .filter(|b| **b == b'\n')
                 .count();
-            refuse(format!("{}:{line}: not a text in UTF-8", self.name()))
+            Err(self.faults(&[Fault::new(line, "not a text in UTF-8")]))
         })
     }
 
     /// The faults of the file's text, a line for each.
     pub fn faults(&self, faults: &[Fault]) -> Stop {
-        let lines: Vec<String> =
-            faults.iter().map(|fault| format!("{}:{}: {}", self.name(), fault.line, fault.text)).collect();
-        Stop { status: Status::Refused, text: lines.join("\n") }
+        let told = faults.iter().map(|fault| Told::at(self.name(), fault)).collect();
+        Stop { status: Status::Refused, told }
     }
 }
 
@@ -280,9 +362,10 @@ fn help() -> String {
         let gap = if usage.len() < 28 { String::new() } else { format!("\n  {:28}", "") };
         text += &format!("  {usage:28}{gap}{}\n", command.about);
     }
-    text + "\n`sheet COMMAND --help` has a command's options. Exit status: 0 finished, 1 refused or a fault\n\
-            in the text, 2 stopped short, 3 reading or writing failed. Of `enough`: 0 yes, 1 no, 2 stopped\n\
-            short, 3 all else.\n"
+    text + "\n`sheet COMMAND --help` has a command's options. Exit status: 0 there is a plan, or all is done as\n\
+            asked; 1 refused, or a fault in a text or in the command; 2 stopped short; 3 reading or writing\n\
+            failed; 4 all was tried, and there is no plan. Of `enough`: 0 yes, 1 no, 2 stopped short, 3 all\n\
+            else. Of `desk`: the first of 3, 1, 2, 4 and 0 that a hall has.\n"
 }
 
 fn command_help(command: &Command) -> String {
@@ -299,7 +382,7 @@ fn command_help(command: &Command) -> String {
 pub fn main(words: &[String]) -> Status {
     let outcome = run(words).unwrap_or_else(|stop| Outcome {
         output: Vec::new(),
-        note: stop.text,
+        note: stop.said(),
         status: stop.status,
     });
     let written = print(&outcome.output);
@@ -307,7 +390,7 @@ pub fn main(words: &[String]) -> Status {
     match written {
         Ok(()) => outcome.status,
         Err(stop) => {
-            say(&stop.text);
+            say(&stop.said());
             stop.status
         }
     }
@@ -315,6 +398,9 @@ pub fn main(words: &[String]) -> Status {
 
 /// Was standard output closed when the program started? The program says so before anything is opened in its place.
 pub static OUTPUT_CLOSED: AtomicBool = AtomicBool::new(false);
+
+/// Its name in faults.
+const OUTPUT: &str = "standard output";
 
 /// Standard output, written bit by bit.
 pub struct Out(BufWriter<StdoutLock<'static>>);
@@ -342,7 +428,8 @@ impl Out {
 const CLOSED: i32 = 9;
 
 fn written(result: std::io::Result<()>) -> Result<(), Stop> {
-    result.map_err(|error| Stop { status: Status::Failed, text: format!("standard output: {error}") })
+    let told = |error: std::io::Error| vec![Told::of(OUTPUT, error.to_string())];
+    result.map_err(|error| Stop { status: Status::Failed, told: told(error) })
 }
 
 /// Writes to standard output.

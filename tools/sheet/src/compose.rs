@@ -129,7 +129,7 @@ pub fn full_set(values: usize) -> u16 {
 fn counts(text: &Text, problem: &Problem) -> Result<(), Faults> {
     let unsaid = |stated: &Stated| {
         let text = amount(problem, &stated.statement)?.unsaid(problem)?;
-        Some(Fault { line: stated.first, text })
+        Some(Fault::new(stated.first, text))
     };
     let faults: Faults = text.statements.iter().filter_map(unsaid).collect();
     match faults.is_empty() {
@@ -173,7 +173,7 @@ impl Composed {
                     self.lines.push((Place::Symmetry(self.problem.symmetries.len()), stated.first));
                     self.problem.symmetries.push(table);
                 }
-                Err(text) => faults.push(Fault { line: stated.first, text }),
+                Err(text) => faults.push(Fault::new(stated.first, text)),
             }
         }
         match faults.is_empty() {

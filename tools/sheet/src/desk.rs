@@ -54,7 +54,7 @@ fn run(arguments: &Arguments) -> Result<Outcome, Stop> {
         progress.show(&day);
         for &seat in &rounds.ended {
             progress.clear();
-            status = status.max(day.leave(seat)?);
+            status = status.worst(day.leave(seat)?);
         }
         if day.seats.iter().all(Option::is_none) && halls.len() == 0 {
             progress.clear();

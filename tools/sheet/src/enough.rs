@@ -1,8 +1,10 @@
 //! `sheet enough`: are there at least so many plans? (paper 02, #101) The answer in words and as exit status.
 
 use crate::advice::advice_of;
+use crate::answers;
 use crate::command::{refuse, Arguments, Command, Outcome, Status, Stop};
 use crate::input::{Input, HALL_OPTIONS};
+use crate::json::{fields_text, Fields, JSON_OPTION};
 use crate::listing::Limits;
 use crate::watch::{Cause, Watch};
 use crate::words::counted;
@@ -13,7 +15,7 @@ pub const COMMAND: Command = Command {
     usage: "M TEXT",
     about: "says whether there are at least M plans, also by its status: 0 yes, 1 no, 2 not known",
     files: 2..=2,
-    options: &[HALL_OPTIONS],
+    options: &[&[JSON_OPTION], HALL_OPTIONS],
     asks: true,
     run,
 };
@@ -30,13 +32,43 @@ fn run(arguments: &Arguments) -> Result<Outcome, Stop> {
     let input = Input::read(source)?.lent(arguments)?;
     let watch = Watch::of(arguments)?;
     let enough = input.at_least(plans, limits, &watch)?;
-    let (words, status) = said(enough, watch.stopped());
-    let advice = match (status, watch.stopped()) {
+    let stop = watch.stopped();
+    let (words, status) = said(enough, stop);
+    let advice = match (status, stop) {
         (Status::UNKNOWN, None) => advice_of(&input.made, limits),
         _ => String::new(),
     };
-    let left = if input.made.has_exchanges() { LEFT_OUT } else { "" };
-    Ok(Outcome { output: format!("{words}{advice}\n{left}").into_bytes(), note: input.notes(), status })
+    let words = words + &advice;
+    let ending = answers::ending(word(enough, stop), status, &words);
+    let output = match arguments.has(JSON_OPTION.name) {
+        true => json(&input, [plans, limits.trials], enough, ending),
+        false => format!("{words}\n{}", if input.made.has_exchanges() { LEFT_OUT } else { "" }),
+    };
+    Ok(Outcome { output: output.into_bytes(), note: input.notes(), status })
+}
+
+/// The answer for machines, to the plans asked for with an allowance.
+fn json(input: &Input, [asked, allowance]: [u32; 2], enough: Enough, ending: Fields) -> String {
+    let (Enough::Yes { plans, nodes } | Enough::No { plans, nodes } | Enough::Spent { plans, nodes }) =
+        enough;
+    let mut fields = answers::of_hall(COMMAND.name, input, &input.notes(), ending);
+    fields.extend([
+        ("asked", asked.into()),
+        ("found", plans.into()),
+        ("trials", nodes.into()),
+        ("allowance", allowance.into()),
+    ]);
+    fields_text(&fields)
+}
+
+/// The answer as a word.
+fn word(enough: Enough, stop: Option<Cause>) -> &'static str {
+    match enough {
+        Enough::Yes { .. } => "yes",
+        Enough::No { .. } => "no",
+        Enough::Spent { .. } if stop.is_some() => "stopped",
+        Enough::Spent { .. } => "spent",
+    }
 }
 
 /// The answer in words, and as status; where it isn't known because of a cause, with that.

@@ -1,6 +1,8 @@
 //! A refusal in words, with the place in the sheet.
 
-use crate::command::{is_sheet, text, Arguments, Command, Outcome, Status, Stop};
+use crate::answers::{ending, head};
+use crate::command::{is_sheet, refuse_told, text, Arguments, Command, Outcome, Source, Status, Stop, Told};
+use crate::json::{fields_text, JSON_OPTION};
 use crate::make::make;
 use crate::problem::{draws, word, words, Place, Problem};
 use planner::Refusal;
@@ -10,22 +12,54 @@ pub const COMMAND: Command = Command {
     usage: "SHEET",
     about: "says that a sheet (or a text) is accepted, or why it is refused",
     files: 1..=1,
-    options: &[],
+    options: &[&[JSON_OPTION]],
     asks: false,
     run,
 };
 
 fn run(arguments: &Arguments) -> Result<Outcome, Stop> {
-    let bytes = arguments.sources[0].bytes()?;
+    let source = &arguments.sources[0];
+    let bytes = source.bytes()?;
+    let is_json = arguments.has(JSON_OPTION.name);
     let answer = match std::str::from_utf8(&bytes) {
-        Ok(words) if !words.is_empty() && !is_sheet(&bytes) => make(words)
-            .map(|made| accepted(&made.problem))
-            .map_err(|faults| arguments.sources[0].faults(&faults).text),
-        _ => explain(&bytes),
+        Ok(words) if !words.is_empty() && !is_sheet(&bytes) => {
+            make(words).map(|made| made.problem).map_err(|faults| source.faults(&faults))
+        }
+        _ => question(&bytes).or_else(|refused| refuse_told(refused.told(is_json.then_some(source.name())))),
     };
-    let status = if answer.is_ok() { Status::Finished } else { Status::Refused };
-    let words = answer.unwrap_or_else(|words| words) + "\n";
-    Ok(Outcome { status, ..text(words) })
+    match answer {
+        Ok(problem) if is_json => Ok(text(json(source, &problem))),
+        Ok(problem) => Ok(text(accepted(&problem) + "\n")),
+        Err(stop) if is_json => Err(stop),
+        Err(stop) => Ok(Outcome { status: stop.status, ..text(stop.said() + "\n") }),
+    }
+}
+
+/// An accepted sheet for machines.
+fn json(source: &Source, problem: &Problem) -> String {
+    let mut fields = head(COMMAND.name);
+    fields.push(("hall", source.name().into()));
+    fields.extend(ending("accepted", Status::Finished, &accepted(problem)));
+    fields.extend([
+        ("windows", problem.variables.len().into()),
+        ("duties", problem.values.len().into()),
+        ("rules", problem.constraints.len().into()),
+        ("exchanges", problem.symmetries.len().into()),
+    ]);
+    fields_text(&fields)
+}
+
+/// A sheet's refusal, and why.
+pub struct Refused {
+    pub refusal: Refusal,
+    pub words: String,
+}
+
+impl Refused {
+    /// As a fault, of a file if it is to be named.
+    pub fn told(self, file: Option<&str>) -> Told {
+        Told { file: file.map(String::from), refusal: Some(self.refusal), ..Told::words(self.words) }
+    }
 }
 
 /// Why a sheet is refused: the part that the refusal speaks of, the offset at which to look, and the words.
@@ -43,8 +77,13 @@ impl Reason {
 
 /// The planner's answer to a sheet in words, or its refusal.
 pub fn explain(sheet: &[u8]) -> Result<String, String> {
+    question(sheet).map(|problem| accepted(&problem)).map_err(|refused| refused.words)
+}
+
+/// What a sheet states, or its refusal.
+pub fn question(sheet: &[u8]) -> Result<Problem, Refused> {
     match planner::question(sheet) {
-        Ok(()) => Ok(accepted(&Problem::decode(sheet))),
+        Ok(()) => Ok(Problem::decode(sheet)),
         Err(refusal) => {
             let problem = if refusal.number >= 15 { Problem::decode(sheet) } else { nameless(sheet) };
             let Reason { place, offset, words } = reason(sheet, &problem, refusal);
@@ -57,7 +96,7 @@ pub fn explain(sheet: &[u8]) -> Result<String, String> {
             let parts = [place, offset.map_or(String::new(), |offset| format!("offset {offset}"))];
             let parts: Vec<String> = parts.into_iter().filter(|part| !part.is_empty()).collect();
             let place = if parts.is_empty() { String::new() } else { format!("{}: ", parts.join(", ")) };
-            Err(format!("{refusal}: {place}{words}"))
+            Err(Refused { refusal, words: format!("{refusal}: {place}{words}") })
         }
     }
 }

@@ -1,7 +1,7 @@
 //! A text that a command is given, with what it states and its accepted sheet.
 
 use crate::advice::advice;
-use crate::command::{refuse, Arguments, Choice, Source, Status, Stop};
+use crate::command::{refuse, refuse_told, Arguments, Choice, Source, Status, Stop, Told};
 use crate::compose::full_set;
 use crate::fixed::{kept, kept_block, Broken};
 use crate::listing::{at_least, list, Limits, Listing, TRIALS_OPTION};
@@ -58,8 +58,8 @@ pub struct Input {
     pub source: String,
     pub text: Text,
     pub made: Made,
-    /// What fixed duties break, a line for each, and what becomes of it.
-    broken: Vec<[String; 2]>,
+    /// What fixed duties break, and what becomes of it.
+    broken: Vec<(Told, String)>,
     /// The windows' duties by which plans are chosen.
     wanted: Vec<(usize, usize)>,
 }
@@ -72,19 +72,20 @@ impl Input {
     /// A text whose last lines stand for options.
     fn new(name: &str, source: String, options: &[String]) -> Result<Input, Stop> {
         let own = source.lines().count() - options.len();
-        let said = |fault: &Fault| match fault.line.checked_sub(own + 1) {
-            Some(option) => format!("--fix {}: {}", options[option], fault.text),
-            None => format!("{name}:{}: {}", fault.line, fault.text),
+        let told = |fault: &Fault| match fault.line.checked_sub(own + 1) {
+            Some(option) => Told {
+                refusal: fault.refusal,
+                ..Told::words(format!("--fix {}: {}", options[option], fault.text))
+            },
+            None => Told::at(name, fault),
         };
-        let stop = |faults: Vec<Fault>| Stop {
-            status: Status::Refused,
-            text: faults.iter().map(said).collect::<Vec<_>>().join("\n"),
-        };
+        let stop =
+            |faults: Vec<Fault>| Stop { status: Status::Refused, told: faults.iter().map(told).collect() };
         let kept = parse(&source).and_then(|text| kept(&text)).map_err(stop)?;
         let made = make_all(&kept.text).map_err(stop)?;
         let line = |line: usize| source.lines().nth(line - 1).unwrap_or("").trim();
         let told = |Broken { line: at, why, left }: Broken| {
-            [format!("{name}:{at}: `{}` doesn't hold today: {why}", line(at)), left]
+            (Told::at(name, &Fault::new(at, format!("`{}` doesn't hold today: {why}", line(at)))), left)
         };
         let broken = kept.broken.into_iter().map(told).collect();
         Ok(Input { name: name.to_string(), text: kept.text, made, broken, wanted: Vec::new(), source })
@@ -92,7 +93,7 @@ impl Input {
 
     /// What is to be said beside the answer: what is left out of the text.
     pub fn notes(&self) -> String {
-        self.broken.iter().map(|broken| broken.join("; ") + "\n").collect()
+        self.broken.iter().map(|(broken, left)| format!("{}; {left}\n", broken.said())).collect()
     }
 
     /// The same with what the options say: fixed duties, the duties by which plans are chosen, and the pairs and the
@@ -112,7 +113,10 @@ impl Input {
         self.wanted = wanted.collect::<Result<_, Stop>>()?;
         self.files(arguments)?;
         match arguments.has(STRICT_OPTION.name) && !self.broken.is_empty() {
-            true => refuse(self.broken.iter().map(|[why, _]| why.as_str()).collect::<Vec<_>>().join("\n")),
+            true => {
+                let told = self.broken.into_iter().map(|(broken, _)| broken).collect();
+                Err(Stop { status: Status::Refused, told })
+            }
             false => Ok(self),
         }
     }
@@ -149,7 +153,8 @@ impl Input {
             }
             let (kept, broken) = kept_block(&self.text, file.bytes()?);
             let told = |broken: Broken| {
-                [format!("{}: the block doesn't hold today: {}", file.name(), broken.why), broken.left]
+                let words = format!("the block doesn't hold today: {}", broken.why);
+                (Told::of(file.name(), words), broken.left)
             };
             self.broken.extend(broken.map(told));
             self.made.block = kept;
@@ -162,7 +167,8 @@ impl Input {
                     false => (pairs, not_pairs(&self.made)),
                 };
                 let name = file.as_ref().map_or(self.name.as_str(), Source::name);
-                refuse(format!("{name}: {refusal}: {words}"))
+                let words = format!("{refusal}: {words}");
+                refuse_told(Told { refusal: Some(refusal), ..Told::of(name, words) })
             }
         }
     }
@@ -222,7 +228,9 @@ impl Input {
 
     /// What the planner answers, or its refusal.
     pub fn accepted<T>(&self, answer: Result<T, Refusal>) -> Result<T, Stop> {
-        answer.or_else(|refusal| refuse(format!("{}: {refusal}", self.name)))
+        answer.or_else(|refusal| {
+            refuse_told(Told { refusal: Some(refusal), ..Told::of(&self.name, refusal.to_string()) })
+        })
     }
 }
 

@@ -2,11 +2,11 @@
 
 use crate::command::{refuse, Arguments, Choice, Command, Outcome, Source, Status, Stop};
 use crate::input::{Input, TEXT_OPTIONS, WHERE_OPTION};
+use crate::json::JSON_OPTION;
 use crate::listing::{Limits, Listing, Plans, Ran};
 use crate::path::word;
 use crate::plans::{
-    forms, shown, BOM_OPTION, BY_WINDOW_OPTION, CSV_OPTION, EXPLAIN_OPTION, FREE_OPTION, JSON_OPTION,
-    ROWS_OPTION,
+    forms, shown, BOM_OPTION, BY_WINDOW_OPTION, CSV_OPTION, EXPLAIN_OPTION, FREE_OPTION, ROWS_OPTION,
 };
 use crate::result::{Hall, Part};
 use crate::watch::Watch;

@@ -6,6 +6,7 @@
 pub mod advice;
 pub mod alike;
 pub mod amount;
+pub mod answers;
 pub mod best;
 pub mod columns;
 pub mod command;
@@ -21,6 +22,7 @@ pub mod fixed;
 pub mod import;
 pub mod input;
 pub mod join;
+pub mod json;
 pub mod letters;
 pub mod listing;
 pub mod make;

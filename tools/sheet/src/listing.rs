@@ -45,9 +45,11 @@ impl Limits {
     /// The limits that the options give.
     pub fn of(arguments: &Arguments) -> Result<Limits, Stop> {
         let trials = arguments.number("--trials", u32::MAX)?.unwrap_or(TRIALS);
-        let plans = arguments.number("--plans", MOST_PLANS)?.unwrap_or(PLANS);
-        let first = arguments.has("--first");
-        Ok(Limits { trials, plans: if first { 1 } else { plans }, first })
+        let plans = match arguments.has("--first") {
+            true => 1,
+            false => arguments.number("--plans", MOST_PLANS)?.unwrap_or(PLANS),
+        };
+        Ok(Limits { trials, plans, first: plans == 1 })
     }
 
     /// Limits for the question whether there is a plan.
@@ -226,8 +228,9 @@ impl Listing {
 
     pub fn status(&self) -> Status {
         match self.ending {
-            Ending::Finished => Status::Finished,
             _ if self.first_found() => Status::Finished,
+            Ending::Finished if self.listed == 0 && self.from == START => Status::NoPlan,
+            Ending::Finished => Status::Finished,
             _ => Status::Short,
         }
     }
@@ -237,6 +240,7 @@ impl Listing {
         match self.ending {
             _ if self.stop.is_some() => "stopped",
             Ending::Finished => "finished",
+            _ if self.first_found() => "first",
             Ending::Spent => "spent",
             Ending::Full => "full",
         }

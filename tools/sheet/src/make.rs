@@ -9,7 +9,7 @@ use crate::input::Input;
 use crate::pairs;
 use crate::parse::parse;
 use crate::problem::{Place, Problem};
-use crate::text::{fault, Faults, Parsed, Stated, Statement, Text};
+use crate::text::{fault, refused_line, Faults, Parsed, Stated, Statement, Text};
 use planner::Refusal;
 
 pub const COMMAND: Command = Command {
@@ -140,7 +140,7 @@ fn not_alike<T>(text: &Text, composed: &Composed, refusal: Refusal) -> Parsed<T>
     let rules = as_written(text, &composed.problem);
     let stands = |rule: usize| format!("line {}", rules[rule].1);
     let words = alike::wrong(&alike::stated(text), &composed.problem, &rules, stands, refusal);
-    fault(alike::line(text).map_or(1, |(_, line)| line), format!("{words} ({refusal})"))
+    refused_line(alike::line(text).map_or(1, |(_, line)| line), &words, refusal)
 }
 
 /// A refusal as a fault of the line that it comes from, in the text's own names.
@@ -152,7 +152,7 @@ fn refused<T>(text: &Text, composed: &Composed, sheet: &[u8], refusal: Refusal) 
         (16, Place::Symmetry(item)) if composed.packed => respect_packed(text, composed, item),
         _ => reason.words,
     };
-    fault(line, format!("{words} ({refusal})"))
+    refused_line(line, &words, refusal)
 }
 
 /// Does a `rule` stand in the line?

@@ -2,7 +2,7 @@
 //! for each; the order in which they settle the windows; and what is wrong with them.
 
 use crate::problem::Problem;
-use crate::text::{fault, Parsed, Statement, Text};
+use crate::text::{refused_line, Parsed, Statement, Text};
 use crate::words::{counted, listed};
 use planner::Refusal;
 
@@ -34,7 +34,7 @@ fn lines(text: &Text) -> impl Iterator<Item = ([u8; 2], usize)> + '_ {
 pub fn check(text: &Text) -> Parsed<()> {
     let line: Vec<usize> = lines(text).map(|(_, line)| line).collect();
     match wrong(&stated(text), &text.variables, |pair| format!("line {}", line[pair])) {
-        Some(wrong) => fault(line[wrong.pair], format!("{} ({})", wrong.words, wrong.refusal)),
+        Some(wrong) => refused_line(line[wrong.pair], &wrong.words, wrong.refusal),
         None => Ok(()),
     }
 }

@@ -47,7 +47,7 @@ const MOST_FAULTS: usize = 100;
 pub fn parse(text: &str) -> Result<Text, Faults> {
     if text.starts_with('\u{feff}') {
         let bom = "the text starts with a byte order mark (BOM); save it as UTF-8 without one";
-        return Err(vec![Fault { line: 1, text: bom.to_string() }]);
+        return Err(vec![Fault::new(1, bom)]);
     }
     let mut parser = Parser::new();
     for line in text.lines() {
@@ -59,8 +59,8 @@ pub fn parse(text: &str) -> Result<Text, Faults> {
     }
     let mut faults = parser.faults.into_inner();
     if parser.text.values.is_empty() && faults.is_empty() {
-        let text = "the text ends before it has named its windows and duties".to_string();
-        faults.push(Fault { line: parser.line.max(1), text });
+        let text = "the text ends before it has named its windows and duties";
+        faults.push(Fault::new(parser.line.max(1), text));
     }
     if faults.is_empty() {
         Ok(parser.text)
@@ -108,9 +108,7 @@ impl Parser {
         let mut faults = self.faults.borrow_mut();
         match faults.len() {
             count if count < MOST_FAULTS => faults.push(fault),
-            MOST_FAULTS => {
-                faults.push(Fault { text: "the faults from here on aren't told".to_string(), ..fault })
-            }
+            MOST_FAULTS => faults.push(Fault::new(fault.line, "the faults from here on aren't told")),
             _ => {}
         }
     }
@@ -187,7 +185,7 @@ impl Parser {
             return Ok(start);
         }
         let meant = meant(word).and_then(|meant| STARTS.into_iter().find(|start| *start == meant));
-        let wrong = Fault { line: self.line, text: unknown(word) };
+        let wrong = Fault::new(self.line, unknown(word));
         match meant {
             Some(start) => {
                 self.note(wrong);
@@ -242,7 +240,7 @@ impl Parser {
         for word in words.iter().take(MOST_FAULTS) {
             let name = name_of(word);
             if let Some(wrong) = wrong_name(kind, word, &name, &names) {
-                self.note(Fault { line: self.line, text: wrong });
+                self.note(Fault::new(self.line, wrong));
             }
             if *word != "," && !names.contains(&name) {
                 names.push(name);
@@ -254,7 +252,7 @@ impl Parser {
                 if count > most {
                     let count = count + words.len().saturating_sub(MOST_FAULTS);
                     let text = format!("{count} {kind}, and at most {most} are allowed");
-                    self.note(Fault { line: self.line, text });
+                    self.note(Fault::new(self.line, text));
                 }
                 Ok(names)
             }

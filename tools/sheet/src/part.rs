@@ -157,7 +157,7 @@ fn found(file: &Source, hall: &Hall, [from, upto]: [&[u8]; 2]) -> Result<Option<
 fn folder(file: &Source) -> Result<(), Stop> {
     let folder = Path::new(&file.0).parent().filter(|folder| *folder != Path::new(""));
     let found = fs::metadata(folder.unwrap_or(Path::new("."))).map(|_| ());
-    found.map_err(|error| Stop { status: Status::Failed, text: format!("{}: {error}", file.0) })
+    found.map_err(|error| file.failed(error))
 }
 
 /// Goes on with a part, with so many trials more, until it is finished or stopped or has no room for more plans.
@@ -190,7 +190,7 @@ fn leave(file: &Source, bytes: &[u8]) -> Result<(), Stop> {
     let written = write(Path::new(&aside), bytes).and_then(|()| fs::rename(&aside, &file.0));
     written.map_err(|error| {
         let _ = fs::remove_file(&aside);
-        Stop { status: Status::Failed, text: format!("{}: {error}", file.0) }
+        file.failed(error)
     })
 }
 

@@ -1,14 +1,16 @@
 //! `sheet plans`: a text's plans by name.
 
+use crate::answers;
 use crate::command::{out, refuse, Arguments, Choice, Command, Out, Outcome, Stop};
 use crate::counts::drawn;
 use crate::csv::BOM;
-use crate::families::{closed, not_counted, number};
+use crate::families::{closed, not_counted};
 use crate::input::{Input, HALL_OPTIONS, WHERE_OPTION};
+use crate::json::{write_rows, Fields, JSON_OPTION};
 use crate::listing::{Limits, Listing, PLANS_OPTION};
 use crate::pairs::settled;
 use crate::runner::{Manner, FROM_OPTION, JOBS_OPTION};
-use crate::table::{write_counts, write_csv, write_json, write_table, Columns};
+use crate::table::{write_counts, write_csv, write_table, Columns};
 use crate::watch::Watch;
 use crate::words::written_all;
 use std::io::Write;
@@ -24,7 +26,7 @@ pub const COMMAND: Command = Command {
             BOM_OPTION,
             JSON_OPTION,
             ROWS_OPTION,
-            Choice { name: "--first", value: None, about: "one plan is enough" },
+            Choice { name: "--first", value: None, about: "one plan is enough, as with --plans 1" },
             FREE_OPTION,
             BY_WINDOW_OPTION,
             EXPLAIN_OPTION,
@@ -47,8 +49,6 @@ pub const BOM_OPTION: Choice = Choice {
     value: None,
     about: "as CSV with a byte order mark, by which a spreadsheet knows the letters",
 };
-
-pub const JSON_OPTION: Choice = Choice { name: "--json", value: None, about: "as one JSON object" };
 
 pub const ROWS_OPTION: Choice = Choice {
     name: "--rows",
@@ -98,7 +98,7 @@ fn run(arguments: &Arguments) -> Result<Outcome, Stop> {
 
 /// Are plans to be written as CSV, as JSON, as rows?
 pub fn forms(arguments: &Arguments) -> Result<[bool; 3], Stop> {
-    let forms = [as_csv(arguments), arguments.has("--json"), arguments.has("--rows")];
+    let forms = [as_csv(arguments), arguments.has(JSON_OPTION.name), arguments.has("--rows")];
     if forms.iter().filter(|form| **form).count() > 1 {
         return refuse("plans takes one of --csv, --json and --rows");
     }
@@ -124,7 +124,8 @@ pub fn shown(
             ending
         }
         [_, true, _] => {
-            out.all(|out| write_json(out, problem, listing, number(listing, input)))?;
+            let plans = listing.plans.iter().map(|plan| answers::plan(problem, plan));
+            out.all(|out| write_rows(out, &json(arguments.command, input, listing), "plans", plans))?;
             String::new()
         }
         [_, _, true] => {
@@ -138,6 +139,11 @@ pub fn shown(
     };
     out.end()?;
     Ok(Outcome { output: Vec::new(), note: input.notes() + &note, status: listing.status() })
+}
+
+/// What a run answers for machines, but for its plans.
+pub fn json(command: &str, input: &Input, listing: &Listing) -> Fields {
+    answers::of_hall(command, input, &input.notes(), answers::run(input, listing))
 }
 
 fn write_all_csv(

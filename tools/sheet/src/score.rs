@@ -1,6 +1,6 @@
 //! What a plan costs: the weights of the preferences that it doesn't keep.
 
-use crate::command::{refuse, Source, Stop};
+use crate::command::{refuse_told, Source, Stop, Told};
 use crate::csv;
 use crate::letters::cleaned;
 use crate::problem::Problem;
@@ -59,10 +59,11 @@ impl Score {
             false => (0..text.variables.len()).map(Some).collect(),
         };
         let Some(plan) = rows.get(usize::from(heads)) else {
-            return refuse(format!("{name}: no row of duties"));
+            return refuse_told(Told::of(name, "no row of duties"));
         };
         if !heads && plan.len() != windows.len() {
-            return refuse(format!("{name}: a row of {} cells for {} windows", plan.len(), windows.len()));
+            let words = format!("a row of {} cells for {} windows", plan.len(), windows.len());
+            return refuse_told(Told::of(name, words));
         }
         let mut named = Vec::new();
         for (window, cell) in windows.into_iter().zip(plan).filter_map(|(window, cell)| Some((window?, cell)))

@@ -1,7 +1,7 @@
 //! The text of a sheet.
 
-use crate::command::{refuse, text, Arguments, Command, Outcome, Stop};
-use crate::explain::explain;
+use crate::command::{refuse_told, text, Arguments, Command, Outcome, Stop};
+use crate::explain::question;
 use crate::problem::{unlike_rows, Constraint, Problem};
 
 pub const COMMAND: Command = Command {
@@ -17,9 +17,9 @@ pub const COMMAND: Command = Command {
 /// Sheets that pass questions 1 to 14 can be shown.
 fn run(arguments: &Arguments) -> Result<Outcome, Stop> {
     let sheet = arguments.sources[0].bytes()?;
-    match (planner::question(&sheet), explain(&sheet)) {
-        (Err(refusal), Err(words)) if refusal.number < 15 => {
-            refuse(format!("{}: {words}", arguments.sources[0].name()))
+    match question(&sheet) {
+        Err(refused) if refused.refusal.number < 15 => {
+            refuse_told(refused.told(Some(arguments.sources[0].name())))
         }
         _ => Ok(text(show(&Problem::decode(&sheet)))),
     }

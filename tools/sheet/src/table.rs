@@ -1,4 +1,4 @@
-//! Plans by name, written row by row: as a table for people, as CSV and as JSON.
+//! Plans by name, written row by row: as a table for people and as CSV.
 
 use crate::csv::cell;
 use crate::letters::width;
@@ -12,7 +12,7 @@ fn names<'a>(problem: &'a Problem, plan: &'a [u8]) -> impl Iterator<Item = &'a s
 }
 
 /// The duties of a set that no window of a plan has.
-fn free(plan: &[u8], present: u16) -> impl Iterator<Item = usize> + '_ {
+pub fn free(plan: &[u8], present: u16) -> impl Iterator<Item = usize> + '_ {
     (0..16).filter(move |duty| present >> duty & 1 == 1 && !plan.contains(&(*duty as u8)))
 }
 
@@ -103,33 +103,4 @@ pub fn write_csv(out: &mut dyn Write, problem: &Problem, plans: &Plans) -> Resul
         writeln!(out, "{}", row.join(","))?;
     }
     Ok(())
-}
-
-/// One object: windows, duties, the ending, the number of families, and the plans, each with its duty by window.
-pub fn write_json(
-    out: &mut dyn Write,
-    problem: &Problem,
-    listing: &Listing,
-    families: Option<u64>,
-) -> Result<()> {
-    let list = |names: &[String]| names.iter().map(|name| quoted(name)).collect::<Vec<_>>().join(", ");
-    writeln!(out, "{{\n  \"windows\": [{}],", list(&problem.variables))?;
-    writeln!(out, "  \"duties\": [{}],", list(&problem.values))?;
-    writeln!(out, "  \"ending\": \"{}\",", listing.word())?;
-    writeln!(out, "  \"listed\": {},\n  \"trials\": {},", listing.plans.len(), listing.trials)?;
-    let families = families.map_or("null".to_string(), |count| count.to_string());
-    write!(out, "  \"families\": {families},\n  \"plans\": [")?;
-    let mut gap = "\n";
-    for plan in listing.plans.iter() {
-        let pairs = problem.variables.iter().zip(names(problem, plan));
-        let pairs = pairs.map(|(window, duty)| format!("{}: {}", quoted(window), quoted(duty)));
-        write!(out, "{gap}    {{{}}}", pairs.collect::<Vec<_>>().join(", "))?;
-        gap = ",\n";
-    }
-    writeln!(out, "{}]\n}}", if listing.plans.is_empty() { "" } else { "\n  " })
-}
-
-/// A name as a JSON string; names have no control characters.
-fn quoted(name: &str) -> String {
-    format!("\"{}\"", name.replace('\\', "\\\\").replace('"', "\\\""))
 }

@@ -1,12 +1,20 @@
 //! What a text states, line by line, with names resolved to numbers.
 
 use crate::problem::Constraint;
+use planner::Refusal;
 
-/// A fault in a text, with its line from 1.
+/// A fault in a text, with its line from 1, and the planner's refusal where it comes from one.
 #[derive(Clone, Debug, PartialEq, Eq)]
 pub struct Fault {
     pub line: usize,
     pub text: String,
+    pub refusal: Option<Refusal>,
+}
+
+impl Fault {
+    pub fn new(line: usize, text: impl Into<String>) -> Fault {
+        Fault { line, text: text.into(), refusal: None }
+    }
 }
 
 pub type Parsed<T> = Result<T, Fault>;
@@ -15,7 +23,12 @@ pub type Parsed<T> = Result<T, Fault>;
 pub type Faults = Vec<Fault>;
 
 pub fn fault<T>(line: usize, text: impl Into<String>) -> Parsed<T> {
-    Err(Fault { line, text: text.into() })
+    Err(Fault::new(line, text))
+}
+
+/// The fault of a line that the planner refuses, for a reason.
+pub fn refused_line<T>(line: usize, reason: &str, refusal: Refusal) -> Parsed<T> {
+    Err(Fault { refusal: Some(refusal), ..Fault::new(line, format!("{reason} ({refusal})")) })
 }
 
 #[derive(Clone, Debug)]

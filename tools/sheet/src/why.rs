@@ -1,10 +1,11 @@
 //! `sheet why`: where there is no plan, lines of the text that already have none, none of which can be left out.
 
+use crate::answers;
 use crate::command::{Arguments, Command, Outcome, Status, Stop};
 use crate::input::{Input, HALL_OPTIONS};
+use crate::json::{object, rows_text, Fields, Json, JSON_OPTION};
 use crate::listing::{list, Limits, Listing};
 use crate::make::make_stated;
-use crate::problem::Problem;
 use crate::runner::Manner;
 use crate::table::table;
 use crate::text::{Stated, Statement, Text};
@@ -17,7 +18,7 @@ pub const COMMAND: Command = Command {
     usage: "TEXT",
     about: "shows a plan, or lines of the text that already have none",
     files: 1..=1,
-    options: &[HALL_OPTIONS],
+    options: &[&[JSON_OPTION], HALL_OPTIONS],
     asks: false,
     run,
 };
@@ -35,24 +36,49 @@ fn run(arguments: &Arguments) -> Result<Outcome, Stop> {
     let input = Input::read(&arguments.sources[0])?.lent(arguments)?;
     let watch = Watch::of(arguments)?;
     let listing = input.list(limits, &Manner::default(), &watch)?;
-    let output = match listing.ending {
-        _ if listing.listed > 0 => a_plan(&input.made.problem, &listing),
-        Ending::Finished => no_plan(&input, limits, &watch),
-        _ => listing.ending() + listing.hint() + "\n",
+    let left = match listing.status() {
+        Status::NoPlan => Some(narrow(&input.text, limits, &watch)),
+        _ => None,
     };
-    let status = match watch.stopped() {
-        Some(_) if listing.listed == 0 => Status::Short,
-        _ => listing.status(),
+    let words = match &left {
+        _ if listing.listed > 0 => "there is a plan:\n".to_string(),
+        Some(left) => no_plan(&input, left, &watch),
+        None => listing.ending() + listing.hint() + "\n",
+    };
+    let (word, status) = match watch.stopped() {
+        Some(_) if listing.listed == 0 => ("stopped", Status::Short),
+        _ => (listing.word(), listing.status()),
+    };
+    let output = match arguments.has(JSON_OPTION.name) {
+        true => json(&input, &listing, left, answers::ending(word, status, words.trim_end_matches(":\n"))),
+        false if listing.listed > 0 => format!("{words}\n{}", table(&input.made.problem, &listing)),
+        false => words,
     };
     Ok(Outcome { output: output.into_bytes(), note: input.notes(), status })
 }
 
-fn a_plan(problem: &Problem, listing: &Listing) -> String {
-    format!("there is a plan:\n\n{}", table(problem, listing))
+/// The answer for machines: a plan, or lines.
+fn json(input: &Input, listing: &Listing, left: Option<Left>, ending: Fields) -> String {
+    let problem = &input.made.problem;
+    let mut fields = answers::of_hall(COMMAND.name, input, &input.notes(), ending);
+    fields.extend([
+        ("trials", listing.trials.into()),
+        ("allowance", listing.limits.trials.into()),
+        ("plan", listing.plans.iter().next().map(|plan| answers::plan(problem, plan)).into()),
+    ]);
+    let left = left.unwrap_or_default();
+    let line = |stated: &Stated| {
+        object(vec![
+            ("first", stated.first.into()),
+            ("last", stated.last.into()),
+            ("words", source_line(&input.source, stated).into()),
+            ("needed", if left.open.contains(&stated.first) { Json::Null } else { true.into() }),
+        ])
+    };
+    rows_text(&fields, "lines", left.lines.iter().map(line))
 }
 
-fn no_plan(input: &Input, limits: Limits, watch: &Watch) -> String {
-    let left = narrow(&input.text, limits, watch);
+fn no_plan(input: &Input, left: &Left, watch: &Watch) -> String {
     let mut words = match left.lines.len() {
         1 => "there is no plan: this line alone has none\n".to_string(),
         count => format!("there is no plan: these {count} lines together have none\n"),
@@ -61,7 +87,7 @@ fn no_plan(input: &Input, limits: Limits, watch: &Watch) -> String {
         words += &said(&input.source, stated);
     }
     if left.lines.len() > 1 {
-        words += &needed(&left);
+        words += &needed(left);
     }
     words + &watch.stopped().map_or(String::new(), |cause| format!("({})\n", cause.words()))
 }
@@ -86,9 +112,14 @@ fn needed(left: &Left) -> String {
 /// Why nothing is known of a line.
 const SHORT: &str = "without it the run stops short (--trials N allows more), or no sheet fits";
 
+/// The first line of a statement.
+fn source_line<'a>(source: &'a str, stated: &Stated) -> &'a str {
+    source.lines().nth(stated.first - 1).unwrap_or("").trim()
+}
+
 /// A statement as it stands in the text, with its line.
 fn said(source: &str, stated: &Stated) -> String {
-    let line = source.lines().nth(stated.first - 1).unwrap_or("").trim();
+    let line = source_line(source, stated);
     match &stated.statement {
         Statement::Rule(rule) if stated.last > stated.first => {
             let rows = counted(rule.rows.len() as u64, "row");
@@ -99,6 +130,7 @@ fn said(source: &str, stated: &Stated) -> String {
 }
 
 /// Lines that have no plan, and those of them of which it isn't known that they are needed.
+#[derive(Default)]
 pub struct Left {
     pub lines: Vec<Stated>,
     pub open: Vec<usize>,

@@ -116,7 +116,7 @@ fn preferred() {
     let away = answer(&["plans", "--free", "-"], "windows a\nduties x y z\naway y\n").1;
     assert!(away.ends_with("\nx  stands 1  free 1\ny  away\nz  stands 1  free 1\n"), "{away}");
     let none = answer(&["best", "-"], "windows a b\nduties x\ndifferent a b\n");
-    assert_eq!((none.0, none.1.as_str()), (0, "finished: no plan, 0 trials\n"));
+    assert_eq!((none.0, none.1.as_str()), (4, "finished: no plan, 0 trials\n"));
     for (words, said) in [
         (["best", "0", "-"], "best takes a number of plans from 1 to 100000, not `0`\n"),
         (["best", "many", "-"], "best takes a number of plans from 1 to 100000, not `many`\n"),
@@ -228,12 +228,12 @@ fn why_claims() {
     let text =
         "windows a b c d e f g h\nduties t u v w x y z\nall different a b c d e f g h\nmay a t\nmay b t\n";
     let (status, out, _) = answer(&["why", "--trials", "100", "-"], text);
-    assert_eq!(status, 0);
+    assert_eq!(status, 4);
     let known = format!("Without line 3 the others have a plan; of lines 4 and 5 it isn't known: {short}.\n");
     assert!(out.ends_with(&known), "{out}");
     let text = "windows a b c\nduties x y z\nmay a x\nmay b x\ndifferent a b\n";
     let (status, out, _) = answer(&["why", "--trials", "1", "-"], text);
-    assert_eq!(status, 0);
+    assert_eq!(status, 4);
     assert!(out.ends_with(&format!("Whether each of them is needed isn't known: {short}.\n")), "{out}");
 }
 

@@ -70,8 +70,8 @@ fn golden_files() {
     golden("hall.trials", output("plans --by-window examples/hall.txt"), 0);
     golden("spent.html", output("page --trials=4 examples/cycle.txt"), 2);
     golden("full.json", output("plans --plans 2 --json examples/cycle.txt"), 2);
-    golden("broken.html", output("page tools/sheet/tests/golden/broken.txt"), 0);
-    golden("broken.why", output("why tools/sheet/tests/golden/broken.txt"), 0);
+    golden("broken.html", output("page tools/sheet/tests/golden/broken.txt"), 4);
+    golden("broken.why", output("why tools/sheet/tests/golden/broken.txt"), 4);
     golden("hall.why", output("why examples/hall.txt"), 0);
     golden("order.table", output("plans tools/sheet/tests/golden/order.txt"), 0);
     golden("order.html", output("page tools/sheet/tests/golden/order.txt"), 0);
@@ -101,8 +101,10 @@ fn endings() {
     let left = "(a plan that an exchange makes of an earlier one is left out)\n";
     let first = format!("{hall}stopped at the first plan: there are more\n{left}");
     is(output("plans --first examples/hall.txt"), 0, &first, "");
-    let full = format!("{hall}stopped at 1 plan: there are more (--plans N makes room)\n{left}");
-    is(output("plans --plans 1 examples/hall.txt"), 2, &full, "");
+    is(output("plans --plans 1 examples/hall.txt"), 0, &first, "");
+    let two = "left  right\nsell  pay\nsell  count\n\n";
+    let full = format!("{two}stopped at 2 plans: there are more (--plans N makes room)\n{left}");
+    is(output("plans --plans 2 examples/a.txt"), 2, &full, "");
     let spent = format!(
         "{hall}stopped at the allowance of 5 trials, 1 plan listed: more plans may exist (--trials N allows more)\n{left}"
     );
@@ -115,7 +117,7 @@ fn endings() {
     let none = "stopped at a plan, with room for none (--plans N makes room)\n";
     is(output("plans --plans 0 examples/hall.txt"), 2, &format!("{none}{left}"), "");
     let none = fed("plans -", b"windows a b\nduties x\ndifferent a b\n");
-    is(none, 0, "finished: no plan, 0 trials\n", "");
+    is(none, 4, "finished: no plan, 0 trials\n", "");
     let one = fed("plans --first -", b"windows a\nduties x\n");
     is(one, 0, "a\nx\n\nfinished: 1 plan, 1 trial\n", "");
     let csv = output("plans --csv --trials 5 examples/hall.txt");
@@ -279,8 +281,8 @@ fn wrong_words() {
             "--plans takes a number from 0 to 10000000, not `10000001`\n",
         ),
         ("plans --first=1 examples/a.txt", "plans takes no --first=1\n"),
-        ("plans --csv --json examples/a.txt", "plans takes one of --csv, --json and --rows\n"),
-        ("plans --rows --json examples/a.txt", "plans takes one of --csv, --json and --rows\n"),
+        ("plans --csv --rows examples/a.txt", "plans takes one of --csv, --json and --rows\n"),
+        ("best --csv --fixed examples/a.txt", "best takes one of --csv, --json and --fixed\n"),
         ("plans --csv --by-window examples/a.txt", "--by-window goes with the table alone\n"),
         ("plans examples/a.txt --pairs", "--pairs takes a file\n"),
         ("plans --pairs - -", "standard input can stand for one file only\n"),
@@ -329,6 +331,7 @@ fn a_full_disk() {
             said(&output.stderr).ends_with("standard output: No space left on device (os error 28)\n"),
             "{words}"
         );
+        assert_eq!(said(&output.stderr).matches("standard output").count(), 1, "{words}");
         assert_eq!(output.status.code(), Some(3), "{words}");
     }
     let full = || File::options().write(true).open("/dev/full").unwrap();
@@ -420,6 +423,9 @@ fn documents() {
     shows("README.md", &said(&cycle.stdout).lines().skip(5).collect::<Vec<_>>().join("\n"));
     shows("README.md", said(&output("enough 50 examples/stand.txt").stdout));
     shows("docs/OPERATING.md", said(&output("plans --by-window examples/a.txt").stdout));
+    shows("docs/OPERATING.md", said(&output("enough --json 4 examples/a.txt").stdout));
+    let round = output_of("plans --json -", "windows a b\nduties x y\nbefore a b\nbefore b a\n");
+    shows("docs/OPERATING.md", &round.replace("standard input", "round.txt"));
     let desk = output("desk --every 1 examples/stand.txt examples/cycle.txt");
     shows("docs/OPERATING.md", said(&desk.stderr));
 }

@@ -126,7 +126,7 @@ fn input(name: &str, text: &str) -> (Input, Source) {
     let source = Source(file.to_string_lossy().into());
     let input = Input::read(&source);
     std::fs::remove_file(&file).unwrap();
-    (input.unwrap_or_else(|stop| panic!("{}", stop.text)), source)
+    (input.unwrap_or_else(|stop| panic!("{}", stop.said())), source)
 }
 
 fn wishes(rng: &mut Rng) -> String {
