@@ -63,17 +63,12 @@ pub fn run(input: &Input, listing: &Listing) -> Fields {
 
 /// The duty of each window in a plan.
 pub fn plan(problem: &Problem, plan: &[u8]) -> Json {
-    let duty = |(window, &duty): (&String, &u8)| (window.clone(), name(problem, duty.into()));
-    Json::Object(problem.variables.iter().zip(plan).map(duty).collect())
+    Json::Object(problem.named(plan).map(|(window, duty)| (window.to_string(), duty.into())).collect())
 }
 
 /// The duties that have these numbers.
 pub fn duties(problem: &Problem, numbers: impl Iterator<Item = usize>) -> Json {
-    list(numbers.map(|duty| name(problem, duty)))
-}
-
-fn name(problem: &Problem, duty: usize) -> Json {
-    problem.values[duty].as_str().into()
+    list(numbers.map(|duty| problem.values[duty].as_str()))
 }
 
 fn names(names: &[String]) -> Json {

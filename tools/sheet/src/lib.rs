@@ -1,57 +1,103 @@
-//! Halls as texts: `parse` reads a text, `fixed` keeps the exchanges that its fixed duties bear, `compose`, `amount` and
-//! `pack` make what its sheet states, `make` the sheet; `listing` runs the planner. Each command is a module: `import`,
-//! `plans`, `best`, `enough`, `why`, `page`, `desk`, `make`, `show`, `explain`, `columns` (with `rows`), `merge`.
-//! Whether a sheet is accepted, and which plans it has, is always asked of the proved planner.
+//! Halls as texts: what the program `sheet` uses, for Rust callers.
+//!
+//! [`make()`] reads a text and makes its sheet, if the planner accepts it, or tells all faults with their lines;
+//! [`Problem::named`] gives a plan's duties by the text's names. [`parse()`](parse::parse) is the first half of [`make()`]: what
+//! a text states, line by line. [`show()`] is the way back, from a sheet to a text, and [`explain()`] says why a sheet is refused.
+//! Which sheets are accepted and which plans there are is always asked of the proved library, the crate [`planner`].
+//!
+//! ```
+//! use sheet::planner::{run_lent, Ending};
+//!
+//! let text = "windows cash pay desk      # in this order
+//!             duties ann ben cid
+//!             may cash ann ben
+//!             all different cash pay desk
+//!             before pay cash            # the list is read by pay first
+//!             ";
+//! let made = sheet::make(text).expect("a text without faults");
+//! let mut list = vec![0; 100 * made.problem.variables.len()];
+//! let answer = run_lent(&made.sheet, &made.pairs, &made.block, 1_000_000, &mut list)?.answer;
+//! assert_eq!((answer.ending, answer.plans), (Ending::Finished, 4));
+//!
+//! let plans = list.chunks(made.problem.variables.len()).take(answer.plans as usize);
+//! let first: Vec<(&str, &str)> = made.problem.named(plans.clone().next().unwrap()).collect();
+//! assert_eq!(first, [("cash", "ben"), ("pay", "ann"), ("desk", "cid")]);
+//!
+//! let faults = sheet::make("windows cash\nduties ann\nmay till ann\n").unwrap_err();
+//! assert_eq!((faults[0].line, faults[0].text.as_str()), (3, "no window is called `till`"));
+//! # Ok::<(), sheet::planner::Refusal>(())
+//! ```
+//!
+//! `fixed` keeps the exchanges that a text's fixed duties bear; `compose`, `amount` and `pack` make what its sheet states;
+//! `listing` runs the planner. Each command is a module with a `COMMAND` in the list of `command`.
 
-pub mod advice;
-pub mod alike;
-pub mod amount;
-pub mod answers;
-pub mod best;
-pub mod columns;
-pub mod command;
-pub mod compose;
-pub mod counts;
-pub mod csv;
-pub mod cut;
-pub mod desk;
-pub mod enough;
-pub mod explain;
-pub mod families;
-pub mod fixed;
-pub mod import;
-pub mod input;
-pub mod join;
-pub mod json;
-pub mod letters;
-pub mod listing;
+mod advice;
+mod alike;
+mod amount;
+mod answers;
+mod columns;
+mod compose;
+mod counts;
+mod csv;
+mod desk;
+mod enough;
+mod explain;
+mod families;
+mod import;
+mod join;
+mod letters;
+mod merge;
+mod pack;
+mod page;
+mod part;
+mod path;
+mod plans;
+mod show;
+mod signals;
+mod sketch;
+mod split;
+mod table;
+mod team;
+mod walker;
+mod words;
+
 pub mod make;
-pub mod merge;
-pub mod pack;
-pub mod page;
-pub mod pairs;
 pub mod parse;
-pub mod part;
-pub mod parts;
-pub mod path;
-pub mod plans;
 pub mod problem;
-pub mod result;
-pub mod runner;
-pub mod score;
-pub mod show;
-pub mod signals;
-pub mod sketch;
-pub mod split;
-pub mod table;
-pub mod team;
 pub mod text;
-pub mod walker;
+
+// of the program, for its tests and its main function
+#[doc(hidden)]
+pub mod best;
+#[doc(hidden)]
+pub mod command;
+#[doc(hidden)]
+pub mod cut;
+#[doc(hidden)]
+pub mod fixed;
+#[doc(hidden)]
+pub mod input;
+#[doc(hidden)]
+pub mod json;
+#[doc(hidden)]
+pub mod listing;
+#[doc(hidden)]
+pub mod pairs;
+#[doc(hidden)]
+pub mod parts;
+#[doc(hidden)]
+pub mod result;
+#[doc(hidden)]
+pub mod runner;
+#[doc(hidden)]
+pub mod score;
+#[doc(hidden)]
 pub mod watch;
+#[doc(hidden)]
 pub mod why;
-pub mod words;
 
 pub use explain::explain;
 pub use make::make;
+pub use planner;
 pub use problem::Problem;
 pub use show::show;

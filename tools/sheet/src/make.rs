@@ -64,9 +64,13 @@ fn run(arguments: &Arguments) -> Result<Outcome, Stop> {
 /// An accepted sheet, what it states, and the pairs and the block lent beside it.
 #[derive(Debug)]
 pub struct Made {
+    /// What the sheet states, with the text's names.
     pub problem: Problem,
+    /// The sheet's bytes.
     pub sheet: Vec<u8>,
+    /// Two bytes for each `before` line.
     pub pairs: Vec<u8>,
+    /// Two bytes for the `alike` line, or none.
     pub block: Vec<u8>,
 }
 

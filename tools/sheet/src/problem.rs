@@ -25,9 +25,12 @@ pub enum Place {
     Symmetry(usize),
 }
 
+/// A hall: its windows and duties, the duties that each window may have, the rules and the exchanges.
 #[derive(Clone, Debug, PartialEq, Eq)]
 pub struct Problem {
+    /// The names of the windows.
     pub variables: Vec<String>,
+    /// The names of the duties.
     pub values: Vec<String>,
     /// Initial sets, bit v for value v.
     pub initial: Vec<u16>,
@@ -130,6 +133,12 @@ impl Problem {
             Some(variable) => format!("{}.{}", written(variable), written(&self.values[number % d])),
             None => format!("{number}"),
         }
+    }
+
+    /// A plan by name: each window with its duty.
+    pub fn named<'a>(&'a self, plan: &'a [u8]) -> impl Iterator<Item = (&'a str, &'a str)> {
+        let duties = plan.iter().map(|&value| self.values[usize::from(value)].as_str());
+        self.variables.iter().map(String::as_str).zip(duties)
     }
 
     /// Does each non-pair stand for itself, and are the pairs permuted among themselves?

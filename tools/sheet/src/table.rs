@@ -6,11 +6,6 @@ use crate::listing::{Listing, Plans};
 use crate::problem::Problem;
 use std::io::{Result, Write};
 
-/// The names of a plan's duties.
-fn names<'a>(problem: &'a Problem, plan: &'a [u8]) -> impl Iterator<Item = &'a str> {
-    plan.iter().map(|&duty| problem.values[duty as usize].as_str())
-}
-
 /// The duties of a set that no window of a plan has.
 pub fn free(plan: &[u8], present: u16) -> impl Iterator<Item = usize> + '_ {
     (0..16).filter(move |duty| present >> duty & 1 == 1 && !plan.contains(&(*duty as u8)))
@@ -61,7 +56,7 @@ pub fn write_table(out: &mut dyn Write, problem: &Problem, plans: &Plans, column
     line(head(columns.costs.is_some(), "cost"), windows, head(columns.free.is_some(), "free"))?;
     for (row, plan) in plans.iter().enumerate() {
         let free = columns.free.map(|present| free_words(problem, plan, present));
-        line(cost(row), &mut names(problem, plan), free)?;
+        line(cost(row), &mut problem.named(plan).map(|(_, duty)| duty), free)?;
     }
     Ok(())
 }

@@ -3,11 +3,14 @@
 use crate::problem::Constraint;
 use planner::Refusal;
 
-/// A fault in a text, with its line from 1, and the planner's refusal where it comes from one.
+/// A fault in a text.
 #[derive(Clone, Debug, PartialEq, Eq)]
 pub struct Fault {
+    /// The line, from 1.
     pub line: usize,
+    /// What is wrong with it.
     pub text: String,
+    /// The number and the item of the planner's refusal, which the text names too.
     pub refusal: Option<Refusal>,
 }
 
@@ -31,6 +34,7 @@ pub fn refused_line<T>(line: usize, reason: &str, refusal: Refusal) -> Parsed<T>
     Err(Fault { refusal: Some(refusal), ..Fault::new(line, format!("{reason} ({refusal})")) })
 }
 
+/// A text without faults.
 #[derive(Clone, Debug)]
 pub struct Text {
     /// The comment above `windows`.
@@ -39,6 +43,7 @@ pub struct Text {
     pub variables: Vec<String>,
     /// The duties.
     pub values: Vec<String>,
+    /// All other lines, in order.
     pub statements: Vec<Stated>,
 }
 
@@ -51,6 +56,7 @@ pub struct Stated {
     pub statement: Statement,
 }
 
+/// What a line says; windows and duties by their numbers.
 #[derive(Clone, Debug)]
 pub enum Statement {
     /// `may`: a window and its set, bit v for value v.
@@ -68,34 +74,27 @@ pub enum Statement {
     /// `forbid`, `never together`: rows of windows, ascending, with their duties.
     Forbid(Vec<Vec<(usize, usize)>>),
     /// `exactly`, `at least`, `at most`: how many of the windows have the duty.
-    Count {
-        least: usize,
-        most: usize,
-        value: usize,
-        scope: Vec<usize>,
-    },
+    Count { least: usize, most: usize, value: usize, scope: Vec<usize> },
+    /// `exchange`.
     Exchange(Exchange),
     /// `before`: the first window is settled before the second.
     Before(usize, usize),
     /// `alike`: the first of neighbouring windows, and how many.
     Alike(usize, usize),
     /// `prefer`, `avoid`: what a plan costs whose window lacks, or has, the duty.
-    Wish {
-        window: usize,
-        value: usize,
-        weight: u32,
-        wanted: bool,
-    },
+    Wish { window: usize, value: usize, weight: u32, wanted: bool },
     /// `near`: a file with a plan, and what each window costs that differs from it.
     Near(String, u32),
 }
 
+/// A permutation of pairs, as a line says it.
 #[derive(Clone, Debug)]
 pub enum Exchange {
     /// Each window goes to a window, and each duty to a duty.
     Product(Vec<usize>, Vec<usize>),
     /// The image of each number named; the others stay.
     Pairs(Vec<(usize, usize)>),
+    /// The image of each number.
     Table(Vec<usize>),
 }
 

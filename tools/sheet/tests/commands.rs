@@ -430,6 +430,19 @@ fn documents() {
     shows("docs/OPERATING.md", said(&desk.stderr));
 }
 
+/// The lines of the library's example that tools/README.md has.
+#[test]
+fn library_example() {
+    let [readme, source] = ["tools/README.md", "tools/sheet/src/lib.rs"]
+        .map(|file| std::fs::read_to_string(root().join(file)).unwrap());
+    let (_, rest) = readme.split_once("which the tests run:\n\n").unwrap();
+    let lines: Vec<&str> = rest.lines().take_while(|line| line.starts_with("    ")).collect();
+    assert!(lines.len() > 2);
+    for line in lines {
+        assert!(source.contains(&format!("//! {}\n", line.trim_start())), "{line}");
+    }
+}
+
 fn output_of(words: &str, text: &str) -> String {
     said(&fed(words, text.as_bytes()).stdout).to_string()
 }
