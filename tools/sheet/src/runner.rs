@@ -15,7 +15,7 @@ use planner::{Ending, Refusal, END, START};
 const FIRST: u64 = 1 << 10;
 
 /// So many trials are made before other cores are asked, and so many parts are made for each core.
-const ALONE: u64 = 1 << 20;
+const ALONE: u64 = 1 << 19;
 const PARTS: usize = 32;
 
 pub const FROM_OPTION: Choice = Choice {

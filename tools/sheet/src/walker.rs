@@ -3,16 +3,9 @@
 
 use crate::make::Made;
 use planner::{run_part, Ending, Head, Refusal};
-use std::time::{Duration, Instant};
 
-/// The trials of a call: the first, and the least and the most of the others.
-const FIRST: u64 = 1 << 18;
-const LEAST: u64 = 1 << 12;
-const MOST: u64 = 1 << 22;
-
-/// A call that takes less is followed by a longer one, and one that takes more by a shorter one.
-const SHORT: Duration = Duration::from_millis(60);
-const LONG: Duration = Duration::from_millis(240);
+/// The most trials of a call: a tenth of a second or less, beside which making the sheet ready, below a thousandth, doesn't count.
+const STEP: u64 = 1 << 19;
 
 /// What a hall's tree is made of.
 #[derive(Clone, Copy)]
@@ -42,20 +35,18 @@ pub struct Walker<'a> {
     /// The last trial made, else where the range begins.
     pub at: Vec<u8>,
     pub upto: Vec<u8>,
-    pace: u64,
     list: Vec<u8>,
 }
 
 impl<'a> Walker<'a> {
     /// Before the first trial after `from`; no trial after `upto` is made.
     pub fn new(tree: Tree<'a>, from: &[u8], upto: &[u8]) -> Walker<'a> {
-        Walker { tree, at: from.to_vec(), upto: upto.to_vec(), pace: FIRST, list: Vec::new() }
+        Walker { tree, at: from.to_vec(), upto: upto.to_vec(), list: Vec::new() }
     }
 
     /// Goes on, with at most so many trials and room for so many plans. A step that ends full leaves the walker where it stood.
     pub fn step(&mut self, trials: u64, plans: u64) -> Result<Step<'_>, Refusal> {
-        let start = Instant::now();
-        let limit = trials.min(self.pace);
+        let limit = trials.min(STEP);
         let room = self.tree.windows * plans.min(limit) as usize;
         if self.list.len() < room {
             self.list = vec![0; room];
@@ -63,11 +54,6 @@ impl<'a> Walker<'a> {
         let Tree { sheet, pairs, block, windows } = self.tree;
         let list = &mut self.list[..room];
         let head = run_part(sheet, pairs, block, &self.at, &self.upto, limit as u32, list)?;
-        self.pace = match start.elapsed() {
-            time if time < SHORT => (self.pace * 2).min(MOST),
-            time if time > LONG => (self.pace / 2).max(LEAST),
-            _ => self.pace,
-        };
         if head.answer().ending != Ending::Full {
             self.at = head.last().to_vec();
         }

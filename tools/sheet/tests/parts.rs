@@ -9,9 +9,6 @@ use std::fs;
 use std::path::{Path, PathBuf};
 use std::process::{Command, Output};
 
-mod program;
-use program::root;
-
 const TEXTS: [&str; 9] = [
     "examples/a.txt",
     "examples/cycle.txt",
@@ -24,8 +21,11 @@ const TEXTS: [&str; 9] = [
     "tools/sheet/tests/golden/order.txt",
 ];
 
+/// Where the program is run: at the repository's root.
+const ROOT: &str = concat!(env!("CARGO_MANIFEST_DIR"), "/../..");
+
 fn sheet(words: &[&str]) -> Output {
-    Command::new(env!("CARGO_BIN_EXE_sheet")).current_dir(root()).args(words).output().unwrap()
+    Command::new(env!("CARGO_BIN_EXE_sheet")).current_dir(ROOT).args(words).output().unwrap()
 }
 
 fn said(bytes: &[u8]) -> &str {
@@ -173,7 +173,7 @@ fn missing_parts() {
     let lines = said(&short.stderr);
     assert_eq!(lines.lines().count(), 3, "{lines}");
     assert!(lines.lines().all(|line| line.contains(" part --range ")), "{lines}");
-    let shell = Command::new("sh").current_dir(root()).args(["-c", lines]).output().unwrap();
+    let shell = Command::new("sh").current_dir(ROOT).args(["-c", lines]).output().unwrap();
     is_silent(shell);
     files = folder.files().iter().map(|name| folder.file(name)).collect();
     assert_eq!(files.len(), 8);
@@ -215,7 +215,7 @@ fn stopped_parts() {
     assert!(said(&short.stderr).starts_with("stopped short: start end, come to "), "{}", said(&short.stderr));
     let missing = join(text, &[file.clone()]);
     assert_eq!((missing.status.code(), said(&missing.stderr).lines().count()), (Some(2), 1));
-    is_silent(Command::new("sh").current_dir(root()).args(["-c", said(&missing.stderr)]).output().unwrap());
+    is_silent(Command::new("sh").current_dir(ROOT).args(["-c", said(&missing.stderr)]).output().unwrap());
     let gap = folder.files().into_iter().find(|name| name != "1.part").unwrap();
     is_whole(text, &[folder.file(gap), file.clone()]);
     assert_eq!(sheet(&words).status.code(), Some(2));
@@ -364,7 +364,7 @@ fn no_half_result() {
     let part = |before: &str| {
         let words =
             format!("{before} '{}' part --part 1/1 --out '{file}' {text}", env!("CARGO_BIN_EXE_sheet"));
-        Command::new("sh").current_dir(root()).args(["-c", &words]).output().unwrap()
+        Command::new("sh").current_dir(ROOT).args(["-c", &words]).output().unwrap()
     };
     // a file of at most 512 bytes: writing more fails, or kills the program where that isn't ignored
     let full = part("trap '' XFSZ; ulimit -f 1;");

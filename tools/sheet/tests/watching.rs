@@ -5,12 +5,12 @@ use std::io::{BufRead, BufReader, Read};
 use std::path::PathBuf;
 use std::process::{Child, Command, Output, Stdio};
 
-mod program;
-use program::root;
+/// Where the program is run: at the repository's root.
+const ROOT: &str = concat!(env!("CARGO_MANIFEST_DIR"), "/../..");
 
 fn sheet(words: &[&str]) -> Command {
     let mut command = Command::new(env!("CARGO_BIN_EXE_sheet"));
-    command.current_dir(root()).args(words).stdin(Stdio::null());
+    command.current_dir(ROOT).args(words).stdin(Stdio::null());
     command
 }
 
