@@ -1,28 +1,37 @@
-//! `sheet desk`: several halls by turns at one desk (paper 02, #113), so that none waits behind another's long run.
+//! `sheet desk`: several halls by turns, so that none waits behind another's long run, and a fault in one text stops no other.
 
-use crate::command::{print, refuse, say, Arguments, Choice, Command, Outcome, Source, Status, Stop};
+use crate::answers;
+use crate::command::{out, print, refuse, say, Arguments, Choice, Command, Outcome, Source, Status, Stop};
 use crate::counts::share;
 use crate::input::{Input, WHERE_OPTION};
-use crate::listing::{Limits, Listing, TRIALS_OPTION};
-use crate::plans::{ended, EXPLAIN_OPTION};
-use crate::table::table;
+use crate::json::{write_rows, JSON_OPTION};
+use crate::listing::{Limits, TRIALS_OPTION};
+use crate::plans::EXPLAIN_OPTION;
+use crate::runner::{Manner, JOBS_OPTION};
+use crate::seat::Seat;
+use crate::watch::{Watch, SECONDS_OPTION};
 use crate::words::counted;
-use planner::{Answer, Desk, Ending, Standing, SEATS, SEAT_PLANS};
+use planner::{SEAT_PLANS, STACK_BYTES};
 use std::io::{IsTerminal, Write};
+use std::sync::Mutex;
+use std::thread;
 use std::time::{Duration, Instant};
 
 pub const COMMAND: Command = Command {
     name: "desk",
     usage: "TEXT ..",
-    about: "runs several halls by turns, eight at a time, and shows each one's plans as it ends",
+    about: "runs several halls by turns, and shows each one's plans as it ends",
     files: 1..=usize::MAX,
     options: &[&[
+        JSON_OPTION,
         TRIALS_OPTION,
+        SECONDS_OPTION,
         Choice {
             name: EVERY,
             value: Some("N"),
-            about: "after every N turns of each seat, says on standard error how it stands",
+            about: "gives each seat N turns of 64 trials at a time (1,024), and says on standard error how it stands",
         },
+        JOBS_OPTION,
         EXPLAIN_OPTION,
         WHERE_OPTION,
     ]],
@@ -32,116 +41,145 @@ pub const COMMAND: Command = Command {
 
 const EVERY: &str = "--every";
 
-/// The turns of each seat in one step; each sheet is prepared once a step.
-const STEP: u32 = 1_024;
+/// The trials of a turn (paper 02, #113).
+const TURN: u64 = 64;
+
+/// The turns of each seat in one round; each sheet is prepared once a round.
+const ROUND: u32 = 1_024;
+
+/// So long is waited for those that count families when nobody runs.
+const PATIENCE: Duration = Duration::from_millis(10);
 
 fn run(arguments: &Arguments) -> Result<Outcome, Stop> {
-    let limits = Limits { plans: SEAT_PLANS as u32, ..Limits::of(arguments)? };
+    let limits = Limits { plans: SEAT_PLANS as u32, first: false, ..Limits::of(arguments)? };
     let every = arguments.number(EVERY, u32::MAX)?;
     if every == Some(0) {
         return refuse("--every takes a number from 1 on");
     }
-    let halls = arguments.sources.iter().map(|source| read(source, arguments));
-    let halls = halls.collect::<Result<Vec<Input>, Stop>>()?;
-    let mut halls = halls.iter();
-    let explain = arguments.has(EXPLAIN_OPTION.name);
-    let mut day = Day { desk: Desk::new(), seats: [None; SEATS as usize], limits, explain };
+    let jobs = Manner::of(arguments)?.jobs;
+    let watch = Watch::of(arguments)?;
+    let trials = u64::from(every.unwrap_or(ROUND)) * TURN;
+    let mut desk = Desk::new(arguments, limits);
     let mut progress = Progress::new(every);
-    let mut status = Status::Finished;
-    loop {
-        day.fill(&mut halls)?;
-        let rounds = day.desk.rounds(every.unwrap_or(STEP));
-        progress.show(&day);
-        for &seat in &rounds.ended {
-            progress.clear();
-            status = status.worst(day.leave(seat)?);
+    desk.show_ended()?;
+    while desk.seats.iter().any(|seat| !seat.has_ended()) {
+        match watch.stops() {
+            Some(cause) => desk.seats.iter_mut().for_each(|seat| seat.stop(cause, limits)),
+            None => desk.round(trials, jobs),
         }
-        if day.seats.iter().all(Option::is_none) && halls.len() == 0 {
+        progress.show(&desk);
+        if desk.seats.iter().any(|seat| seat.has_ended() && !seat.is_shown) {
             progress.clear();
-            return Ok(Outcome { output: Vec::new(), note: String::new(), status });
+            desk.show_ended()?;
         }
     }
+    progress.clear();
+    desk.end()
 }
 
-/// A text for a seat, which has no room for pairs and block.
-fn read(source: &Source, arguments: &Arguments) -> Result<Input, Stop> {
-    let input = Input::read(source)?.lent(arguments)?;
-    say(&input.notes());
-    match (&input.made.pairs[..], &input.made.block[..]) {
-        ([], []) => Ok(input),
-        (_, []) => refuse(format!("{} has `before` lines, which a desk doesn't take", input.name)),
-        _ => refuse(format!("{} has an `alike` line, which a desk doesn't take", input.name)),
-    }
-}
-
-/// The desk, and who sits at it.
-struct Day<'a> {
-    desk: Desk,
-    seats: [Option<&'a Input>; SEATS as usize],
+/// The seats, a hall at each, and how they are shown.
+struct Desk {
+    seats: Vec<Seat>,
     limits: Limits,
     explain: bool,
+    is_json: bool,
 }
 
-impl<'a> Day<'a> {
-    /// Seats those who come next, as long as a seat is free.
-    fn fill(&mut self, halls: &mut impl Iterator<Item = &'a Input>) -> Result<(), Stop> {
-        while self.seats.iter().any(Option::is_none) {
-            let Some(hall) = halls.next() else {
-                break;
-            };
-            let seat = hall.accepted(self.desk.sit(&hall.made.sheet, self.limits.trials))?;
-            self.seats[seat as usize] = Some(hall);
+impl Desk {
+    /// Seats every text; what is wrong with one is said, and shown at its seat.
+    fn new(arguments: &Arguments, limits: Limits) -> Desk {
+        let seat = |source: &Source| {
+            let hall = Input::read(source).and_then(|input| input.lent(arguments));
+            match &hall {
+                Ok(input) => say(&input.notes()),
+                Err(stop) => say(&stop.said()),
+            }
+            Seat::new(source.name(), hall)
+        };
+        let [explain, is_json] = [EXPLAIN_OPTION, JSON_OPTION].map(|option| arguments.has(option.name));
+        Desk { seats: arguments.sources.iter().map(seat).collect(), limits, explain, is_json }
+    }
+
+    /// Each hall that runs goes on with so many trials, one after the other, on so many cores.
+    fn round(&mut self, trials: u64, jobs: usize) {
+        let limits = self.limits;
+        let running: Vec<&mut Seat> = self.seats.iter_mut().filter(|seat| seat.runs()).collect();
+        if running.is_empty() {
+            thread::sleep(PATIENCE);
+        }
+        let others = jobs.min(running.len()).saturating_sub(1);
+        let queue = Mutex::new(running.into_iter());
+        let serve = || {
+            while let Some(seat) = next(&queue) {
+                seat.go_on(trials, limits);
+            }
+        };
+        thread::scope(|scope| {
+            for _ in 0..others {
+                // what a thread that can't be had would serve, the others serve
+                let _ = thread::Builder::new().stack_size(2 * STACK_BYTES).spawn_scoped(scope, serve);
+            }
+            serve();
+        });
+        self.seats.iter_mut().for_each(Seat::take_count);
+    }
+
+    /// Shows those that have ended since.
+    fn show_ended(&mut self) -> Result<(), Stop> {
+        for (number, seat) in self.seats.iter_mut().enumerate() {
+            if seat.has_ended() && !seat.is_shown && !self.is_json {
+                print(format!("seat {number}, {}\n{}\n", seat.name, seat.said(self.explain)).as_bytes())?;
+            }
+            seat.is_shown = seat.has_ended();
         }
         Ok(())
     }
 
-    /// How the halls stand, by seat.
-    fn standings(&self) -> Vec<(&'a Input, Standing)> {
-        let stands = |(seat, hall): (usize, &Option<&'a Input>)| {
-            hall.and_then(|hall| Some((hall, self.desk.look(seat as u32).ok()?.standing)))
-        };
-        self.seats.iter().enumerate().filter_map(stands).collect()
-    }
-
-    /// Prints the plans of a hall whose run has ended, and frees its seat.
-    fn leave(&mut self, seat: u32) -> Result<Status, Stop> {
-        let hall = self.seats[seat as usize].take().expect("somebody at the seat");
-        let Standing { ending, plans, nodes, .. } = hall.accepted(self.desk.look(seat))?.standing;
-        let answer = Answer { ending: ending.expect("a run that has ended"), plans, nodes };
-        let mut list = vec![0; hall.made.problem.variables.len() * plans as usize];
-        hall.accepted(self.desk.leave(seat, &mut list))?;
-        let listing = hall.chosen(hall.accepted(Listing::alone(&hall.made, answer, list, self.limits))?);
-        let hint = match listing.ending {
-            Ending::Full => " (a seat has room for so many)",
-            _ => listing.hint(),
-        };
-        let plans = table(&hall.made.problem, &listing) + &ended(hall, &listing, hint, self.explain);
-        print(format!("seat {seat}, {}\n{plans}\n", hall.name).as_bytes())?;
-        Ok(listing.status())
+    /// All have ended.
+    fn end(&self) -> Result<Outcome, Stop> {
+        let status = self.seats.iter().map(Seat::status).fold(Status::Finished, Status::worst);
+        if self.is_json {
+            let fields = [answers::head(COMMAND.name), vec![("status", (status as u32).into())]].concat();
+            let mut out = out();
+            out.all(|out| write_rows(out, &fields, "halls", self.seats.iter().map(Seat::json)))?;
+            out.end()?;
+        }
+        Ok(Outcome { output: Vec::new(), note: String::new(), status })
     }
 }
 
-/// How far the halls have come: a line for each seat, after every step or, on a terminal, of those that take more than a second, in place.
+/// The next seat to be served.
+fn next<'a>(queue: &Mutex<impl Iterator<Item = &'a mut Seat>>) -> Option<&'a mut Seat> {
+    queue.lock().expect("no core fails").next()
+}
+
+/// How far the halls have come: a line for each that runs, after every round or, on a terminal, of those that take more than
+/// a second, in place.
 struct Progress {
     always: bool,
-    start: Option<Instant>,
+    told: Option<Instant>,
     lines: usize,
 }
+
+/// On a terminal so many halls are shown, and so often.
+const SHOWN: usize = 20;
+const PAUSE: Duration = Duration::from_millis(500);
 
 impl Progress {
     fn new(every: Option<u32>) -> Progress {
         let watched = every.is_none() && std::io::stderr().is_terminal();
-        Progress { always: every.is_some(), start: watched.then(Instant::now), lines: 0 }
+        Progress { always: every.is_some(), told: watched.then(Instant::now), lines: 0 }
     }
 
-    fn show(&mut self, day: &Day) {
-        let text = lines(&day.standings(), day.limits.trials);
+    fn show(&mut self, desk: &Desk) {
         if self.always {
-            say(&text);
-        } else if self.start.is_some_and(|start| start.elapsed() > Duration::from_secs(1)) {
+            say(&lines(desk, usize::MAX));
+        } else if self.told.is_some_and(|told| told.elapsed() > PAUSE) {
             self.clear();
+            let text = lines(desk, SHOWN);
             say(&text);
             self.lines = text.lines().count();
+            self.told = Some(Instant::now());
         }
     }
 
@@ -154,20 +192,27 @@ impl Progress {
     }
 }
 
-/// A line for each seat: its trials and plans so far, and their share of the allowance.
-fn lines(standings: &[(&Input, Standing)], allowance: u32) -> String {
-    let cells: Vec<[String; 4]> = standings
-        .iter()
-        .map(|(hall, standing)| {
-            let share = share(u64::from(standing.nodes), u64::from(allowance));
-            [hall.name.clone(), counted(standing.nodes, "trial"), counted(standing.plans, "plan"), share]
+/// A line for each of the first seats that are at work: the trials and plans so far, and their share of the allowance.
+fn lines(desk: &Desk, most: usize) -> String {
+    let at_work = || desk.seats.iter().enumerate().filter(|(_, seat)| seat.is_at_work());
+    let cells: Vec<[String; 5]> = at_work()
+        .take(most)
+        .map(|(number, Seat { name, sum, .. })| {
+            let share = share(sum.trials, desk.limits.trials.into());
+            let [trials, plans] = [counted(sum.trials, "trial"), counted(sum.plans, "plan")];
+            [number.to_string(), name.clone(), trials, plans, share]
         })
         .collect();
     let width = |column: usize| cells.iter().map(|row| row[column].chars().count()).max().unwrap_or(0);
-    let [names, trials, plans, shares] = [0, 1, 2, 3].map(width);
-    let line = |((_, standing), [name, nodes, listed, share]): (&(&Input, Standing), &[String; 4])| {
-        let seat = standing.seat;
-        format!("seat {seat}  {name:names$}  {nodes:>trials$}  {listed:>plans$}  {share:>shares$} of the allowance\n")
+    let [numbers, names, trials, plans, shares] = [0, 1, 2, 3, 4].map(width);
+    let line = |[number, name, made, listed, share]: &[String; 5]| {
+        format!(
+            "seat {number:numbers$}  {name:names$}  {made:>trials$}  {listed:>plans$}  {share:>shares$} of the allowance\n"
+        )
     };
-    standings.iter().zip(&cells).map(line).collect()
+    let rest = match at_work().count().saturating_sub(most) {
+        0 => String::new(),
+        rest => format!("and {}\n", counted(rest as u64, "hall")),
+    };
+    cells.iter().map(line).collect::<String>() + &rest
 }

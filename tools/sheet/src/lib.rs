@@ -52,6 +52,7 @@ mod page;
 mod part;
 mod path;
 mod plans;
+mod seat;
 mod show;
 mod signals;
 mod sketch;

@@ -6,7 +6,7 @@ use crate::path::word;
 use crate::runner::{self, Manner};
 use crate::watch::{Cause, Watch};
 use crate::words::{counted, families};
-use planner::{Answer, Closed, Ending, Enough, Refusal, STACK_BYTES, START};
+use planner::{Closed, Ending, Enough, Refusal, STACK_BYTES, START};
 use std::sync::mpsc;
 use std::thread;
 use std::time::Duration;
@@ -184,24 +184,25 @@ fn families_of(made: &Made, limits: Limits, watch: &Watch) -> Result<Families, R
 }
 
 impl Listing {
-    /// What a run without counts by window answered, and the plans at the front of its list.
-    pub fn alone(made: &Made, answer: Answer, list: Vec<u8>, limits: Limits) -> Result<Listing, Refusal> {
-        let plans = Plans::new(made.problem.variables.len(), list, answer.plans as usize);
-        let Answer { ending, nodes, .. } = answer;
-        let (from, at) = (START.to_vec(), START.to_vec());
-        let ran = Ran { ending, plans, trials: nodes.into(), counts: [0; 12], from, at, stop: None };
-        Listing::of(made, ran, limits, &Watch::nobody())
-    }
-
-    /// What a run came to.
+    /// What a run came to, with its families.
     pub fn of(made: &Made, ran: Ran, limits: Limits, watch: &Watch) -> Result<Listing, Refusal> {
-        let Ran { ending, plans, trials, counts, from, at, stop } = ran;
-        let listed = plans.len() as u64;
-        let is_whole = ending == Ending::Finished && from == START && !limits.first;
-        let families = match is_whole && listed > 0 && made.has_exchanges() {
+        let families = match Listing::counts_families(made, &ran, limits) {
             true => Some(families_of(made, limits, watch)?),
             false => None,
         };
+        Ok(Listing::with(ran, limits, families))
+    }
+
+    /// Are the families of what a run came to counted?
+    pub fn counts_families(made: &Made, ran: &Ran, limits: Limits) -> bool {
+        let is_whole = ran.ending == Ending::Finished && ran.from == START && !limits.first;
+        is_whole && !ran.plans.is_empty() && made.has_exchanges()
+    }
+
+    /// What a run came to, and what is known of its families.
+    pub fn with(ran: Ran, limits: Limits, families: Option<Families>) -> Listing {
+        let Ran { ending, plans, trials, counts, from, at, stop } = ran;
+        let listed = plans.len() as u64;
         let hint = match ending {
             _ if limits.first && listed > 0 => String::new(),
             _ if stop.is_some() => format!(" (plans --from {} goes on)", word(&at)),
@@ -210,7 +211,7 @@ impl Listing {
             Ending::Spent => " (--trials N allows more)".to_string(),
         };
         let shown = None;
-        Ok(Listing { ending, plans, listed, shown, trials, counts, families, limits, hint, from, at, stop })
+        Listing { ending, plans, listed, shown, trials, counts, families, limits, hint, from, at, stop }
     }
 
     /// A listing that shows a plan, or that has none to show.

@@ -188,7 +188,7 @@ pub fn ended(input: &Input, listing: &Listing, hint: &str, explain: bool) -> Str
 }
 
 /// The order in which pairs settle the windows.
-fn in_order(input: &Input) -> String {
+pub fn in_order(input: &Input) -> String {
     match settled(&input.made.problem, &input.made.pairs) {
         windows if windows.is_empty() => String::new(),
         windows => format!("(windows settled in the order {})\n", written_all(windows)),

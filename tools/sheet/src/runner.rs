@@ -8,7 +8,7 @@ use crate::make::Made;
 use crate::path::path;
 use crate::team::Team;
 use crate::walker::{Step, Tree, Walker};
-use crate::watch::{Progress, Watch};
+use crate::watch::{Cause, Progress, Watch};
 use planner::{Ending, Refusal, END, START};
 
 /// The first allowance of a run for the first plan; the next is always twice the one before.
@@ -77,9 +77,30 @@ pub struct Sum {
 }
 
 impl Sum {
-    fn new(from: &[u8], keeps: bool) -> Sum {
+    /// Before the first trial after a path; the plans are kept if they are wanted.
+    pub fn new(from: &[u8], keeps: bool) -> Sum {
         let rows = keeps.then(Vec::new);
         Sum { trials: 0, plans: 0, counts: [0; 12], rows, at: from.to_vec(), ending: None }
+    }
+
+    /// Goes on with a step of at most so many trials, as long as the trials and plans are at most so many in all.
+    pub fn step(&mut self, walker: &mut Walker, trials: u64, most: [u64; 2]) -> Result<(), Refusal> {
+        let step = walker.step(trials, most[1] - self.plans)?;
+        self.add(&step);
+        self.ending = match step.head.answer().ending {
+            Ending::Spent if self.trials < most[0] => None,
+            ending => Some(ending),
+        };
+        self.at = walker.at.clone();
+        Ok(())
+    }
+
+    /// What a run of so many windows came to that began after a path and may have been stopped for a cause.
+    pub fn ran(&mut self, windows: usize, from: &[u8], stop: Option<Cause>) -> Ran {
+        let plans = Plans::new(windows, self.rows.take().unwrap_or_default(), self.plans as usize);
+        let ending = self.ending.unwrap_or(Ending::Spent);
+        let (from, at) = (from.to_vec(), self.at.clone());
+        Ran { ending, plans, trials: self.trials, counts: self.counts, from, at, stop }
     }
 
     /// Adds the figures and the plans of a step.
@@ -112,11 +133,8 @@ pub fn list(made: &Made, limits: Limits, manner: &Manner, watch: &Watch) -> Resu
         true => run.to_first(&mut sum)?,
         false => run.to_end(&mut sum, manner.jobs)?,
     }
-    let plans = Plans::new(run.tree.windows, sum.rows.take().unwrap_or_default(), sum.plans as usize);
     let stop = watch.stopped().filter(|_| sum.ending.is_none());
-    let ending = sum.ending.unwrap_or(Ending::Spent);
-    let from = manner.from.clone();
-    Ok(Ran { ending, plans, trials: sum.trials, counts: sum.counts, from, at: sum.at, stop })
+    Ok(sum.ran(run.tree.windows, &manner.from, stop))
 }
 
 /// Goes on until there is one plan more than so many; full then says that there is.
@@ -162,13 +180,7 @@ impl Run<'_> {
             if self.watch.stops().is_some() {
                 break;
             }
-            let step = walker.step(trials - sum.trials, self.plans - sum.plans)?;
-            sum.add(&step);
-            sum.ending = match step.head.answer().ending {
-                Ending::Spent if sum.trials < self.trials => None,
-                ending => Some(ending),
-            };
-            sum.at = walker.at.clone();
+            sum.step(&mut walker, trials - sum.trials, [self.trials, self.plans])?;
             self.hear(sum.trials, sum.plans);
         }
         Ok(())

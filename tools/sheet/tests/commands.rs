@@ -428,6 +428,14 @@ fn documents() {
     shows("docs/OPERATING.md", &round.replace("standard input", "round.txt"));
     let desk = output("desk --every 1 examples/stand.txt examples/cycle.txt");
     shows("docs/OPERATING.md", said(&desk.stderr));
+    let fault = "windows a b\nduties x y\ndifferent a till\n";
+    let desk = output_of("desk examples/cycle.txt -", fault).replace("standard input", "fault.txt");
+    shows("docs/OPERATING.md", &desk);
+    let desk = output_of("desk --jobs 2 examples/a.txt -", fault).replace("standard input", "fault.txt");
+    shows("README.md", &desk.lines().take(6).collect::<Vec<_>>().join("\n"));
+    let why = output("why --json examples/a.txt");
+    let lines: Vec<&str> = said(&why.stdout).lines().collect();
+    shows("README.md", &[&lines[9..12], &lines[14..]].concat().join("\n"));
 }
 
 /// The lines of the library's example that tools/README.md has.
