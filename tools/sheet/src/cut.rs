@@ -31,23 +31,22 @@ pub fn cut(made: &Made, parts: usize) -> Vec<[Vec<u8>; 2]> {
     begins.zip(ends).map(|(from, upto)| [from, upto]).collect()
 }
 
-/// The paths between so many parts, ascending.
+/// The paths between so many parts, ascending: each is that of the first piece whose middle comes after so many parts' shares.
 fn bounds(made: &Made, parts: usize) -> Vec<Vec<u8>> {
     let mut pieces = Pieces::new(made, parts).all();
     pieces.sort_by(|one, other| one.path.cmp(&other.path));
-    let total: u128 = pieces.iter().map(|piece| piece.size).sum();
-    let mut bounds = Vec::new();
-    let mut before = 0;
-    for piece in &pieces {
-        while bounds.len() + 1 < parts
-            && (2 * before + piece.size) * parts as u128 >= 2 * total * (bounds.len() as u128 + 1)
-        {
-            bounds.push(piece.path.clone());
-        }
-        before += piece.size;
-    }
-    bounds.resize(parts - 1, END.to_vec());
-    bounds
+    let mut total = 0;
+    let middle = |piece: &Piece| {
+        let middle = 2 * total + piece.size;
+        total += piece.size;
+        middle
+    };
+    let middles: Vec<u128> = pieces.iter().map(middle).collect();
+    let bound = |before: usize| {
+        let first = middles.partition_point(|middle| middle * (parts as u128) < 2 * total * before as u128);
+        pieces.get(first).map_or(END.to_vec(), |piece| piece.path.clone())
+    };
+    (1..parts).map(bound).collect()
 }
 
 /// The pieces of a tree, the largest to be cut next.

@@ -1,8 +1,9 @@
 //! `sheet join`: the whole of a run from the results of its parts, or the ranges that are missing.
 
+use crate::answers;
 use crate::command::{refuse, Arguments, Choice, Command, Outcome, Source, Status, Stop};
 use crate::input::{Input, TEXT_OPTIONS, WHERE_OPTION};
-use crate::json::JSON_OPTION;
+use crate::json::{object, rows_text, JSON_OPTION};
 use crate::listing::{Limits, Listing, Plans, Ran};
 use crate::path::word;
 use crate::plans::{
@@ -10,6 +11,7 @@ use crate::plans::{
 };
 use crate::result::{Hall, Part};
 use crate::watch::Watch;
+use crate::words::counted;
 use planner::{join, Ending, Head, Join, Sums, END, START};
 use std::collections::BTreeMap;
 use std::path::Path;
@@ -58,9 +60,12 @@ fn run(arguments: &Arguments) -> Result<Outcome, Stop> {
         }
         Join::Missing { .. } => {
             let ranges = missing(&parts);
+            let output = match forms {
+                [_, true, _] => json(&input, &notes, &ranges).into_bytes(),
+                _ => Vec::new(),
+            };
             let lines = ranges.iter().map(|range| again(arguments, files, range));
-            let note = notes + &lines.collect::<String>();
-            Ok(Outcome { output: Vec::new(), note, status: Status::Short })
+            Ok(Outcome { output, note: notes + &lines.collect::<String>(), status: Status::Short })
         }
     }
 }
@@ -129,6 +134,16 @@ fn missing(parts: &[Part]) -> Vec<[Vec<u8>; 2]> {
     ranges
 }
 
+/// The ranges that are missing, for machines.
+fn json(input: &Input, notes: &str, ranges: &[[Vec<u8>; 2]]) -> String {
+    let words = format!("{} missing", counted(ranges.len() as u64, "range"));
+    let ending = answers::ending("missing", Status::Short, &words);
+    let notes = input.notes() + notes;
+    let range =
+        |[from, upto]: &[Vec<u8>; 2]| object(vec![("from", word(from).into()), ("upto", word(upto).into())]);
+    rows_text(&answers::of_hall(COMMAND.name, input, &notes, ending), "missing", ranges.iter().map(range))
+}
+
 /// The run that joined parts are, with the figures that the planner summed.
 fn whole(input: &Input, parts: Vec<Part>, sums: Sums) -> Result<Ran, Stop> {
     let ways = ways(&parts);
@@ -155,13 +170,12 @@ fn again(arguments: &Arguments, files: &[Source], [from, upto]: &[Vec<u8>; 2]) -
     let folder = Path::new(&files[0].0).parent().unwrap_or(Path::new(""));
     let file = folder.join(format!("{from}-{upto}.part")).to_string_lossy().into_owned();
     let program = std::env::args().next().unwrap_or("sheet".to_string());
+    let option = |choice: &'static Choice| {
+        let words = |value: &String| [Some(choice.name.to_string()), choice.value.map(|_| value.clone())];
+        arguments.all(choice.name).flat_map(words).flatten().collect::<Vec<_>>()
+    };
     let mut words = vec![program, "part".into(), "--range".into(), from, upto, "--out".into(), file];
-    for choice in TEXT_OPTIONS {
-        for value in arguments.all(choice.name) {
-            words.push(choice.name.to_string());
-            words.extend(choice.value.map(|_| value.clone()));
-        }
-    }
+    words.extend(TEXT_OPTIONS.iter().flat_map(option));
     words.push(arguments.sources[0].0.clone());
     words.iter().map(|word| quoted(word)).collect::<Vec<_>>().join(" ") + "\n"
 }

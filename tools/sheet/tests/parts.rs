@@ -21,6 +21,9 @@ const TEXTS: [&str; 9] = [
     "tools/sheet/tests/golden/order.txt",
 ];
 
+mod schema;
+use schema::{field, members, parse, Schema};
+
 /// Where the program is run: at the repository's root.
 const ROOT: &str = concat!(env!("CARGO_MANIFEST_DIR"), "/../..");
 
@@ -178,6 +181,25 @@ fn missing_parts() {
     files = folder.files().iter().map(|name| folder.file(name)).collect();
     assert_eq!(files.len(), 8);
     is_whole(text, &files);
+}
+
+/// The same for machines, by the schema.
+#[test]
+fn missing_parts_as_json() {
+    let text = "examples/stand.txt";
+    let folder = Folder::new("json");
+    let mut files = folder.run(text, 4);
+    files.remove(2);
+    fs::write(&files[0], "cut short").unwrap();
+    let names: Vec<&str> = files.iter().map(String::as_str).collect();
+    let short = sheet(&[&["join", "--json", text], &names[..]].concat());
+    assert_eq!(short.status.code(), Some(2));
+    assert_eq!(said(&short.stderr).lines().count(), 3);
+    let answer = parse(said(&short.stdout)).unwrap();
+    let schema = fs::read_to_string(Path::new(ROOT).join("docs/schema/sheet.json")).unwrap();
+    let schema = Schema(parse(&schema).unwrap());
+    assert_eq!((schema.wrong("missing", &answer), schema.wrong_in_all(&answer)), (None, None));
+    assert_eq!(members(field(&answer, "missing").unwrap()).len(), 2);
 }
 
 /// Options that change the hall stand in the words too, in quotes where a shell needs them.
@@ -390,7 +412,10 @@ fn forms() {
         let alone = sheet(&[&["plans"], &options[..], &[text]].concat());
         let names: Vec<&str> = files.iter().map(String::as_str).collect();
         let joined = sheet(&[&["join"], &options[..], &[text], &names[..]].concat());
-        assert_eq!(joined.stdout, alone.stdout, "{options:?}");
+        let as_plans = String::from_utf8(joined.stdout)
+            .unwrap()
+            .replace("\"command\": \"join\"", "\"command\": \"plans\"");
+        assert!(as_plans.as_bytes() == alone.stdout, "{options:?}");
         assert_eq!(joined.stderr, alone.stderr, "{options:?}");
         assert_eq!(joined.status, alone.status);
     }

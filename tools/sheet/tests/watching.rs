@@ -244,6 +244,10 @@ fn faults() {
             (Some(1), said_, "")
         );
     }
+    let none = output(&["plans", "--from", "end", "examples/a.txt"]);
+    let words = "finished: no plan, 0 trials; only what comes after end\n\
+                 (a plan that an exchange makes of an earlier one is left out)\n";
+    assert_eq!((none.status.code(), said(&none.stdout)), (Some(0), words));
     let rest = output(&["plans", "--from", "0.1", "examples/a.txt"]);
     assert!(
         said(&rest.stdout).contains("finished: 2 plans, 4 trials; only what comes after 0.1\n"),
