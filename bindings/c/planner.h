@@ -14,7 +14,7 @@
  *   planner_report 358, planner_families 311, planner_at_least 244, planner_run, planner_run_lent and
  *   planner_run_part, with pairs and a block or without, 182, planner_desk_turn and planner_desk_rounds 181,
  *   planner_question_lent and planner_closed 69, planner_question, planner_desk_sit and planner_small_sheet 41,
- *   every other call 4 (most of it where the C library's functions are bound at their first call).
+ *   planner_join 17, every other call 4 (most of it where the C library's functions are bound at their first call).
  * With less the process ends by a fault at the guard page. A thread of PLANNER_STACK_BYTES is enough for
  * each; some systems give a thread less unless asked (musl: 128 KB).
  *
@@ -300,10 +300,11 @@ uint32_t planner_run_part(const uint8_t *sheet, size_t sheet_len, const uint8_t 
 
 /* Joins the heads of parts, one behind the other, in any order, repeats too. Beginning at the empty path, always that
  * head is taken that begins where one stands and reaches furthest, of equals the first; one that reaches nothing after
- * its beginning is never taken. PLANNER_JOINED where one comes to the path 255: the sums of the heads taken are the
+ * its beginning is never taken. PLANNER_JOINED exactly if some of the heads go, each from where the one before it
+ * reaches, from the empty path to the path 255: then only heads that lead there are taken, and their sums are the
  * figures of the run. Else PLANNER_MISSING: no head goes on from where one stands, and no head begins between there
- * and `upto`. Heads that overlap can be answered so though others of them would join: what is missing is then run
- * again. The answer has PLANNER_JOIN_BYTES bytes, its numbers low byte first:
+ * and `upto`. The work grows with the square of the number of heads. The answer has PLANNER_JOIN_BYTES bytes, its
+ * numbers low byte first:
  *     0  the kind, 32 bits
  *     4  zero
  *     8  the plans, 64 bits
@@ -312,7 +313,7 @@ uint32_t planner_run_part(const uint8_t *sheet, size_t sheet_len, const uint8_t 
  *   120  the missing range: from where one stands, a path in 13 bytes as a head has it (joined: zeros)
  *   133  upto the nearest beginning after it, else the path 255 (joined: zeros)
  *   146  six zeros
- * 0 is returned where the call has answered. Refusals, item 0: 41 (whole heads, at most 16,777,216), 42 (each has the
+ * 0 is returned where the call has answered. Refusals, item 0: 41 (whole heads, at most 65,536), 42 (each has the
  * shape of a head: kind 1 to 3, lengths up to 12, zeros behind the values), 43 (all bear the problem's name of the
  * first), 44 (none is full); PLANNER_WRONG_SIZE, asked first, where the answer has another size; the answer is then as
  * it came. The digests of a name tell problems apart that differ by accident, not by intent: who has the sheet, the

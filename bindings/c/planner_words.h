@@ -47,7 +47,7 @@ static inline const char *planner_words(uint32_t number) {
     case 38: return "somebody holds the seat, and it is one of the eight";
     case 39: return "the position is that of a small sheet";
     case 40: return "the room has at least 52 bytes";
-    case 41: return "the heads of parts are whole heads, at most 16,777,216";
+    case 41: return "the heads of parts are whole heads, at most 65,536";
     case 42: return "each head has a head's shape: kind, paths of at most twelve values, zeros behind them";
     case 43: return "all heads are of one sheet, pairs and block";
     case 44: return "no head is of a full part";

@@ -43,7 +43,7 @@ REFUSALS: Dict[int, Tuple[str, str]] = {
     38: ("", "somebody holds the seat, and it is one of the eight"),
     39: ("", "the position is that of a small sheet"),
     40: ("", "the room has at least 52 bytes"),
-    41: ("", "the heads of parts are whole heads, at most 16,777,216"),
+    41: ("", "the heads of parts are whole heads, at most 65,536"),
     42: ("", "each head has a head's shape: kind, paths of at most twelve values, zeros behind them"),
     43: ("", "all heads are of one sheet, pairs and block"),
     44: ("", "no head is of a full part"),

@@ -144,9 +144,10 @@ pub enum Join {
     Missing { from: Vec<u8>, upto: Vec<u8>, sums: Sums },
 }
 
-/// Joins the heads of parts, one behind the other, in any order and with repeats. Beginning at the first path, always that head is taken
-/// that begins where one stands and reaches furthest, of equals the first. Refusals: 41 (no half head, at most 16,777,216 heads), 42 (each
-/// has the shape of a head), 43 (all are of one problem), 44 (none is full).
+/// Joins the heads of parts, one behind the other, in any order and with repeats. They are joined exactly if some of them go, each from
+/// where the one before it reaches, from the first to the last path. Beginning at the first path, always that head is taken that begins
+/// where one stands and reaches furthest, of equals the first; of heads that join only those that lead to the last path. Refusals: 41 (no
+/// half head, at most 65,536 heads), 42 (each has the shape of a head), 43 (all are of one problem), 44 (none is full).
 pub fn join(heads: &[u8]) -> Result<Join, Refusal> {
     let mut answer = [0; 152];
     Refusal::from_code(unsafe {

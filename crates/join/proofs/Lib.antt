@@ -1,6 +1,9 @@
 pub mod Orders
 pub mod Questions
 pub mod Turns
+pub mod Fewer
+pub mod Bits
+pub mod Leads
 pub mod Sums
 pub mod Said
 pub mod Tied

@@ -28,6 +28,9 @@ module _ (p : ℕ → Bool) (n : ℕ) where
 pub both-yes : (a b : Bool) → a ≡ true → b ≡ true → both a b ≡ true
 both-yes a b e f = ap₂ both e f
 
+pub both-none : (a b : Bool) → a ≡ false → both a b ≡ false
+both-none a b e = ap (λ (x : Bool). both x b) e
+
 pub both-no : (a b : Bool) → b ≡ false → both a b ≡ false
 both-no true b e = e
 both-no false b e = refl

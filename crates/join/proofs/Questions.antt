@@ -82,12 +82,12 @@ asked-yes c n v r e f = f ∙ sym (ap (λ (x : Bool). numberIn (ask x n 0 v)) e)
 module _ (l : List ℕ) where
   pub whole-half : (length l % 115 ≡ 0 → ⊥) → wholeHeads l ≡ false
   unfolding wholeHeads
-  whole-half d = ap (λ (x : Bool). both x (leb (headsIn l) 16777216)) (ne-eqb (length l % 115) 0 d)
+  whole-half d = ap (λ (x : Bool). both x (leb (headsIn l) 65536)) (ne-eqb (length l % 115) 0 d)
 
-  pub whole-many : 16777216 < headsIn l → wholeHeads l ≡ false
+  pub whole-many : 65536 < headsIn l → wholeHeads l ≡ false
   unfolding wholeHeads
-  whole-many h = both-no (eqb (length l % 115) 0) (leb (headsIn l) 16777216) (lt-leb (headsIn l) 16777216 h)
+  whole-many h = both-no (eqb (length l % 115) 0) (leb (headsIn l) 65536) (lt-leb (headsIn l) 65536 h)
 
-  pub whole-yes : length l % 115 ≡ 0 → headsIn l ≤ 16777216 → wholeHeads l ≡ true
+  pub whole-yes : length l % 115 ≡ 0 → headsIn l ≤ 65536 → wholeHeads l ≡ true
   unfolding wholeHeads
-  whole-yes e h = both-yes (eqb (length l % 115) 0) (leb (headsIn l) 16777216) (eq-eqb (length l % 115) 0 e) (le-leb (headsIn l) 16777216 h)
+  whole-yes e h = both-yes (eqb (length l % 115) 0) (leb (headsIn l) 65536) (eq-eqb (length l % 115) 0 e) (le-leb (headsIn l) 65536 h)

@@ -1,15 +1,15 @@
 -- What `join` answers, by what it called. Assumes nothing.
 use mathlib.Core.Path.{_≡_, refl, sym, ap, ap₂, _∙_}
 use mathlib.Core.Bool.{Bool, true, false}
-use mathlib.Core.List.{List, [], _∷_}
+use mathlib.Core.List.{List}
 use Prim.Native.Nat.{ℕ, zero, suc, _≤_, _<_}
 use native.Mathlib.Omega.{arith}
 use lib.ListN.{replicate}
-use Rattle.model.specs.Lists.{at, both, choose, same}
+use Rattle.model.specs.Lists.{at, both, choose}
 use Rattle.parts.specs.Parts.{after}
 use Rattle.model.specs.Verdict.{Verdict, accepted, refused}
 use Rattle.model.proofs.Lists.{at-replicate}
-use Rattle.join.specs.Join.{joinVerdict, headsIn, fromAt, standPath, nearer, nearestOf, stands, plansOf, nodesOf, countOf}
+use Rattle.join.specs.Join.{joinVerdict, headsIn, fromAt, joined, standPath, nearer, nearestOf, stands, plansOf, nodesOf, countOf}
 use Rattle.join.specs.Inner.{Said, Summed, numberIn}
 use Rattle.join.specs.Calls.{answerFor, figureFor, CallJoin}
 use Rattle.join.specs.declared.Answer.{Answer}
@@ -25,11 +25,11 @@ module _ (l : List ℕ) (stand : ℕ) where
       go true h = omega arith
       go false h = omega arith
 
-  pub said-joined : same (standPath l stand) (255 ∷ []) ≡ true → Said l stand Joined
-  said-joined e = record { answers = sym (ap (λ (b : Bool). choose b Joined (Missing stand (nearestOf l (standPath l stand) (headsIn l)))) e); near = nearest-few (headsIn l) }
+  pub said-joined : (joins : Bool) → joins ≡ true → Said l joins stand Joined
+  said-joined joins e = record { answers = sym (ap (λ (b : Bool). choose b Joined (Missing stand (nearestOf l (standPath l stand) (headsIn l)))) e); near = nearest-few (headsIn l) }
 
-  pub said-missing : (n near : ℕ) → n ≡ headsIn l → near ≡ nearestOf l (standPath l stand) n → same (standPath l stand) (255 ∷ []) ≡ false → Said l stand (Missing stand near)
-  said-missing n near z q e =
+  pub said-missing : (joins : Bool) (n near : ℕ) → n ≡ headsIn l → near ≡ nearestOf l (standPath l stand) n → joins ≡ false → Said l joins stand (Missing stand near)
+  said-missing joins n near z q e =
       record {
         answers = ap (Missing stand) (q ∙ ap (nearestOf l (standPath l stand)) z) ∙ sym (ap (λ (b : Bool). choose b Joined (Missing stand (nearestOf l (standPath l stand) (headsIn l)))) e);
         near = nearest-few (headsIn l);
@@ -46,12 +46,12 @@ module _ (l : List ℕ) (number : ℕ) (e : number ≡ numberIn (joinVerdict l))
       let f = refused-so (joinVerdict l) d e in
       record { answers = f .0; inside = λ s n q. absurd (let z : _≡_ {A = ℕ} 0 1 = cc in omega arith); plans = f .1 (plansOf l); nodes = f .1 (nodesOf l); counts = λ x h. at-replicate 12 x ∙ f .1 (countOf l x) }
 
-pub said-all : (l : List ℕ) (answer : Answer) (stand p m : ℕ) (cs : List ℕ) → joinVerdict l ≡ accepted → Summed l stand p m cs → Said l stand answer → CallJoin l (record { answer = answer; plans = p; nodes = m; counts = cs })
+pub said-all : (l : List ℕ) (answer : Answer) (joins : Bool) (stand p m : ℕ) (cs : List ℕ) → joinVerdict l ≡ accepted → joins ≡ joined l → Summed l stand p m cs → Said l joins stand answer → CallJoin l (record { answer = answer; plans = p; nodes = m; counts = cs })
 unfolding answerFor
-said-all l answer stand p m cs v s a =
+said-all l answer joins stand p m cs v j s a =
     record {
-      answers = a .answers ∙ ap (λ (i : ℕ). choose (same (standPath l i) (255 ∷ [])) Joined (Missing i (nearestOf l (standPath l i) (headsIn l)))) (s .behind) ∙ sym (ap (λ (x : Verdict). answerFor x l) v);
-      inside = λ i n q. named i n (same (standPath l stand) (255 ∷ [])) (sym q ∙ a .answers);
+      answers = a .answers ∙ ap₂ (λ (b : Bool) (i : ℕ). choose b Joined (Missing i (nearestOf l (standPath l i) (headsIn l)))) j (s .behind) ∙ sym (ap (λ (x : Verdict). answerFor x l) v);
+      inside = λ i n q. named i n joins (sym q ∙ a .answers);
       plans = s .plans ∙ sym (ap (λ (x : Verdict). figureFor x (plansOf l)) v);
       nodes = s .nodes ∙ sym (ap (λ (x : Verdict). figureFor x (nodesOf l)) v);
       counts = λ x h. s .counts x h ∙ sym (ap (λ (y : Verdict). figureFor y (countOf l x)) v);

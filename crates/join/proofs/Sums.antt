@@ -168,9 +168,9 @@ module _ (l : List ℕ) (e : numberIn (joinVerdict l) ≡ 0) where
       let fourth = passed (all (λ k. leb (kindAt l k) 2) (below (headsIn l))) 44 accepted (omega arith) (third .1) in
       ap (λ (b : Bool). ask b 41 0 c2) (first .0) ∙ ap (λ (b : Bool). ask b 42 0 c3) (second .0) ∙ ap (λ (b : Bool). ask b 43 0 c4) (third .0) ∙ ap (λ (b : Bool). ask b 44 0 accepted) (fourth .0)
 
-  pub heads-all : Heads l (length l / 115)
-  heads-all = record { fits = omega arith; shaped = each-below (headShaped l) (headsIn l) (second .0) }
-
-  pub not-many : length l / 115 ≤ 16777216
+  not-many : length l / 115 ≤ 65536
   unfolding wholeHeads
-  not-many = leb-true (headsIn l) 16777216 (both-second (eqb (length l % 115) 0) (leb (headsIn l) 16777216) (first .0))
+  not-many = leb-true (headsIn l) 65536 (both-second (eqb (length l % 115) 0) (leb (headsIn l) 65536) (first .0))
+
+  pub heads-all : Heads l (length l / 115)
+  heads-all = record { few = not-many; fits = omega arith; shaped = each-below (headShaped l) (headsIn l) (second .0) }

@@ -12,7 +12,7 @@ use Rattle.model.specs.Lists.{all, at, below, upFrom, both, choose, same, tabul
 use Rattle.model.proofs.Lists.{T-of, of-T, not-of, of-not, same-eq}
 use Rattle.parts.specs.Parts.{after}
 use Rattle.parts.proofs.Parts.{after-not}
-use Rattle.join.specs.Join.{pathAt, kindAt, pathShaped, headShaped, fromAt, reachPlace, reachAt, reachOr, bestOf, headsIn, standPath, stepOf, nearer, nearestOf}
+use Rattle.join.specs.Join.{pathAt, kindAt, pathShaped, headShaped, fromAt, reachPlace, reachAt, reachOr, mayTake, bestOf, headsIn, standPath, stepOf, nearer, nearestOf}
 use Rattle.join.specs.Inner.{Path, Heads, AtHead, orderOf}
 use Rattle.join.proofs.Orders.{both-first, both-second}
 
@@ -104,10 +104,10 @@ module _ (l s : List ℕ) where
   unfolding bestOf
   best-none = refl
 
-  pub best-turn : (k best r : ℕ) → best ≡ bestOf l s k → r ≡ choose (both (same (fromAt l k) s) (after (reachOr l s best) (reachAt l k))) (suc k) best → r ≡ bestOf l s (k + 1)
+  pub best-turn : (k best r : ℕ) (may : Bool) → may ≡ mayTake l k → best ≡ bestOf l s k → r ≡ choose (both may (both (same (fromAt l k) s) (after (reachOr l s best) (reachAt l k)))) (suc k) best → r ≡ bestOf l s (k + 1)
   unfolding bestOf
-  best-turn k best r e f =
-      f ∙ ap (λ (b : ℕ). choose (both (same (fromAt l k) s) (after (reachOr l s b) (reachAt l k))) (suc k) b) e ∙ ap (bestOf l s) (sym (add-one k))
+  best-turn k best r may m e f =
+      f ∙ ap₂ (λ (a : Bool) (b : ℕ). choose (both a (both (same (fromAt l k) s) (after (reachOr l s b) (reachAt l k)))) (suc k) b) m e ∙ ap (bestOf l s) (sym (add-one k))
 
   pub near-none : 0 ≡ nearestOf l s 0
   unfolding nearestOf

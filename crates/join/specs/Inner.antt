@@ -1,15 +1,17 @@
 -- What the functions inside the crate say to each other. No reader has to believe this: it stands between proved functions.
 use mathlib.Core.Path.{_≡_}
-use mathlib.Core.Bool.{true}
-use mathlib.Core.List.{List, [], _∷_}
-use Prim.Native.Nat.{ℕ, _+_, _*_, _^_, _≤_, _<_}
+use mathlib.Core.Bool.{Bool, true, false}
+use mathlib.Core.List.{List}
+use Prim.Native.Nat.{ℕ, _+_, _-_, _*_, _/_, _%_, _^_, _≤_, _<_}
+use lib.Dec.{T, eqb}
 use lib.ListN.{length}
-use Rattle.model.specs.Lists.{at, choose, same}
+use Rattle.model.specs.Lists.{at, both, either, choose, same}
+use Rattle.model.specs.ValueSets.{has}
 use Rattle.model.specs.Verdict.{Verdict, accepted, refused}
 use Rattle.parts.specs.Parts.{after}
 use Rattle.join.specs.declared.Answer.{Answer}
 use Rattle.join.specs.declared.Answer.the-variants.{Joined, Missing}
-use Rattle.join.specs.Join.{fourAt, pathShaped, headShaped, headsIn, standPath, nearestOf, stands, plansOf, nodesOf, countOf}
+use Rattle.join.specs.Join.{fourAt, pathShaped, reachAt, headShaped, headsIn, goesOn, joined, leads, mayTake, standPath, nearestOf, stands, plansOf, nodesOf, countOf}
 
 -- a path stands at an offset
 pub record Path (l : List ℕ) (o : ℕ) : Type 0 where
@@ -18,6 +20,7 @@ pub record Path (l : List ℕ) (o : ℕ) : Type 0 where
 
 -- the first n heads are heads
 pub record Heads (l : List ℕ) (n : ℕ) : Type 0 where
+  pub few : n ≤ 65536
   pub fits : 115 * n ≤ length l
   pub shaped : (k : ℕ) → k < n → headShaped l k ≡ true
 
@@ -31,6 +34,39 @@ pub record AtHead (here : List ℕ) (o : ℕ) (l : List ℕ) (n best k : ℕ) : 
   pub heads : Heads l n
   pub earlier : best ≤ k
   pub inside : k < n
+
+-- head k is marked by a bit
+unfoldable pub marked : List ℕ → ℕ → Bool
+marked marks k = has (at marks (k / 64)) (k % 64)
+
+pub record NoMarks (marks : List ℕ) : Type 0 where
+  pub long : length marks ≡ 1024
+  pub none : (k : ℕ) → marked marks k ≡ false
+
+pub record MarkedToo (marks : List ℕ) (k : ℕ) (marks′ : List ℕ) : Type 0 where
+  pub long : length marks′ ≡ 1024
+  pub bits : (j : ℕ) → marked marks′ j ≡ either (marked marks j) (eqb j k)
+
+-- of the first n heads those that go on and reach the path s are marked too
+pub record MarkedBack (s l : List ℕ) (n : ℕ) (marks marks′ : List ℕ) : Type 0 where
+  pub long : length marks′ ≡ 1024
+  pub bits : (k : ℕ) → k < n → marked marks′ k ≡ either (marked marks k) (both (same (reachAt l k) s) (goesOn l k))
+
+-- the first of n heads that is marked and not done: 0 if there is none, k + 1 for head k
+pub record Pending (marks done : List ℕ) (n r : ℕ) : Type 0 where
+  pub few : r ≤ n
+  pub none : r ≡ 0 → (k : ℕ) → k < n → T (marked marks k) → T (marked done k)
+  pub one : (r ≡ 0 → ⊥) → T (marked marks (r - 1)) × (T (marked done (r - 1)) → ⊥)
+
+-- the heads that lead are marked
+pub record Leading (l : List ℕ) (n : ℕ) (marks : List ℕ) : Type 0 where
+  pub long : length marks ≡ 1024
+  pub bits : (k : ℕ) → k < n → marked marks k ≡ leads l k
+
+-- whether the ranges join, and the heads that may be taken are marked
+pub record Ways (l : List ℕ) (n : ℕ) (marks : List ℕ) (r : Bool) : Type 0 where
+  pub joins : r ≡ joined l
+  pub may : (k : ℕ) → k < n → marked marks k ≡ mayTake l k
 
 -- the number of a refusal, 0 for none
 abbrev pub numberIn : Verdict → ℕ
@@ -66,6 +102,6 @@ pub record Summed (l : List ℕ) (stand p m : ℕ) (cs : List ℕ) : Type 0 wher
   pub counts : (x : ℕ) → x < 12 → at cs x ≡ countOf l x
 
 -- the answer of heads that are not refused, from where one stands
-pub record Said (l : List ℕ) (stand : ℕ) (r : Answer) : Type 0 where
-  pub answers : r ≡ choose (same (standPath l stand) (255 ∷ [])) Joined (Missing stand (nearestOf l (standPath l stand) (headsIn l)))
+pub record Said (l : List ℕ) (joins : Bool) (stand : ℕ) (r : Answer) : Type 0 where
+  pub answers : r ≡ choose joins Joined (Missing stand (nearestOf l (standPath l stand) (headsIn l)))
   pub near : nearestOf l (standPath l stand) (headsIn l) ≤ headsIn l

@@ -5,7 +5,7 @@ use mathlib.Core.List.{List, [], _∷_, map}
 use Prim.Native.Nat.{ℕ, zero, suc, _+_, _*_, _/_, _%_}
 use lib.Dec.{eqb, ltb, leb}
 use lib.ListN.{length}
-use Rattle.model.specs.Lists.{all, at, below, both, either, choose, same, tabulate, total}
+use Rattle.model.specs.Lists.{all, any, at, below, both, either, choose, same, tabulate, total}
 use Rattle.model.specs.Verdict.{Verdict, accepted, refused, ask}
 use Rattle.parts.specs.Parts.{after}
 
@@ -37,7 +37,7 @@ headsIn l = length l / 115
 
 -- whole heads, and not too many
 unfoldable pub wholeHeads : List ℕ → Bool
-wholeHeads l = both (eqb (length l % 115) 0) (leb (headsIn l) 16777216)
+wholeHeads l = both (eqb (length l % 115) 0) (leb (headsIn l) 65536)
 
 -- a path has at most twelve values, and zeros behind them
 unfoldable pub pathShaped : List ℕ → ℕ → Bool
@@ -58,7 +58,33 @@ joinVerdict l =
     (ask (all (alike l) (below (headsIn l))) 43 0
     (ask (all (λ k. leb (kindAt l k) 2) (below (headsIn l))) 44 0 accepted)))
 
+-- ---- whether the ranges join
+-- head k goes on: it reaches a path after its beginning
+abbrev pub goesOn : List ℕ → ℕ → Bool
+goesOn l k = after (fromAt l k) (reachAt l k)
+
+-- from the path s one comes to the last path by at most so many heads that go on, each of which begins where one stands
+unfoldable pub comes : List ℕ → ℕ → List ℕ → Bool
+comes l zero s = same s (255 ∷ [])
+comes l (suc left) s =
+    elim (same s (255 ∷ [])) [
+      | true ↦ true
+      | false ↦ any (λ k. elim (both (same (fromAt l k) s) (goesOn l k)) [ true ↦ comes l left (reachAt l k) | false ↦ false ]) (below (headsIn l))
+    ]
+
+-- one comes there from the empty path. No head is needed twice, since each reaches further than those before it
+abbrev pub joined : List ℕ → Bool
+joined l = comes l (headsIn l) []
+
+-- head k leads to the last path
+abbrev pub leads : List ℕ → ℕ → Bool
+leads l k = both (goesOn l k) (comes l (headsIn l) (reachAt l k))
+
 -- ---- the heads taken
+-- those that may be: where the ranges join the heads that lead to the last path, else all
+unfoldable pub mayTake : List ℕ → ℕ → Bool
+mayTake l k = choose (joined l) (leads l k) true
+
 -- where one stands: 0 is the empty path, before any head; k + 1 where head k reaches
 abbrev pub standPath : List ℕ → ℕ → List ℕ
 standPath l zero = []
@@ -68,10 +94,11 @@ abbrev pub reachOr : List ℕ → List ℕ → ℕ → List ℕ
 reachOr l s zero = s
 reachOr l s (suc k) = reachAt l k
 
--- of the first n heads that begin at the path s, the one that reaches furthest after it, of equals the first: 0 if there is none, k + 1 for head k
+-- of those of the first n heads that may be taken and begin at the path s, the one that reaches furthest after it, of equals the first: 0 if there is none, k + 1 for
+-- head k
 unfoldable pub bestOf : List ℕ → List ℕ → ℕ → ℕ
 bestOf l s zero = 0
-bestOf l s (suc k) = choose (both (same (fromAt l k) s) (after (reachOr l s (bestOf l s k)) (reachAt l k))) (suc k) (bestOf l s k)
+bestOf l s (suc k) = choose (both (mayTake l k) (both (same (fromAt l k) s) (after (reachOr l s (bestOf l s k)) (reachAt l k)))) (suc k) (bestOf l s k)
 
 -- the next head that is taken; none behind the last path
 unfoldable pub stepOf : List ℕ → ℕ → ℕ
@@ -93,9 +120,6 @@ standAfter stand (k ∷ ks) = standAfter (suc k) ks
 -- ---- what is answered
 abbrev pub stands : List ℕ → ℕ
 stands l = standAfter 0 (taken l)
-
-abbrev pub joined : List ℕ → Bool
-joined l = same (standPath l (stands l)) (255 ∷ [])
 
 -- the sums of the heads taken
 abbrev pub plansOf : List ℕ → ℕ

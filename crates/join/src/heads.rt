@@ -96,7 +96,7 @@ pub fn question(l: &[u8]) -> u8
     if l.len() % 115 != 0 {
         return 41;
     }
-    if n > 16777216 {
+    if n > 65536 {
         return 41;
     }
     if !all_shaped(l, n) {

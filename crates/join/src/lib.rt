@@ -1,14 +1,16 @@
 // Parts of a run joined by their heads, which are lent one behind the other, in any order and with repeats: whether they go from the first to the last path,
 // with the sums of their figures, or the first range that is missing.
 mod heads;
+mod marks;
 mod paths;
 pub mod steps;
 mod walks;
+mod ways;
 
 use crate::heads::question;
-use crate::steps::at_end;
 use crate::steps::nearest;
 use crate::walks::walk;
+use crate::ways::find_ways;
 ghost use mathlib.Core.Path.{_≡_};
 ghost use Prim.Native.Nat.{_≤_};
 ghost use Rattle.model.specs.Lists.{choose, same};
@@ -32,12 +34,12 @@ pub struct Joining {
     pub counts: [u64; 12],
 }
 
-// Whether one stands at the last path, else what is missing.
-fn answered(l: &[u8], n: usize, stand: usize) -> Answer
+// That the ranges join, else what is missing.
+fn answered(l: &[u8], n: usize, joins: bool, stand: usize) -> Answer
     requires { ⌜ Heads (now l) n × (n ≡ headsIn (now l)) × (stand ≤ n) ⌝ }
-    ensures { λ r. ⌜ Said (now (l .entry)) stand r ⌝ }
+    ensures { λ r. ⌜ Said (now (l .entry)) joins stand r ⌝ }
 {
-    if at_end(l, n, stand) {
+    if joins {
         return Answer::Joined;
     }
     Answer::Missing(stand, nearest(l, n, stand))
@@ -58,8 +60,10 @@ pub fn join(heads: &[u8]) -> Joining
         };
     }
     let n = heads.len() / 115;
-    let w = walk(heads, n);
-    let answer = answered(heads, n, w.stand);
+    let mut marks = [0u64; 1024];
+    let joins = find_ways(heads, n, &mut marks);
+    let w = walk(heads, n, &marks);
+    let answer = answered(heads, n, joins, w.stand);
     let counts = w.counts;
     Joining {
         answer,

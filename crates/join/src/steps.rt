@@ -1,14 +1,15 @@
 // The heads taken one behind the other.
+use crate::marks::is_marked;
 use crate::paths::four_at;
 use crate::paths::order;
 ghost use mathlib.Core.Path.{_≡_};
 ghost use mathlib.Core.List.{[], _∷_};
-ghost use Prim.Native.Nat.{suc, _+_, _*_, _^_, _≤_, _<_};
+ghost use Prim.Native.Nat.{ℕ, suc, _+_, _*_, _^_, _≤_, _<_};
 ghost use lib.ListN.{length};
 ghost use Rattle.model.specs.Lists.{at, both, choose, same};
 ghost use Rattle.parts.specs.Parts.{after};
-ghost use Rattle.join.specs.Join.{fourAt, pathAt, fromAt, reachPlace, reachAt, reachOr, bestOf, headsIn, stepOf, standPath, nearer, nearestOf};
-ghost use Rattle.join.specs.Inner.{Path, Heads, AtHead};
+ghost use Rattle.join.specs.Join.{fourAt, pathAt, fromAt, reachPlace, reachAt, reachOr, bestOf, headsIn, mayTake, stepOf, standPath, nearer, nearestOf};
+ghost use Rattle.join.specs.Inner.{Path, Heads, AtHead, marked};
 
 // Where the path stands to which head k reaches.
 pub fn reach_place(l: &[u8], k: usize) -> usize
@@ -33,11 +34,22 @@ fn further(here: &[u8], o: usize, l: &[u8], n: usize, best: usize, k: usize) -> 
     order(l, reach_place(l, best - 1), l, q) == 1
 }
 
-// The better of the best so far and head k.
-fn better(here: &[u8], o: usize, l: &[u8], n: usize, best: usize, k: usize) -> usize
+// The better of the best so far and head k, where that is marked.
+fn better(
+    here: &[u8],
+    o: usize,
+    l: &[u8],
+    n: usize,
+    marks: &[u64; 1024],
+    best: usize,
+    k: usize,
+) -> usize
     requires { ⌜ AtHead (now here) o (now l) n best k ⌝ }
-    ensures { λ r. ⌜ r ≡ choose (both (same (fromAt (now (l .entry)) k) (pathAt (now (here .entry)) o)) (after (reachOr (now (l .entry)) (pathAt (now (here .entry)) o) best) (reachAt (now (l .entry)) k))) (suc k) best ⌝ }
+    ensures { λ r. ⌜ r ≡ choose (both (marked (now (marks .entry)) k) (both (same (fromAt (now (l .entry)) k) (pathAt (now (here .entry)) o)) (after (reachOr (now (l .entry)) (pathAt (now (here .entry)) o) best) (reachAt (now (l .entry)) k)))) (suc k) best ⌝ }
 {
+    if !is_marked(marks, k) {
+        return best;
+    }
     if order(l, 115 * k + 76, here, o) != 0 {
         return best;
     }
@@ -47,15 +59,15 @@ fn better(here: &[u8], o: usize, l: &[u8], n: usize, best: usize, k: usize) -> u
     best
 }
 
-// Of the first n heads that begin at the path at o, the one that reaches furthest after it.
-fn best_from(here: &[u8], o: usize, l: &[u8], n: usize) -> usize
-    requires { ⌜ Path (now here) o × Heads (now l) n ⌝ }
+// Of those of the first n heads that may be taken and begin at the path at o, the one that reaches furthest after it.
+fn best_from(here: &[u8], o: usize, l: &[u8], n: usize, marks: &[u64; 1024]) -> usize
+    requires { ⌜ Path (now here) o × Heads (now l) n × ((k : ℕ) → k < n → marked (now marks) k ≡ mayTake (now l) k) ⌝ }
     ensures { λ r. ⌜ (r ≡ bestOf (now (l .entry)) (pathAt (now (here .entry)) o) n) × (r ≤ n) ⌝ }
 {
     let mut best = 0;
     let mut k = 0;
     while k < n {
-        best = better(here, o, l, n, best, k);
+        best = better(here, o, l, n, marks, best, k);
         k += 1;
     }
     best
@@ -82,8 +94,8 @@ pub fn at_end(l: &[u8], n: usize, stand: usize) -> bool
 }
 
 // The next head that is taken.
-pub fn step(l: &[u8], n: usize, stand: usize) -> usize
-    requires { ⌜ Heads (now l) n × (n ≡ headsIn (now l)) × (stand ≤ n) ⌝ }
+pub fn step(l: &[u8], n: usize, marks: &[u64; 1024], stand: usize) -> usize
+    requires { ⌜ Heads (now l) n × (n ≡ headsIn (now l)) × (stand ≤ n) × ((k : ℕ) → k < n → marked (now marks) k ≡ mayTake (now l) k) ⌝ }
     ensures { λ r. ⌜ (r ≡ stepOf (now (l .entry)) stand) × (r ≤ n) ⌝ }
 {
     if at_end(l, n, stand) {
@@ -91,9 +103,9 @@ pub fn step(l: &[u8], n: usize, stand: usize) -> usize
     }
     if stand == 0 {
         let start = [0u8; 13];
-        return best_from(&start, 0, l, n);
+        return best_from(&start, 0, l, n, marks);
     }
-    best_from(l, reach_place(l, stand - 1), l, n)
+    best_from(l, reach_place(l, stand - 1), l, n, marks)
 }
 
 // The nearer of the nearest so far and head k, where it begins after the path at o.

@@ -5,8 +5,8 @@ ghost use mathlib.Core.Path.{_≡_};
 ghost use Prim.Native.Nat.{ℕ, _+_, _*_, _^_, _≤_, _<_};
 ghost use lib.ListN.{length};
 ghost use Rattle.model.specs.Lists.{at};
-ghost use Rattle.join.specs.Join.{fourAt, headsIn};
-ghost use Rattle.join.specs.Inner.{Heads, Room, AddedCounts, AddedHead, Summed};
+ghost use Rattle.join.specs.Join.{fourAt, headsIn, mayTake};
+ghost use Rattle.join.specs.Inner.{Heads, marked, Room, AddedCounts, AddedHead, Summed};
 
 // Where one stands (0: at the empty path; k + 1: where head k reaches), and the sums of the heads taken.
 pub struct Walked {
@@ -47,9 +47,9 @@ fn with_head(w: Walked, l: &[u8], k: usize) -> Walked
     }
 }
 
-// Takes the heads one behind the other.
-pub fn walk(l: &[u8], n: usize) -> Walked
-    requires { ⌜ Heads (now l) n × (n ≡ headsIn (now l)) × (n ≤ 16777216) ⌝ }
+// Takes the marked heads one behind the other.
+pub fn walk(l: &[u8], n: usize, marks: &[u64; 1024]) -> Walked
+    requires { ⌜ Heads (now l) n × (n ≡ headsIn (now l)) × ((k : ℕ) → k < n → marked (now marks) k ≡ mayTake (now l) k) ⌝ }
     ensures { λ r. ⌜ Summed (now (l .entry)) (r .stand) (r .plans) (r .nodes) (r .counts) ⌝ }
 {
     let counts = [0u64; 12];
@@ -61,7 +61,7 @@ pub fn walk(l: &[u8], n: usize) -> Walked
     };
     let mut j = 0;
     while j < n {
-        let next = step(l, n, w.stand);
+        let next = step(l, n, marks, w.stand);
         if next == 0 {
             return w;
         }

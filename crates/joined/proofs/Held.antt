@@ -1,18 +1,17 @@
 -- What the holder of joined heads has (specs/Claims). Assumes nothing.
 use mathlib.Core.Path.{_≡_, refl, sym, ap, ap₂, _∙_, subst}
-use mathlib.Core.Bool.{Bool, true, false}
+use mathlib.Core.Bool.{true}
 use mathlib.Core.Logic.{_↔_}
 use mathlib.Core.List.{List, [], _∷_, map, List·Memᴰ, List·Memᴰ·head, List·Memᴰ·tail}
 use Prim.Native.Nat.{ℕ, _+_, _*_, _≤_, _<_}
 use native.Mathlib.Omega.{arith}
 use lib.Dec.{T}
 use lib.ListN.{length, replicate, length-replicate}
-use Rattle.model.specs.Lists.{at, choose, total, rowsAscend}
+use Rattle.model.specs.Lists.{at, total, rowsAscend}
 use Rattle.model.specs.Problem.{isSolution}
 use Rattle.model.specs.Sheet.{problemOf}
-use Rattle.model.specs.Verdict.{Verdict, accepted, refused}
+use Rattle.model.specs.Verdict.{Verdict, accepted}
 use Rattle.model.specs.Run.{finished, ended, Tally}
-use Rattle.model.proofs.Lists.{T-of, same-eq}
 use Rattle.model.proofs.Room.{length-listed}
 use Rattle.order.specs.Reordered.{read, LeaderBy, ChainBy}
 use Rattle.lent.specs.Lent.{verdictLent, problemWith, orderLent, problemLent, answerLent, listLent, tallyLent}
@@ -20,14 +19,14 @@ use Rattle.lent.proofs.Lent.{lists-leaders-lent, leaders-ascend-lent, chains-le
 use Rattle.ranges.specs.Ranges.{plansSaid, nodesSaid}
 use Rattle.ranges.specs.Claims.{Part, Chain, allPlans, sumPlans, sumNodes, sumCounts, Together}
 use Rattle.ranges.proofs.Joined.{joined-run}
-use Rattle.join.specs.Join.{fourAt, headsIn, joinVerdict, standPath, taken, stands, joined, nearest, plansOf, nodesOf, countOf}
-use Rattle.join.specs.Calls.{answerFor, figureFor}
-use Rattle.join.specs.declared.Answer.the-variants.{Joined, Missing}
+use Rattle.join.specs.Join.{fourAt, headsIn, joinVerdict, taken, joined, plansOf, nodesOf, countOf}
+use Rattle.join.specs.Calls.{figureFor}
 use Rattle.joined.specs.Heads.{cutTwelve, takenParts}
 use Rattle.joined.specs.Claims.{Twelve-nodes, Twelve-values, Head-says, Heads-say, RunHeld, DemandsHeld, Joined-held}
 use Rattle.joined.proofs.Twelve.{small-lent, twelve-between, call-twelve}
 use Rattle.joined.proofs.HeadsRead.{own-head, length-bytes, heads-held}
 use Rattle.joined.proofs.Taken.{taken-inside, taken-chain}
+use Rattle.joined.proofs.Stuck.{said-joined, joined-stands}
 
 pub twelve-nodes : Twelve-nodes
 twelve-nodes b pairs block from upto so = twelve-between (problemLent b pairs block) from upto (small-lent b pairs block so)
@@ -40,16 +39,6 @@ head-says b pairs block c so call = (own-head b pairs block c call so, length-by
 
 pub heads-say : Heads-say
 heads-say = heads-held
-
--- ---- what the answer says
-said : (l : List ℕ) (v : Verdict) → Joined ≡ answerFor v l → (v ≡ accepted) × (joined l ≡ true)
-unfolding answerFor
-said l accepted e = (refl, go (joined l) e)
-  where
-    go : (d : Bool) → Joined ≡ choose d Joined (Missing (stands l) (nearest l)) → d ≡ true
-    go true q = refl
-    go false q = absurd (let z : _≡_ {A = ℕ} 0 1 = cc in omega arith)
-said l (refused number item) e = absurd (let z : _≡_ {A = ℕ} 0 1 = cc in omega arith)
 
 -- sums over what is read and over the calls
 same-total : (f : ℕ → ℕ) (g : Part → ℕ) (h : ℕ → Part) (ks : List ℕ) → ((k : ℕ) → List·Memᴰ k ks → f k ≡ g (h k)) → total (map f ks) ≡ total (map g (map h ks))
@@ -96,10 +85,10 @@ joined-held b pairs block l part held r call is = record { chain = chain; run = 
     cs = takenParts l part
 
     ok : (joinVerdict l ≡ accepted) × (joined l ≡ true)
-    ok = said l (joinVerdict l) (sym is ∙ call .answers)
+    ok = said-joined l (joinVerdict l) (sym is ∙ call .answers)
 
     chain : Chain b pairs block [] cs (255 ∷ [])
-    chain = subst (Chain b pairs block [] cs) (same-eq (standPath l (stands l)) (255 ∷ []) (T-of (joined l) (ok .1))) (taken-chain b pairs block l part held (ok .0) (headsIn l) 0)
+    chain = subst (Chain b pairs block [] cs) (joined-stands l (ok .1)) (taken-chain b pairs block l part held (ok .0) (headsIn l) 0)
 
     inside : (k : ℕ) → List·Memᴰ k (taken l) → k < headsIn l
     inside k m = taken-inside l (headsIn l) 0 k m

@@ -20,7 +20,7 @@ use Rattle.ranges.specs.Claims.{Part, Call, Done}
 use Rattle.wire.specs.Wire.{threeNumbers}
 use Rattle.export_lent.specs.Tallied.{numbersOf}
 use Rattle.export_parts.specs.Head.{digestFrom, digest, nameBytes, pathBytes, headOf}
-use Rattle.join.specs.Join.{pathAt, wholeHeads, pathShaped, headShaped, alike, joinVerdict, countOf, bestOf, stepOf, takenFrom, taken, standAfter, nearestOf}
+use Rattle.join.specs.Join.{pathAt, wholeHeads, pathShaped, headShaped, alike, joinVerdict, countOf, comes, mayTake, bestOf, stepOf, takenFrom, taken, standAfter, nearestOf}
 use Rattle.join.specs.Calls.{answerFor, figureFor, CallJoin}
 use Rattle.join.specs.declared.Answer.the-variants.{Joined}
 use Rattle.join.specs.declared.Joining.{Joining}
@@ -33,12 +33,12 @@ use Rattle.joined.proofs.Cut.{cuts-joined}
 
 -- every definition of parts and heads that computes
 unfoldable pub openedParts : ℕ
-unfolding opened countsBy tallyAt pairsIn forerunners canFollow settledFirst settlingOrder settlesAll orderVerdict position read write valueOf scopeIn rowIn renamed symmetryIn tablesLent blockLent verdictLent after nodesBetween lastOf resultPart answerPartFor answerPart listPartFor listPart tallyPart lastPart threeNumbers numbersOf fourBytes digestFrom digest nameBytes pathBytes headOf pathAt wholeHeads pathShaped headShaped alike joinVerdict bestOf stepOf takenFrom taken standAfter nearestOf answerFor total
+unfolding opened countsBy tallyAt pairsIn forerunners canFollow settledFirst settlingOrder settlesAll orderVerdict position read write valueOf scopeIn rowIn renamed symmetryIn tablesLent blockLent verdictLent after nodesBetween lastOf resultPart answerPartFor answerPart listPartFor listPart tallyPart lastPart threeNumbers numbersOf fourBytes digestFrom digest nameBytes pathBytes headOf pathAt wholeHeads pathShaped headShaped alike joinVerdict comes mayTake bestOf stepOf takenFrom taken standAfter nearestOf answerFor total
 openedParts = 0
 
 pub examples-joined : Each testsJoined
 unfolding openedParts
-examples-joined = (refl, (refl, (refl, (refl, (refl, (refl, (refl, (refl, (refl, (refl, (refl, (refl, (refl, (refl, (refl, (refl, (refl, (refl, (refl, (refl, (refl, (refl, (refl, (refl, (refl, (refl, (refl, tt)))))))))))))))))))))))))))
+examples-joined = (refl, (refl, (refl, (refl, (refl, (refl, (refl, (refl, (refl, (refl, (refl, (refl, (refl, (refl, (refl, (refl, (refl, (refl, (refl, (refl, (refl, (refl, (refl, (refl, (refl, (refl, (refl, (refl, (refl, (refl, (refl, (refl, (refl, tt)))))))))))))))))))))))))))))))))
 
 -- ---- what is supposed of joined heads is met
 own : (from upto : List ℕ) (limit room : ℕ) → Call sheetA [] [] (partA from upto limit room)

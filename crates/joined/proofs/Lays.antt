@@ -40,7 +40,7 @@ low-kind (ended (spent plans made)) g = (omega arith, omega arith)
 low-kind (ended (full plans made)) g = absurd g
 low-kind (refusal number item) g = absurd g
 
-module _ (b pairs block : List ℕ) (cs : List Part) (l : List ℕ) (h : HeldBytes b pairs block cs l) (few : length cs ≤ 16777216) (goes : (c : Part) → List·Memᴰ c cs → Goes (c .answer)) where
+module _ (b pairs block : List ℕ) (cs : List Part) (l : List ℕ) (h : HeldBytes b pairs block cs l) (few : length cs ≤ 65536) (goes : (c : Part) → List·Memᴰ c cs → Goes (c .answer)) where
   abbrev part : ℕ → Part
   part = partAt b pairs block cs
 
@@ -62,7 +62,7 @@ module _ (b pairs block : List ℕ) (cs : List Part) (l : List ℕ) (h : HeldByt
   whole =
       let n = size-held b pairs block cs l h in
       let m = many-held b pairs block cs l h in
-      both-yes (eqb (length l % 115) 0) (leb (headsIn l) 16777216) (eq-eqb (length l % 115) 0 (omega arith)) (le-leb (headsIn l) 16777216 (omega arith))
+      both-yes (eqb (length l % 115) 0) (leb (headsIn l) 65536) (eq-eqb (length l % 115) 0 (omega arith)) (le-leb (headsIn l) 65536 (omega arith))
 
   shaped : (k : ℕ) → k < headsIn l → headShaped l k ≡ true
   shaped k m =

@@ -2,8 +2,8 @@
 pub mod Twelve
 pub mod HeadsRead
 pub mod Taken
-pub mod Held
 pub mod Stuck
+pub mod Held
 pub mod Spent
 pub mod Lays
 pub mod Cut

@@ -22,7 +22,7 @@ use Rattle.lent.specs.Lent.{verdictLent, problemLent}
 use Rattle.ranges.specs.Ranges.{nodesSaid, madeBy, lastPart}
 use Rattle.ranges.specs.Claims.{Part, Call, Goes, reachedFor, reachedBy, Chain}
 use Rattle.ranges.proofs.Between.{between}
-use Rattle.join.specs.Join.{pathAt, kindAt, fromAt, reachAt, headsIn, headShaped, alike, wholeHeads, joinVerdict, standPath, reachOr, bestOf, stepOf, takenFrom, standAfter}
+use Rattle.join.specs.Join.{pathAt, kindAt, fromAt, reachAt, headsIn, headShaped, alike, wholeHeads, joinVerdict, standPath, mayTake, reachOr, bestOf, stepOf, takenFrom, standAfter}
 use Rattle.join.proofs.Orders.{each-below, both-first, both-second}
 use Rattle.join.proofs.Questions.{place-end, place-last}
 use Rattle.joined.specs.Heads.{kindSaid, HeadOf, cutTwelve, HeldHeads}
@@ -33,29 +33,37 @@ use Rattle.joined.proofs.HeadsRead.{ends}
 abbrev Onward : List ℕ → List ℕ → ℕ → Type 0
 Onward l s k = (fromAt l k ≡ s) × T (after s (reachAt l k))
 
-best-goes : (l s : List ℕ) (n k : ℕ) → bestOf l s n ≡ suc k → (k < n) × Onward l s k
-unfolding bestOf
-best-goes l s zero k e = absurd (let z : 0 ≡ suc k = e in omega arith)
-best-goes l s (suc n) k e = go (best-goes l s n) (bestOf l s n) refl (both (same (fromAt l n) s) (after (reachOr l s (bestOf l s n)) (reachAt l n))) refl e
-  where
-    go : ((j : ℕ) → bestOf l s n ≡ suc j → (j < n) × Onward l s j) → (m : ℕ) → bestOf l s n ≡ m →
-        (d : Bool) → both (same (fromAt l n) s) (after (reachOr l s (bestOf l s n)) (reachAt l n)) ≡ d → choose d (suc n) (bestOf l s n) ≡ suc k → (k < suc n) × Onward l s k
-    go ih m q false f h = let r = ih k h in (let z = r .0 in omega arith, r .1)
-    go ih m q true f h =
-        let z : n ≡ k = omega (arith, h) in
-        let begins = same-eq (fromAt l n) s (T-of (same (fromAt l n) s) (both-first (same (fromAt l n) s) (after (reachOr l s (bestOf l s n)) (reachAt l n)) f)) in
-        let further = T-of (after (reachOr l s (bestOf l s n)) (reachAt l n)) (both-second (same (fromAt l n) s) (after (reachOr l s (bestOf l s n)) (reachAt l n)) f) in
-        subst (λ (j : ℕ). (j < suc n) × Onward l s j) z (omega arith, (begins, over m q (subst (λ (j : ℕ). T (after (reachOr l s j) (reachAt l n))) q further)))
-      where
-        over : (m : ℕ) → bestOf l s n ≡ m → T (after (reachOr l s m) (reachAt l n)) → T (after s (reachAt l n))
-        over zero q t = t
-        over (suc j) q t = after-trans s (reachAt l j) (reachAt l n) (ih j q .1 .1) t
+module _ (l s : List ℕ) where
+  -- head n begins at the path and reaches after the best of those before it
+  abbrev pub betters : ℕ → Bool
+  betters n = both (same (fromAt l n) s) (after (reachOr l s (bestOf l s n)) (reachAt l n))
 
-pub step-goes : (l : List ℕ) (stand k : ℕ) → stepOf l stand ≡ suc k → (k < headsIn l) × Onward l (standPath l stand) k
+  best-goes : (n k : ℕ) → bestOf l s n ≡ suc k → (k < n) × T (mayTake l k) × Onward l s k
+  unfolding bestOf
+  best-goes zero k e = absurd (let z : 0 ≡ suc k = e in omega arith)
+  best-goes (suc n) k e = go (best-goes n) (bestOf l s n) refl (both (mayTake l n) (betters n)) refl e
+    where
+      go : ((j : ℕ) → bestOf l s n ≡ suc j → (j < n) × T (mayTake l j) × Onward l s j) → (m : ℕ) → bestOf l s n ≡ m →
+          (d : Bool) → both (mayTake l n) (betters n) ≡ d → choose d (suc n) (bestOf l s n) ≡ suc k → (k < suc n) × T (mayTake l k) × Onward l s k
+      go ih m q false f h = let r = ih k h in (let z = r .0 in omega arith, r .1, r .2)
+      go ih m q true f h =
+          let z : n ≡ k = omega (arith, h) in
+          let may = T-of (mayTake l n) (both-first (mayTake l n) (betters n) f) in
+          let on = both-second (mayTake l n) (betters n) f in
+          let begins = same-eq (fromAt l n) s (T-of (same (fromAt l n) s) (both-first (same (fromAt l n) s) (after (reachOr l s (bestOf l s n)) (reachAt l n)) on)) in
+          let further = T-of (after (reachOr l s (bestOf l s n)) (reachAt l n)) (both-second (same (fromAt l n) s) (after (reachOr l s (bestOf l s n)) (reachAt l n)) on) in
+          subst (λ (j : ℕ). (j < suc n) × T (mayTake l j) × Onward l s j) z
+          (omega arith, may, (begins, over m q (subst (λ (j : ℕ). T (after (reachOr l s j) (reachAt l n))) q further)))
+        where
+          over : (m : ℕ) → bestOf l s n ≡ m → T (after (reachOr l s m) (reachAt l n)) → T (after s (reachAt l n))
+          over zero q t = t
+          over (suc j) q t = after-trans s (reachAt l j) (reachAt l n) (ih j q .2 .1) t
+
+pub step-goes : (l : List ℕ) (stand k : ℕ) → stepOf l stand ≡ suc k → (k < headsIn l) × T (mayTake l k) × Onward l (standPath l stand) k
 unfolding stepOf
 step-goes l stand k e = go (same (standPath l stand) (255 ∷ [])) e
   where
-    go : (d : Bool) → choose d 0 (bestOf l (standPath l stand) (headsIn l)) ≡ suc k → (k < headsIn l) × Onward l (standPath l stand) k
+    go : (d : Bool) → choose d 0 (bestOf l (standPath l stand) (headsIn l)) ≡ suc k → (k < headsIn l) × T (mayTake l k) × Onward l (standPath l stand) k
     go true h = absurd (omega (arith, h))
     go false h = best-goes l (standPath l stand) (headsIn l) k h
 
@@ -188,7 +196,7 @@ module _ (b pairs block l : List ℕ) (part : ℕ → Part) (held : HeldHeads b 
       go ih zero e = refl
       go ih (suc k) e =
           let q = step-goes l stand k e in
-          let m = linked (standPath l stand) k (q .0) (q .1) in (
+          let m = linked (standPath l stand) k (q .0) (q .2) in (
             m .begins,
             m .forth,
             m .call,

@@ -72,6 +72,16 @@ Joined-held =
     (b pairs block l : List ℕ) (part : ℕ → Part) → HeldHeads b pairs block l part → (r : Joining) → CallJoin l r → r .answer ≡ Joined →
     JoinedHeld b pairs block (takenParts l part) r
 
+-- ---- joined exactly
+-- heads that are lent, one behind the other from a path to another: each begins where the one before it reaches, and goes on
+abbrev pub HeadChain : List ℕ → List ℕ → List ℕ → List ℕ → Type 0
+HeadChain l from [] upto = from ≡ upto
+HeadChain l from (k ∷ ks) upto = (k < headsIn l) × (fromAt l k ≡ from) × T (after from (reachAt l k)) × HeadChain l (reachAt l k) ks upto
+
+-- the answer is joined exactly when there are such heads from the first to the last path
+abbrev pub Joined-exactly : Type 0
+Joined-exactly = (l : List ℕ) → joinVerdict l ≡ accepted → (r : Joining) → CallJoin l r → (r .answer ≡ Joined) ↔ ((ks : List ℕ) × HeadChain l [] ks (255 ∷ []))
+
 -- ---- missing
 -- from where one stands no head goes on: none begins there and reaches anything after it; and none begins after it and before the end of the missing range
 pub record MissingHeld (l from upto : List ℕ) : Type 0 where
@@ -114,7 +124,7 @@ Full-lacks =
 -- heads of calls of one lending, none of them full and not too many, are not refused
 abbrev pub Heads-accepted : Type 0
 Heads-accepted =
-    (b pairs block : List ℕ) (cs : List Part) (l : List ℕ) → HeldBytes b pairs block cs l → length cs ≤ 16777216 → ((c : Part) → List·Memᴰ c cs → Goes (c .answer)) →
+    (b pairs block : List ℕ) (cs : List Part) (l : List ℕ) → HeldBytes b pairs block cs l → length cs ≤ 65536 → ((c : Part) → List·Memᴰ c cs → Goes (c .answer)) →
     joinVerdict l ≡ accepted
 
 -- the ranges between cuts, from a path on
@@ -130,5 +140,5 @@ pub record CutHeld (cuts : List (List ℕ)) (cs : List Part) : Type 0 where
 -- the cuts in order, the last of them the path 255: their heads join
 abbrev pub Cuts-joined : Type 0
 Cuts-joined =
-    (b pairs block : List ℕ) (cuts : List (List ℕ)) (cs : List Part) (l : List ℕ) → HeldBytes b pairs block cs l → length cs ≤ 16777216 → Cuts [] cuts → lastOf [] cuts ≡ 255 ∷ [] →
+    (b pairs block : List ℕ) (cuts : List (List ℕ)) (cs : List Part) (l : List ℕ) → HeldBytes b pairs block cs l → length cs ≤ 65536 → Cuts [] cuts → lastOf [] cuts ≡ 255 ∷ [] →
     CutHeld cuts cs → (r : Joining) → CallJoin l r → r .answer ≡ Joined

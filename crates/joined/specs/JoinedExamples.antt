@@ -32,6 +32,10 @@ cutA = partA (0 ∷ 2 ∷ []) (255 ∷ []) many 18 ∷ partA [] (0 ∷ 2 ∷ [])
 abbrev pub spentA : List Part
 spentA = partA (0 ∷ 1 ∷ []) (255 ∷ []) many 18 ∷ partA [] (255 ∷ []) 2 18 ∷ []
 
+-- heads of two cuts, of which only the second is whole: the one that reaches furthest from the empty path leads nowhere
+abbrev pub mixedA : List Part
+mixedA = partA [] (1 ∷ []) many 18 ∷ partA [] (0 ∷ 2 ∷ []) many 18 ∷ partA (0 ∷ 2 ∷ []) (255 ∷ []) many 18 ∷ []
+
 abbrev pub headsA : List Part → List ℕ
 headsA cs = flat (map (headBytes sheetA [] []) cs)
 
@@ -68,6 +72,13 @@ testsJoined =
     ∷ (plansOf (headsA spentA) ≡ 3)
     ∷ (nodesOf (headsA spentA) ≡ 6)
     ∷ (allPlans 2 (takenParts (headsA spentA) (partAt sheetA [] [] spentA)) ≡ (0 ∷ 1 ∷ []) ∷ (0 ∷ 2 ∷ []) ∷ (1 ∷ 2 ∷ []) ∷ [])
+    -- two cuts mixed: of heads that join those are taken that lead to the last path, without the last one those that reach furthest
+    ∷ (joined (headsA mixedA) ≡ true)
+    ∷ (taken (headsA mixedA) ≡ 1 ∷ 2 ∷ [])
+    ∷ (nodesOf (headsA mixedA) ≡ 6)
+    ∷ (joined (headsA (partA [] (0 ∷ 2 ∷ []) many 18 ∷ partA [] (1 ∷ []) many 18 ∷ [])) ≡ false)
+    ∷ (missingFrom (headsA (partA [] (0 ∷ 2 ∷ []) many 18 ∷ partA [] (1 ∷ []) many 18 ∷ [])) ≡ 1 ∷ [])
+    ∷ (missingUpto (headsA (partA [] (0 ∷ 2 ∷ []) many 18 ∷ partA [] (1 ∷ []) many 18 ∷ [])) ≡ 255 ∷ [])
     -- the first head of the cut is missing; a full part is refused
     ∷ (joined (headsA (partA (0 ∷ 2 ∷ []) (255 ∷ []) many 18 ∷ [])) ≡ false)
     ∷ (missingFrom (headsA (partA (0 ∷ 2 ∷ []) (255 ∷ []) many 18 ∷ [])) ≡ [])

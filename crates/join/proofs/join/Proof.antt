@@ -1,12 +1,8 @@
 -- `join`: the questions, the heads taken, the answer. Assumes nothing.
-use mathlib.Core.Path.{_≡_, refl, sym, ap, _∙_}
-use mathlib.Core.Bool.{Bool, true, false}
-use Prim.Native.Nat.{ℕ, _+_, _-_, _*_, _≤_, _<_}
-use native.Mathlib.Omega.{arith}
-use borrow.Author.Count.{below-more}
+use mathlib.Core.Path.{refl, sym, _∙_}
 use borrow.Author.Needs.{needs}
-use lib.ListN.{length, getD}
-use Rattle.join.proofs.Sums.{accepted-all, heads-all, not-many}
+use Rattle.join.proofs.Bits.{marked-none}
+use Rattle.join.proofs.Sums.{accepted-all, heads-all}
 use Rattle.join.proofs.Said.{said-refused, said-all}
 use Rattle.join.proofs.join.Statement.{statement}
 use Rattle.join.proofs.join.Tie as tie
@@ -17,29 +13,39 @@ question-requires c κs = search needs
 returns : tie.Need-returns
 returns c = let f = c .before in said-refused (f .before .before .args .heads .now) (f .question .result) (f .question .ensures) (c .if1 .taken)
 
+find-ways-requires : tie.Need-find-ways-requires
+find-ways-requires c κs =
+    let f = c .before .before in
+    (heads-all (f .before .before .args .heads .now) (sym (f .question .ensures) ∙ c .before .if1 .left), refl, marked-none)
+
 walk-requires : tie.Need-walk-requires
 walk-requires c κs =
-    let f = c .before in
-    let l = f .before .before .args .heads .now in
-    let e = sym (f .question .ensures) ∙ c .if1 .left in
-    (heads-all l e, refl, not-many l e)
+    let f = c .before .before .before .before in
+    (heads-all (f .before .before .args .heads .now) (sym (f .question .ensures) ∙ c .before .before .before .if1 .left), refl, c .before .find-ways .ensures .may)
 
 answered-requires : tie.Need-answered-requires
 answered-requires c κs =
-    let f = c .before .before in
-    let l = f .before .before .args .heads .now in
-    let e = sym (f .question .ensures) ∙ c .before .if1 .left in
-    (heads-all l e, refl, c .walk .ensures .inside)
+    let f = c .before .before .before .before .before in
+    (heads-all (f .before .before .args .heads .now) (sym (f .question .ensures) ∙ c .before .before .before .before .if1 .left), refl, c .walk .ensures .inside)
 
 returns-2 : tie.Need-returns-2
 returns-2 c =
     let g = c .before in
     let w = g .before in
-    let f = w .before .before in
+    let m = w .before .before in
+    let e = m .before .before in
+    let f = e .before in
     let l = f .before .before .args .heads .now in
     let r = w .walk .result in
-    said-all l (g .answered .result) (r .stand) (r .plans) (r .nodes) (r .counts) (accepted-all l (sym (f .question .ensures) ∙ w .before .if1 .left)) (w .walk .ensures) (g .answered .ensures)
+    said-all l (g .answered .result) (m .find-ways .result) (r .stand) (r .plans) (r .nodes) (r .counts) (accepted-all l (sym (f .question .ensures) ∙ e .if1 .left)) (m .find-ways .ensures .joins) (w .walk .ensures) (g .answered .ensures)
 
 pub join-spec : {M : Type 1} → statement M
 join-spec =
-    tie.close (tie.spec question-requires returns walk-requires answered-requires returns-2)
+    tie.close
+    (tie.spec
+    question-requires
+    returns
+    find-ways-requires
+    walk-requires
+    answered-requires
+    returns-2)

@@ -1,23 +1,20 @@
 -- `best_from`: after k turns it is that of the first k heads. Assumes nothing.
-use mathlib.Core.Path.{_≡_, sym, ap, _∙_}
-use mathlib.Core.Bool.{Bool, true, false}
-use Prim.Native.Nat.{ℕ, _+_, _-_, _*_, _≤_, _<_}
+use mathlib.Core.Path.{_≡_, ap, _∙_}
+use Prim.Native.Nat.{_-_, _≤_}
 use native.Mathlib.Omega.{arith}
-use borrow.Author.Count.{below-more}
-use borrow.Author.Needs.{needs}
-use lib.ListN.{length, getD}
-use Rattle.model.specs.Lists.{same}
-use Rattle.parts.specs.Parts.{after}
-use Rattle.join.specs.Join.{pathAt, fromAt, reachOr, reachAt, bestOf}
+use Rattle.join.specs.Join.{pathAt, fromAt, reachAt, reachOr, bestOf}
+use Rattle.join.specs.Inner.{marked}
 use Rattle.join.proofs.Turns.{best-none, best-turn, chosen-few}
+use Rattle.model.specs.Lists.{both, same}
+use Rattle.parts.specs.Parts.{after}
 use Rattle.join.proofs.steps.best_from.Statement.{statement}
 use Rattle.join.proofs.steps.best_from.Tie as tie
 
 abbrev Inv-loop : tie.InvT-loop
-Inv-loop here o l n best₀ k₀ best k = (k ≤ n) × (best ≡ bestOf l (pathAt here o) k) × (best ≤ k)
+Inv-loop here o l n marks best₀ k₀ best k = (k ≤ n) × (best ≡ bestOf l (pathAt here o) k) × (best ≤ k)
 
 abbrev μ-loop : tie.MeasureT-loop
-μ-loop here o l n best₀ k₀ best k = n - k
+μ-loop here o l n marks best₀ k₀ best k = n - k
 
 loop-holds : tie.Need-loop-holds Inv-loop μ-loop
 loop-holds c = let a = c .before .before .args in (omega arith, best-none (a .l .now) (pathAt (a .here .now) (a .o)), omega arith)
@@ -37,8 +34,15 @@ loop-less c = omega arith
 loop-again : tie.Need-loop-again Inv-loop μ-loop
 loop-again c =
     let l = c .before .before in
-    let a = l .before .before .before .args in
-    (omega arith, best-turn (a .l .now) (pathAt (a .here .now) (a .o)) (l .loop .k) (l .loop .best) (c .better .result) (l .loop .inv .1) (c .better .ensures), chosen-few (same (fromAt (a .l .now) (l .loop .k)) (pathAt (a .here .now) (a .o))) (after (reachOr (a .l .now) (pathAt (a .here .now) (a .o)) (l .loop .best)) (reachAt (a .l .now) (l .loop .k))) (l .loop .k) (l .loop .best) (c .better .result) (l .loop .inv .2) (c .better .ensures))
+    let s = l .before .before .before in
+    let a = s .args in
+    let here = pathAt (a .here .now) (a .o) in
+    let may = marked (a .marks .now) (l .loop .k) in
+    let on = both (same (fromAt (a .l .now) (l .loop .k)) here) (after (reachOr (a .l .now) here (l .loop .best)) (reachAt (a .l .now) (l .loop .k))) in (
+      omega arith,
+      best-turn (a .l .now) here (l .loop .k) (l .loop .best) (c .better .result) may (s .pre .2 (l .loop .k) (c .before .loop-test .taken)) (l .loop .inv .1) (c .better .ensures),
+      chosen-few may on (l .loop .k) (l .loop .best) (c .better .result) (l .loop .inv .2) (c .better .ensures),
+    )
 
 returns : tie.Need-returns Inv-loop μ-loop
 returns c =

@@ -22,7 +22,7 @@ slice-aggregate-best-from : tie.Need-slice-aggregate-best-from
 slice-aggregate-best-from c = search needs
 
 best-from-requires : tie.Need-best-from-requires
-best-from-requires c κs = (start-path, c .before .before .before .before .before .pre .0)
+best-from-requires c κs = let s = c .before .before .before .before .before in (start-path, s .pre .0, s .pre .3)
 
 returns-2 : tie.Need-returns-2
 returns-2 c =
@@ -43,7 +43,7 @@ reach-place-requires c κs = search needs
 best-from-requires-2 : tie.Need-best-from-requires-2
 best-from-requires-2 c κs =
     let s = c .before .before .before .before .before in
-    (reach-path (s .args .l .now) (s .args .n) (s .args .stand - 1) (s .pre .0) (omega (arith, s .pre .2, c .before .if2 .left)) (c .reach-place .result) (c .reach-place .ensures), s .pre .0)
+    (reach-path (s .args .l .now) (s .args .n) (s .args .stand - 1) (s .pre .0) (omega (arith, s .pre .2, c .before .if2 .left)) (c .reach-place .result) (c .reach-place .ensures), s .pre .0, s .pre .3)
 
 returns-3 : tie.Need-returns-3
 returns-3 c =

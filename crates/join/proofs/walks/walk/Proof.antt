@@ -12,16 +12,16 @@ use Rattle.join.proofs.walks.walk.Statement.{statement}
 use Rattle.join.proofs.walks.walk.Tie as tie
 
 abbrev Inv-loop : tie.InvT-loop
-Inv-loop l n w₀ j₀ w j = (j ≤ n) × Underway l n j (w .stand) (w .plans) (w .nodes) (w .counts)
+Inv-loop l n marks w₀ j₀ w j = (j ≤ n) × Underway l n j (w .stand) (w .plans) (w .nodes) (w .counts)
 
 abbrev μ-loop : tie.MeasureT-loop
-μ-loop l n w₀ j₀ w j = n - j
+μ-loop l n marks w₀ j₀ w j = n - j
 
 loop-holds : tie.Need-loop-holds Inv-loop μ-loop
 loop-holds c = let s = c .before in (omega arith, underway (s .args .l .now) (s .args .n) (s .pre .1))
 
 step-requires : tie.Need-step-requires Inv-loop μ-loop
-step-requires c κs = let l = c .before in let s = l .before .before in (s .pre .0, s .pre .1, l .loop .inv .1 .inside)
+step-requires c κs = let l = c .before in let s = l .before .before in (s .pre .0, s .pre .1, l .loop .inv .1 .inside, s .pre .2)
 
 returns : tie.Need-returns Inv-loop μ-loop
 returns c =
@@ -41,7 +41,7 @@ with-head-requires c κs =
     let s = l .before .before in
     let u = l .loop .inv .1 in (
       omega (arith, s .pre .0 .fits, f .step .ensures .1, c .if1 .left),
-      record { plans = omega (arith, u .fewPlans, s .pre .2); nodes = omega (arith, u .fewNodes, s .pre .2); counts = λ x h. omega (arith, u .few x h, s .pre .2) },
+      record { plans = omega (arith, u .fewPlans, s .pre .0 .few); nodes = omega (arith, u .fewNodes, s .pre .0 .few); counts = λ x h. omega (arith, u .few x h, s .pre .0 .few) },
     )
 
 add-j : tie.Need-add-j Inv-loop μ-loop
