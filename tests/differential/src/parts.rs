@@ -78,8 +78,10 @@ pub fn case(rng: &mut Rng, tally: &mut Tally) {
         wrong_size(&lent, rng, tally);
     }
     if !tree.is_empty() {
-        let cuts = cuts(rng, &tree);
-        whole(&lent, &cuts, rng, tally);
+        let all = cuts(rng, &tree);
+        whole(&lent, &all, rng, tally);
+        let other = cuts(rng, &tree);
+        mixed(&lent, &all, &other, rng, tally);
     }
 }
 
@@ -127,6 +129,32 @@ fn part(lent: &Lent, range: Range, room: usize, rng: &mut Rng, tally: &mut Tally
 /// Cuts a tree, runs each range in one piece or in spent parts, and joins the heads: shuffled and repeated they are the run; with one missing and damaged
 /// as the oracle says.
 fn whole(lent: &Lent, cuts: &[Vec<u8>], rng: &mut Rng, tally: &mut Tally) {
+    let mut heads = of_cuts(lent, cuts, rng, tally);
+    the_run(lent, &heads, rng, tally);
+    for _ in 0..rng.below(3) {
+        heads.push(rng.pick(&heads));
+    }
+    shuffle(&mut heads, rng);
+    joined(&heads.concat(), rng, tally);
+    joined(&without_one(&heads, rng).concat(), rng, tally);
+    joined(&damaged(&heads, rng), rng, tally);
+}
+
+/// The heads of two cuts of one tree, shuffled: one whole and the other with a head missing are the run; with a head of each missing they are what the
+/// oracle says.
+fn mixed(lent: &Lent, cuts: &[Vec<u8>], other: &[Vec<u8>], rng: &mut Rng, tally: &mut Tally) {
+    let (whole, other) = (of_cuts(lent, cuts, rng, tally), of_cuts(lent, other, rng, tally));
+    let other = without_one(&other, rng);
+    let mut heads = [&whole[..], &other].concat();
+    shuffle(&mut heads, rng);
+    the_run(lent, &heads, rng, tally);
+    let mut heads = [without_one(&whole, rng), other].concat();
+    shuffle(&mut heads, rng);
+    joined(&heads.concat(), rng, tally);
+}
+
+/// The heads of the ranges between cuts, each range in one piece or in spent parts.
+fn of_cuts(lent: &Lent, cuts: &[Vec<u8>], rng: &mut Rng, tally: &mut Tally) -> Vec<Vec<u8>> {
     let mut heads = Vec::new();
     let mut from: &[u8] = &[];
     for upto in cuts {
@@ -135,23 +163,29 @@ fn whole(lent: &Lent, cuts: &[Vec<u8>], rng: &mut Rng, tally: &mut Tally) {
         heads.extend(pieces(lent, from, upto, limit, rng, tally));
         from = upto;
     }
+    heads
+}
+
+/// The heads join, and their sums are the figures of the run.
+fn the_run(lent: &Lent, heads: &[Vec<u8>], rng: &mut Rng, tally: &mut Tally) {
     let expected = run_lent(&lent.sheet, &lent.pairs, &lent.block, u32::MAX, &mut vec![0; ROOM]);
     if let Ok(run) = expected {
         let sums = run.outcome.sums(&run.counts);
         let all = joined(&heads.concat(), rng, tally);
         tally.same("sums of a run", all, Some(sums), &lent.bytes());
     }
-    for _ in 0..rng.below(3) {
-        heads.push(rng.pick(&heads));
-    }
+}
+
+fn shuffle(heads: &mut [Vec<u8>], rng: &mut Rng) {
     for i in (1..heads.len()).rev() {
         heads.swap(i, rng.below(i + 1));
     }
-    joined(&heads.concat(), rng, tally);
-    let mut fewer = heads.clone();
+}
+
+fn without_one(heads: &[Vec<u8>], rng: &mut Rng) -> Vec<Vec<u8>> {
+    let mut fewer = heads.to_vec();
     fewer.remove(rng.below(fewer.len()));
-    joined(&fewer.concat(), rng, tally);
-    joined(&damaged(&heads, rng), rng, tally);
+    fewer
 }
 
 /// The heads of a range that is run with a limit, gone on with from where each part stands until it is finished.
@@ -231,7 +265,7 @@ fn wrong_size(lent: &Lent, rng: &mut Rng, tally: &mut Tally) {
     tally.same("answer untouched", &answer.bytes, &answer_before.bytes, &heads);
 }
 
-/// Every two cuts of the trees of the stored sheets A and the rotation, at trials and between them.
+/// Every two cuts of the trees of the stored sheets A and the rotation, at trials and between them; many heads.
 pub fn examples(tally: &mut Tally) {
     let folder = Path::new(env!("CARGO_MANIFEST_DIR")).join("../../examples");
     for name in ["a.sheet", "cycle.sheet"] {
@@ -240,7 +274,18 @@ pub fn examples(tally: &mut Tally) {
             let lent = Lent { sheet: sheet.clone(), pairs: pairs.to_vec(), block: Vec::new() };
             every_cut(&lent, name, tally);
         }
+        most_heads(&Lent { sheet, pairs: Vec::new(), block: Vec::new() }, name, tally);
     }
+}
+
+/// As many heads as are allowed, and one more: copies of one that reaches nothing.
+fn most_heads(lent: &Lent, name: &str, tally: &mut Tally) {
+    let mut rng = Rng::new(1);
+    tally.case = format!("part parts, {name}, 65,536 heads and one more");
+    let range = Range { from: &[], upto: &END, node_limit: 0 };
+    let head = part(lent, range, ROOM, &mut rng, tally).expect("a head");
+    joined(&head.repeat(65_536), &mut rng, tally);
+    joined(&head.repeat(65_537), &mut rng, tally);
 }
 
 fn every_cut(lent: &Lent, name: &str, tally: &mut Tally) {

@@ -3,6 +3,8 @@
 
 use crate::lent::{question_lent, sets_at, trials_below};
 use crate::{Ending, Outcome, Problem, Refusal};
+use std::cmp::Reverse;
+use std::collections::HashSet;
 
 /// The bytes of a head, and the path after the last trial.
 pub const HEAD_BYTES: usize = 115;
@@ -174,24 +176,41 @@ impl<'a> Head<'a> {
     }
 }
 
-/// The questions 41 to 44, then the heads one behind the other.
+/// The paths from which some heads go to the last path, each from where the one before it reaches. A head reaches only what comes after its
+/// beginning, so those that begin later come first.
+fn ways<'a>(heads: &[Head<'a>]) -> HashSet<&'a [u8]> {
+    let mut onward: Vec<&Head<'a>> = heads.iter().filter(|head| head.from() < head.reach()).collect();
+    onward.sort_by_key(|head| Reverse(head.from()));
+    let mut ways = HashSet::from([&END[..]]);
+    for head in onward {
+        if ways.contains(head.reach()) {
+            ways.insert(head.from());
+        }
+    }
+    ways
+}
+
+/// The questions 41 to 44, then the heads one behind the other: those that lead to the last path, if there are such from the first on.
 pub fn join(bytes: &[u8]) -> Result<Join, Refusal> {
     let heads: Vec<Head> = bytes.chunks(HEAD_BYTES).map(|bytes| Head { bytes }).collect();
     let ask = |yes: bool, number: u32| if yes { Ok(()) } else { Err(Refusal { number, item: 0 }) };
-    ask(bytes.len() % HEAD_BYTES == 0 && heads.len() <= 16_777_216, 41)?;
+    ask(bytes.len() % HEAD_BYTES == 0 && heads.len() <= 65_536, 41)?;
     ask(heads.iter().all(Head::is_head), 42)?;
     ask(heads.iter().all(|head| head.bytes[60..76] == heads[0].bytes[60..76]), 43)?;
     ask(heads.iter().all(|head| head.number(0) != 3), 44)?;
+    let ways = ways(&heads);
+    let joins = ways.contains(&[][..]);
+    let may = |head: &&Head| !joins || ways.contains(head.reach());
     let (mut here, mut sums): (&[u8], Sums) = (&[], [0; 14]);
     while here != END {
-        let Some(furthest) = heads.iter().filter(|head| head.from() == here).map(Head::reach).max() else {
+        let from_here = heads.iter().filter(|head| head.from() == here && may(head));
+        let Some(furthest) = from_here.clone().map(Head::reach).max() else {
             break;
         };
         if furthest <= here {
             break;
         }
-        let goes = |head: &&Head| head.from() == here && head.reach() == furthest;
-        let head = heads.iter().find(goes).expect("the furthest");
+        let head = from_here.clone().find(|head| head.reach() == furthest).expect("the furthest");
         for (i, sum) in sums.iter_mut().enumerate() {
             *sum += u64::from(head.number(i + 1));
         }
