@@ -70,7 +70,11 @@ fn silent(status: Status) -> Outcome {
 
 /// How far a part came that isn't finished.
 fn stopped(part: &Part) -> String {
-    format!("stopped short: {}; the same words go on", part.words())
+    let rest = match part.plans() < MOST_PLANS {
+        true => "the same words go on",
+        false => "a part has no room for more plans, and `sheet join` names the rest",
+    };
+    format!("stopped short: {}; {rest}", part.words())
 }
 
 /// How many trials may be made, if that is limited.

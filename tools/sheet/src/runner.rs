@@ -166,7 +166,7 @@ impl Run<'_> {
         if jobs > 1 {
             self.alone(sum, ALONE.min(self.trials))?;
         }
-        if jobs > 1 && sum.ending.is_none() {
+        if jobs > 1 && sum.ending.is_none() && self.watch.stops().is_none() {
             let bounds = cut(self.made, PARTS * jobs).into_iter().map(|[from, _]| from);
             Team::new(self, sum, bounds).work(jobs, self, sum)?;
         }

@@ -146,11 +146,11 @@ impl<'a> Team<'a> {
         state.is_over || trials > self.limits[0] || plans > self.limits[1]
     }
 
-    /// Takes the steps together in order, until the last is taken, one doesn't fit or the run is stopped.
+    /// Takes the steps together in order, until the last is taken, one doesn't fit, or the run is stopped and none is there.
     fn collect(&self, run: &Run, sum: &mut Sum) {
         let mut from = sum.at.clone();
         let mut state = self.state();
-        while run.watch.stops().is_none() && !state.is_over {
+        while !state.is_over {
             let Some(part) = state.parts.get_mut(&from) else {
                 sum.ending = Some(Ending::Finished);
                 return;
@@ -165,7 +165,7 @@ impl<'a> Team<'a> {
                     from = part.upto.clone();
                     sum.at = from.clone();
                 }
-                None if part.is_left => return,
+                None if part.is_left || run.watch.stops().is_some() => return,
                 None => {
                     let [trials, plans] = self.before;
                     let found = |of: fn(&Part) -> u64| state.parts.values().map(of).sum::<u64>();
@@ -200,4 +200,22 @@ impl State {
 fn bound(at: &[u8], upto: &[u8], windows: usize) -> Option<Vec<u8>> {
     let ends = (1..windows.min(at.len() + 1)).map(|depth| [&at[..depth], END].concat());
     ends.into_iter().find(|end| &end[..] < upto)
+}
+
+#[cfg(test)]
+mod tests {
+    use super::*;
+
+    #[test]
+    fn what_is_given_away() {
+        let at = [3, 1, 2];
+        assert_eq!(bound(&at, END, 3), Some(vec![3, 255]));
+        assert_eq!(bound(&at, &[4, 0], 3), Some(vec![3, 255]));
+        assert_eq!(bound(&at, &[3, 255], 3), Some(vec![3, 1, 255]));
+        assert_eq!(bound(&at, &[3, 2], 3), Some(vec![3, 1, 255]));
+        assert_eq!(bound(&at, &[3, 1, 255], 3), None);
+        assert_eq!(bound(&[3, 1], &[3, 1, 255], 3), None);
+        assert_eq!(bound(&[3, 1], &[3, 2], 3), Some(vec![3, 1, 255]));
+        assert_eq!(bound(&[], END, 3), None);
+    }
 }
