@@ -29,7 +29,7 @@ pub const COMMAND: Command = Command {
         Choice {
             name: EVERY,
             value: Some("N"),
-            about: "gives each seat N turns of 64 trials at a time (1,024), and says on standard error how it stands",
+            about: "after every N turns of each seat, says on standard error how it stands",
         },
         JOBS_OPTION,
         EXPLAIN_OPTION,
@@ -44,7 +44,7 @@ const EVERY: &str = "--every";
 /// The trials of a turn (paper 02, #113).
 const TURN: u64 = 64;
 
-/// The turns of each seat in one round; each sheet is prepared once a round.
+/// The most turns of each seat in one round; each sheet is prepared once a round.
 const ROUND: u32 = 1_024;
 
 /// So long is waited for those that count families when nobody runs.
@@ -58,16 +58,16 @@ fn run(arguments: &Arguments) -> Result<Outcome, Stop> {
     }
     let jobs = Manner::of(arguments)?.jobs;
     let watch = Watch::of(arguments)?;
-    let trials = u64::from(every.unwrap_or(ROUND)) * TURN;
     let mut desk = Desk::new(arguments, limits);
     let mut progress = Progress::new(every);
     desk.show_ended()?;
-    while desk.seats.iter().any(|seat| !seat.has_ended()) {
+    while !desk.has_ended() {
+        let turns = progress.turns();
         match watch.stops() {
             Some(cause) => desk.seats.iter_mut().for_each(|seat| seat.stop(cause, limits)),
-            None => desk.round(trials, jobs),
+            None => desk.round(u64::from(turns) * TURN, jobs),
         }
-        progress.show(&desk);
+        progress.show(&desk, turns);
         if desk.seats.iter().any(|seat| seat.has_ended() && !seat.is_shown) {
             progress.clear();
             desk.show_ended()?;
@@ -98,6 +98,10 @@ impl Desk {
         };
         let [explain, is_json] = [EXPLAIN_OPTION, JSON_OPTION].map(|option| arguments.has(option.name));
         Desk { seats: arguments.sources.iter().map(seat).collect(), limits, explain, is_json }
+    }
+
+    fn has_ended(&self) -> bool {
+        self.seats.iter().all(Seat::has_ended)
     }
 
     /// Each hall that runs goes on with so many trials, one after the other, on so many cores.
@@ -153,10 +157,12 @@ fn next<'a>(queue: &Mutex<impl Iterator<Item = &'a mut Seat>>) -> Option<&'a mut
     queue.lock().expect("no core fails").next()
 }
 
-/// How far the halls have come: a line for each that runs, after every round or, on a terminal, of those that take more than
-/// a second, in place.
+/// How far the halls have come: a line for each that runs, after every so many turns or, on a terminal, again and again in
+/// place.
 struct Progress {
-    always: bool,
+    every: Option<u32>,
+    /// The turns until the next lines.
+    due: u32,
     told: Option<Instant>,
     lines: usize,
 }
@@ -168,12 +174,22 @@ const PAUSE: Duration = Duration::from_millis(500);
 impl Progress {
     fn new(every: Option<u32>) -> Progress {
         let watched = every.is_none() && std::io::stderr().is_terminal();
-        Progress { always: every.is_some(), told: watched.then(Instant::now), lines: 0 }
+        Progress { every, due: every.unwrap_or(ROUND), told: watched.then(Instant::now), lines: 0 }
     }
 
-    fn show(&mut self, desk: &Desk) {
-        if self.always {
-            say(&lines(desk, usize::MAX));
+    /// The turns of the next round.
+    fn turns(&self) -> u32 {
+        self.due.min(ROUND)
+    }
+
+    /// So many turns were made.
+    fn show(&mut self, desk: &Desk, turns: u32) {
+        if let Some(every) = self.every {
+            self.due -= turns;
+            if self.due == 0 || desk.has_ended() {
+                say(&lines(desk, usize::MAX));
+                self.due = every;
+            }
         } else if self.told.is_some_and(|told| told.elapsed() > PAUSE) {
             self.clear();
             let text = lines(desk, SHOWN);

@@ -60,16 +60,12 @@ impl Seat {
     fn step(&mut self, trials: u64, limits: Limits) -> Result<(), Stop> {
         let Ok(input) = &self.hall else { return Ok(()) };
         let most = [limits.trials, limits.plans].map(u64::from);
-        let end = most[0].min(self.sum.trials + trials);
         let mut walker = Walker::new(Tree::of(&input.made), &self.sum.at, END);
-        loop {
-            input.accepted(self.sum.step(&mut walker, end - self.sum.trials, most))?;
-            if self.sum.ending.is_some() {
-                return self.came_to(limits, None);
-            }
-            if self.sum.trials == end {
-                return Ok(());
-            }
+        let trials = trials.min(most[0] - self.sum.trials);
+        input.accepted(self.sum.step(&mut walker, trials, most))?;
+        match self.sum.ending {
+            None => Ok(()),
+            Some(_) => self.came_to(limits, None),
         }
     }
 

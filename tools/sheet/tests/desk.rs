@@ -83,6 +83,10 @@ fn as_they_end() {
                  seat 1  examples/a.txt        6 trials   3 plans   3.0% of the allowance\n\
                  seat 0  examples/stand.txt  200 trials  51 plans  100.0% of the allowance\n";
     assert_eq!((said(&output.stderr), output.status.code()), (lines, Some(2)));
+    let output = sheet("desk --every 3000 tools/sheet/tests/golden/hard.txt");
+    let made: Vec<&str> = said(&output.stderr).lines().map(|line| line.split("  ").nth(2).unwrap()).collect();
+    let every = ["192,000", "384,000", "576,000", "768,000", "960,000", "1,000,000"];
+    assert_eq!(made, every.map(|trials| format!("{trials} trials")));
 }
 
 /// Short halls don't wait behind long ones, however many.
