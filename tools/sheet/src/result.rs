@@ -177,3 +177,32 @@ fn digest(bytes: &[u8]) -> u64 {
     let step = |sum: u64, byte: &u8| (sum ^ u64::from(*byte)).wrapping_mul(0x0000_0100_0000_01b3);
     bytes.iter().fold(0xcbf2_9ce4_8422_2325, step)
 }
+
+#[cfg(test)]
+mod tests {
+    use super::*;
+
+    /// A head of a hall that has the digests 0: its kind, plans and trials, where it begins and where it stands.
+    fn head([kind, plans, trials]: [u32; 3], from: &[u8], last: &[u8]) -> Head {
+        let path = |path: &[u8]| [&[path.len() as u8], path, &[0; 12][path.len()..]].concat();
+        let numbers = [kind, plans, trials].map(u32::to_le_bytes).concat();
+        let bytes = [numbers, vec![0; 64], path(from), path(END), path(last)].concat();
+        Head::from_bytes(bytes.try_into().unwrap())
+    }
+
+    #[test]
+    fn more_trials_than_a_head_counts() {
+        let mut part = Part::new(Hall { problem: [0; 16], digest: 7, windows: 2 });
+        part.take(Step { head: head([2, 1, u32::MAX - 15], &[], &[2]), rows: &[1, 2] });
+        part.take(Step { head: head([2, 0, 10], &[2], &[3]), rows: &[] });
+        assert_eq!((part.heads.len(), part.trials_left()), (1, 5));
+        part.take(Step { head: head([2, 1, 5], &[3], &[4]), rows: &[3, 4] });
+        assert_eq!((part.heads.len(), part.trials_left()), (1, u32::MAX.into()));
+        part.take(Step { head: head([1, 2, 20], &[4], &[9]), rows: &[5, 6, 7, 8] });
+        assert_eq!(part.heads, [head([2, 2, u32::MAX], &[], &[4]), head([1, 2, 20], &[4], &[9])]);
+        assert_eq!([part.rows_of(0), part.rows_of(1)], [[1, 2, 3, 4], [5, 6, 7, 8]]);
+        assert!(part.is_finished() && part.has_range(&[], END));
+        assert_eq!(part.words(), "start end: 4 plans, 4,294,967,315 trials");
+        assert_eq!(Part::read(&part.bytes()), Some(part));
+    }
+}

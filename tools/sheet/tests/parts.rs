@@ -3,8 +3,10 @@
 use planner::{Ending, HEAD_BYTES};
 use sheet::cut::cut;
 use sheet::make;
+use sheet::make::Made;
 use sheet::result::Part;
-use sheets::Rng;
+use sheet::Problem;
+use sheets::{alike_problem, encode, large_problem, problem, right_pairs, Rng};
 use std::fs;
 use std::path::{Path, PathBuf};
 use std::process::{Command, Output};
@@ -160,6 +162,50 @@ fn even_parts() {
         let most = *trials.iter().max().unwrap() as usize;
         assert!(most * parts < 2 * whole as usize, "{parts} parts: {trials:?} of {whole}");
     }
+}
+
+/// Cuts of any hall go on from each other, and the parts have the run's trials and plans, in its order.
+#[test]
+fn cuts_of_random_halls() {
+    let mut rng = Rng::new(355);
+    for number in 0..400 {
+        let (problem, block) = match number % 4 {
+            0 => (large_problem(&mut rng), Vec::new()),
+            1 => (problem(&mut rng), Vec::new()),
+            _ => {
+                let (problem, block) = alike_problem(&mut rng);
+                (problem, block.to_vec())
+            }
+        };
+        let sheet = encode(&problem);
+        let problem = Problem::decode(&sheet);
+        let pairs = if number % 3 == 0 { right_pairs(&mut rng, problem.variables.len()) } else { Vec::new() };
+        let made = Made { problem, sheet, pairs, block };
+        is_cut(&made, 1 + rng.below(40));
+    }
+}
+
+fn is_cut(made: &Made, parts: usize) {
+    let windows = made.problem.variables.len();
+    let mut room = vec![0; windows * 20_000];
+    let mut run = |from: &[u8], upto: &[u8]| {
+        let Made { sheet, pairs, block, .. } = made;
+        let answer = planner::run_part(sheet, pairs, block, from, upto, 20_000, &mut room).unwrap().answer();
+        (answer, room[..windows * answer.plans as usize].to_vec())
+    };
+    let (whole, rows) = run(planner::START, planner::END);
+    if whole.ending != Ending::Finished {
+        return;
+    }
+    let ranges = cut(made, parts);
+    assert_eq!(
+        (ranges.len(), &ranges[0][0][..], &ranges[parts - 1][1][..]),
+        (parts, planner::START, planner::END)
+    );
+    assert!(ranges.windows(2).all(|two| two[0][1] == two[1][0]));
+    let found: Vec<_> = ranges.iter().map(|[from, upto]| run(from, upto)).collect();
+    assert_eq!(found.iter().map(|(answer, _)| answer.nodes).sum::<u32>(), whole.nodes);
+    assert!(found.into_iter().flat_map(|(_, rows)| rows).eq(rows));
 }
 
 /// What is missing is said as words that run it.
