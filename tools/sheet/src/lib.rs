@@ -27,9 +27,9 @@
 //! assert_eq!((faults[0].line, faults[0].text.as_str()), (3, "no window is called `till`"));
 //! # Ok::<(), sheet::planner::Refusal>(())
 //! ```
-//!
-//! `fixed` keeps the exchanges that a text's fixed duties bear; `compose`, `amount` and `pack` make what its sheet states;
-//! `runner` runs the planner. Each command is a module with a `COMMAND` in the list of `command`.
+
+// `fixed` keeps the exchanges that a text's fixed duties bear; `compose`, `amount` and `pack` make what its sheet states;
+// `runner` runs the planner. Each command is a module with a `COMMAND` in the list of `command`.
 
 mod advice;
 mod alike;
