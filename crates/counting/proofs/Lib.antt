@@ -1,5 +1,7 @@
 -- The laws that the proofs of this crate share.
 pub mod Images
+pub mod Arrays
 pub mod Bare
+pub mod ReportRuns
 pub mod FamilyCalls
 pub mod Tied

@@ -1,35 +1,80 @@
--- What the functions are lent. No reader has to believe this: it stands between proved functions.
+-- What the functions are lent and leave. No reader has to believe this: it stands between proved functions.
 use mathlib.Core.Path.{_≡_}
 use mathlib.Core.List.{List}
-use Prim.Native.Nat.{ℕ, _*_, _≤_}
-use lib.Dec.{leb}
-use lib.ListN.{length}
-use Rattle.model.specs.Lists.{choose, both}
+use Prim.Native.Nat.{ℕ, _*_, _≤_, _<_}
+use lib.ListN.{length, take}
+use Rattle.model.specs.Lists.{at}
+use Rattle.model.specs.Problem.{Problem}
 use Rattle.model.specs.Verdict.{accepted}
-use Rattle.model.specs.Sheet.{word, verdictOf, problemOf}
-use Rattle.model.specs.Run.{Ending, finished, resultOf, written}
-use Rattle.lent.specs.Lent.{verdictLent}
-use Rattle.search.specs.Tasks.{bareLent}
-
--- the number of variables that a sheet names, 0 where it has no such number or it is above 12
-unfoldable pub namedVariables : List ℕ → ℕ
-namedVariables b = choose (both (leb 2 (length b)) (leb (word b 0) 12)) (word b 0) 0
+use Rattle.model.specs.Sheet.{verdictOf, problemOf}
+use Rattle.model.specs.Run.{plansIn, nodesIn, resultOf, written, Tally}
+use Rattle.lent.specs.Lent.{verdictLent, problemLent}
+use Rattle.lent.specs.Compile.{WithinLimits}
+use Rattle.layout.specs.Places.{LIMIT, PLANS}
+use Rattle.layout.specs.Layout.{Compiled}
+use Rattle.walk.specs.Walk.{stopIn}
+use Rattle.explore.specs.Begun.{Writable}
+use Rattle.search.specs.Calls.{Call}
+use Rattle.figure.specs.Figure.{reportFigure}
+use Rattle.counting.specs.Told.{told, means}
+use Rattle.counting.specs.declared.ReportRun.{ReportRun}
 
 -- n is the number of variables of a sheet that is accepted, and never above 12
 pub record Sized (b : List ℕ) (n : ℕ) : Type 0 where
   pub most : n ≤ 12
   pub true-of : verdictOf b ≡ accepted → n ≡ problemOf b .variables
 
--- the questions are passed, and the bare run, with room for 4,096 plans, is finished: its rows stand in the list
-pub record Solved (b pairs block : List ℕ) (limit n solutions : ℕ) (rows : List ℕ) : Type 0 where
-  pub verdict : verdictLent b pairs block ≡ accepted
+-- n is the number of variables of the sheet, and the list has room for 4,096 plans of them
+pub record Roomy (b : List ℕ) (n : ℕ) (list : List ℕ) : Type 0 where
   pub named : n ≡ problemOf b .variables
-  pub nodes : ℕ
-  pub ended : resultOf (bareLent b pairs block) limit (4096 * n) .ending ≡ finished solutions nodes
-  pub before : List ℕ
-  pub listed : rows ≡ written (resultOf (bareLent b pairs block) limit (4096 * n) .rows) before
+  pub long : length list ≡ 4096 * n
 
--- the run of a report ended so
-pub record Ran (b : List ℕ) (limit : ℕ) (e : Ending) : Type 0 where
+-- ---- one run on the arrays
+-- they hold p, what is lent to write on has its length, no plan is listed yet, and the list has room for 4,096
+pub record Runs (p : Problem) (stack work supports tables numbers images list : List ℕ) : Type 0 where
+  pub compiled : Compiled p numbers supports images
+  pub limits : WithinLimits p
+  pub long : length numbers ≡ 2432
+  pub writable : Writable stack work tables
+  pub begun : at work PLANS ≡ 0
+  pub lent : length list ≡ 4096 * p .variables
+
+-- p's run has come to its end, and the numbers of the compiled problem are as they were
+pub record Ran (p : Problem) (limit : ℕ) (numbers list stack′ work′ tables′ numbers′ list′ : List ℕ) (tally′ : Tally) (stop : ℕ) : Type 0 where
+  pub nodes : tally′ .nodes ≡ nodesIn (resultOf p limit (length list) .ending)
+  pub plans : at work′ PLANS ≡ plansIn (resultOf p limit (length list) .ending)
+  pub stopped : stop ≡ stopIn (resultOf p limit (length list) .ending)
+  pub wrote : list′ ≡ written (resultOf p limit (length list) .rows) list
+  pub same : (i : ℕ) → i < LIMIT → at numbers′ i ≡ at numbers i
+  pub long : length numbers′ ≡ 2432
+  pub writable : Writable stack′ work′ tables′
+
+-- ---- the count
+-- the problem of an accepted lending, its variables in the settling order and its symmetries with those of the block, stands in the arrays
+pub record Put (b pairs block numbers supports images : List ℕ) (symmetries : ℕ) : Type 0 where
+  pub verdict : verdictLent b pairs block ≡ accepted
+  pub compiled : Compiled (problemLent b pairs block) numbers supports images
+  pub long : length numbers ≡ 2432
+  pub all : symmetries ≡ length (problemLent b pairs block .symmetries)
+  pub few : symmetries ≤ 136
+
+-- and what is lent to write on has its length
+pub record Whole (b pairs block : List ℕ) (symmetries : ℕ) (stack work supports tables numbers images : List ℕ) : Type 0 where
+  pub put : Put b pairs block numbers supports images symmetries
+  pub writable : Writable stack work tables
+
+-- ---- a report
+-- the run of a report has stopped so
+pub record Listed (b : List ℕ) (limit : ℕ) (stack work supports tables numbers images : List ℕ) (stop : ℕ) : Type 0 where
   pub verdict : verdictOf b ≡ accepted
-  pub so : resultOf (problemOf b) limit (4096 * problemOf b .variables) .ending ≡ e
+  pub compiled : Compiled (problemOf b) numbers supports images
+  pub long : length numbers ≡ 2432
+  pub writable : Writable stack work tables
+  pub plans : at work PLANS ≡ plansIn (resultOf (problemOf b) limit (4096 * problemOf b .variables) .ending)
+  pub stopped : stop ≡ stopIn (resultOf (problemOf b) limit (4096 * problemOf b .variables) .ending)
+
+-- a call of `report_run`: that of `run` on the front of the list, and the figure where the sheet is accepted
+pub record RunTold (b : List ℕ) (limit : ℕ) (list : List ℕ) (r : ReportRun) (list′ : List ℕ) : Type 0 where
+  pub sized : Sized b (r .variables)
+  pub call : Call b limit (take (4096 * r .variables) list) (r .answer) (take (4096 * r .variables) list′)
+  pub figure : verdictOf b ≡ accepted → means (r .figure) ≡ told (reportFigure b limit)

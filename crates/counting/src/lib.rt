@@ -1,18 +1,21 @@
-// The number of families on a sheet, or a dash (paper 02, #104): a run without symmetries lists all solutions, whose families are counted.
+// The number of families on a sheet, or a dash (paper 02, #104): a run without symmetries lists all solutions, whose families are counted. The sheet is
+// compiled once, and the arrays serve every run on it and the count.
 ghost use mathlib.Core.Path.{_≡_};
-ghost use Prim.Native.Nat.{ℕ, _*_};
+ghost use mathlib.Core.List.{List};
+ghost use Prim.Native.Nat.{ℕ};
 ghost use lib.ListN.{length, replicate};
-ghost use Rattle.model.specs.Verdict.{accepted};
-ghost use Rattle.model.specs.Run as Run;
-ghost use Rattle.lent.specs.Lent.{verdictLent, problemLent};
-ghost use Rattle.orderings.specs.Asked.{Put};
-ghost use Rattle.families.specs.Families.{familiesOf};
-ghost use Rattle.figure.specs.Figure.{reportFigure};
+ghost use Rattle.model.specs.Problem.{Problem};
+ghost use Rattle.walk.specs.Meaning.{tallyIn};
+ghost use Rattle.lent.specs.Compile.{AskedLent};
+ghost use Rattle.sheet.specs.declared.Answer.the-variants.{Accepted};
+ghost use Rattle.figure.specs.Figure.{reportFigure, familiesLent};
 ghost use Rattle.counting.specs.Told.{countedLent, told, means};
-ghost use Rattle.counting.specs.Held.{namedVariables, Sized, Solved, Ran};
+ghost use Rattle.counting.specs.Held.{Roomy, Runs, Ran, Put, Whole, Listed, RunTold};
+use layout::ALL;
+use layout::PLANS;
 use layout::SYMMETRIES;
 use layout::VARIABLES;
-use search::Ending;
+use settle::CountedPart;
 
 // The number of families, the dash, or the refusal of a run.
 pub enum Answer {
@@ -21,18 +24,11 @@ pub enum Answer {
     Refused { number: u8, item: usize },
 }
 
-// The number of variables that a sheet names, or 0 where an accepted sheet names none such.
-pub fn variables(sheet: &[u8]) -> usize
-    ensures { λ r. ⌜ r ≡ namedVariables (now (sheet .entry)) ⌝ }
-{
-    if sheet.len() < 2 {
-        return 0;
-    }
-    let n = reader::read_word(sheet, 0);
-    if 12 < n {
-        return 0;
-    }
-    n
+// The run of a report, its figure, and the number of variables, 0 after a refusal.
+pub struct ReportRun {
+    pub answer: search::Answer,
+    pub figure: Answer,
+    pub variables: usize,
 }
 
 // Room for 4,096 plans of 12 values.
@@ -42,57 +38,102 @@ pub fn plan_room() -> [u8; 49152]
     [0; 49152]
 }
 
-// Puts the images of the pairs under all symmetries of a run whose questions are passed, its variables in the settling order; how many symmetries.
-// Question 16 and those to the block are not asked again.
-fn put_images(sheet: &[u8], pairs: &[u8], block: &[u8], images: &mut [u8; 26112]) -> usize
-    requires { ⌜ (verdictLent (now sheet) (now pairs) (now block) ≡ accepted) × (length (now images) ≡ 26112) ⌝ }
-    ensures { λ r. ⌜ Put (problemLent (now (sheet .entry)) (now (pairs .entry)) (now (block .entry))) (now (images .exit)) r ⌝ }
+// Puts the images of the pairs under all symmetries of a run whose questions are passed, and turns the arrays into its settling order; how many symmetries.
+fn put_images(
+    pairs: &[u8],
+    block: &[u8],
+    numbers: &mut [u64; 2432],
+    supports: &mut [u16; 8192],
+    images: &mut [u8; 26112],
+    order: &[u8; 16],
+) -> usize
+    requires { ⌜ ((b : List ℕ) × AskedLent b (now pairs) (now block) (now numbers) (now supports) (now images) (now order) Accepted) ⌝ }
+    ensures { λ r. ⌜ ((b : List ℕ) → AskedLent b (now (pairs .entry)) (now (block .entry)) (now (numbers .entry)) (now (supports .entry)) (now (images .entry)) (now (order .entry)) Accepted → Put b (now (pairs .entry)) (now (block .entry)) (now (numbers .exit)) (now (supports .exit)) (now (images .exit)) r) ⌝ }
 {
-    let mut numbers = [0u64; 2432];
-    let mut supports = [0u16; 8192];
-    let mut order = [0u8; 16];
-    sheet::recompile(sheet, &mut numbers, &mut supports, images);
-    order::settling_order(numbers[VARIABLES] as usize, pairs, &mut order);
-    let symmetries = orderings::put_images(block, &numbers, images);
+    let symmetries = orderings::put_images(block, numbers, images);
+    numbers[SYMMETRIES] = symmetries as u64;
     if pairs.len() != 0 {
-        numbers[SYMMETRIES] = symmetries as u64;
-        reorder::reorder(&order, &mut numbers, &mut supports, images);
+        reorder::reorder(order, numbers, supports, images);
     }
     symmetries
 }
 
-// The families of all solutions, which a finished bare run has listed.
-fn count(sheet: &[u8], pairs: &[u8], block: &[u8], rows: &[u8], n: usize, solutions: usize) -> usize
-    requires { ⌜ ((limit : ℕ) × Solved (now sheet) (now pairs) (now block) limit n solutions (now rows)) ⌝ }
-    ensures { λ r. ⌜ r ≡ familiesOf (problemLent (now (sheet .entry)) (now (pairs .entry)) (now (block .entry))) ⌝ }
+// The run of the problem in the arrays, which has no block, with room for 4,096 plans: its rows go by position, and the compiled problem stays.
+fn run_arrays(
+    stack: &mut [u16; 208],
+    work: &mut [u64; 256],
+    supports: &[u16; 8192],
+    tables: &mut [u16; 55296],
+    numbers: &mut [u64; 2432],
+    images: &[u8; 26112],
+    limit: u32,
+    list: &mut [u8],
+) -> CountedPart
+    requires { ⌜ ((p : Problem) × Runs p (now stack) (now work) (now supports) (now tables) (now numbers) (now images) (now list)) ⌝ }
+    ensures { λ r. ⌜ ((p : Problem) → Runs p (now (stack .entry)) (now (work .entry)) (now (supports .entry)) (now (tables .entry)) (now (numbers .entry)) (now (images .entry)) (now (list .entry)) → Ran p limit (now (numbers .entry)) (now (list .entry)) (now (stack .exit)) (now (work .exit)) (now (tables .exit)) (now (numbers .exit)) (now (list .exit)) (tallyIn (r .tally)) (r .stop)) ⌝ }
 {
-    let mut images = [0u8; 26112];
-    let symmetries = put_images(sheet, pairs, block, &mut images);
-    families::families(rows, &images, n, symmetries, solutions)
+    let mut order = [0u8; 16];
+    task::by_position(&mut order);
+    task::put_bounds(numbers, limit as u64, 4096);
+    let step = explore::begin(stack, work, supports, tables, numbers, images, &order, 0);
+    explore::walk_tree(stack, work, supports, tables, numbers, list, step)
 }
 
-// The bare run with a list for 4,096 plans, and the families where it is finished: then the run with symmetries is too.
-fn counted(
-    sheet: &[u8],
-    pairs: &[u8],
-    block: &[u8],
-    limit: u32,
+// The families of the problem in the arrays, whose symmetries have their images: the run without symmetries, and where it is finished the count.
+fn figure(
+    stack: &mut [u16; 208],
+    work: &mut [u64; 256],
+    supports: &[u16; 8192],
+    tables: &mut [u16; 55296],
+    numbers: &mut [u64; 2432],
+    images: &[u8; 26112],
     n: usize,
+    symmetries: usize,
+    limit: u32,
     list: &mut [u8],
 ) -> Answer
-    requires { ⌜ Sized (now sheet) n × (length (now list) ≡ 4096 * n) ⌝ }
-    ensures { λ r. ⌜ means r ≡ countedLent (now (sheet .entry)) (now (pairs .entry)) (now (block .entry)) limit ⌝ }
+    requires { ⌜ ((b : List ℕ) × (pairs : List ℕ) × (block : List ℕ) × Whole b pairs block symmetries (now stack) (now work) (now supports) (now tables) (now numbers) (now images) × Roomy b n (now list)) ⌝ }
+    ensures { λ r. ⌜ ((b pairs block : List ℕ) → Whole b pairs block symmetries (now (stack .entry)) (now (work .entry)) (now (supports .entry)) (now (tables .entry)) (now (numbers .entry)) (now (images .entry)) → Roomy b n (now (list .entry)) → means r ≡ told (familiesLent b pairs block limit (length (now (list .entry))))) ⌝ }
 {
-    let answer = search::run_bare(sheet, pairs, block, limit, list);
-    match answer {
-        search::Answer::Refused { number, item } => Answer::Refused { number, item },
-        search::Answer::Ended(e) => {
-            let Ending::Finished(solutions, _) = e else {
-                return Answer::Dash;
-            };
-            Answer::Number(count(sheet, pairs, block, list, n, solutions))
-        }
+    numbers[SYMMETRIES] = 0;
+    work[PLANS] = 0;
+    let part = run_arrays(stack, work, supports, tables, numbers, images, limit, list);
+    if part.stop != ALL {
+        return Answer::Dash;
     }
+    let solutions = work[PLANS] as usize;
+    Answer::Number(families::families(list, images, n, symmetries, solutions))
+}
+
+// The same with room of its own.
+fn counted(
+    stack: &mut [u16; 208],
+    work: &mut [u64; 256],
+    supports: &[u16; 8192],
+    tables: &mut [u16; 55296],
+    numbers: &mut [u64; 2432],
+    images: &[u8; 26112],
+    symmetries: usize,
+    limit: u32,
+) -> Answer
+    requires { ⌜ ((b : List ℕ) × (pairs : List ℕ) × (block : List ℕ) × Whole b pairs block symmetries (now stack) (now work) (now supports) (now tables) (now numbers) (now images)) ⌝ }
+    ensures { λ r. ⌜ ((b pairs block : List ℕ) → Whole b pairs block symmetries (now (stack .entry)) (now (work .entry)) (now (supports .entry)) (now (tables .entry)) (now (numbers .entry)) (now (images .entry)) → means r ≡ countedLent b pairs block limit) ⌝ }
+{
+    let n = numbers[VARIABLES] as usize;
+    let used = 4096 * n;
+    let mut list = plan_room();
+    figure(
+        stack,
+        work,
+        supports,
+        tables,
+        numbers,
+        images,
+        n,
+        symmetries,
+        limit,
+        &mut list[..used],
+    )
 }
 
 // The families of a run that is lent a sheet, pairs and a block, where it and the bare run, both with this node limit and room for 4,096 plans, are
@@ -100,20 +141,129 @@ fn counted(
 pub fn families(sheet: &[u8], pairs: &[u8], block: &[u8], limit: u32) -> Answer
     ensures { λ r. ⌜ means r ≡ countedLent (now (sheet .entry)) (now (pairs .entry)) (now (block .entry)) limit ⌝ }
 {
-    let n = variables(sheet);
-    let used = 4096 * n;
-    let mut list = plan_room();
-    counted(sheet, pairs, block, limit, n, &mut list[..used])
+    let mut stack = [0u16; 208];
+    let mut work = [0u64; 256];
+    let mut supports = [0u16; 8192];
+    let mut tables = [0u16; 55296];
+    let mut numbers = [0u64; 2432];
+    let mut images = [0u8; 26112];
+    let mut order = [0u8; 16];
+    let verdict = lent::ask(
+        sheet,
+        pairs,
+        block,
+        &mut numbers,
+        &mut supports,
+        &mut images,
+        &mut order,
+    );
+    match verdict {
+        sheet::Answer::Accepted => {
+            let symmetries = put_images(
+                pairs,
+                block,
+                &mut numbers,
+                &mut supports,
+                &mut images,
+                &order,
+            );
+            counted(
+                &mut stack,
+                &mut work,
+                &supports,
+                &mut tables,
+                &mut numbers,
+                &images,
+                symmetries,
+                limit,
+            )
+        }
+        sheet::Answer::Refused { number, item } => Answer::Refused { number, item },
+    }
 }
 
-// The figure of the report, whose run is finished with so many plans. Without symmetries these are the families, and there is no second run.
-pub fn finished(sheet: &[u8], limit: u32, plans: usize) -> Answer
-    requires { ⌜ ((nodes : ℕ) × Ran (now sheet) limit (Run.finished plans nodes)) ⌝ }
-    ensures { λ r. ⌜ means r ≡ told (reportFigure (now (sheet .entry)) limit) ⌝ }
+// The figure of a report whose run stopped so. Without symmetries its plans are the families, and there is no second run.
+fn report_figure(
+    stack: &mut [u16; 208],
+    work: &mut [u64; 256],
+    supports: &[u16; 8192],
+    tables: &mut [u16; 55296],
+    numbers: &mut [u64; 2432],
+    images: &[u8; 26112],
+    stop: u8,
+    limit: u32,
+) -> Answer
+    requires { ⌜ ((b : List ℕ) × Listed b limit (now stack) (now work) (now supports) (now tables) (now numbers) (now images) stop) ⌝ }
+    ensures { λ r. ⌜ ((b : List ℕ) → Listed b limit (now (stack .entry)) (now (work .entry)) (now (supports .entry)) (now (tables .entry)) (now (numbers .entry)) (now (images .entry)) stop → means r ≡ told (reportFigure b limit)) ⌝ }
 {
-    if reader::read_word(sheet, 6) == 0 {
-        return Answer::Number(plans);
+    if stop != ALL {
+        return Answer::Dash;
     }
-    let none = [0u8; 0];
-    families(sheet, &none, &none, limit)
+    let symmetries = numbers[SYMMETRIES] as usize;
+    if symmetries == 0 {
+        return Answer::Number(work[PLANS] as usize);
+    }
+    counted(
+        stack,
+        work,
+        supports,
+        tables,
+        numbers,
+        images,
+        symmetries,
+        limit,
+    )
+}
+
+// The run of a report with its figure, and the plans at the front of a list that is lent whole (`plan_room`), cut to room for 4,096.
+pub fn report_run(sheet: &[u8], limit: u32, list: &mut [u8]) -> ReportRun
+    requires { ⌜ length (now list) ≡ 49152 ⌝ }
+    ensures { λ r. ⌜ RunTold (now (sheet .entry)) limit (now (list .entry)) r (now (list .exit)) ⌝ }
+{
+    let mut stack = [0u16; 208];
+    let mut work = [0u64; 256];
+    let mut supports = [0u16; 8192];
+    let mut tables = [0u16; 55296];
+    let mut numbers = [0u64; 2432];
+    let mut images = [0u8; 26112];
+    let verdict = sheet::compile(sheet, &mut numbers, &mut supports, &mut images);
+    match verdict {
+        sheet::Answer::Accepted => {
+            let variables = numbers[VARIABLES] as usize;
+            let used = 4096 * variables;
+            let part = run_arrays(
+                &mut stack,
+                &mut work,
+                &supports,
+                &mut tables,
+                &mut numbers,
+                &images,
+                limit,
+                &mut list[..used],
+            );
+            let tally = part.tally;
+            let stop = part.stop;
+            let answer = search::answered(&work, tally.nodes, stop);
+            let figure = report_figure(
+                &mut stack,
+                &mut work,
+                &supports,
+                &mut tables,
+                &mut numbers,
+                &images,
+                stop,
+                limit,
+            );
+            ReportRun {
+                answer,
+                figure,
+                variables,
+            }
+        }
+        sheet::Answer::Refused { number, item } => ReportRun {
+            answer: search::Answer::Refused { number, item },
+            figure: Answer::Dash,
+            variables: 0,
+        },
+    }
 }

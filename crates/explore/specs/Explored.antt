@@ -10,14 +10,14 @@ use Rattle.model.specs.Verdict.{accepted, refused}
 use Rattle.model.specs.Run.{ended, plansIn, nodesIn, Result, resultOf, Tally}
 use Rattle.model.specs.Sheet.{problemOf}
 use Rattle.order.specs.Reordered.{write}
-use Rattle.lent.specs.Lent.{verdictLent}
+use Rattle.lent.specs.Lent.{verdictLent, orderLent, problemLent}
 use Rattle.layout.specs.Places.{PLANS, DEEPER, REFUSED}
 use Rattle.walk.specs.Walk.{Summed, kept, stopIn, tallyBy}
-use Rattle.task.specs.Task.{BARE, WANTED}
-use Rattle.explore.specs.Prepared.{treeOf, orderOf, bytesFor, Refusal}
+use Rattle.task.specs.Task.{WANTED}
+use Rattle.explore.specs.Prepared.{bytesFor, Refusal}
 
 abbrev pub resultFor : List ℕ → List ℕ → List ℕ → List ℕ → ℕ → ℕ → Result
-resultFor task b pairs block limit size = resultOf (treeOf (at task BARE) b pairs block) limit (bytesFor (at task WANTED) (problemOf b .variables) size)
+resultFor task b pairs block limit size = resultOf (problemLent b pairs block) limit (bytesFor (at task WANTED) (problemOf b .variables) size)
 
 -- the run of p, whose variables are a sheet's in an order, has come to its end: the tally, the plans, how it stopped, and the list
 pub record RunTo (p : Problem) (order : List ℕ) (r : Result) (list work′ list′ : List ℕ) (tally′ : Tally) (stop : ℕ) : Type 0 where
@@ -30,6 +30,6 @@ pub record RunTo (p : Problem) (order : List ℕ) (r : Result) (list work′ lis
 pub record Explored (task b pairs block : List ℕ) (limit : ℕ) (list : List ℕ) (tally : Tally) (work′ list′ : List ℕ) (tally′ : Tally) (stop : ℕ) : Type 0 where
   pub refused : stop ≡ REFUSED → Refusal b pairs block work′ × (list′ ≡ list) × (tally′ ≡ tally)
   pub accepted : (stop ≡ REFUSED → ⊥) → verdictLent b pairs block ≡ accepted
-  pub ended : (stop ≡ REFUSED → ⊥) → RunTo (treeOf (at task BARE) b pairs block) (orderOf (at task BARE) b pairs) (resultFor task b pairs block limit (length list)) list work′ list′ tally′ stop
+  pub ended : (stop ≡ REFUSED → ⊥) → RunTo (problemLent b pairs block) (orderLent b pairs) (resultFor task b pairs block limit (length list)) list work′ list′ tally′ stop
   pub summed : (stop ≡ REFUSED → ⊥) → Summed tally′
   pub known : (stop ≡ REFUSED → ⊥) → stop < DEEPER

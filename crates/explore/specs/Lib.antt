@@ -1,3 +1,4 @@
--- What is made of a lending before the search, and what the search of it leaves.
+-- What is made of a compiled problem and of a lending before the search, and what the search leaves.
+pub mod Begun
 pub mod Prepared
 pub mod Explored

@@ -5,26 +5,18 @@ use mathlib.Core.List.{List, []}
 use Prim.Native.Nat.{ℕ, _-_, _*_, _^_, _<_}
 use lib.Dec.{eqb}
 use lib.ListN.{length}
-use Rattle.model.specs.Lists.{at, choose, below}
-use Rattle.model.specs.Problem.{Problem}
+use Rattle.model.specs.Lists.{at, choose}
 use Rattle.model.specs.Search.{isLive}
 use Rattle.model.specs.Verdict.{accepted, refused}
 use Rattle.model.specs.Sheet.{problemOf}
 use Rattle.lent.specs.Lent.{verdictLent, orderLent, problemLent}
-use Rattle.prune.specs.Node.{withOrderings}
 use Rattle.layout.specs.Places.{LIMIT, ROOM, PLANS, NUMBER, ITEM, ALL, DEEPER, REFUSED}
 use Rattle.sheet.specs.Form.{Zeros}
 use Rattle.walk.specs.Walk.{noNodes}
 use Rattle.walk.specs.Pair.{orderIn, AtPrefix}
-use Rattle.task.specs.Task.{BARE, WANTED, roomFor}
+use Rattle.task.specs.Task.{WANTED, roomFor}
 
--- the problem whose tree is walked, and the order by which it writes: a bare run writes by position
-abbrev pub treeOf : ℕ → List ℕ → List ℕ → List ℕ → Problem
-treeOf bare b pairs block = withOrderings (problemLent b pairs block) (choose (eqb bare 0) (problemLent b pairs block .symmetries) [])
-
-abbrev pub orderOf : ℕ → List ℕ → List ℕ → List ℕ
-orderOf bare b pairs = choose (eqb bare 0) (orderLent b pairs) (below (problemOf b .variables))
-
+-- the room for plans of n bytes: the list's, else that for one plan less than are asked for
 abbrev pub bytesFor : ℕ → ℕ → ℕ → ℕ
 bytesFor wanted n size = choose (eqb wanted 0) size ((wanted - 1) * n)
 
@@ -49,9 +41,9 @@ pub record Prepared (task b pairs block : List ℕ) (limit size : ℕ) (stack wo
   pub refused : step ≡ REFUSED → Refusal b pairs block work
   pub accepted : (step ≡ REFUSED → ⊥) → verdictLent b pairs block ≡ accepted
   pub begun : (step ≡ REFUSED → ⊥) → at work PLANS ≡ 0
-  pub dead : step ≡ ALL → isLive (treeOf (at task BARE) b pairs block) [] ≡ false
+  pub dead : step ≡ ALL → isLive (problemLent b pairs block) [] ≡ false
   pub known : (step ≡ REFUSED → ⊥) → (step ≡ ALL → ⊥) → step ≡ DEEPER
   pub bounded : step ≡ DEEPER → at numbers LIMIT ≡ limit
   pub roomy : step ≡ DEEPER → at numbers ROOM ≡ roomFor (at task WANTED) (problemOf b .variables) size
-  pub order : step ≡ DEEPER → orderIn numbers (problemOf b .variables) ≡ orderOf (at task BARE) b pairs
-  pub live : step ≡ DEEPER → (list : List ℕ) → length list ≡ size → AtPrefix (treeOf (at task BARE) b pairs block) stack work supports tables numbers list noNodes 0
+  pub order : step ≡ DEEPER → orderIn numbers (problemOf b .variables) ≡ orderLent b pairs
+  pub live : step ≡ DEEPER → (list : List ℕ) → length list ≡ size → AtPrefix (problemLent b pairs block) stack work supports tables numbers list noNodes 0

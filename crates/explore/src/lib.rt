@@ -5,11 +5,66 @@ use layout::ITEM;
 use layout::NUMBER;
 use layout::REFUSED;
 use layout::VARIABLES;
+use settle::CountedPart;
 use walk::Tally;
+ghost use mathlib.Core.Path.{_≡_};
+ghost use mathlib.Core.List.{List};
+ghost use Prim.Native.Nat.{ℕ};
 ghost use lib.ListN.{length};
-ghost use Rattle.explore.specs.Prepared.{Blank, Prepared};
+ghost use Rattle.model.specs.Problem.{Problem};
+ghost use Rattle.layout.specs.Places.{DEEPER};
+ghost use Rattle.walk.specs.Walk.{noNodes};
+ghost use Rattle.walk.specs.Pair.{AtPrefix};
 ghost use Rattle.walk.specs.Meaning.{tallyIn};
+ghost use Rattle.explore.specs.Begun.{Laid, Writable, Begun, Ended};
+ghost use Rattle.explore.specs.Prepared.{Blank, Prepared};
 ghost use Rattle.explore.specs.Explored.{Explored};
+
+// Makes all that the search reads of the compiled problem, whose limit and room stand among the numbers: ALL where the empty prefix is dead, else DEEPER.
+// `order` has the sheet's variable at each position, `positions` those of the block's variables.
+pub fn begin(
+    stack: &mut [u16; 208],
+    work: &mut [u64; 256],
+    supports: &[u16; 8192],
+    tables: &mut [u16; 55296],
+    numbers: &mut [u64; 2432],
+    images: &[u8; 26112],
+    order: &[u8; 16],
+    positions: u64,
+) -> u8
+    requires { ⌜ ((p : Problem) × (own : Problem) × (by : List ℕ) × Laid p own by (now numbers) (now supports) (now images) (now order) positions) × Writable (now stack) (now work) (now tables) ⌝ }
+    ensures { λ r. ⌜ ((p own : Problem) (by : List ℕ) → Laid p own by (now (numbers .entry)) (now (supports .entry)) (now (images .entry)) (now (order .entry)) positions → Begun p by (now (numbers .entry)) (now (work .entry)) (now (stack .exit)) (now (work .exit)) (now (supports .entry)) (now (tables .exit)) (now (numbers .exit)) r) ⌝ }
+{
+    index::index(numbers, supports, images, tables);
+    task::put_order(numbers, order);
+    task::put_block(numbers, positions);
+    if prune::root(stack, work, supports, tables, numbers) {
+        ALL
+    } else {
+        DEEPER
+    }
+}
+
+// Walks along the tree, with nothing counted, where the step says that there is one.
+pub fn walk_tree(
+    stack: &mut [u16; 208],
+    work: &mut [u64; 256],
+    supports: &[u16; 8192],
+    tables: &[u16; 55296],
+    numbers: &[u64; 2432],
+    list: &mut [u8],
+    step: u8,
+) -> CountedPart
+    requires { ⌜ (step ≡ DEEPER → (p : Problem) × AtPrefix p (now stack) (now work) (now supports) (now tables) (now numbers) (now list) noNodes 0) ⌝ }
+    ensures { λ r. ⌜ Ended (now (stack .entry)) (now (work .entry)) (now (supports .entry)) (now (tables .entry)) (now (numbers .entry)) (now (list .entry)) step (now (stack .exit)) (now (work .exit)) (now (list .exit)) (tallyIn (r .tally)) (r .stop) ⌝ }
+{
+    let tally = walk::no_nodes();
+    if step != DEEPER {
+        return CountedPart { stop: step, tally };
+    }
+    let m = walk::candidates(stack, 0);
+    settle::walk_counted(stack, work, supports, tables, numbers, list, tally, 0, m)
+}
 
 // Puts the questions to what is lent, and makes of it all that the search reads: REFUSED where it is, and its number and item then stand in `work`;
 // ALL where the empty prefix is dead, else DEEPER.
@@ -44,15 +99,17 @@ pub fn prepare(
             let n = numbers[VARIABLES] as usize;
             let room = task::room_for(work, n, size);
             task::put_bounds(numbers, limit as u64, room);
-            let positions = task::arrange(work, numbers, &mut order, block, n);
-            index::index(numbers, supports, &images, tables);
-            task::put_order(numbers, &order);
-            task::put_block(numbers, positions);
-            if prune::root(stack, work, supports, tables, numbers) {
-                ALL
-            } else {
-                DEEPER
-            }
+            let positions = orderings::positions(block, n, &order);
+            begin(
+                stack,
+                work,
+                supports,
+                tables,
+                numbers,
+                &images,
+                &order,
+                positions,
+            )
         }
         sheet::Answer::Refused { number, item } => {
             work[NUMBER] = number as u64;

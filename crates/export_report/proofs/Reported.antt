@@ -16,7 +16,8 @@ use Rattle.model.specs.Sheet.{headerOf, problemOf, verdictOf}
 use Rattle.model.specs.Run.{Ending, plansIn, resultOf, ended, answerFor, answerOf, listOf, listedPlans}
 use Rattle.report.specs.Report.{line, refusedWord, resultText, reportFor, reportOf}
 use Rattle.figure.specs.Figure.{reportFigure}
-use Rattle.counting.specs.Held.{Sized, Ran}
+use Rattle.counting.specs.Held.{Sized}
+use Rattle.counting.proofs.Bare.{report-dash}
 use Rattle.model.proofs.Accepted.{passed}
 use Rattle.model.proofs.Demands.{ran, held}
 use Rattle.model.proofs.Runs.{rows-counted, rows-fit}
@@ -25,7 +26,7 @@ use Rattle.wire.specs.Wire.{wrongLength, threeNumbers}
 use Rattle.wire.specs.Outcomes.{outcomeCode, outcomeAnswer, lentCode, lentRoom, lentAnswer}
 use Rattle.wire.proofs.Outcomes as lent
 use Rattle.export_report.specs.Report.{reportVerdict, reportCode, reportBytes, reportAnswer, lengthTold, CallReport}
-use Rattle.export_report.specs.Inner.{Listed}
+use Rattle.export_report.specs.Inner.{Listed, Dashed}
 
 -- ---- refusals
 pub refused-text : (b : List ℕ) (number item : ℕ) → verdictOf b ≡ refused number item → line refusedWord (number ∷ item ∷ []) ≡ reportFor (verdictOf b) b
@@ -46,7 +47,7 @@ module _ (b : List ℕ) (n : ℕ) (out : List ℕ) (e : Ending) (size : Sized b 
   accept accepted q = refl
   accept (refused number item) q = absurd (let z : _≡_ {A = ℕ} 0 1 = cc in omega arith)
 
-  verdict : verdictOf b ≡ accepted
+  pub verdict : verdictOf b ≡ accepted
   unfolding answerOf
   verdict = accept (verdictOf b) h
 
@@ -69,8 +70,8 @@ module _ (b : List ℕ) (n : ℕ) (out : List ℕ) (e : Ending) (size : Sized b 
   room-is : length out ≡ 4096 * problemOf b .variables
   room-is = long ∙ ap (λ (k : ℕ). 4096 * k) width
 
-  pub ran-so : Ran b 1000000 e
-  ran-so = record { verdict = verdict; so = ap (λ (k : ℕ). resultOf (problemOf b) 1000000 k .ending) (sym room-is) ∙ ran b 1000000 out e h .so }
+  pub dashed : Dashed e (reportFigure b 1000000)
+  dashed k = report-dash b 1000000 verdict (λ plans nodes q. k plans nodes (sym (ap (λ (m : ℕ). resultOf (problemOf b) 1000000 m .ending) (sym room-is) ∙ ran b 1000000 out e h .so) ∙ q))
 
   pub ended-text : (list : List ℕ) → list ≡ listOf b 1000000 out → endedText e (reportFigure b 1000000) n list ≡ reportFor (verdictOf b) b
   unfolding endedText reportFor

@@ -11,7 +11,7 @@ use lib.ListN.{length, take}
 use borrow.Author.Tests.{eqb-true, eqb-false}
 use Rattle.model.specs.Lists.{at, choose, keep, flat}
 use Rattle.model.specs.Problem.{Problem}
-use Rattle.model.specs.Search.{nodes, isLive}
+use Rattle.model.specs.Search.{nodes}
 use Rattle.model.specs.Verdict.{Verdict, accepted}
 use Rattle.model.specs.Sheet.{problemOf}
 use Rattle.model.specs.Run.{Ending, finished, spent, full, plansIn, nodesIn, Result, search, Answer, refusal, ended, written, Tally, settledBy, countsBy}
@@ -24,11 +24,11 @@ use Rattle.lent.specs.Lent.{verdictLent, orderLent, problemLent}
 use Rattle.lent.proofs.Lent.{passed-all, well-sheet, ordering-lent}
 use Rattle.layout.specs.Places.{ROOM, PLANS, NUMBER, ITEM, LAST, ALL, SPENT, DEEPER, REFUSED}
 use Rattle.walk.specs.Walk.{noNodes, State, walk, kept, stopIn, tallyBy}
-use Rattle.walk.specs.Pair.{prefixOf, orderIn, stateOf, AtPrefix}
+use Rattle.walk.specs.Pair.{prefixOf, orderIn, stateOf}
 use Rattle.walk.proofs.Prefix.{prefix-zero, prefix-at, length-prefix}
 use Rattle.walk.proofs.Outcome.{outcome-on, kept-none, kept-over}
-use Rattle.task.specs.Task.{BARE, WANTED, roomFor}
-use Rattle.explore.specs.Prepared.{treeOf, orderOf, Prepared}
+use Rattle.task.specs.Task.{WANTED, roomFor}
+use Rattle.explore.specs.Prepared.{Prepared}
 use Rattle.explore.proofs.Prepared.{room-fits, room-most}
 use Rattle.search.specs.Meaning.{means}
 use Rattle.search.specs.Whole.{Stopped, Answered}
@@ -104,7 +104,7 @@ kept-so p order limit list ts some = go (eqb (length list) 0) refl
         ∙ sym (ap (λ (rows : List (List ℕ)). written (map (write order) rows) list) (none-of (search p limit (length list) ts 0 [] .rows) (nothing-of (length (search p limit (length list) ts 0 [] .rows)) (omega arith))))
     go false e = kept-over (map (write order) (search p limit (length list) ts 0 [] .rows)) list (eqb-false (length list) 0 e)
 
-module _ (task b pairs block from upto : List ℕ) (limit : ℕ) (list : List ℕ) (bare : at task BARE ≡ 0) (listing : at task WANTED ≡ 0)
+module _ (task b pairs block from upto : List ℕ) (limit : ℕ) (list : List ℕ) (listing : at task WANTED ≡ 0)
     (stack work supports tables numbers : List ℕ) (step : ℕ) (h : Prepared task b pairs block limit (length list) stack work supports tables numbers step)
     (work₁ : List ℕ) (put : Begun from work work₁) where
   abbrev p : Problem
@@ -124,7 +124,7 @@ module _ (task b pairs block from upto : List ℕ) (limit : ℕ) (list : List �
 
   -- ---- the walk may begin
   pub part-asks : step ≡ DEEPER → AtBelow p from stack work₁ supports tables numbers list noNodes 0
-  part-asks e = put-asks from work work₁ put (subst (λ (i : ℕ). AtPrefix (treeOf i b pairs block) stack work supports tables numbers list noNodes 0) bare (h .live e list refl))
+  part-asks e = put-asks from work work₁ put (h .live e list refl)
 
   module _ (stack₂ work₂ list₂ : List ℕ) (tally₂ : Tally) (stop : ℕ) (q : Parted from upto stack work₁ supports tables numbers list step stack₂ work₂ list₂ tally₂ stop) where
     good : (step ≡ REFUSED → ⊥) → verdictLent b pairs block ≡ accepted
@@ -144,14 +144,13 @@ module _ (task b pairs block from upto : List ℕ) (limit : ℕ) (list : List �
             w .state
             ∙ ap₂ (λ (k : ℕ) (us : List (List ℕ)). walk p (orderIn numbers n) k (at numbers ROOM) us (stateOf noNodes work₁ ALL list)) (h .bounded e)
             (ap₂ (λ (j : ℕ) (t : List ℕ). within p j t from upto) (sub-zero n) (prefix-zero work₁) ∙ within-whole p from upto)
-            ∙ ap₂ (λ (o : List ℕ) (k : ℕ). walk p o limit k ts (stateOf noNodes work₁ ALL list)) (h .order e ∙ ap (λ (i : ℕ). orderOf i b pairs) bare) (h .roomy e ∙ ap (λ (i : ℕ). roomFor i n (length list)) listing)
+            ∙ ap₂ (λ (o : List ℕ) (k : ℕ). walk p o limit k ts (stateOf noNodes work₁ ALL list)) (h .order e) (h .roomy e ∙ ap (λ (i : ℕ). roomFor i n (length list)) listing)
             ∙ ap₂ (λ (k : ℕ) (t : List ℕ). walk p order limit (length list / n) ts (record { tally = noNodes; plans = k; stop = ALL; list = list; last = t })) (begun z) (put-last from work work₁ put)
         go false c =
             let d = eqb-false step DEEPER c in
             let a : step ≡ ALL = all-step d in
             let o = q .none d in
-            let dead : isLive p [] ≡ false = subst (λ (i : ℕ). isLive (treeOf i b pairs block) [] ≡ false) bare (h .dead a) in
-            let none : ts ≡ [] = ap (keep _) (dead-below p n [] dead) in
+            let none : ts ≡ [] = ap (keep _) (dead-below p n [] (h .dead a)) in
             ap₂ (λ (t : Tally) (s : ℕ). stateOf t work₂ s list₂) (o .1) (o .0 ∙ a)
             ∙ ap₂ (λ (w l : List ℕ). stateOf noNodes w ALL l) (o .2) (o .3)
             ∙ ap₂ (λ (k : ℕ) (t : List ℕ). record { tally = noNodes; plans = k; stop = ALL; list = list; last = t }) (begun z) (put-last from work work₁ put)

@@ -1,7 +1,6 @@
 // A run that goes on from its last node (paper 02, #113), on arrays that are lent: where it stands is put in `work`, the compiled problem is made again, and the
 // nodes after the last one are walked along, with a tally from nothing.
 use layout::ALL;
-use layout::DEEPER;
 use layout::LAST;
 use layout::PLANS;
 use layout::VARIABLES;
@@ -44,13 +43,7 @@ pub fn prepare_again(
         task::put_bounds(numbers, more as u64, (size / n) as u64);
         let mut order = [0u8; 16];
         task::by_position(&mut order);
-        index::index(numbers, supports, &images, tables);
-        task::put_order(numbers, &order);
-        task::put_block(numbers, 0);
-        if prune::root(stack, work, supports, tables, numbers) {
-            return ALL;
-        }
-        return DEEPER;
+        return explore::begin(stack, work, supports, tables, numbers, &images, &order, 0);
     }
     ALL
 }

@@ -1,8 +1,8 @@
 -- A whole run: its answer, list and tally, of what the search leaves. Assumes nothing.
-use mathlib.Core.Path.{_≡_, refl, sym, ap, ap₂, _∙_, subst₂}
+use mathlib.Core.Path.{_≡_, refl, sym, ap, ap₂, _∙_}
 use mathlib.Core.Bool.{Bool, true, false}
 use mathlib.Core.List.{List, [], _∷_, map}
-use Prim.Native.Nat.{ℕ, zero, suc, _*_, _≤_, _<_}
+use Prim.Native.Nat.{ℕ, zero, suc, _*_, _-_, _≤_, _<_}
 use native.Mathlib.Omega.{arith}
 use lib.Dec.{eqb}
 use borrow.Author.Tests.{eqb-true, eqb-false}
@@ -24,10 +24,10 @@ use Rattle.layout.specs.Places.{PLANS, ALL, SPENT, REFUSED}
 use Rattle.sheet.proofs.Whole.{zeros}
 use Rattle.walk.specs.Walk.{kept, stopIn, tallyBy}
 use Rattle.search.specs.Meaning.{means}
-use Rattle.task.specs.Task.{BARE, WANTED}
-use Rattle.explore.specs.Prepared.{treeOf, orderOf, bytesFor, Blank}
+use Rattle.task.specs.Task.{WANTED}
+use Rattle.explore.specs.Prepared.{bytesFor, Blank}
 use Rattle.explore.specs.Explored.{resultFor, Explored}
-use Rattle.search.specs.Whole.{Stopped, Answered, Done}
+use Rattle.search.specs.Whole.{Stopped, Answered, Wanted}
 use Rattle.search.specs.declared.Answer.{Answer}
 use Rattle.walk.proofs.Outcome.{kept-none, kept-over}
 
@@ -43,6 +43,9 @@ ending-by : (e : Run.Ending) → endingBy (plansIn e) (nodesIn e) (stopIn e) ≡
 ending-by (finished k u) = refl
 ending-by (spent k u) = refl
 ending-by (full k u) = refl
+
+pub ended-same : (e x : Run.Ending) → plansIn e ≡ plansIn x → nodesIn e ≡ nodesIn x → stopIn e ≡ stopIn x → e ≡ x
+ended-same e x p n s = sym (ending-by e) ∙ ap₂ (λ (i j : ℕ). endingBy i j (stopIn e)) p n ∙ ap (endingBy (plansIn x) (nodesIn x)) s ∙ ending-by x
 
 -- a verdict is one
 abbrev numberIn : Verdict → ℕ
@@ -64,8 +67,8 @@ pub record Ran (task b pairs block : List ℕ) (limit : ℕ) (list : List ℕ) (
   pub refused : (number item : ℕ) → verdictLent b pairs block ≡ refused number item → (means r ≡ refusal number item) × (list′ ≡ list) × (tally′ ≡ tally)
   pub ended : verdictLent b pairs block ≡ accepted →
       (means r ≡ ended (resultFor task b pairs block limit (length list) .ending))
-      × (list′ ≡ kept (map (write (orderOf (at task BARE) b pairs)) (resultFor task b pairs block limit (length list) .rows)) list)
-      × (tally′ ≡ tallyBy (orderOf (at task BARE) b pairs) (nodes (treeOf (at task BARE) b pairs block)) (nodesIn (resultFor task b pairs block limit (length list) .ending)))
+      × (list′ ≡ kept (map (write (orderLent b pairs)) (resultFor task b pairs block limit (length list) .rows)) list)
+      × (tally′ ≡ tallyBy (orderLent b pairs) (nodes (problemLent b pairs block)) (nodesIn (resultFor task b pairs block limit (length list) .ending)))
 
 module _ (task b pairs block : List ℕ) (limit : ℕ) (list : List ℕ) (tally : Tally) (work′ list′ : List ℕ) (tally′ : Tally) (stop : ℕ) (h : Explored task b pairs block limit list tally work′ list′ tally′ stop) (made : ℕ) (is : made ≡ tally′ .nodes) (r : Answer) (a : Answered work′ made stop r) where
   abbrev x : Result
@@ -76,10 +79,7 @@ module _ (task b pairs block : List ℕ) (limit : ℕ) (list : List ℕ) (tally 
   same-ending n =
       let f = a .ended n in
       let o = h .ended n in
-      let m : nodesIn (f .0) ≡ nodesIn (x .ending) = f .3 ∙ is ∙ ap (λ (t : Tally). t .nodes) (o .tally) in
-      let s : endingBy (plansIn (f .0)) (nodesIn (f .0)) (stopIn (f .0)) ≡ endingBy (plansIn (x .ending)) (nodesIn (x .ending)) (stopIn (x .ending)) =
-      ap₂ (λ (i j : ℕ). endingBy i j (stopIn (f .0))) (f .2 ∙ o .plans) m ∙ ap (endingBy (plansIn (x .ending)) (nodesIn (x .ending))) (f .4 ∙ o .stopped) in
-      f .1 ∙ ap ended (sym (ending-by (f .0)) ∙ s ∙ ending-by (x .ending))
+      f .1 ∙ ap ended (ended-same (f .0) (x .ending) (f .2 ∙ o .plans) (f .3 ∙ is ∙ ap (λ (t : Tally). t .nodes) (o .tally)) (f .4 ∙ o .stopped))
 
   pub ran-so : Ran task b pairs block limit list tally list′ tally′ r
   ran-so = go (eqb stop REFUSED) refl
@@ -131,12 +131,12 @@ kept-listed p order limit list s = go (eqb (length list) 0) refl
         ∙ sym (ap (λ (rows : List (List ℕ)). written (map (write order) rows) list) (ap (λ (k : ℕ). resultOf p limit k .rows) z ∙ no-rows p limit s))
     go false e = kept-over (map (write order) (resultOf p limit (length list) .rows)) list (eqb-false (length list) 0 e)
 
-module _ (task b pairs block : List ℕ) (limit : ℕ) (list : List ℕ) (tally : Tally) (list′ : List ℕ) (tally′ : Tally) (r : Answer) (h : Ran task b pairs block limit list tally list′ tally′ r) (whole : at task BARE ≡ 0) (lists : at task WANTED ≡ 0) where
+module _ (task b pairs block : List ℕ) (limit : ℕ) (list : List ℕ) (tally : Tally) (list′ : List ℕ) (tally′ : Tally) (r : Answer) (h : Ran task b pairs block limit list tally list′ tally′ r) (lists : at task WANTED ≡ 0) where
   abbrev y : Result
   y = resultOf (problemLent b pairs block) limit (length list)
 
   same-result : resultFor task b pairs block limit (length list) ≡ y
-  same-result = ap₂ (λ (i j : ℕ). resultOf (treeOf i b pairs block) limit (bytesFor j (problemOf b .variables) (length list))) whole lists
+  same-result = ap (λ (j : ℕ). resultOf (problemLent b pairs block) limit (bytesFor j (problemOf b .variables) (length list))) lists
 
   abbrev Told : Verdict → Type 0
   Told v = (means r ≡ answerLentFor v b pairs block limit (length list)) × (list′ ≡ listLentFor v b pairs block limit list) × (tally′ ≡ tallyLentFor (answerLentFor v b pairs block limit (length list)) b pairs block tally)
@@ -148,36 +148,39 @@ module _ (task b pairs block : List ℕ) (limit : ℕ) (list : List ℕ) (tally 
       let f = h .ended v in
       let some = well-sheet b pairs block (passed-all (verdictLent b pairs block) v) .some in (
         f .0 ∙ ap (λ (z : Result). ended (z .ending)) same-result,
-        f .1 ∙ ap₂ (λ (i : ℕ) (z : Result). kept (map (write (orderOf i b pairs)) (z .rows)) list) whole same-result ∙ kept-listed (problemLent b pairs block) (orderLent b pairs) limit list some,
-        f .2 ∙ ap₂ (λ (i : ℕ) (z : Result). tallyBy (orderOf i b pairs) (nodes (treeOf i b pairs block)) (nodesIn (z .ending))) whole same-result,
+        f .1 ∙ ap (λ (z : Result). kept (map (write (orderLent b pairs)) (z .rows)) list) same-result ∙ kept-listed (problemLent b pairs block) (orderLent b pairs) limit list some,
+        f .2 ∙ ap (λ (z : Result). tallyBy (orderLent b pairs) (nodes (problemLent b pairs block)) (nodesIn (z .ending))) same-result,
       )
 
   pub said : Said b pairs block limit list tally list′ tally′ r
   unfolding answerLent listLent tallyLent
   said = let t = told (verdictLent b pairs block) refl in record { answer = t .0; lists = t .1; counts = t .2 }
 
--- ---- a run with a task
-module _ (bare wanted : ℕ) (task : List ℕ) (put : task ≡ set (set (replicate 256 0) BARE bare) WANTED wanted) where
-  pub at-bare : at task BARE ≡ bare
-  at-bare = ap (λ (l : List ℕ). at l BARE) put ∙ at-set-other (set (replicate 256 0) BARE bare) WANTED wanted BARE (λ e. omega arith) ∙ at-set (replicate 256 0) BARE bare (let l = zeros 256 .sized in omega arith)
+-- ---- a run that counts up to one plan less than are asked for
+module _ (wanted : ℕ) (some : wanted ≡ 0 → ⊥) where
+  abbrev task : List ℕ
+  task = set (replicate 256 0) WANTED wanted
 
-  pub at-wanted : at task WANTED ≡ wanted
-  at-wanted = ap (λ (l : List ℕ). at l WANTED) put ∙ at-set (set (replicate 256 0) BARE bare) WANTED wanted (let l = zeros 256 .sized in let k = length-set (replicate 256 0) BARE bare in omega arith)
+  at-wanted : at (set (replicate 256 0) WANTED wanted) WANTED ≡ wanted
+  at-wanted = at-set (replicate 256 0) WANTED wanted (let l = zeros 256 .sized in omega arith)
 
-pub tasked : (bare wanted : ℕ) (task : List ℕ) (size : ℕ) → task ≡ set (set (replicate 256 0) BARE bare) WANTED wanted → ((wanted ≡ 0 → ⊥) → size ≡ 0) → Blank (replicate 208 0) task (replicate 8192 0) (replicate 55296 0) (replicate 2432 0) size
-tasked bare wanted task size put h = record {
-  stack-length = zeros 208 .sized;
-  work-length = ap length put ∙ length-set (set (replicate 256 0) BARE bare) WANTED wanted ∙ length-set (replicate 256 0) BARE bare ∙ zeros 256 .sized;
-  none-listed = ap (λ (l : List ℕ). at l PLANS) put ∙ at-set-other (set (replicate 256 0) BARE bare) WANTED wanted PLANS (λ e. omega arith) ∙ at-set-other (replicate 256 0) BARE bare PLANS (λ e. omega arith) ∙ zeros 256 .blank PLANS;
-  supports-blank = zeros 8192;
-  tables-length = zeros 55296 .sized;
-  numbers-blank = zeros 2432;
-  unlisted = λ n. h (λ z. n (at-wanted bare wanted task put ∙ z));
-}
+  pub wanted-blank : Blank (replicate 208 0) (set (replicate 256 0) WANTED wanted) (replicate 8192 0) (replicate 55296 0) (replicate 2432 0) 0
+  wanted-blank = record {
+    stack-length = zeros 208 .sized;
+    work-length = length-set (replicate 256 0) WANTED wanted ∙ zeros 256 .sized;
+    none-listed = at-set-other (replicate 256 0) WANTED wanted PLANS (λ e. omega arith) ∙ zeros 256 .blank PLANS;
+    supports-blank = zeros 8192;
+    tables-length = zeros 55296 .sized;
+    numbers-blank = zeros 2432;
+    unlisted = λ n. refl;
+  }
 
-pub done-so : (bare wanted : ℕ) (task b pairs block : List ℕ) (limit : ℕ) (list : List ℕ) (tally : Tally) (list′ : List ℕ) (tally′ : Tally) (r : Answer) → task ≡ set (set (replicate 256 0) BARE bare) WANTED wanted → Ran task b pairs block limit list tally list′ tally′ r → Done bare wanted b pairs block limit list list′ r
-done-so bare wanted task b pairs block limit list tally list′ tally′ r put h =
-    subst₂ (λ (i j : ℕ). Done i j b pairs block limit list list′ r) (at-bare bare wanted task put) (at-wanted bare wanted task put) record {
-      refused = λ number item v. let f = h .refused number item v in (f .0, f .1);
-      ended = λ v. let f = h .ended v in (f .0, f .1);
-    }
+  pub wanted-so : (b pairs block : List ℕ) (limit : ℕ) (list : List ℕ) (tally : Tally) (list′ : List ℕ) (tally′ : Tally) (r : Answer) → Ran (set (replicate 256 0) WANTED wanted) b pairs block limit list tally list′ tally′ r → Wanted wanted b pairs block limit r
+  wanted-so b pairs block limit list tally list′ tally′ r h = record {
+    refused = λ number item v. h .refused number item v .0;
+    ended = λ v. h .ended v .0 ∙ ap (λ (k : ℕ). ended (resultOf (problemLent b pairs block) limit k .ending)) (bytes (eqb (at task WANTED) 0) refl ∙ ap (λ (w : ℕ). (w - 1) * problemOf b .variables) at-wanted);
+  }
+    where
+      bytes : (c : Bool) → eqb (at (set (replicate 256 0) WANTED wanted) WANTED) 0 ≡ c → choose c (length list) ((at (set (replicate 256 0) WANTED wanted) WANTED - 1) * problemOf b .variables) ≡ (at (set (replicate 256 0) WANTED wanted) WANTED - 1) * problemOf b .variables
+      bytes true e = absurd (some (sym at-wanted ∙ eqb-true (at task WANTED) 0 e))
+      bytes false e = refl

@@ -1,20 +1,17 @@
 -- What the parts of a run ask and leave, around the search itself. No reader has to believe this: it stands between proved functions.
 use mathlib.Core.Path.{_≡_}
-use mathlib.Core.List.{List, map}
-use Prim.Native.Nat.{ℕ, _^_, _<_}
-use lib.ListN.{length}
+use mathlib.Core.List.{List}
+use Prim.Native.Nat.{ℕ, _-_, _*_, _^_, _<_}
 use Rattle.model.specs.Lists.{at}
 use Rattle.model.specs.Verdict.{accepted, refused}
 use Rattle.model.specs.Run.{refusal, ended, plansIn, nodesIn, resultOf}
 use Rattle.model.specs.Run as Run
 use Rattle.model.specs.Sheet.{problemOf}
-use Rattle.order.specs.Reordered.{write}
-use Rattle.lent.specs.Lent.{verdictLent}
+use Rattle.lent.specs.Lent.{verdictLent, problemLent}
 use Rattle.layout.specs.Places.{PLANS, NUMBER, ITEM, DEEPER, REFUSED}
-use Rattle.walk.specs.Walk.{kept, stopIn}
+use Rattle.walk.specs.Walk.{stopIn}
 use Rattle.search.specs.Meaning.{means}
 use Rattle.search.specs.declared.Answer.{Answer}
-use Rattle.explore.specs.Prepared.{treeOf, orderOf, bytesFor}
 
 pub record Stopped (work : List ℕ) (stop : ℕ) : Type 0 where
   pub number : stop ≡ REFUSED → at work NUMBER < 2 ^ 8
@@ -24,9 +21,7 @@ pub record Answered (work : List ℕ) (made stop : ℕ) (r : Answer) : Type 0 wh
   pub refused : stop ≡ REFUSED → means r ≡ refusal (at work NUMBER) (at work ITEM)
   pub ended : (stop ≡ REFUSED → ⊥) → (e : Run.Ending) × (means r ≡ ended e) × (plansIn e ≡ at work PLANS) × (nodesIn e ≡ made) × (stopIn e ≡ stop)
 
--- the answer and the list of a run that carried out a task
-pub record Done (bare wanted : ℕ) (b pairs block : List ℕ) (limit : ℕ) (list list′ : List ℕ) (r : Answer) : Type 0 where
-  pub refused : (number item : ℕ) → verdictLent b pairs block ≡ refused number item → (means r ≡ refusal number item) × (list′ ≡ list)
-  pub ended : verdictLent b pairs block ≡ accepted →
-      (means r ≡ ended (resultOf (treeOf bare b pairs block) limit (bytesFor wanted (problemOf b .variables) (length list)) .ending))
-      × (list′ ≡ kept (map (write (orderOf bare b pairs)) (resultOf (treeOf bare b pairs block) limit (bytesFor wanted (problemOf b .variables) (length list)) .rows)) list)
+-- the answer of a run that counted up to one plan less than are asked for
+pub record Wanted (wanted : ℕ) (b pairs block : List ℕ) (limit : ℕ) (r : Answer) : Type 0 where
+  pub refused : (number item : ℕ) → verdictLent b pairs block ≡ refused number item → means r ≡ refusal number item
+  pub ended : verdictLent b pairs block ≡ accepted → means r ≡ ended (resultOf (problemLent b pairs block) limit ((wanted - 1) * problemOf b .variables) .ending)

@@ -5,13 +5,13 @@ use layout::NUMBER;
 use layout::PLANS;
 use layout::REFUSED;
 use layout::SPENT;
+use task::WANTED;
 use walk::Tally;
 ghost use mathlib.Core.Path.{_≡_};
-ghost use lib.ListN.{length};
 ghost use Rattle.search.specs.Meaning.{means, saidEnough};
 ghost use Rattle.search.specs.Calls.{Call, CallWith, CallLent, CallCounted, CallEnough};
-ghost use Rattle.search.specs.Tasks.{answerBare, listBare, enoughNone, enoughFor};
-ghost use Rattle.search.specs.Whole.{Stopped, Answered, Done};
+ghost use Rattle.search.specs.Tasks.{enoughNone, enoughFor};
+ghost use Rattle.search.specs.Whole.{Stopped, Answered, Wanted};
 
 // How a run ends; each ending carries the plans listed and the nodes made.
 pub enum Ending {
@@ -95,27 +95,19 @@ pub fn run_lent(
     answered(&work, walk::nodes_made(tally), stop)
 }
 
-// A run that carries out a task, with a tally of its own.
-fn run_task(
-    sheet: &[u8],
-    pairs: &[u8],
-    block: &[u8],
-    limit: u32,
-    bare: u64,
-    wanted: u64,
-    list: &mut [u8],
-) -> Answer
-    requires { ⌜ ((wanted ≡ 0 → ⊥) → length (now list) ≡ 0) ⌝ }
-    ensures { λ r. ⌜ Done bare wanted (now (sheet .entry)) (now (pairs .entry)) (now (block .entry)) limit (now (list .entry)) (now (list .exit)) r ⌝ }
+// A run that counts up to one plan less than are asked for, with no list.
+fn run_wanted(sheet: &[u8], pairs: &[u8], block: &[u8], limit: u32, wanted: u64) -> Answer
+    requires { ⌜ (wanted ≡ 0 → ⊥) ⌝ }
+    ensures { λ r. ⌜ Wanted wanted (now (sheet .entry)) (now (pairs .entry)) (now (block .entry)) limit r ⌝ }
 {
     let mut stack = [0u16; 208];
     let mut work = [0u64; 256];
     let mut supports = [0u16; 8192];
     let mut tables = [0u16; 55296];
     let mut numbers = [0u64; 2432];
-    task::put_task(&mut work, bare, wanted);
-    let mut tally = walk::no_nodes();
-    let stop = explore::explore(
+    let mut none = [0u8; 0];
+    work[WANTED] = wanted;
+    let step = explore::prepare(
         &mut stack,
         &mut work,
         &mut supports,
@@ -125,10 +117,19 @@ fn run_task(
         pairs,
         block,
         limit,
-        list,
-        &mut tally,
+        0,
     );
-    answered(&work, walk::nodes_made(&tally), stop)
+    let part = explore::walk_tree(
+        &mut stack,
+        &mut work,
+        &supports,
+        &tables,
+        &numbers,
+        &mut none,
+        step,
+    );
+    let counted = part.tally;
+    answered(&work, counted.nodes, part.stop)
 }
 
 // A run of paper 01, which is lent neither pairs nor a block.
@@ -167,14 +168,6 @@ pub fn run(sheet: &[u8], limit: u32, list: &mut [u8]) -> Answer
     answer
 }
 
-// A run without symmetries (paper 02, #104): the questions, the settling order, the limit and the list of the run that is lent pairs and a block; its rows
-// go by position in that order.
-pub fn run_bare(sheet: &[u8], pairs: &[u8], block: &[u8], limit: u32, list: &mut [u8]) -> Answer
-    ensures { λ r. ⌜ (means r ≡ answerBare (now (sheet .entry)) (now (pairs .entry)) (now (block .entry)) limit (now (list .entry))) × (now (list .exit) ≡ listBare (now (sheet .entry)) (now (pairs .entry)) (now (block .entry)) limit (now (list .entry))) ⌝ }
-{
-    run_task(sheet, pairs, block, limit, 1, 0, list)
-}
-
 // No plan is asked for: yes without a node, once the questions are passed.
 fn asked_for_none(sheet: &[u8], pairs: &[u8], block: &[u8]) -> Enough
     ensures { λ r. ⌜ saidEnough r ≡ enoughNone (now (sheet .entry)) (now (pairs .entry)) (now (block .entry)) ⌝ }
@@ -207,7 +200,6 @@ pub fn at_least(sheet: &[u8], pairs: &[u8], block: &[u8], m: usize, limit: u32) 
     if m == 0 {
         return asked_for_none(sheet, pairs, block);
     }
-    let mut none = [0u8; 0];
-    let answer = run_task(sheet, pairs, block, limit, 0, m as u64, &mut none);
+    let answer = run_wanted(sheet, pairs, block, limit, m as u64);
     judged(answer, m)
 }

@@ -3,27 +3,15 @@ use layout::BLOCK;
 use layout::LIMIT;
 use layout::ORDER;
 use layout::ROOM;
-use layout::SYMMETRIES;
 ghost use mathlib.Core.Path.{_≡_};
 ghost use Prim.Native.Nat.{ℕ, _+_, _≤_, _<_};
 ghost use lib.ListN.{length, set};
 ghost use Rattle.model.specs.Lists.{at};
 ghost use Rattle.layout.specs.Places.{LIMIT, ROOM, ORDER, BLOCK};
-ghost use Rattle.task.specs.Task.{BARE, WANTED, roomFor, Arranged, ordered};
+ghost use Rattle.task.specs.Task.{WANTED, roomFor, ordered};
 
-// The task of a run, in `work` before it: whether the symmetries are left out, and how many plans are asked for, 0 where they are listed.
-pub const BARE: usize = 224;
-
-pub const WANTED: usize = 225;
-
-// Puts a run's task in `work`.
-pub fn put_task(work: &mut [u64; 256], bare: u64, wanted: u64)
-    requires { ⌜ length (now work) ≡ 256 ⌝ }
-    ensures { λ _. ⌜ now (work .exit) ≡ set (set (now (work .entry)) BARE bare) WANTED wanted ⌝ }
-{
-    work[BARE] = bare;
-    work[WANTED] = wanted;
-}
+// The task of a run, in `work` before it: how many plans are asked for, 0 where they are listed.
+pub const WANTED: usize = 224;
 
 // Puts the node limit and the number of plans that there is room for among the numbers, which are lent as a slice: that tells their length.
 pub fn put_bounds(numbers: &mut [u64], limit: u64, room: u64)
@@ -83,23 +71,4 @@ pub fn by_position(order: &mut [u8; 16])
         order[k] = k as u8;
         k += 1;
     }
-}
-
-// The set of the positions of the block's variables. A bare run has none, no symmetries, and writes by position.
-pub fn arrange(
-    work: &[u64; 256],
-    numbers: &mut [u64; 2432],
-    order: &mut [u8; 16],
-    block: &[u8],
-    n: usize,
-) -> u64
-    requires { ⌜ (n ≤ 16) × (length (now numbers) ≡ 2432) × (length (now order) ≡ 16) ⌝ }
-    ensures { λ r. ⌜ Arranged (at (now (work .entry)) BARE) (now (block .entry)) n (now (numbers .entry)) (now (order .entry)) (now (numbers .exit)) (now (order .exit)) r ⌝ }
-{
-    if work[BARE] == 0 {
-        return orderings::positions(block, n, order);
-    }
-    numbers[SYMMETRIES] = 0;
-    by_position(order);
-    0
 }

@@ -1,69 +1,57 @@
--- What the bare run says, and the count where it is finished. Assumes nothing.
-use mathlib.Core.Path.{_≡_, sym, ap, _∙_}
-use Rattle.model.specs.Run.{ended}
-use Rattle.search.specs.Meaning.{endingOf, means}
-use Rattle.search.specs.declared.Ending.{Ending}
-use Rattle.counting.proofs.Bare.{bare-refused, bare-dash, bare-solved, bare-number, stopped}
+-- Room for the plans of as many variables as the numbers say. Assumes nothing.
+use mathlib.Core.Path.{sym}
+use Prim.Native.Nat.{_*_}
+use native.Mathlib.Omega.{arith}
+use lib.Seq.{length-take-le}
 use borrow.Author.Needs.{needs}
+use Rattle.model.specs.Lists.{at}
+use Rattle.layout.specs.Places.{VARIABLES}
+use Rattle.counting.proofs.Bare.{room-long, whole-few, whole-roomy, counted-so}
 use Rattle.counting.proofs.counted.Statement.{statement}
 use Rattle.counting.proofs.counted.Tie as tie
 
-run-bare-requires : tie.Need-run-bare-requires
-run-bare-requires c κs = search needs
+element-copy-out-n : tie.Need-element-copy-out-n
+element-copy-out-n c = search needs
 
-enum-known-answer : tie.Need-enum-known-answer
-enum-known-answer c = search needs
+mul-used : tie.Need-mul-used
+unfolding at
+mul-used c = omega (arith, whole-few _ _ _ _ _ _ _ _ _ _ (c .before .pre .3))
 
-enum-known-answer-2 : tie.Need-enum-known-answer-2
-enum-known-answer-2 c = search needs
+plan-room-requires : tie.Need-plan-room-requires
+plan-room-requires c κs = search needs
 
-enum-known-e : tie.Need-enum-known-e
-enum-known-e c = search needs
+array-borrow-prefix-list : tie.Need-array-borrow-prefix-list
+unfolding at
+array-borrow-prefix-list c = let p = c .before .before .before .before in omega (arith, whole-few _ _ _ _ _ _ _ _ _ _ (p .before .before .pre .3), room-long _ (p .plan-room .ensures))
 
-same-length : tie.Need-same-length
-same-length c = search needs
+slice-aggregate-figure : tie.Need-slice-aggregate-figure
+unfolding at
+slice-aggregate-figure c = let p = c .before .before .before .before .before in sym (length-take-le _ _ (omega (arith, whole-few _ _ _ _ _ _ _ _ _ _ (p .before .before .pre .3), room-long _ (p .plan-room .ensures))))
+
+figure-requires : tie.Need-figure-requires
+unfolding at
+figure-requires c κs =
+    let p = c .before .before .before .before .before in
+    let h = p .before .before .pre .3 in
+    (_, _, _, h, whole-roomy _ _ _ _ _ _ _ _ _ _ h _ (length-take-le _ _ (omega (arith, whole-few _ _ _ _ _ _ _ _ _ _ h, room-long _ (p .plan-room .ensures)))))
 
 returns : tie.Need-returns
-returns c =
-    let s = c .before .before .before .before .before .before .before .before .before .before .before .before in
-    let h = sym (c .before .before .before .before .before .before .run-bare .ensures .0) ∙ ap means (c .before .before .answer2 .given .1) in
-    bare-dash _ _ _ _ _ _ (s .pre .0) (s .pre .1) _ h (stopped (c .before .before .answer2 .given .0 .0) (c .match2 .keys2))
-
-count-requires : tie.Need-count-requires
-count-requires c κs =
-    let s = c .before .before .before .before .before .before .before .before .before .before .before .before .before .before .before in
-    let h = sym (c .before .before .before .before .before .before .before .before .before .run-bare .ensures .0) ∙ ap means (c .before .before .before .before .before .answer2 .given .1) ∙ ap (λ (x : Ending). ended (endingOf x)) (c .before .before .e .given .1) in
-    (_, bare-solved _ _ _ _ _ _ (s .pre .0) (s .pre .1) _ _ h _ (c .before .before .before .before .before .before .before .before .before .run-bare .ensures .1))
-
-same-length-2 : tie.Need-same-length-2
-same-length-2 c = search needs
-
-returns-2 : tie.Need-returns-2
-returns-2 c =
-    let s = c .before .before .before .before .before .before .before .before .before .before .before in
-    bare-refused _ _ _ _ _ _ (s .pre .0) (s .pre .1) _ _ (sym (c .before .before .before .before .before .run-bare .ensures .0) ∙ ap means (c .before .answer .given .1))
-
-same-length-3 : tie.Need-same-length-3
-same-length-3 c = search needs
-
-returns-3 : tie.Need-returns-3
-returns-3 c =
-    let s = c .before .before .before .before .before .before .before .before .before .before .before .before .before .before .before .before in
-    let h = sym (c .before .before .before .before .before .before .before .before .before .before .run-bare .ensures .0) ∙ ap means (c .before .before .before .before .before .before .answer2 .given .1) ∙ ap (λ (x : Ending). ended (endingOf x)) (c .before .before .before .e .given .1) in
-    bare-number _ _ _ _ _ _ (s .pre .0) (s .pre .1) _ _ h _ (c .count .ensures)
+unfolding at
+returns c = λ b pairs block h.
+    let p = c .before .before .before .before .before .before .before in
+    let n = at (p .before .before .args .numbers .now) VARIABLES in
+    let l = length-take-le (4096 * n) (p .plan-room .result) (omega (arith, whole-few _ _ _ _ _ _ _ _ _ _ h, room-long _ (p .plan-room .ensures))) in
+    let r = whole-roomy _ _ _ _ _ _ _ _ _ _ h _ l in
+    counted-so _ _ _ _ _ _ _ _ _ _ h _ _ r _ _ (c .before .figure .ensures _ _ _ h r)
 
 pub counted-spec : {M : Type 1} → statement M
 counted-spec =
     tie.close
     (tie.spec
-    run-bare-requires
-    enum-known-answer
-    enum-known-answer-2
-    enum-known-e
-    same-length
-    returns
-    count-requires
-    same-length-2
-    returns-2
-    same-length-3
-    returns-3)
+    element-copy-out-n
+    mul-used
+    plan-room-requires
+    array-borrow-prefix-list
+    slice-aggregate-figure
+    figure-requires
+    returns)

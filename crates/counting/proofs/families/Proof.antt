@@ -1,48 +1,52 @@
--- Room for the plans of as many variables as the sheet names. Assumes nothing.
-use mathlib.Core.Path.{sym}
-use Prim.Native.Nat.{_*_}
-use native.Mathlib.Omega.{arith}
-use lib.Seq.{length-take-le}
-use Rattle.counting.proofs.Bare.{named-sized, room-long}
+-- All questions once; the images and the count where there is no "no". Assumes nothing.
+use mathlib.Core.Path.{sym, ap, _∙_}
 use borrow.Author.Needs.{needs}
+use Rattle.model.specs.Lists.{at}
+use Rattle.sheet.specs.Meaning.{means}
+use Rattle.sheet.proofs.Whole.{zeros}
+use Rattle.counting.proofs.Images.{asked-so}
+use Rattle.counting.proofs.Bare.{new-whole, counted-refused}
 use Rattle.counting.proofs.families.Statement.{statement}
 use Rattle.counting.proofs.families.Tie as tie
 
-variables-requires : tie.Need-variables-requires
-variables-requires c κs = search needs
+ask-requires : tie.Need-ask-requires
+ask-requires c κs = (zeros 2432, zeros 8192, zeros 26112 .sized, zeros 16 .sized)
 
-mul-used : tie.Need-mul-used
-mul-used c = omega (arith, named-sized _ _ (c .variables .ensures) .most)
+enum-told : tie.Need-enum-told
+enum-told c = search needs
 
-plan-room-requires : tie.Need-plan-room-requires
-plan-room-requires c κs = search needs
-
-array-borrow-prefix-list : tie.Need-array-borrow-prefix-list
-array-borrow-prefix-list c = omega (arith, named-sized _ _ (c .before .variables .ensures) .most, room-long _ (c .plan-room .ensures))
-
-slice-aggregate-counted : tie.Need-slice-aggregate-counted
-slice-aggregate-counted c =
-    let v = c .before .before in
-    let p = c .before in
-    sym (length-take-le (4096 * v .variables .result) (p .plan-room .result) (omega (arith, named-sized _ _ (v .variables .ensures) .most, room-long _ (p .plan-room .ensures))))
+put-images-requires : tie.Need-put-images-requires
+unfolding at
+put-images-requires c κs = let t = c .before .before .before .before in (_, asked-so _ _ _ _ _ _ _ _ (t .enum-told .given .1) (t .before .before .ask .ensures))
 
 counted-requires : tie.Need-counted-requires
+unfolding at
 counted-requires c κs =
-    let v = c .before .before in
-    let p = c .before in
-    (named-sized _ _ (v .variables .ensures), length-take-le (4096 * v .variables .result) (p .plan-room .result) (omega (arith, named-sized _ _ (v .variables .ensures) .most, room-long _ (p .plan-room .ensures))))
+    let p = c .before .before .before .before .before .before in
+    let t = p .before .before .before .before .before in
+    (_, _, _, new-whole _ _ _ _ _ _ _ (p .put-images .ensures _ (asked-so _ _ _ _ _ _ _ _ (t .enum-told .given .1) (t .before .before .ask .ensures))))
+
+enum-known-verdict : tie.Need-enum-known-verdict
+enum-known-verdict c = search needs
 
 returns : tie.Need-returns
-returns c = search needs
+unfolding at
+returns c =
+    let p = c .before .before .before .before .before .before .before in
+    let t = p .before .before .before .before .before in
+    c .counted .ensures _ _ _ (new-whole _ _ _ _ _ _ _ (p .put-images .ensures _ (asked-so _ _ _ _ _ _ _ _ (t .enum-told .given .1) (t .before .before .ask .ensures))))
+
+returns-2 : tie.Need-returns-2
+returns-2 c = counted-refused _ _ _ _ _ _ (sym (ap means (c .before .verdict .given .1)) ∙ c .before .before .before .ask .ensures .answers)
 
 pub families-spec : {M : Type 1} → statement M
 families-spec =
     tie.close
     (tie.spec
-    variables-requires
-    mul-used
-    plan-room-requires
-    array-borrow-prefix-list
-    slice-aggregate-counted
+    ask-requires
+    enum-told
+    put-images-requires
     counted-requires
-    returns)
+    enum-known-verdict
+    returns
+    returns-2)

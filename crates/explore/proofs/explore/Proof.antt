@@ -41,10 +41,10 @@ use denote.Triple.Table.{entered, cited}
 use denote.Triple.Walked.{says, needs, Stays, stay-ref, stay-slice, stay-dropped, walkOf, Walks, ends-at, walked, goes-dropped, goes-slice, goes-ref, walk-meets}
 use Rattle.model.specs.Lists.{at}
 use Rattle.model.specs.Problem.{Problem}
+use Rattle.lent.specs.Lent.{problemLent}
 use Rattle.walk.specs.Pair.{Cleared, AtValues, Walked, SameSlice, tried}
 use Rattle.walk.specs.Meaning.{tallyIn}
-use Rattle.task.specs.Task.{BARE}
-use Rattle.explore.specs.Prepared.{treeOf, Blank, Prepared}
+use Rattle.explore.specs.Prepared.{Blank, Prepared}
 use Rattle.explore.specs.Explored.{Explored}
 use Rattle.walk.specs.declared.Tally.{Tally}
 use Rattle.walk.proofs.Tally as T
@@ -307,7 +307,7 @@ module _ {M : Type 1} (𝓤 : URA M) (H : Heap 𝓤) (A : Atoms 𝓤) (W : Given
           calls-lent ! fm (to-candidates st₁ wk₁ su₁ tb₁ nu₁ ls ta₁ g₀) (vptr b₀ o₀ ∷ vint w64 0 ∷ []) u16 (vint w16) (λ r v is. ap only (is .0)) (fact 𝓤 (0 < 12)) (asks _ (omega arith)) (λ r w. r ≡ at st₁ (17 * 0))
           (λ x. known-candidates ((((x .0 .0 ∷ [], tt), (fullShare, tt), tt, (to b₀ o₀ (x .0 .1) st₁, (0, tt)), (vptr b₀ o₀ ∷ [], (vint w64 0 ∷ [], tt)))), tt)) (λ x. (and-then ! (load ! (from ! (stop !)) (look ! 19 refl)) (and-then ! (lit ! tt) (no-more !)))) (λ r₃ w₃ is₃ f₃ said₃.
           land ! (from ! (stop !)) (init ! 41 refl (tt, record { fits = is₃ .1 })) $
-          let begin : AtValues (treeOf (at wk BARE) (s₅ .now) (s₆ .now) (s₇ .now)) st₁ wk₁ su₁ tb₁ nu₁ ls (tallyIn ta₁) 0 r₃ = start-asks wk (s₅ .now) (s₆ .now) (s₇ .now) a ls _ _ _ _ _ r₁ (ok .unlisted) h live (tallyIn ta₁) said₂ r₃ said₃ in
+          let begin : AtValues (problemLent (s₅ .now) (s₆ .now) (s₇ .now)) st₁ wk₁ su₁ tb₁ nu₁ ls (tallyIn ta₁) 0 r₃ = start-asks wk (s₅ .now) (s₆ .now) (s₇ .now) a ls _ _ _ _ _ r₁ (ok .unlisted) h live (tallyIn ta₁) said₂ r₃ said₃ in
           -- sink = &mut *list
           assigns ! (addr ! (from ! (fld ! refl (hop ! (look-in ! 47 (sub ! 0 refl (whole !))) (stop !))))) (from ! (stop !)) (init ! 17 refl (tt, tt)) $
           assigns ! (agg ! (and-then ! (load ! (from ! (stop !)) (look ! 17 refl)) (and-then ! (load ! (from ! (fld ! refl (stop !))) (look-in ! 47 (sub ! 1 refl (whole !)))) (no-more !)))) (from ! (stop !)) (init ! 15 refl (tt, (tt, (record { fits = room .0 }, tt)))) $
@@ -318,7 +318,7 @@ module _ {M : Type 1} (𝓤 : URA M) (H : Heap 𝓤) (A : Atoms 𝓤) (W : Given
           -- the list, in memory
           fsplit ! $ move ! (1 ∷ []) $ fsplit ! $ move ! (1 ∷ []) $ fsplit ! $ move ! (1 ∷ []) $ fsplit ! $ move ! (1 ∷ []) $ fsplit ! $ move ! (1 ∷ []) $ fsplit ! $ move ! (1 ∷ []) $ fsplit ! $ move ! (1 ∷ []) $ fsplit ! $ move ! (1 ∷ []) $ fsplit ! $ move ! (48 ∷ 0 ∷ []) $ goes-in ! κ₈ q₈ γ₈ lb lo n s₀ ls $ move ! (1 ∷ 2 ∷ []) $ fjoin ! $ move ! (1 ∷ 0 ∷ []) $ fjoin ! $ move ! (1 ∷ 0 ∷ []) $ fjoin ! $ move ! (1 ∷ 0 ∷ []) $ fjoin ! $ move ! (1 ∷ 0 ∷ []) $ fjoin ! $ move ! (1 ∷ 0 ∷ []) $ fjoin ! $ move ! (1 ∷ 0 ∷ []) $ fjoin ! $ move ! (1 ∷ 0 ∷ []) $ fjoin ! $ move ! (1 ∷ 0 ∷ []) $ fjoin ! $ move ! (1 ∷ 0 ∷ []) $ fjoin ! $
           calls-lent-two ! fm (to-settle st₁ wk₁ su₁ tb₁ nu₁ ls s₀ ta₁ g₀ r₃ (is₃ .1)) (vptr b₀ o₀ ∷ vptr b₁ o₁ ∷ vptr b₂ o₂ ∷ vptr b₃ o₃ ∷ vptr b₄ o₄ ∷ vptr s₀ 0 ∷ vptr b₉ o₉ ∷ vint w64 0 ∷ vint w16 r₃ ∷ []) u8 (vint w8) (λ r v is. ap only (is .0))
-          (fact 𝓤 ((p : Problem) × AtValues p st₁ wk₁ su₁ tb₁ nu₁ ls (tallyIn ta₁) 0 r₃)) (asks _ (treeOf (at wk BARE) (s₅ .now) (s₆ .now) (s₇ .now), begin))
+          (fact 𝓤 ((p : Problem) × AtValues p st₁ wk₁ su₁ tb₁ nu₁ ls (tallyIn ta₁) 0 r₃)) (asks _ (problemLent (s₅ .now) (s₆ .now) (s₇ .now), begin))
           (λ r w. (p : Problem) → AtValues p st₁ wk₁ su₁ tb₁ nu₁ ls (tallyIn ta₁) 0 r₃ → Walked p (tried p wk₁ 0 r₃) st₁ wk₁ nu₁ ls (tallyIn ta₁) 0 (w .0) (w .1 .0) (w .1 .1 .1 .1 .1 .0 .now) (tallyIn (w .1 .1 .1 .1 .1 .1 .0)) r) (λ r w. SameSlice (to lb lo γ₈ ls) (w .1 .1 .1 .1 .1 .0))
           (λ x. known-settle (((x .0 .0 ∷ [], (x .1 .0 .0 ∷ [], (x .1 .1 .0 .0 ∷ [], (x .1 .1 .1 .0 .0 ∷ [], (x .1 .1 .1 .1 .0 .0 ∷ [], (x .1 .1 .1 .1 .1 .0 .0 ∷ κ₈, (κ₈, (x .1 .1 .1 .1 .1 .1 .0 .0 ∷ [], tt)))))))), (fullShare, (fullShare, (fullShare, (fullShare, (fullShare, (PosShare·left q₈, (PosShare·right q₈, (fullShare, tt)))))))), (meet-⊑-right (x .1 .1 .1 .1 .1 .0 .0 ∷ []) κ₈, tt), (to b₀ o₀ (x .0 .1) st₁, (to b₁ o₁ (x .1 .0 .1) wk₁, (to b₂ o₂ (x .1 .1 .0 .1) su₁, (to b₃ o₃ (x .1 .1 .1 .0 .1) tb₁, (to b₄ o₄ (x .1 .1 .1 .1 .0 .1) nu₁, (to s₀ 0 (x .1 .1 .1 .1 .1 .0 .1) (to lb lo γ₈ ls), (to b₉ o₉ (x .1 .1 .1 .1 .1 .1 .0 .1) ta₁, (0, (r₃, tt))))))))), (vptr b₀ o₀ ∷ [], (vptr b₁ o₁ ∷ [], (vptr b₂ o₂ ∷ [], (vptr b₃ o₃ ∷ [], (vptr b₄ o₄ ∷ [], (vptr s₀ 0 ∷ [], (vptr b₉ o₉ ∷ [], (vint w64 0 ∷ [], (vint w16 r₃ ∷ [], tt)))))))))), tt))
           (λ x. (and-then ! (load ! (from ! (stop !)) (look ! 13 refl)) (and-then ! (load ! (from ! (stop !)) (look ! 11 refl)) (and-then ! (load ! (from ! (stop !)) (look ! 9 refl)) (and-then ! (load ! (from ! (stop !)) (look ! 7 refl)) (and-then ! (load ! (from ! (stop !)) (look ! 5 refl)) (and-then ! (load ! (from ! (stop !)) (look ! 3 refl)) (and-then ! (load ! (from ! (stop !)) (look ! 1 refl)) (and-then ! (lit ! tt) (and-then ! (load ! (from ! (stop !)) (look ! 40 refl)) (no-more !))))))))))) (λ r₄ w₄ is₄ f₄ said₄.
@@ -330,7 +330,7 @@ module _ {M : Type 1} (𝓤 : URA M) (H : Heap 𝓤) (A : Atoms 𝓤) (W : Given
           returns ! (look ! 67 refl) $
           forget ! 67 refl $ forget ! 65 refl $ forget ! 63 refl $ forget ! 61 refl $ forget ! 59 refl $ forget ! 57 refl $ forget ! 55 refl $ forget ! 53 refl $ forget ! 51 refl $ forget ! 49 refl $ forget ! 47 refl $ forget ! 45 refl $ forget ! 43 refl $ forget ! 41 refl $ forget ! 1 refl $ forget ! 38 refl $ forget ! 36 refl $ forget ! 34 refl $ forget ! 32 refl $ forget ! 30 refl $ forget ! 28 refl $ forget ! 26 refl $ forget ! 24 refl $ forget ! 22 refl $ forget ! 20 refl $ forget ! 18 refl $ forget ! 16 refl $ forget ! 14 refl $ forget ! 12 refl $ forget ! 10 refl $ forget ! 8 refl $ forget ! 6 refl $ forget ! 4 refl $ forget ! 2 refl $
           move ! (67 ∷ 68 ∷ []) $ free1 ! $ move ! (65 ∷ 66 ∷ []) $ free1 ! $ move ! (63 ∷ 64 ∷ []) $ free1 ! $ move ! (61 ∷ 62 ∷ []) $ free1 ! $ move ! (59 ∷ 60 ∷ []) $ free1 ! $ move ! (57 ∷ 58 ∷ []) $ free1 ! $ move ! (55 ∷ 56 ∷ []) $ free1 ! $ move ! (53 ∷ 54 ∷ []) $ free1 ! $ move ! (51 ∷ 52 ∷ []) $ free1 ! $ move ! (49 ∷ 50 ∷ []) $ free1 ! $ move ! (47 ∷ 48 ∷ []) $ free1 ! $ move ! (45 ∷ 46 ∷ []) $ free1 ! $ move ! (43 ∷ 44 ∷ []) $ free1 ! $ move ! (41 ∷ 42 ∷ []) $ free1 ! $ move ! (1 ∷ 40 ∷ []) $ free1 ! $ move ! (37 ∷ 38 ∷ []) $ free1 ! $ move ! (35 ∷ 36 ∷ []) $ free1 ! $ move ! (33 ∷ 34 ∷ []) $ free1 ! $ move ! (31 ∷ 32 ∷ []) $ free1 ! $ move ! (29 ∷ 30 ∷ []) $ free1 ! $ move ! (27 ∷ 28 ∷ []) $ free1 ! $ move ! (25 ∷ 26 ∷ []) $ free1 ! $ move ! (23 ∷ 24 ∷ []) $ free1 ! $ move ! (21 ∷ 22 ∷ []) $ free1 ! $ move ! (19 ∷ 20 ∷ []) $ free1 ! $ move ! (17 ∷ 18 ∷ []) $ free1 ! $ move ! (15 ∷ 16 ∷ []) $ free1 ! $ move ! (13 ∷ 14 ∷ []) $ free1 ! $ move ! (11 ∷ 12 ∷ []) $ free1 ! $ move ! (9 ∷ 10 ∷ []) $ free1 ! $ move ! (7 ∷ 8 ∷ []) $ free1 ! $ move ! (5 ∷ 6 ∷ []) $ free1 ! $ move ! (3 ∷ 4 ∷ []) $ free1 ! $ move ! (1 ∷ 2 ∷ []) $ free1 ! $ free0 ! $
-          keep ! (0 ∷ []) $ by ! (exits r₄ _ _ _ _ _ (y₁ .now) (w₄ .1 .1 .1 .1 .1 .1 .0) (is₄ .1) (said₄ .1 .1) (explored wk (s₅ .now) (s₆ .now) (s₇ .now) a ls _ _ _ _ _ r₁ (ok .unlisted) h live (tallyIn ta₁) said₂ r₃ said₃ (tallyIn ta) _ _ _ _ r₄ (said₄ .0 (treeOf (at wk BARE) (s₅ .now) (s₆ .now) (s₇ .now)) begin)))))))))))))))))))))))))))))))))))))))))))
+          keep ! (0 ∷ []) $ by ! (exits r₄ _ _ _ _ _ (y₁ .now) (w₄ .1 .1 .1 .1 .1 .1 .0) (is₄ .1) (said₄ .1 .1) (explored wk (s₅ .now) (s₆ .now) (s₇ .now) a ls _ _ _ _ _ r₁ (ok .unlisted) h live (tallyIn ta₁) said₂ r₃ said₃ (tallyIn ta) _ _ _ _ r₄ (said₄ .0 (problemLent (s₅ .now) (s₆ .now) (s₇ .now)) begin)))))))))))))))))))))))))))))))))))))))))))
 
 module _ {M : Type 1} (𝓤 : URA M) (H : Heap 𝓤) (A : Atoms 𝓤) (W : Given 𝓤 H A) (mem : Memory → SProp 𝓤) (run : Routine → Fun 𝓤) where
   explore-walks : (C : Calls 𝓤 H) (Λ : Loops 𝓤 H) → FmC 𝓤 H (W .laws) C → Triple 𝓤 (C #explore·prepare) (Prepare 𝓤 H A W mem run) → Triple 𝓤 (C #walk·reset) (Reset 𝓤 H A W mem run) → Triple 𝓤 (C #walk·candidates) (Candidates 𝓤 H A W mem run) → Triple 𝓤 (C #settle·settle) (Settle 𝓤 H A W mem run) → Walks 𝓤 H A explore.ended stayed (WpFn 𝓤 H C Λ code.function) (explore.clauses 𝓤 H A mem run)

@@ -1,14 +1,10 @@
 -- `explore::prepare` meets its contract: proofs/Prepared. Assumes nothing.
 use mathlib.Core.Path.{sym, ap, _∙_}
 use native.Mathlib.Omega.{arith}
-use lib.ListN.{set}
-use mathlib.Core.List.{List}
-use Prim.Native.Nat.{ℕ}
-use Rattle.layout.specs.Places.{BLOCK}
 use denote.Ref.{now}
 use Rattle.model.specs.Lists.{at}
 use Rattle.sheet.specs.Meaning.{means}
-use Rattle.explore.proofs.Prepared.{some-variables, few-variables, long-bounded, own, lies, compact, ready, prepared-dead, prepared-live, prepared-refused}
+use Rattle.explore.proofs.Prepared.{some-variables, few-variables, laid, prepared, prepared-refused}
 use borrow.Author.Needs.{needs}
 use Rattle.explore.proofs.prepare.Statement.{statement}
 use Rattle.explore.proofs.prepare.Tie as tie
@@ -29,51 +25,18 @@ room-for-requires c κs = some-variables _ _ _ _ _ _ _ _ (c .before .before .bef
 put-bounds-requires : tie.Need-put-bounds-requires
 put-bounds-requires c κs = search needs
 
-arrange-requires : tie.Need-arrange-requires
+positions-requires : tie.Need-positions-requires
 unfolding at
-arrange-requires c κs =
-    let h = c .before .before .before .before .before .before .before .before .before .before .compile .ensures in
-    let q = c .before .before .before .before .before .before .before .before .enum-told .given .1 in
-    (few-variables _ _ _ _ _ _ _ _ h q, long-bounded _ _ _ _ _ _ _ _ h q _ _ _ (c .before .before .before .put-bounds .ensures), h .order-length)
+positions-requires c κs = let t = c .before .before .before .before .before .before in few-variables _ _ _ _ _ _ _ _ (t .before .before .compile .ensures) (t .enum-told .given .1)
 
-index-requires : tie.Need-index-requires
+begin-requires : tie.Need-begin-requires
 unfolding at
-index-requires c κs =
-    let a = c .before .before .before .before .before .before .before .before .before .before .before .before .before .before .before .before .before .before .before .before .before .before .before in
-    let h = c .before .before .before .before .before .before .before .before .before .before .before .before .before .before .before .compile .ensures in
-    let q = c .before .before .before .before .before .before .before .before .before .before .before .before .before .enum-told .given .1 in
-    let m = c .before .before .before .before .before .before .before .before .before .before .room-for in
-    let s = c .before .before .before .before .before .before .before .before .put-bounds .ensures in
-    let g = c .before .before .before .before .arrange .ensures in
-    let w = a .fits .limit .fits in
-    let l = lies _ _ _ _ _ _ _ _ h q (a .args .limit) w (now (a .args .work)) (a .args .size) _ (m .ensures) (m .ok) (a .pre .unlisted) _ s _ _ _ g in
-    let o = own _ _ _ _ _ _ _ _ h q (a .args .limit) w (now (a .args .work)) (a .args .size) _ (m .ensures) (m .ok) (a .pre .unlisted) _ s _ _ _ g in
-    let x = compact _ o _ _ _ _ _ _ l _ (a .pre .tables-length) in
-    (o, x)
-
-put-order-requires : tie.Need-put-order-requires
-put-order-requires c κs = search needs
-
-put-block-requires : tie.Need-put-block-requires
-put-block-requires c κs = search needs
-
-root-requires : tie.Need-root-requires
-unfolding at
-root-requires c κs =
-    let a = c .before .before .before .before .before .before .before .before .before .before .before .before .before .before .before .before .before .before .before .before .before .before .before .before .before .before .before .before .before .before .before .before .before .before in
-    let h = c .before .before .before .before .before .before .before .before .before .before .before .before .before .before .before .before .before .before .before .before .before .before .before .before .before .before .compile .ensures in
-    let q = c .before .before .before .before .before .before .before .before .before .before .before .before .before .before .before .before .before .before .before .before .before .before .before .before .enum-told .given .1 in
-    let m = c .before .before .before .before .before .before .before .before .before .before .before .before .before .before .before .before .before .before .before .before .before .room-for in
-    let s = c .before .before .before .before .before .before .before .before .before .before .before .before .before .before .before .before .before .before .before .put-bounds .ensures in
-    let g = c .before .before .before .before .before .before .before .before .before .before .before .before .before .before .before .arrange .ensures in
-    let w = a .fits .limit .fits in
-    let l = lies _ _ _ _ _ _ _ _ h q (a .args .limit) w (now (a .args .work)) (a .args .size) _ (m .ensures) (m .ok) (a .pre .unlisted) _ s _ _ _ g in
-    let o = own _ _ _ _ _ _ _ _ h q (a .args .limit) w (now (a .args .work)) (a .args .size) _ (m .ensures) (m .ok) (a .pre .unlisted) _ s _ _ _ g in
-    let x = compact _ o _ _ _ _ _ _ l _ (a .pre .tables-length) in
-    let i = c .before .before .before .before .before .before .before .before .before .before .index .ensures o x in
-    let p = c .before .before .before .before .before .put-block .ensures ∙ ap (λ (k : List ℕ). set k BLOCK (c .before .before .before .before .before .before .before .before .before .before .before .before .before .before .before .arrange .result)) (c .before .before .before .before .before .before .before .put-order .ensures) in
-    let y = ready _ o _ _ _ _ _ _ l _ _ _ i _ p _ _ (a .pre .stack-length) (a .pre .work-length) in
-    (_, _, y)
+begin-requires c κs =
+    let o = c .before .before .before .before .before .before .before in
+    let s = o .before .before in
+    let t = s .before .before .before .before .before in
+    let a = t .before .before .before .before .before .before .before .before .before .before in
+    ((_, _, _, laid _ _ _ _ _ _ _ _ (t .before .before .compile .ensures) (t .enum-told .given .1) (a .args .limit) _ _ (s .put-bounds .ensures) _ (o .positions .ensures)), record { stack-length = a .pre .stack-length; work-length = a .pre .work-length; tables-length = a .pre .tables-length })
 
 enum-known-verdict : tie.Need-enum-known-verdict
 enum-known-verdict c = search needs
@@ -90,43 +53,18 @@ element-write-work-2 c = search needs
 returns : tie.Need-returns
 unfolding at
 returns c =
-    let a = c .before .before .before .before .before .before .before .before .before .before .before .before .before .before .before .before .before .before .before .before .before .before .before .before .before .before .before .before .before .before .before .before .before .before .before .before in
-    let h = c .before .before .before .before .before .before .before .before .before .before .before .before .before .before .before .before .before .before .before .before .before .before .before .before .before .before .before .before .compile .ensures in
-    let q = c .before .before .before .before .before .before .before .before .before .before .before .before .before .before .before .before .before .before .before .before .before .before .before .before .before .before .enum-told .given .1 in
-    let m = c .before .before .before .before .before .before .before .before .before .before .before .before .before .before .before .before .before .before .before .before .before .before .before .room-for in
-    let s = c .before .before .before .before .before .before .before .before .before .before .before .before .before .before .before .before .before .before .before .before .before .put-bounds .ensures in
-    let g = c .before .before .before .before .before .before .before .before .before .before .before .before .before .before .before .before .before .arrange .ensures in
-    let w = a .fits .limit .fits in
-    let l = lies _ _ _ _ _ _ _ _ h q (a .args .limit) w (now (a .args .work)) (a .args .size) _ (m .ensures) (m .ok) (a .pre .unlisted) _ s _ _ _ g in
-    let o = own _ _ _ _ _ _ _ _ h q (a .args .limit) w (now (a .args .work)) (a .args .size) _ (m .ensures) (m .ok) (a .pre .unlisted) _ s _ _ _ g in
-    let x = compact _ o _ _ _ _ _ _ l _ (a .pre .tables-length) in
-    let i = c .before .before .before .before .before .before .before .before .before .before .before .before .index .ensures o x in
-    let p = c .before .before .before .before .before .before .before .put-block .ensures ∙ ap (λ (k : List ℕ). set k BLOCK (c .before .before .before .before .before .before .before .before .before .before .before .before .before .before .before .before .before .arrange .result)) (c .before .before .before .before .before .before .before .before .before .put-order .ensures) in
-    let y = ready _ o _ _ _ _ _ _ l _ _ _ i _ p _ _ (a .pre .stack-length) (a .pre .work-length) in
-    let r = c .before .root .ensures _ _ y in
-    prepared-dead _ _ _ _ _ _ _ _ h q (a .args .limit) w (now (a .args .work)) (a .args .size) _ (m .ensures) (m .ok) (a .pre .unlisted) _ s _ _ _ g _ _ _ i _ p _ _ _ _ (a .pre .stack-length) (a .pre .work-length) (a .pre .none-listed) r (c .if1 .taken)
+    let o = c .before .before .before .before .before .before .before .before in
+    let s = o .before .before in
+    let m = s .before .before in
+    let t = m .before .before .before in
+    let a = t .before .before .before .before .before .before .before .before .before .before in
+    let h = t .before .before .compile .ensures in
+    let q = t .enum-told .given .1 in
+    let l = laid _ _ _ _ _ _ _ _ h q (a .args .limit) _ _ (s .put-bounds .ensures) _ (o .positions .ensures) in
+    prepared _ _ _ _ _ _ _ _ h q (a .args .limit) (a .fits .limit .fits) (now (a .args .work)) (a .args .size) _ (m .room-for .ensures) (m .room-for .ok) (a .pre .unlisted) _ (s .put-bounds .ensures) (a .pre .none-listed) _ _ _ _ _ (c .begin .ensures _ _ _ l)
 
 returns-2 : tie.Need-returns-2
-unfolding at
 returns-2 c =
-    let a = c .before .before .before .before .before .before .before .before .before .before .before .before .before .before .before .before .before .before .before .before .before .before .before .before .before .before .before .before .before .before .before .before .before .before .before .before in
-    let h = c .before .before .before .before .before .before .before .before .before .before .before .before .before .before .before .before .before .before .before .before .before .before .before .before .before .before .before .before .compile .ensures in
-    let q = c .before .before .before .before .before .before .before .before .before .before .before .before .before .before .before .before .before .before .before .before .before .before .before .before .before .before .enum-told .given .1 in
-    let m = c .before .before .before .before .before .before .before .before .before .before .before .before .before .before .before .before .before .before .before .before .before .before .before .room-for in
-    let s = c .before .before .before .before .before .before .before .before .before .before .before .before .before .before .before .before .before .before .before .before .before .put-bounds .ensures in
-    let g = c .before .before .before .before .before .before .before .before .before .before .before .before .before .before .before .before .before .arrange .ensures in
-    let w = a .fits .limit .fits in
-    let l = lies _ _ _ _ _ _ _ _ h q (a .args .limit) w (now (a .args .work)) (a .args .size) _ (m .ensures) (m .ok) (a .pre .unlisted) _ s _ _ _ g in
-    let o = own _ _ _ _ _ _ _ _ h q (a .args .limit) w (now (a .args .work)) (a .args .size) _ (m .ensures) (m .ok) (a .pre .unlisted) _ s _ _ _ g in
-    let x = compact _ o _ _ _ _ _ _ l _ (a .pre .tables-length) in
-    let i = c .before .before .before .before .before .before .before .before .before .before .before .before .index .ensures o x in
-    let p = c .before .before .before .before .before .before .before .put-block .ensures ∙ ap (λ (k : List ℕ). set k BLOCK (c .before .before .before .before .before .before .before .before .before .before .before .before .before .before .before .before .before .arrange .result)) (c .before .before .before .before .before .before .before .before .before .put-order .ensures) in
-    let y = ready _ o _ _ _ _ _ _ l _ _ _ i _ p _ _ (a .pre .stack-length) (a .pre .work-length) in
-    let r = c .before .root .ensures _ _ y in
-    prepared-live _ _ _ _ _ _ _ _ h q (a .args .limit) w (now (a .args .work)) (a .args .size) _ (m .ensures) (m .ok) (a .pre .unlisted) _ s _ _ _ g _ _ _ i _ p _ _ _ _ (a .pre .stack-length) (a .pre .work-length) (a .pre .none-listed) r (c .if1 .left)
-
-returns-3 : tie.Need-returns-3
-returns-3 c =
     let a = c .before .before .before .before .before .before .before .before .before .before .before in
     let g = c .before .verdict .given in
     let v = sym (c .before .before .before .compile .ensures .answers) ∙ ap means (g .1) in
@@ -141,15 +79,11 @@ prepare-spec =
     element-copy-out-n
     room-for-requires
     put-bounds-requires
-    arrange-requires
-    index-requires
-    put-order-requires
-    put-block-requires
-    root-requires
+    positions-requires
+    begin-requires
     enum-known-verdict
     cast-work
     element-write-work
     element-write-work-2
     returns
-    returns-2
-    returns-3)
+    returns-2)

@@ -15,17 +15,14 @@ returns c =
     let a = c .before .before .before .before .before .args in
     c .asked-for-none .ensures ∙ none-asked _ _ _ (a .limit) ∙ ap (enoughLent (now (a .sheet)) (now (a .pairs)) (now (a .block)) (a .limit)) (sym (c .before .if1 .taken))
 
-slice-aggregate-run-task : tie.Need-slice-aggregate-run-task
-slice-aggregate-run-task c = search needs
-
-run-task-requires : tie.Need-run-task-requires
-run-task-requires c κs = search needs
+run-wanted-requires : tie.Need-run-wanted-requires
+run-wanted-requires c κs = search needs
 
 judged-requires : tie.Need-judged-requires
 judged-requires c κs = search needs
 
 returns-2 : tie.Need-returns-2
-returns-2 c = c .judged .ensures ∙ said-enough _ _ _ _ _ _ _ _ (c .before .before .before .before .if1 .left) (c .before .before .run-task .ensures)
+returns-2 c = c .judged .ensures ∙ said-enough _ _ _ _ _ _ (c .before .before .if1 .left) (c .before .run-wanted .ensures)
 
 pub at-least-spec : {M : Type 1} → statement M
-at-least-spec = tie.close (tie.spec asked-for-none-requires returns slice-aggregate-run-task run-task-requires judged-requires returns-2)
+at-least-spec = tie.close (tie.spec asked-for-none-requires returns run-wanted-requires judged-requires returns-2)

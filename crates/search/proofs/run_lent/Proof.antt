@@ -41,7 +41,7 @@ use denote.Enum.Laws as EL
 use Rattle.layout.specs.Places.{PLANS}
 use Rattle.walk.specs.Meaning.{tallyIn}
 use Rattle.search.specs.Calls.{CallLent}
-use Rattle.task.specs.Task.{BARE, WANTED}
+use Rattle.task.specs.Task.{WANTED}
 use Rattle.explore.specs.Prepared.{Blank}
 use Rattle.explore.specs.Explored.{Explored}
 use Rattle.search.specs.Whole.{Stopped, Answered}
@@ -297,7 +297,7 @@ module _ {M : Type 1} (𝓤 : URA M) (H : Heap 𝓤) (A : Atoms 𝓤) (W : Given
           returns ! (look ! 47 refl) $
           forget ! 47 refl $ forget ! 45 refl $ forget ! 43 refl $ forget ! 41 refl $ forget ! 39 refl $ forget ! 37 refl $ forget ! 35 refl $ forget ! 5 refl $ forget ! 4 refl $ forget ! 3 refl $ forget ! 2 refl $ forget ! 0 refl $ forget ! 28 refl $ forget ! 26 refl $ forget ! 24 refl $ forget ! 22 refl $ forget ! 20 refl $ forget ! 18 refl $ forget ! 16 refl $ forget ! 14 refl $ forget ! 12 refl $ forget ! 10 refl $ forget ! 8 refl $ forget ! 6 refl $
           move ! (47 ∷ 48 ∷ []) $ free1 ! $ move ! (45 ∷ 46 ∷ []) $ free1 ! $ move ! (43 ∷ 44 ∷ []) $ free1 ! $ move ! (41 ∷ 42 ∷ []) $ free1 ! $ move ! (39 ∷ 40 ∷ []) $ free1 ! $ move ! (37 ∷ 38 ∷ []) $ free1 ! $ move ! (35 ∷ 36 ∷ []) $ free1 ! $ move ! (5 ∷ 34 ∷ []) $ free1 ! $ move ! (4 ∷ 32 ∷ []) $ free1 ! $ move ! (3 ∷ 30 ∷ []) $ free1 ! $ move ! (2 ∷ 28 ∷ []) $ free1 ! $ move ! (0 ∷ 26 ∷ []) $ free1 ! $ move ! (23 ∷ 24 ∷ []) $ free1 ! $ move ! (21 ∷ 22 ∷ []) $ free1 ! $ move ! (19 ∷ 20 ∷ []) $ free1 ! $ move ! (17 ∷ 18 ∷ []) $ free1 ! $ move ! (15 ∷ 16 ∷ []) $ free1 ! $ move ! (13 ∷ 14 ∷ []) $ free1 ! $ move ! (11 ∷ 12 ∷ []) $ free1 ! $ move ! (9 ∷ 10 ∷ []) $ free1 ! $ move ! (7 ∷ 8 ∷ []) $ free1 ! $ move ! (5 ∷ 6 ∷ []) $ free1 ! $ move ! (3 ∷ 4 ∷ []) $ free1 ! $ move ! (1 ∷ 2 ∷ []) $ free1 ! $ free0 ! $
-          keep ! (0 ∷ []) $ by ! (exits r₃ is₃ ls₁ ta₁ l₁′ (let e = said (replicate 256 0) (s₀ .now) (s₁ .now) (s₂ .now) a ls (tallyIn ta) ls₁ (tallyIn ta₁) r₃ (ran-so (replicate 256 0) (s₀ .now) (s₁ .now) (s₂ .now) a ls (tallyIn ta) wk₁ ls₁ (tallyIn ta₁) r₁ said₁ r₂ said₂ r₃ said₃) (zeros 256 .blank BARE) (zeros 256 .blank WANTED) in record { answers = e .answer; leaves = e .lists; counts = e .counts }))))))))))))))))))))))))))))))))))
+          keep ! (0 ∷ []) $ by ! (exits r₃ is₃ ls₁ ta₁ l₁′ (let e = said (replicate 256 0) (s₀ .now) (s₁ .now) (s₂ .now) a ls (tallyIn ta) ls₁ (tallyIn ta₁) r₃ (ran-so (replicate 256 0) (s₀ .now) (s₁ .now) (s₂ .now) a ls (tallyIn ta) wk₁ ls₁ (tallyIn ta₁) r₁ said₁ r₂ said₂ r₃ said₃) (zeros 256 .blank WANTED) in record { answers = e .answer; leaves = e .lists; counts = e .counts }))))))))))))))))))))))))))))))))))
 
 module _ {M : Type 1} (𝓤 : URA M) (H : Heap 𝓤) (A : Atoms 𝓤) (W : Given 𝓤 H A) (mem : Memory → SProp 𝓤) (run : Routine → Fun 𝓤) where
   run-lent-walks : (C : Calls 𝓤 H) (Λ : Loops 𝓤 H) → FmC 𝓤 H (W .laws) C → Triple 𝓤 (C #explore·explore) (Explore 𝓤 H A W mem run) → Triple 𝓤 (C #walk·nodes-made) (NodesMade 𝓤 H A W mem run) → Triple 𝓤 (C #search·answered) (Answers 𝓤 H A W mem run) → Walks 𝓤 H A run-lent.ended stayed (WpFn 𝓤 H C Λ code.function) (run-lent.clauses 𝓤 H A mem run)

@@ -1,8 +1,7 @@
 -- `ending_report`: a finished run is taken apart, the two others are a stop. Assumes nothing.
 use mathlib.Core.Path.{sym, subst}
-use Rattle.figure.specs.Figure.{Figure, reportFigure}
-use Rattle.counting.specs.Held.{Ran}
-use Rattle.counting.proofs.Bare.{report-dash, stopped}
+use Rattle.figure.specs.Figure.{Figure}
+use Rattle.counting.proofs.Bare.{stopped}
 use Rattle.report.specs.Text.{endedText, Fitted}
 use Rattle.search.specs.declared.Ending.{Ending}
 use Rattle.search.specs.Meaning.{endingOf}
@@ -15,34 +14,31 @@ enum-known-e : tie.Need-enum-known-e
 enum-known-e c = search needs
 
 stop-report-requires : tie.Need-stop-report-requires
-stop-report-requires c κs = c .before .before .before .before .before .pre .1
+stop-report-requires c κs = search needs
 
 same-length : tie.Need-same-length
 same-length c = search needs
 
 returns : tie.Need-returns
-returns c =
-    let s = c .before .before .before .before .before .before .before .before in
-    let n = report-dash _ _ _ (s .pre .0) (stopped (s .args .e) (c .before .before .before .before .match .keys2)) in
+returns c = λ f t k.
+    let s = c .before .before .before .before .before .before .before in
     let r = c .before .before .stop-report in
-    subst (λ (f : Figure). Fitted (s .args .out .now) (endedText (endingOf (s .args .e)) f (s .args .n) (s .args .list .now)) (r .last .1 .1 .1 .0) (r .result)) (sym n) (r .ensures)
+    let n = k (stopped (s .args .e) (c .before .before .before .before .match .keys2)) in
+    subst (λ (g : Figure). Fitted (s .args .out .now) (endedText (endingOf (s .args .e)) g (s .args .n) (s .args .list .now)) (r .last .1 .1 .1 .0) (r .result)) (sym n) (r .ensures)
 
 finished-report-requires : tie.Need-finished-report-requires
 finished-report-requires c κs =
-    let e = c .before .before .e .given .1 in
-    let s = c .before .before .before .before .before .before .before in (
-      subst (λ (x : Ending). Ran (s .args .sheet .now) 1000000 (endingOf x)) e (s .pre .0),
-      subst (λ (x : Ending). Listed (endingOf x) (s .args .n) (s .args .list .now)) e (s .pre .1),
-    )
+    let s = c .before .before .before .before .before .before in
+    subst (λ (x : Ending). Listed (endingOf x) (s .args .n) (s .args .list .now)) (c .before .before .e .given .1) (s .pre)
 
 same-length-2 : tie.Need-same-length-2
 same-length-2 c = search needs
 
 returns-2 : tie.Need-returns-2
-returns-2 c =
-    let s = c .before .before .before .before .before .before .before .before .before .before in
+returns-2 c = λ f t k.
+    let s = c .before .before .before .before .before .before .before .before .before in
     let r = c .before .before .finished-report in
-    subst (λ (x : Ending). Fitted (s .args .out .now) (endedText (endingOf x) (reportFigure (s .args .sheet .now) 1000000) (s .args .n) (s .args .list .now)) (r .last .1 .1 .1 .1 .1 .0) (r .result)) (sym (c .before .before .before .before .before .e .given .1)) (r .ensures)
+    subst (λ (x : Ending). Fitted (s .args .out .now) (endedText (endingOf x) f (s .args .n) (s .args .list .now)) (r .last .1 .1 .1 .1 .1 .0) (r .result)) (sym (c .before .before .before .before .before .e .given .1)) (r .ensures f t)
 
 pub ending-report-spec : {M : Type 1} → statement M
 ending-report-spec =

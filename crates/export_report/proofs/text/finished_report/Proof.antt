@@ -1,4 +1,4 @@
--- `finished_report`: the figure is asked for, and is a number or the dash. Assumes nothing.
+-- `finished_report`: the figure is a number or the dash. Assumes nothing.
 use mathlib.Core.Path.{_≡_, sym, ap, _∙_, subst}
 use mathlib.Core.Logic.{⊎-elim}
 use mathlib.Core.List.{[], _∷_}
@@ -8,7 +8,7 @@ use types.Run.{OneOf}
 use denote.Enum.Declared.{tagOf}
 use borrow.Author.Needs.{needs}
 use Rattle.model.specs.Run.{finished}
-use Rattle.figure.specs.Figure.{Figure, number, dash, reportFigure}
+use Rattle.figure.specs.Figure.{Figure, number, dash}
 use Rattle.counting.specs.Told.{refusal, told, means}
 use Rattle.counting.specs.declared.Answer.{Answer}
 use Rattle.counting.specs.declared.Answer.the-variants.{Number, Dash, Refused}
@@ -29,9 +29,6 @@ dash-told (Number k) f t e = absurd (⊎-elim {C = ⊥} (λ z. omega arith) (λ 
 dash-told Dash f t e = figured dash f e
 dash-told (Refused n i) f t e = absurd (never-refused n i f e)
 
-finished-requires : tie.Need-finished-requires
-finished-requires c κs = search needs
-
 enum-known-figure : tie.Need-enum-known-figure
 enum-known-figure c = search needs
 
@@ -42,35 +39,35 @@ same-length : tie.Need-same-length
 same-length c = search needs
 
 returns : tie.Need-returns
-returns c =
+returns c = λ f t.
     let m = c .before .before .before .before in
-    let s = m .before .before .before .before .before in
+    let s = m .before .before .before in
     let r = c .before .before .uncounted in
-    let e : dash ≡ reportFigure (s .args .sheet .now) 1000000 = dash-told (m .before .finished .result) _ (m .match .keys2) (m .before .finished .ensures) in
-    subst (λ (f : Figure). Fitted (s .args .out .now) (endedText (finished (s .args .plans) (s .args .nodes)) f (s .args .n) (s .args .list .now)) (r .last .1 .1 .1 .1 .0) (r .result)) e (r .ensures)
+    let e : dash ≡ f = dash-told (s .args .figure) f (m .match .keys2) t in
+    subst (λ (g : Figure). Fitted (s .args .out .now) (endedText (finished (s .args .plans) (s .args .nodes)) g (s .args .n) (s .args .list .now)) (r .last .1 .1 .1 .1 .0) (r .result)) e (r .ensures)
 
-finished-requires-2 : tie.Need-finished-requires-2
-finished-requires-2 c κs = search needs
+finished-requires : tie.Need-finished-requires
+finished-requires c κs = search needs
 
 same-length-2 : tie.Need-same-length-2
 same-length-2 c = search needs
 
 returns-2 : tie.Need-returns-2
-returns-2 c =
-    let s = c .before .before .before .before .before .before .before .before .before .before .before in
-    let r = c .before .before .finished2 in
-    let e : number (c .before .before .before .before .before .figure .given .0 .0) ≡ reportFigure (s .args .sheet .now) 1000000 = figured _ _ (sym (ap means (c .before .before .before .before .before .figure .given .1)) ∙ c .before .before .before .before .before .before .before .finished .ensures) in
-    subst (λ (f : Figure). Fitted (s .args .out .now) (endedText (finished (s .args .plans) (s .args .nodes)) f (s .args .n) (s .args .list .now)) (r .last .1 .1 .1 .1 .1 .0) (r .result)) e (r .ensures)
+returns-2 c = λ f t.
+    let s = c .before .before .before .before .before .before .before .before .before in
+    let r = c .before .before .finished in
+    let g = c .before .before .before .before .before .figure .given in
+    let e : number (g .0 .0) ≡ f = figured _ _ (sym (ap means (g .1)) ∙ t) in
+    subst (λ (h : Figure). Fitted (s .args .out .now) (endedText (finished (s .args .plans) (s .args .nodes)) h (s .args .n) (s .args .list .now)) (r .last .1 .1 .1 .1 .1 .0) (r .result)) e (r .ensures)
 
 pub finished-report-spec : {M : Type 1} → statement M
 finished-report-spec =
     tie.close
     (tie.spec
-    finished-requires
     enum-known-figure
     uncounted-requires
     same-length
     returns
-    finished-requires-2
+    finished-requires
     same-length-2
     returns-2)
