@@ -8,6 +8,7 @@ use Rattle.model.specs.WellFormed.{WellFormed}
 use Rattle.model.specs.Verdict.{accepted}
 use Rattle.model.specs.Sheet.{problemOf}
 use Rattle.layout.specs.Layout.{Numbers, Images}
+use Rattle.layout.specs.Places.{IMAGES}
 use Rattle.lent.specs.Lent.{verdictLent}
 
 pub record Held (p : Problem) (images : List ℕ) (variables values : ℕ) : Type 0 where
@@ -22,4 +23,4 @@ pub record Passed (b pairs block numbers images : List ℕ) : Type 0 where
   pub verdict : verdictLent b pairs block ≡ accepted
   pub numbered : Numbers (problemOf b) numbers
   pub imaged : Images (problemOf b) images
-  pub sized : length images ≡ 26112
+  pub sized : length images ≡ IMAGES

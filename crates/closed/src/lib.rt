@@ -12,6 +12,11 @@ ghost use Rattle.closed.specs.Open.{made, firstMissing, firstOpen};
 ghost use Rattle.closed.specs.Held.{Held, Passed};
 ghost use Rattle.closed.specs.Lent.{told, means};
 ghost use Rattle.closed.specs.Calls.{CallClosed};
+use layout::IMAGES;
+use layout::Images;
+use layout::NUMBERS;
+use layout::Numbers;
+use layout::SUPPORTS;
 use layout::VALUES;
 use layout::VARIABLES;
 
@@ -31,7 +36,7 @@ fn code(values: usize, q: usize) -> usize
 }
 
 // The code to which symmetry e takes a code.
-fn goes(images: &[u8; 26112], e: usize, code: usize) -> usize
+fn goes(images: &Images, e: usize, code: usize) -> usize
     requires { ⌜ (e < 136) × (code < 192) × (at (now images) (192 * e + code) < 192) ⌝ }
     ensures { λ r. ⌜ r ≡ at (now (images .entry)) (192 * e + code) ⌝ }
 {
@@ -39,14 +44,7 @@ fn goes(images: &[u8; 26112], e: usize, code: usize) -> usize
 }
 
 // Whether symmetry a and then symmetry b take each number to where symmetry c takes it.
-fn makes_one(
-    images: &[u8; 26112],
-    variables: usize,
-    values: usize,
-    a: usize,
-    b: usize,
-    c: usize,
-) -> bool
+fn makes_one(images: &Images, variables: usize, values: usize, a: usize, b: usize, c: usize) -> bool
     requires { ⌜ ((p : Problem) × Held p (now images) variables values × (a < length (p .symmetries)) × (b < length (p .symmetries)) × (c < length (p .symmetries))) ⌝ }
     ensures { λ r. ⌜ ((p : Problem) → Held p (now (images .entry)) variables values → a < length (p .symmetries) → b < length (p .symmetries) → c < length (p .symmetries) → r ≡ makes p (symmetryAt p a) (symmetryAt p b) (symmetryAt p c)) ⌝ }
 {
@@ -63,7 +61,7 @@ fn makes_one(
 }
 
 // Whether symmetry a and then symmetry b leave each number where it is.
-fn moves_none(images: &[u8; 26112], variables: usize, values: usize, a: usize, b: usize) -> bool
+fn moves_none(images: &Images, variables: usize, values: usize, a: usize, b: usize) -> bool
     requires { ⌜ ((p : Problem) × Held p (now images) variables values × (a < length (p .symmetries)) × (b < length (p .symmetries))) ⌝ }
     ensures { λ r. ⌜ ((p : Problem) → Held p (now (images .entry)) variables values → a < length (p .symmetries) → b < length (p .symmetries) → r ≡ movesNothing p (symmetryAt p a) (symmetryAt p b)) ⌝ }
 {
@@ -81,7 +79,7 @@ fn moves_none(images: &[u8; 26112], variables: usize, values: usize, a: usize, b
 
 // Whether symmetry a and then symmetry b make one of the symmetries, or move nothing.
 fn is_made(
-    images: &[u8; 26112],
+    images: &Images,
     variables: usize,
     values: usize,
     symmetries: usize,
@@ -105,7 +103,7 @@ fn is_made(
 }
 
 // The number k of the first two symmetries, by k / g and then k % g for g symmetries, that make none of them one after the other; g * g where there are none.
-fn first_missing(images: &[u8; 26112], variables: usize, values: usize, symmetries: usize) -> usize
+fn first_missing(images: &Images, variables: usize, values: usize, symmetries: usize) -> usize
     requires { ⌜ ((p : Problem) × Held p (now images) variables values × (symmetries ≡ length (p .symmetries))) ⌝ }
     ensures { λ r. ⌜ ((p : Problem) → Held p (now (images .entry)) variables values → symmetries ≡ length (p .symmetries) → r ≡ firstMissing p) ⌝ }
 {
@@ -142,7 +140,7 @@ fn two_of(symmetries: usize, k: usize) -> Answer
 }
 
 // The test of a run whose questions are passed.
-fn test(block: &[u8], numbers: &[u64; 2432], images: &mut [u8; 26112]) -> Answer
+fn test(block: &[u8], numbers: &Numbers, images: &mut Images) -> Answer
     requires { ⌜ ((b : List ℕ) × (pairs : List ℕ) × Passed b pairs (now block) (now numbers) (now images)) ⌝ }
     ensures { λ r. ⌜ ((b pairs : List ℕ) → Passed b pairs (now (block .entry)) (now (numbers .entry)) (now (images .entry)) → means r ≡ told (firstOpen (problemWith b (now (block .entry))))) ⌝ }
 {
@@ -157,9 +155,9 @@ fn test(block: &[u8], numbers: &[u64; 2432], images: &mut [u8; 26112]) -> Answer
 pub fn closed(sheet: &[u8], pairs: &[u8], block: &[u8]) -> Answer
     ensures { λ r. ⌜ CallClosed (now (sheet .entry)) (now (pairs .entry)) (now (block .entry)) r ⌝ }
 {
-    let mut numbers = [0u64; 2432];
-    let mut supports = [0u16; 8192];
-    let mut images = [0u8; 26112];
+    let mut numbers = [0u64; NUMBERS];
+    let mut supports = [0u16; SUPPORTS];
+    let mut images = [0u8; IMAGES];
     let mut order = [0u8; 16];
     let asked = lent::ask(
         sheet,

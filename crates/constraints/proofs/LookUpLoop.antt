@@ -20,7 +20,7 @@ use Rattle.model.specs.Pruning.{Sets}
 use Rattle.model.proofs.Masks.{has-one}
 use Rattle.model.proofs.Members.{has-0, low-has, or-i, or-e, and-e, rest-e}
 use Rattle.model.proofs.Firsts.{take-full}
-use Rattle.layout.specs.Places.{SCOPES, OTHERS, DEAD}
+use Rattle.layout.specs.Places.{SCOPES, OTHERS, DEAD, SUPPORTS}
 use Rattle.layout.specs.Layout.{constraintAt}
 use Rattle.layout.specs.Pruning.{setsOf}
 use Rattle.layout.proofs.Links.{good}
@@ -57,7 +57,7 @@ module _ {p : Problem} {numbers supports ds : List ℕ} {k v : ℕ} (g : Constra
   look-first = look-scoped .inside _ (List·Memᴰ·head refl)
 
   -- the third variable, and the place of its values in the table
-  pub look-place : (u : ℕ) → u ≡ lowestOf (at ds (at numbers (SCOPES + k) / 256 % 256)) → (at numbers (SCOPES + k) / 16777216 % 256 < 16) × (256 * k + 16 * u + v < 8192)
+  pub look-place : (u : ℕ) → u ≡ lowestOf (at ds (at numbers (SCOPES + k) / 256 % 256)) → (at numbers (SCOPES + k) / 16777216 % 256 < 16) × (256 * k + 16 * u + v < SUPPORTS)
   look-place u e = (
     look-scoped .inside _ (List·Memᴰ·tail (List·Memᴰ·tail (List·Memᴰ·head refl))),
     omega (arith, e, u-has look-scoped ds s first (second .0) .1, has-lt 16 (at ds y) v (s .1 y) (second .1), look-scoped .room),

@@ -1,8 +1,10 @@
 // Pruning by single constraints (paper 01, "The search"), over the arrays of the compiled problem.
 use layout::DEAD;
+use layout::Numbers;
 use layout::OTHERS;
 use layout::SCOPES;
 use layout::SPREAD;
+use layout::Supports;
 use layout::UNIONS;
 use layout::VALUES;
 use model::ValueSet;
@@ -17,7 +19,7 @@ ghost use Rattle.model.specs.Lists.{at};
 ghost use Rattle.model.specs.ValueSets.{oneIf};
 ghost use Rattle.model.specs.Problem.{Problem, Constraint};
 ghost use Rattle.model.specs.Pruning.{Sets};
-ghost use Rattle.layout.specs.Places.{SCOPES, VALUES};
+ghost use Rattle.layout.specs.Places.{SCOPES, VALUES, NUMBERS, SUPPORTS};
 ghost use Rattle.layout.specs.Layout.{constraintAt};
 ghost use Rattle.layout.specs.Tables.{Words};
 ghost use Rattle.constraints.specs.Revised.{Revision, ConstraintsPending, Constrained};
@@ -64,8 +66,8 @@ pub fn moved(a: ValueSet, b: ValueSet, x: usize) -> u64
 }
 
 // The values of a and of b that go together with one of the other set, by the sixteen sets of the table from a base on.
-fn joined(supports: &[u16; 8192], base: usize, a: ValueSet, b: ValueSet) -> Two
-    requires { ⌜ base + 16 ≤ 8192 ⌝ }
+fn joined(supports: &Supports, base: usize, a: ValueSet, b: ValueSet) -> Two
+    requires { ⌜ base + 16 ≤ SUPPORTS ⌝ }
     ensures { λ r. ⌜ Joined (now (supports .entry)) base (a .bits) (b .bits) (r .first .bits) (r .last .bits) ⌝ }
 {
     let mut first = ValueSet::EMPTY;
@@ -85,8 +87,8 @@ fn joined(supports: &[u16; 8192], base: usize, a: ValueSet, b: ValueSet) -> Two
 }
 
 // The same for three sets, by 256 sets of the table.
-fn joined3(supports: &[u16; 8192], base: usize, a: ValueSet, b: ValueSet, e: ValueSet) -> Three
-    requires { ⌜ base + 256 ≤ 8192 ⌝ }
+fn joined3(supports: &Supports, base: usize, a: ValueSet, b: ValueSet, e: ValueSet) -> Three
+    requires { ⌜ base + 256 ≤ SUPPORTS ⌝ }
     ensures { λ r. ⌜ Joined3 (Together3 (now (supports .entry)) base (a .bits) (b .bits) (e .bits)) (r .first .bits) (r .second .bits) (r .last .bits) ⌝ }
 {
     let mut first = ValueSet::EMPTY;
@@ -146,8 +148,8 @@ fn heads(w: u64) -> u64
 
 // In each lane of b the values of e that go together with that lane's value and some value of a, by the unions from a base on: those of the lower four
 // values and those of the upper four.
-fn in_lanes(numbers: &[u64; 2432], base: usize, a: ValueSet, b: ValueSet, e: ValueSet) -> u64
-    requires { ⌜ base + 32 ≤ 2432 ⌝ }
+fn in_lanes(numbers: &Numbers, base: usize, a: ValueSet, b: ValueSet, e: ValueSet) -> u64
+    requires { ⌜ base + 32 ≤ NUMBERS ⌝ }
     requires { ⌜ (a .bits < 256) × (b .bits < 256) × (e .bits < 256) ⌝ }
     requires { ⌜ ((supports : List ℕ) × Words (now numbers) supports) ⌝ }
     ensures { λ r. ⌜ ((lane : ℕ → ℕ → ℕ) → Halves (now (numbers .entry)) base lane → InLanes (a .bits) (b .bits) (e .bits) lane r) ⌝ }
@@ -158,7 +160,7 @@ fn in_lanes(numbers: &[u64; 2432], base: usize, a: ValueSet, b: ValueSet, e: Val
 }
 
 // Whether the lanes that are not empty are those of b.
-fn fills(numbers: &[u64; 2432], w: u64, b: ValueSet) -> bool
+fn fills(numbers: &Numbers, w: u64, b: ValueSet) -> bool
     requires { ⌜ b .bits < 256 ⌝ }
     requires { ⌜ ((supports : List ℕ) × Words (now numbers) supports) ⌝ }
     ensures { λ r. ⌜ (r ≡ true → FullLanes w (b .bits)) ⌝ }
@@ -167,8 +169,8 @@ fn fills(numbers: &[u64; 2432], w: u64, b: ValueSet) -> bool
 }
 
 // Whether every value of two sets goes together with some of the other, by the sixteen sets of the table from a base on.
-fn quiet16(supports: &[u16; 8192], base: usize, b: ValueSet, e: ValueSet) -> bool
-    requires { ⌜ base + 16 ≤ 8192 ⌝ }
+fn quiet16(supports: &Supports, base: usize, b: ValueSet, e: ValueSet) -> bool
+    requires { ⌜ base + 16 ≤ SUPPORTS ⌝ }
     ensures { λ r. ⌜ (r ≡ true → Joined (now (supports .entry)) base (b .bits) (e .bits) (b .bits) (e .bits)) ⌝ }
 {
     let mut all = 0u16;
@@ -185,10 +187,10 @@ fn quiet16(supports: &[u16; 8192], base: usize, b: ValueSet, e: ValueSet) -> boo
 }
 
 // Prunes one set by a set of the table.
-fn revise_one(sets: &mut [u16; 16], supports: &[u16; 8192], offset: usize, x: usize) -> u64
+fn revise_one(sets: &mut [u16; 16], supports: &Supports, offset: usize, x: usize) -> u64
     requires { ⌜ Sets 16 (now sets) ⌝ }
     requires { ⌜ x < 16 ⌝ }
-    requires { ⌜ offset < 8192 ⌝ }
+    requires { ⌜ offset < SUPPORTS ⌝ }
     ensures { λ r. ⌜ SetCut (now (sets .entry)) (now (sets .exit)) x (bitAnd (at (now (sets .entry)) x) (at (now (supports .entry)) offset)) r ⌝ }
 {
     let a = ValueSet { bits: sets[x] };
@@ -203,7 +205,7 @@ fn revise_one(sets: &mut [u16; 16], supports: &[u16; 8192], offset: usize, x: us
     moved(a, b, x)
 }
 
-fn revise_two(sets: &mut [u16; 16], supports: &[u16; 8192], k: usize, x: usize, y: usize) -> u64
+fn revise_two(sets: &mut [u16; 16], supports: &Supports, k: usize, x: usize, y: usize) -> u64
     requires { ⌜ Sets 16 (now sets) ⌝ }
     requires { ⌜ ((c : Constraint) × Scoped c (now supports) k (x ∷ y ∷ [])) ⌝ }
     ensures { λ r. ⌜ ((c : Constraint) → Scoped c (now (supports .entry)) k (x ∷ y ∷ []) → Revision c (now (sets .entry)) (now (sets .exit)) r) ⌝ }
@@ -224,8 +226,8 @@ fn revise_two(sets: &mut [u16; 16], supports: &[u16; 8192], k: usize, x: usize, 
 // Prunes by constraint number k, whose first set has one value: both ways along the lanes by the second variable.
 fn along(
     sets: &mut [u16; 16],
-    numbers: &[u64; 2432],
-    supports: &[u16; 8192],
+    numbers: &Numbers,
+    supports: &Supports,
     k: usize,
     x: usize,
     y: usize,
@@ -260,7 +262,7 @@ fn along(
 // Prunes by constraint number k, whose first two sets have one value each: one set of the table cuts the third.
 fn revise_last(
     sets: &mut [u16; 16],
-    supports: &[u16; 8192],
+    supports: &Supports,
     k: usize,
     x: usize,
     y: usize,
@@ -303,8 +305,8 @@ fn leave(sets: &mut [u16; 16], x: usize, y: usize, z: usize, t: Three) -> u64
 // Prunes by constraint number k: the first set along the lanes by its variable, the others along those by the second.
 fn across(
     sets: &mut [u16; 16],
-    numbers: &[u64; 2432],
-    supports: &[u16; 8192],
+    numbers: &Numbers,
+    supports: &Supports,
     k: usize,
     x: usize,
     y: usize,
@@ -339,7 +341,7 @@ fn across(
 }
 
 // Prunes by constraint number k, on one or two variables.
-fn revise_few(sets: &mut [u16; 16], numbers: &[u64; 2432], supports: &[u16; 8192], k: usize) -> u64
+fn revise_few(sets: &mut [u16; 16], numbers: &Numbers, supports: &Supports, k: usize) -> u64
     requires { ⌜ Sets 16 (now sets) ⌝ }
     requires { ⌜ (at (now numbers) (SCOPES + k) % 256 ≡ 3 → ⊥) ⌝ }
     requires { ⌜ ((p : Problem) × ConstraintsHeld p (now numbers) (now supports) × (k < length (p .constraints))) ⌝ }
@@ -355,7 +357,7 @@ fn revise_few(sets: &mut [u16; 16], numbers: &[u64; 2432], supports: &[u16; 8192
 }
 
 // Prunes by constraint number k: DEAD where a set would be empty, else the set of the variables whose sets changed.
-fn revise16(sets: &mut [u16; 16], numbers: &[u64; 2432], supports: &[u16; 8192], k: usize) -> u64
+fn revise16(sets: &mut [u16; 16], numbers: &Numbers, supports: &Supports, k: usize) -> u64
     requires { ⌜ Sets 16 (now sets) ⌝ }
     requires { ⌜ ((p : Problem) × ConstraintsHeld p (now numbers) (now supports) × (k < length (p .constraints)) × Nonempty (constraintAt p k .scope) (now sets)) ⌝ }
     ensures { λ r. ⌜ ((p : Problem) → ConstraintsHeld p (now (numbers .entry)) (now (supports .entry)) → k < length (p .constraints) → Revision (constraintAt p k) (now (sets .entry)) (now (sets .exit)) r) ⌝ }
@@ -383,7 +385,7 @@ fn revise16(sets: &mut [u16; 16], numbers: &[u64; 2432], supports: &[u16; 8192],
 }
 
 // The same for sets of values below 8, by numbers of lanes: one where the first set has one value, else two; and no store where nothing is lost.
-fn revise8(sets: &mut [u16; 16], numbers: &[u64; 2432], supports: &[u16; 8192], k: usize) -> u64
+fn revise8(sets: &mut [u16; 16], numbers: &Numbers, supports: &Supports, k: usize) -> u64
     requires { ⌜ Sets 16 (now sets) ⌝ }
     requires { ⌜ ((p : Problem) × ConstraintsHeld p (now numbers) (now supports) × (k < length (p .constraints)) × Nonempty (constraintAt p k .scope) (now sets) × Narrow (constraintAt p k .scope) (now sets)) ⌝ }
     ensures { λ r. ⌜ ((p : Problem) → ConstraintsHeld p (now (numbers .entry)) (now (supports .entry)) → k < length (p .constraints) → Revision (constraintAt p k) (now (sets .entry)) (now (sets .exit)) r) ⌝ }
@@ -407,7 +409,7 @@ fn revise8(sets: &mut [u16; 16], numbers: &[u64; 2432], supports: &[u16; 8192], 
 }
 
 // The constraints, but those pruned by variable, that have one of the changed variables in their scope.
-pub fn touched(numbers: &[u64; 2432], changed: u64) -> u64
+pub fn touched(numbers: &Numbers, changed: u64) -> u64
     ensures { λ r. ⌜ Touched (now (numbers .entry)) changed r ⌝ }
 {
     let mut all = 0u64;
@@ -420,7 +422,7 @@ pub fn touched(numbers: &[u64; 2432], changed: u64) -> u64
 }
 
 // The constraints that have one of the changed variables in their scope and wait for the next round: not number k, nor those left of this one.
-fn waiting(numbers: &[u64; 2432], changed: u64, k: u32, left: u64) -> u64
+fn waiting(numbers: &Numbers, changed: u64, k: u32, left: u64) -> u64
     requires { ⌜ k < 64 ⌝ }
     ensures { λ r. ⌜ Waiting (now (numbers .entry)) changed k left r ⌝ }
 {
@@ -438,12 +440,7 @@ fn round(due: u64, soon: u64) -> u64
 
 // Prunes by the constraints of todo, and again by those that have a changed variable in their scope, until nothing moves.
 // One that must be pruned by again waits for the next round.
-fn constrain16(
-    sets: &mut [u16; 16],
-    numbers: &[u64; 2432],
-    supports: &[u16; 8192],
-    todo: u64,
-) -> u64
+fn constrain16(sets: &mut [u16; 16], numbers: &Numbers, supports: &Supports, todo: u64) -> u64
     requires { ⌜ ((p : Problem) × ConstraintsPending p (now numbers) (now supports) (now sets) todo) ⌝ }
     ensures { λ r. ⌜ ((p : Problem) → ConstraintsPending p (now (numbers .entry)) (now (supports .entry)) (now (sets .entry)) todo → Constrained p (now (sets .entry)) (now (sets .exit)) r) ⌝ }
 {
@@ -474,8 +471,8 @@ fn constrain16(
 // The same for values below 8. A constraint that has none of the settled variables waits for those that have one: scopes ascend, so their first is settled.
 fn constrain8(
     sets: &mut [u16; 16],
-    numbers: &[u64; 2432],
-    supports: &[u16; 8192],
+    numbers: &Numbers,
+    supports: &Supports,
     todo: u64,
     settled: u64,
 ) -> u64
@@ -514,8 +511,8 @@ fn constrain8(
 // Prunes by the constraints of todo until nothing moves. The settled variables say which come first, where the values are below 8.
 pub fn constrain(
     sets: &mut [u16; 16],
-    numbers: &[u64; 2432],
-    supports: &[u16; 8192],
+    numbers: &Numbers,
+    supports: &Supports,
     todo: u64,
     settled: u64,
 ) -> u64
@@ -529,13 +526,7 @@ pub fn constrain(
 }
 
 // Prunes by constraint number k on three variables, whose first two sets have one value each, the second the value v.
-fn look_up(
-    sets: &mut [u16; 16],
-    numbers: &[u64; 2432],
-    supports: &[u16; 8192],
-    k: usize,
-    v: usize,
-) -> u64
+fn look_up(sets: &mut [u16; 16], numbers: &Numbers, supports: &Supports, k: usize, v: usize) -> u64
     requires { ⌜ Sets 16 (now sets) ⌝ }
     requires { ⌜ ((p : Problem) × ConstraintsHeld p (now numbers) (now supports) × LookUp p (now sets) k v) ⌝ }
     ensures { λ r. ⌜ ((p : Problem) → ConstraintsHeld p (now (numbers .entry)) (now (supports .entry)) → LookUp p (now (sets .entry)) k v → Revision (constraintAt p k) (now (sets .entry)) (now (sets .exit)) r) ⌝ }
@@ -550,8 +541,8 @@ fn look_up(
 // The same for each constraint of `some`, once: DEAD where a set would be empty, else the set of the variables whose sets changed.
 pub fn look_ups(
     sets: &mut [u16; 16],
-    numbers: &[u64; 2432],
-    supports: &[u16; 8192],
+    numbers: &Numbers,
+    supports: &Supports,
     some: u64,
     v: usize,
 ) -> u64

@@ -15,7 +15,7 @@ use Rattle.order.specs.Reordered.{write}
 use Rattle.order.specs.RunBy.{resultBy}
 use Rattle.order.proofs.LeadersBy.{ordering-below, reordered-below}
 use Rattle.order.proofs.RunBy.{same-result}
-use Rattle.layout.specs.Places.{LIMIT, ROOM, PLANS, DEEPER}
+use Rattle.layout.specs.Places.{LIMIT, ROOM, PLANS, DEEPER, NUMBERS}
 use Rattle.layout.specs.Layout.{Compiled}
 use Rattle.walk.specs.Walk.{noNodes, tallyBy}
 use Rattle.walk.specs.Pair.{ListRoom, AtPrefix}
@@ -29,7 +29,7 @@ module _ (p : Problem) (stack work supports tables numbers images list : List �
   same₀ : (i : ℕ) → i < LIMIT → at bounded i ≡ at numbers i
   same₀ i l = ap (λ (l : List ℕ). at l i) put ∙ at-set-other (set numbers LIMIT limit) ROOM 4096 i (λ e. omega arith) ∙ at-set-other numbers LIMIT limit i (λ e. omega arith)
 
-  long₀ : length bounded ≡ 2432
+  long₀ : length bounded ≡ NUMBERS
   long₀ = ap length put ∙ length-set (set numbers LIMIT limit) ROOM 4096 ∙ length-set numbers LIMIT limit ∙ h .long
 
   at-limit : at bounded LIMIT ≡ limit

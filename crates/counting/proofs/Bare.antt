@@ -19,7 +19,7 @@ use Rattle.model.proofs.Lists.{at-set}
 use Rattle.order.specs.Reordered.{constraintIn}
 use Rattle.order.specs.RunBy.{resultBy}
 use Rattle.order.proofs.Reordered.{well-reordered}
-use Rattle.layout.specs.Places.{VARIABLES, SYMMETRIES, PLANS, ALL, SPENT, FULL}
+use Rattle.layout.specs.Places.{VARIABLES, SYMMETRIES, PLANS, ALL, SPENT, FULL, STACK, TABLES, WORK}
 use Rattle.layout.specs.Layout.{Compiled}
 use Rattle.block.proofs.Tables.{well-formed-with}
 use Rattle.lent.specs.Lent.{verdictLent, problemWith, orderLent, problemLent}
@@ -120,8 +120,8 @@ module _ (b pairs block : List ℕ) (symmetries : ℕ) (stack work supports tabl
         ∙ ap (λ (v : Verdict). toldFor v (familiesLent b pairs block limit (4096 * problemOf b .variables))) (sym (h .put .verdict))
 
 -- new arrays to write on
-pub new-whole : (b pairs block numbers supports images : List ℕ) (n : ℕ) → Put b pairs block numbers supports images n → Whole b pairs block n (replicate 208 0) (replicate 256 0) supports (replicate 55296 0) numbers images
-new-whole b pairs block numbers supports images n h = record { put = h; writable = record { stack-length = zeros 208 .sized; work-length = zeros 256 .sized; tables-length = zeros 55296 .sized } }
+pub new-whole : (b pairs block numbers supports images : List ℕ) (n : ℕ) → Put b pairs block numbers supports images n → Whole b pairs block n (replicate STACK 0) (replicate WORK 0) supports (replicate TABLES 0) numbers images
+new-whole b pairs block numbers supports images n h = record { put = h; writable = record { stack-length = zeros STACK .sized; work-length = zeros WORK .sized; tables-length = zeros TABLES .sized } }
 
 -- a refusal is that of the run
 pub counted-refused : (b pairs block : List ℕ) (limit i j : ℕ) → refused i j ≡ verdictLent b pairs block → T.refusal i j ≡ countedLent b pairs block limit

@@ -13,7 +13,7 @@ use Rattle.model.specs.Sheet.{problemOf}
 use Rattle.model.proofs.Lists.{at-set, at-set-other}
 use Rattle.model.proofs.More.{withSymmetries}
 use Rattle.model.proofs.Accepted.{constraints-are}
-use Rattle.layout.specs.Places.{INITIAL, SCOPES, VARIABLES, VALUES, CONSTRAINTS, SYMMETRIES}
+use Rattle.layout.specs.Places.{INITIAL, SCOPES, VARIABLES, VALUES, CONSTRAINTS, SYMMETRIES, NUMBERS}
 use Rattle.layout.specs.Layout.{constraintAt, Numbers, Compiled}
 use Rattle.order.specs.Order.{Ordering, settlingOrder}
 use Rattle.order.specs.Reordered.{reordered, symmetryIn}
@@ -31,7 +31,7 @@ use Rattle.closed.proofs.Testing.{imaged-of, block-passed, passed-of}
 use Rattle.counting.specs.Held as Held
 
 -- with the number of symmetries put they hold the problem with other symmetries
-pub numbers-with : (p : Problem) (gs : List (List ℕ)) (numbers : List ℕ) (n : ℕ) → p .variables ≤ 12 → length (p .constraints) ≤ 32 → length numbers ≡ 2432 → n ≡ length gs → Numbers p numbers → Numbers (withSymmetries p gs) (set numbers SYMMETRIES n)
+pub numbers-with : (p : Problem) (gs : List (List ℕ)) (numbers : List ℕ) (n : ℕ) → p .variables ≤ 12 → length (p .constraints) ≤ 32 → length numbers ≡ NUMBERS → n ≡ length gs → Numbers p numbers → Numbers (withSymmetries p gs) (set numbers SYMMETRIES n)
 numbers-with p gs numbers n f few long e c = record {
   touching = λ x k l h. subst (λ (s : ℕ). has s k ≡ any (eqb x) (constraintAt p k .scope)) (sym (same x (λ e. omega arith))) (c .touching x k l h);
   touching-few = λ x l. subst (λ (s : ℕ). s < 2 ^ length (p .constraints)) (sym (same x (λ e. omega arith))) (c .touching-few x l);

@@ -11,7 +11,7 @@ use Rattle.model.specs.Verdict.{Verdict, accepted, refused, isAccepted}
 use Rattle.model.specs.Sheet.{verdictOf, problemOf}
 use Rattle.model.specs.Run.{Ending, ended, plansIn, resultOf, answerFor, answerOf, listFor, listOf, Tally}
 use Rattle.model.proofs.Accepted.{passed, well-formed, constraints-are, symmetries-are}
-use Rattle.layout.specs.Places.{VARIABLES, PLANS}
+use Rattle.layout.specs.Places.{VARIABLES, PLANS, STACK, TABLES, WORK}
 use Rattle.figure.specs.Figure.{reportFigure}
 use Rattle.sheet.specs.Form.{Compilation}
 use Rattle.sheet.specs.Meaning as S
@@ -48,13 +48,13 @@ module _ (b : List ℕ) (limit : ℕ) (numbers supports images : List ℕ) (v : 
     room-is : length list ≡ 4096 * problemOf b .variables
     room-is = long ∙ ap (λ (k : ℕ). 4096 * k) (c .compiled is .numbered .variables)
 
-    pub report-runs : Runs (problemOf b) (replicate 208 0) (replicate 256 0) supports (replicate 55296 0) numbers images list
+    pub report-runs : Runs (problemOf b) (replicate STACK 0) (replicate WORK 0) supports (replicate TABLES 0) numbers images list
     report-runs = record {
       compiled = c .compiled is;
       limits = record { wellFormed = well-formed b good; constraints = let l = few-constraints in omega arith; symmetries = let l = symmetries-are b in let f = passed b good .header .symmetries in omega arith };
       long = c .sizes is .numbers-length;
-      writable = record { stack-length = zeros 208 .sized; work-length = zeros 256 .sized; tables-length = zeros 55296 .sized };
-      begun = zeros 256 .blank PLANS;
+      writable = record { stack-length = zeros STACK .sized; work-length = zeros WORK .sized; tables-length = zeros TABLES .sized };
+      begun = zeros WORK .blank PLANS;
       lent = room-is;
     }
 

@@ -10,7 +10,7 @@ use Rattle.model.specs.Sheet.{verdictOf, problemOf}
 use Rattle.model.specs.Run.{plansIn, nodesIn, resultOf, written, Tally}
 use Rattle.lent.specs.Lent.{verdictLent, problemLent}
 use Rattle.lent.specs.Compile.{WithinLimits}
-use Rattle.layout.specs.Places.{LIMIT, PLANS}
+use Rattle.layout.specs.Places.{LIMIT, PLANS, NUMBERS}
 use Rattle.layout.specs.Layout.{Compiled}
 use Rattle.walk.specs.Walk.{stopIn}
 use Rattle.explore.specs.Begun.{Writable}
@@ -34,7 +34,7 @@ pub record Roomy (b : List ℕ) (n : ℕ) (list : List ℕ) : Type 0 where
 pub record Runs (p : Problem) (stack work supports tables numbers images list : List ℕ) : Type 0 where
   pub compiled : Compiled p numbers supports images
   pub limits : WithinLimits p
-  pub long : length numbers ≡ 2432
+  pub long : length numbers ≡ NUMBERS
   pub writable : Writable stack work tables
   pub begun : at work PLANS ≡ 0
   pub lent : length list ≡ 4096 * p .variables
@@ -46,7 +46,7 @@ pub record Ran (p : Problem) (limit : ℕ) (numbers list stack′ work′ tables
   pub stopped : stop ≡ stopIn (resultOf p limit (length list) .ending)
   pub wrote : list′ ≡ written (resultOf p limit (length list) .rows) list
   pub same : (i : ℕ) → i < LIMIT → at numbers′ i ≡ at numbers i
-  pub long : length numbers′ ≡ 2432
+  pub long : length numbers′ ≡ NUMBERS
   pub writable : Writable stack′ work′ tables′
 
 -- ---- the count
@@ -54,7 +54,7 @@ pub record Ran (p : Problem) (limit : ℕ) (numbers list stack′ work′ tables
 pub record Put (b pairs block numbers supports images : List ℕ) (symmetries : ℕ) : Type 0 where
   pub verdict : verdictLent b pairs block ≡ accepted
   pub compiled : Compiled (problemLent b pairs block) numbers supports images
-  pub long : length numbers ≡ 2432
+  pub long : length numbers ≡ NUMBERS
   pub all : symmetries ≡ length (problemLent b pairs block .symmetries)
   pub few : symmetries ≤ 136
 
@@ -68,7 +68,7 @@ pub record Whole (b pairs block : List ℕ) (symmetries : ℕ) (stack work suppo
 pub record Listed (b : List ℕ) (limit : ℕ) (stack work supports tables numbers images : List ℕ) (stop : ℕ) : Type 0 where
   pub verdict : verdictOf b ≡ accepted
   pub compiled : Compiled (problemOf b) numbers supports images
-  pub long : length numbers ≡ 2432
+  pub long : length numbers ≡ NUMBERS
   pub writable : Writable stack work tables
   pub plans : at work PLANS ≡ plansIn (resultOf (problemOf b) limit (4096 * problemOf b .variables) .ending)
   pub stopped : stop ≡ stopIn (resultOf (problemOf b) limit (4096 * problemOf b .variables) .ending)

@@ -12,9 +12,21 @@ ghost use Rattle.figure.specs.Figure.{reportFigure, familiesLent};
 ghost use Rattle.counting.specs.Told.{countedLent, told, means};
 ghost use Rattle.counting.specs.Held.{Roomy, Runs, Ran, Put, Whole, Listed, RunTold};
 use layout::ALL;
+use layout::IMAGES;
+use layout::Images;
+use layout::NUMBERS;
+use layout::Numbers;
 use layout::PLANS;
+use layout::STACK;
+use layout::SUPPORTS;
 use layout::SYMMETRIES;
+use layout::Stack;
+use layout::Supports;
+use layout::TABLES;
+use layout::Tables;
 use layout::VARIABLES;
+use layout::WORK;
+use layout::Work;
 use settle::CountedPart;
 
 // The number of families, the dash, or the refusal of a run.
@@ -42,9 +54,9 @@ pub fn plan_room() -> [u8; 49152]
 fn put_images(
     pairs: &[u8],
     block: &[u8],
-    numbers: &mut [u64; 2432],
-    supports: &mut [u16; 8192],
-    images: &mut [u8; 26112],
+    numbers: &mut Numbers,
+    supports: &mut Supports,
+    images: &mut Images,
     order: &[u8; 16],
 ) -> usize
     requires { ⌜ ((b : List ℕ) × AskedLent b (now pairs) (now block) (now numbers) (now supports) (now images) (now order) Accepted) ⌝ }
@@ -60,12 +72,12 @@ fn put_images(
 
 // The run of the problem in the arrays, which has no block, with room for 4,096 plans: its rows go by position, and the compiled problem stays.
 fn run_arrays(
-    stack: &mut [u16; 208],
-    work: &mut [u64; 256],
-    supports: &[u16; 8192],
-    tables: &mut [u16; 55296],
-    numbers: &mut [u64; 2432],
-    images: &[u8; 26112],
+    stack: &mut Stack,
+    work: &mut Work,
+    supports: &Supports,
+    tables: &mut Tables,
+    numbers: &mut Numbers,
+    images: &Images,
     limit: u32,
     list: &mut [u8],
 ) -> CountedPart
@@ -81,12 +93,12 @@ fn run_arrays(
 
 // The families of the problem in the arrays, whose symmetries have their images: the run without symmetries, and where it is finished the count.
 fn figure(
-    stack: &mut [u16; 208],
-    work: &mut [u64; 256],
-    supports: &[u16; 8192],
-    tables: &mut [u16; 55296],
-    numbers: &mut [u64; 2432],
-    images: &[u8; 26112],
+    stack: &mut Stack,
+    work: &mut Work,
+    supports: &Supports,
+    tables: &mut Tables,
+    numbers: &mut Numbers,
+    images: &Images,
     n: usize,
     symmetries: usize,
     limit: u32,
@@ -107,12 +119,12 @@ fn figure(
 
 // The same with room of its own.
 fn counted(
-    stack: &mut [u16; 208],
-    work: &mut [u64; 256],
-    supports: &[u16; 8192],
-    tables: &mut [u16; 55296],
-    numbers: &mut [u64; 2432],
-    images: &[u8; 26112],
+    stack: &mut Stack,
+    work: &mut Work,
+    supports: &Supports,
+    tables: &mut Tables,
+    numbers: &mut Numbers,
+    images: &Images,
     symmetries: usize,
     limit: u32,
 ) -> Answer
@@ -141,12 +153,12 @@ fn counted(
 pub fn families(sheet: &[u8], pairs: &[u8], block: &[u8], limit: u32) -> Answer
     ensures { λ r. ⌜ means r ≡ countedLent (now (sheet .entry)) (now (pairs .entry)) (now (block .entry)) limit ⌝ }
 {
-    let mut stack = [0u16; 208];
-    let mut work = [0u64; 256];
-    let mut supports = [0u16; 8192];
-    let mut tables = [0u16; 55296];
-    let mut numbers = [0u64; 2432];
-    let mut images = [0u8; 26112];
+    let mut stack = [0u16; STACK];
+    let mut work = [0u64; WORK];
+    let mut supports = [0u16; SUPPORTS];
+    let mut tables = [0u16; TABLES];
+    let mut numbers = [0u64; NUMBERS];
+    let mut images = [0u8; IMAGES];
     let mut order = [0u8; 16];
     let verdict = lent::ask(
         sheet,
@@ -184,12 +196,12 @@ pub fn families(sheet: &[u8], pairs: &[u8], block: &[u8], limit: u32) -> Answer
 
 // The figure of a report whose run stopped so. Without symmetries its plans are the families, and there is no second run.
 fn report_figure(
-    stack: &mut [u16; 208],
-    work: &mut [u64; 256],
-    supports: &[u16; 8192],
-    tables: &mut [u16; 55296],
-    numbers: &mut [u64; 2432],
-    images: &[u8; 26112],
+    stack: &mut Stack,
+    work: &mut Work,
+    supports: &Supports,
+    tables: &mut Tables,
+    numbers: &mut Numbers,
+    images: &Images,
     stop: u8,
     limit: u32,
 ) -> Answer
@@ -220,12 +232,12 @@ pub fn report_run(sheet: &[u8], limit: u32, list: &mut [u8]) -> ReportRun
     requires { ⌜ length (now list) ≡ 49152 ⌝ }
     ensures { λ r. ⌜ RunTold (now (sheet .entry)) limit (now (list .entry)) r (now (list .exit)) ⌝ }
 {
-    let mut stack = [0u16; 208];
-    let mut work = [0u64; 256];
-    let mut supports = [0u16; 8192];
-    let mut tables = [0u16; 55296];
-    let mut numbers = [0u64; 2432];
-    let mut images = [0u8; 26112];
+    let mut stack = [0u16; STACK];
+    let mut work = [0u64; WORK];
+    let mut supports = [0u16; SUPPORTS];
+    let mut tables = [0u16; TABLES];
+    let mut numbers = [0u64; NUMBERS];
+    let mut images = [0u8; IMAGES];
     let verdict = sheet::compile(sheet, &mut numbers, &mut supports, &mut images);
     match verdict {
         sheet::Answer::Accepted => {

@@ -20,7 +20,7 @@ use Rattle.order.specs.Order.{Ordering}
 use Rattle.order.proofs.LeadersBy.{ordering-below, below-at}
 use Rattle.block.specs.BlockSets.{BlockIn}
 use Rattle.lent.specs.Compile.{WithinLimits}
-use Rattle.layout.specs.Places.{SCOPES, VARIABLES, VALUES, CONSTRAINTS, SYMMETRIES, LIMIT, ROOM, LINKED, BY-ROWS, OTHERS, LOOSE, ORDER, BLOCK, LOOKS, SPREAD, UNIONS, PLANS, ALL, DEEPER}
+use Rattle.layout.specs.Places.{SCOPES, VARIABLES, VALUES, CONSTRAINTS, SYMMETRIES, LIMIT, ROOM, LINKED, BY-ROWS, OTHERS, LOOSE, ORDER, BLOCK, LOOKS, SPREAD, UNIONS, PLANS, ALL, DEEPER, NUMBERS, STACK, TABLES, WORK}
 use Rattle.layout.specs.Layout.{Numbers, Compiled}
 use Rattle.layout.specs.Tables.{Linked, UnionOf, Words, Indexed}
 use Rattle.index.specs.Index.{Compact, Made}
@@ -89,7 +89,7 @@ below-taken n bytes l h =
     (λ k m. let j : k < n = omega (arith, length-take-le n bytes l) in at-take n bytes k j ∙ h k j ∙ sym (below-at n k j))
 
 -- with no block, and the variables in their own order, p is laid alone
-pub laid-alone : (p : Problem) (numbers supports images bytes : List ℕ) → Compiled p numbers supports images → WithinLimits p → length numbers ≡ 2432 → (length bytes ≡ 16) × ((k : ℕ) → k < 16 → at bytes k ≡ k) →
+pub laid-alone : (p : Problem) (numbers supports images bytes : List ℕ) → Compiled p numbers supports images → WithinLimits p → length numbers ≡ NUMBERS → (length bytes ≡ 16) × ((k : ℕ) → k < 16 → at bytes k ≡ k) →
     Laid p p (below (p .variables)) numbers supports images bytes 0
 laid-alone p numbers supports images bytes c f long placed = record {
   compiled = c;
@@ -119,7 +119,7 @@ module _ (p own : Problem) (order numbers supports images bytes : List ℕ) (pos
   same-variables : p .variables ≡ own .variables
   same-variables = ap (λ (q : Problem). q .variables) (h .own-is)
 
-  pub compact : (tables : List ℕ) → length tables ≡ 55296 → Compact own numbers supports images tables
+  pub compact : (tables : List ℕ) → length tables ≡ TABLES → Compact own numbers supports images tables
   compact tables lt = record {
     compiled = h .compiled;
     wellFormed = fits .wellFormed;
@@ -142,10 +142,10 @@ module _ (p own : Problem) (order numbers supports images bytes : List ℕ) (pos
     first : (i : ℕ) → i < LINKED → at numbers′ i ≡ at numbers i
     first i l = low i (omega arith) ∙ made .kept i l
 
-    indexed-length : length indexed ≡ 2432
+    indexed-length : length indexed ≡ NUMBERS
     indexed-length = made .numbers-length ∙ h .long
 
-    numbers-long : length numbers′ ≡ 2432
+    numbers-long : length numbers′ ≡ NUMBERS
     numbers-long = ap length orders ∙ length-set (ordered bytes 12 indexed) BLOCK positions ∙ length-ordered bytes 12 indexed ∙ indexed-length
 
     few : p .variables ≤ 12
@@ -161,7 +161,7 @@ module _ (p own : Problem) (order numbers supports images bytes : List ℕ) (pos
     own-in : ownIn p numbers′ ≡ own
     own-in = ap (λ (n : ℕ). withOrderings p (take n (p .symmetries))) (first SYMMETRIES (omega arith) ∙ h .compiled .numbered .symmetries) ∙ h .own-is
 
-    pub ready : (stack work : List ℕ) → length stack ≡ 208 → length work ≡ 256 → Ready (ownIn p numbers′) (p .symmetries) stack work supports tables′ numbers′
+    pub ready : (stack work : List ℕ) → length stack ≡ STACK → length work ≡ WORK → Ready (ownIn p numbers′) (p .symmetries) stack work supports tables′ numbers′
     ready stack work ls lw = subst (λ (r : Problem). Ready r (p .symmetries) stack work supports tables′ numbers′) (sym own-in) record {
       indexed = indexed-kept own indexed numbers′ supports tables′ (fits .wellFormed .few) (fits .constraints) low high (made .indexed);
       wellFormed = fits .wellFormed;

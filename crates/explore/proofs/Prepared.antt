@@ -20,7 +20,7 @@ use Rattle.lent.specs.Lent.{verdictLent, orderLent, problemLent}
 use Rattle.lent.specs.Compile.{WithinLimits, CompiledLent}
 use Rattle.lent.proofs.Lent.{passed-all}
 use Rattle.lent.proofs.Blocked.{own-first, block-walked, block-inside}
-use Rattle.layout.specs.Places.{VARIABLES, LIMIT, ROOM, PLANS, NUMBER, ITEM, REFUSED}
+use Rattle.layout.specs.Places.{VARIABLES, LIMIT, ROOM, PLANS, NUMBER, ITEM, REFUSED, NUMBERS, WORK}
 use Rattle.layout.specs.Layout.{Compiled}
 use Rattle.sheet.specs.Meaning as S
 use Rattle.sheet.specs.declared.Answer.{Answer as Verdicts}
@@ -59,7 +59,7 @@ module _ (b pairs block : List ℕ) (numbers supports images bytes : List ℕ) (
     kept₀ : (i : ℕ) → i < 68 → at bounded i ≡ at numbers i
     kept₀ i l = ap (λ (l : List ℕ). at l i) put ∙ at-set-other (set numbers LIMIT limit) ROOM room i (λ e. omega arith) ∙ at-set-other numbers LIMIT limit i (λ e. omega arith)
 
-    long-bounded : length bounded ≡ 2432
+    long-bounded : length bounded ≡ NUMBERS
     long-bounded = ap length put ∙ length-set (set numbers LIMIT limit) ROOM room ∙ length-set numbers LIMIT limit ∙ left .sizes is .numbers-length
 
     pub at-limit : at bounded LIMIT ≡ limit
@@ -151,7 +151,7 @@ module _ (b pairs block : List ℕ) (numbers supports images bytes : List ℕ) (
       step-known : step ≡ REFUSED → ⊥
       step-known z = let y = h .known (λ e. omega arith) in omega arith
 
-pub prepared-refused : (task b pairs block : List ℕ) (limit size number item : ℕ) (stack work supports tables numbers : List ℕ) → verdictLent b pairs block ≡ refused number item → number < 2 ^ 8 → length work ≡ 256 →
+pub prepared-refused : (task b pairs block : List ℕ) (limit size number item : ℕ) (stack work supports tables numbers : List ℕ) → verdictLent b pairs block ≡ refused number item → number < 2 ^ 8 → length work ≡ WORK →
     Prepared task b pairs block limit size stack (set (set work NUMBER number) ITEM item) supports tables numbers REFUSED
 prepared-refused task b pairs block limit size number item stack work supports tables numbers v small long =
     let l = length-set work NUMBER number in

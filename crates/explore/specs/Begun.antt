@@ -13,7 +13,7 @@ use Rattle.model.specs.Run.{Tally}
 use Rattle.order.specs.Order.{Ordering}
 use Rattle.block.specs.BlockSets.{BlockIn}
 use Rattle.lent.specs.Compile.{WithinLimits}
-use Rattle.layout.specs.Places.{LIMIT, ROOM, PLANS, LINKED, ALL, DEEPER}
+use Rattle.layout.specs.Places.{LIMIT, ROOM, PLANS, LINKED, ALL, DEEPER, NUMBERS, STACK, TABLES, WORK}
 use Rattle.layout.specs.Layout.{Compiled}
 use Rattle.prune.specs.Node.{withOrderings}
 use Rattle.walk.specs.Walk.{noNodes}
@@ -24,7 +24,7 @@ use Rattle.walk.specs.Pair.{orderIn, ListRoom, AtPrefix, Walked, tried}
 pub record Laid (p own : Problem) (order numbers supports images bytes : List ℕ) (positions : ℕ) : Type 0 where
   pub compiled : Compiled own numbers supports images
   pub limits : WithinLimits own
-  pub long : length numbers ≡ 2432
+  pub long : length numbers ≡ NUMBERS
   pub bytes-length : length bytes ≡ 16
   pub order-is : take (p .variables) bytes ≡ order
   pub ordering : Ordering (p .variables) order
@@ -34,9 +34,9 @@ pub record Laid (p own : Problem) (order numbers supports images bytes : List �
 
 -- and what is lent to write on
 pub record Writable (stack work tables : List ℕ) : Type 0 where
-  pub stack-length : length stack ≡ 208
-  pub work-length : length work ≡ 256
-  pub tables-length : length tables ≡ 55296
+  pub stack-length : length stack ≡ STACK
+  pub work-length : length work ≡ WORK
+  pub tables-length : length tables ≡ TABLES
 
 -- all that the search of p reads is made: the empty prefix is dead, or the search may begin, with the plans that `work` counts
 pub record Begun (p : Problem) (order numbers work stack′ work′ supports tables′ numbers′ : List ℕ) (step : ℕ) : Type 0 where
@@ -48,7 +48,7 @@ pub record Begun (p : Problem) (order numbers work stack′ work′ supports tab
   pub live : step ≡ DEEPER → at numbers LIMIT < 2 ^ 32 → (list : List ℕ) → ListRoom (p .variables) (at numbers ROOM) list (at work PLANS) →
       AtPrefix p stack′ work′ supports tables′ numbers′ list noNodes 0
   pub writable : Writable stack′ work′ tables′
-  pub long : length numbers′ ≡ 2432
+  pub long : length numbers′ ≡ NUMBERS
 
 -- the tree is walked along, where the step says that there is one
 pub record Ended (stack work supports tables numbers list : List ℕ) (step : ℕ) (stack′ work′ list′ : List ℕ) (tally′ : Tally) (stop : ℕ) : Type 0 where

@@ -10,7 +10,7 @@ use Rattle.model.specs.Search.{isLive}
 use Rattle.model.specs.Verdict.{accepted, refused}
 use Rattle.model.specs.Sheet.{problemOf}
 use Rattle.lent.specs.Lent.{verdictLent, orderLent, problemLent}
-use Rattle.layout.specs.Places.{LIMIT, ROOM, PLANS, NUMBER, ITEM, ALL, DEEPER, REFUSED}
+use Rattle.layout.specs.Places.{LIMIT, ROOM, PLANS, NUMBER, ITEM, ALL, DEEPER, REFUSED, NUMBERS, STACK, SUPPORTS, TABLES, WORK}
 use Rattle.sheet.specs.Form.{Zeros}
 use Rattle.walk.specs.Walk.{noNodes}
 use Rattle.walk.specs.Pair.{orderIn, AtPrefix}
@@ -22,12 +22,12 @@ bytesFor wanted n size = choose (eqb wanted 0) size ((wanted - 1) * n)
 
 -- new arrays but for the task; where plans are asked for, no byte is lent to list them
 pub record Blank (stack work supports tables numbers : List ℕ) (size : ℕ) : Type 0 where
-  pub stack-length : length stack ≡ 208
-  pub work-length : length work ≡ 256
+  pub stack-length : length stack ≡ STACK
+  pub work-length : length work ≡ WORK
   pub none-listed : at work PLANS ≡ 0
-  pub supports-blank : Zeros 8192 supports
-  pub tables-length : length tables ≡ 55296
-  pub numbers-blank : Zeros 2432 numbers
+  pub supports-blank : Zeros SUPPORTS supports
+  pub tables-length : length tables ≡ TABLES
+  pub numbers-blank : Zeros NUMBERS numbers
   pub unlisted : (at work WANTED ≡ 0 → ⊥) → size ≡ 0
 
 -- a refusal's number and item stand in `work`

@@ -1,10 +1,17 @@
 // The run on arrays that are lent: what is made of a sheet, pairs and a block before the search, and the search.
 use layout::ALL;
 use layout::DEEPER;
+use layout::IMAGES;
 use layout::ITEM;
+use layout::Images;
 use layout::NUMBER;
+use layout::Numbers;
 use layout::REFUSED;
+use layout::Stack;
+use layout::Supports;
+use layout::Tables;
 use layout::VARIABLES;
+use layout::Work;
 use settle::CountedPart;
 use walk::Tally;
 ghost use mathlib.Core.Path.{_≡_};
@@ -23,12 +30,12 @@ ghost use Rattle.explore.specs.Explored.{Explored};
 // Makes all that the search reads of the compiled problem, whose limit and room stand among the numbers: ALL where the empty prefix is dead, else DEEPER.
 // `order` has the sheet's variable at each position, `positions` those of the block's variables.
 pub fn begin(
-    stack: &mut [u16; 208],
-    work: &mut [u64; 256],
-    supports: &[u16; 8192],
-    tables: &mut [u16; 55296],
-    numbers: &mut [u64; 2432],
-    images: &[u8; 26112],
+    stack: &mut Stack,
+    work: &mut Work,
+    supports: &Supports,
+    tables: &mut Tables,
+    numbers: &mut Numbers,
+    images: &Images,
     order: &[u8; 16],
     positions: u64,
 ) -> u8
@@ -47,11 +54,11 @@ pub fn begin(
 
 // Walks along the tree, with nothing counted, where the step says that there is one.
 pub fn walk_tree(
-    stack: &mut [u16; 208],
-    work: &mut [u64; 256],
-    supports: &[u16; 8192],
-    tables: &[u16; 55296],
-    numbers: &[u64; 2432],
+    stack: &mut Stack,
+    work: &mut Work,
+    supports: &Supports,
+    tables: &Tables,
+    numbers: &Numbers,
     list: &mut [u8],
     step: u8,
 ) -> CountedPart
@@ -69,11 +76,11 @@ pub fn walk_tree(
 // Puts the questions to what is lent, and makes of it all that the search reads: REFUSED where it is, and its number and item then stand in `work`;
 // ALL where the empty prefix is dead, else DEEPER.
 pub fn prepare(
-    stack: &mut [u16; 208],
-    work: &mut [u64; 256],
-    supports: &mut [u16; 8192],
-    tables: &mut [u16; 55296],
-    numbers: &mut [u64; 2432],
+    stack: &mut Stack,
+    work: &mut Work,
+    supports: &mut Supports,
+    tables: &mut Tables,
+    numbers: &mut Numbers,
     sheet: &[u8],
     pairs: &[u8],
     block: &[u8],
@@ -83,7 +90,7 @@ pub fn prepare(
     requires { ⌜ Blank (now stack) (now work) (now supports) (now tables) (now numbers) size ⌝ }
     ensures { λ r. ⌜ Prepared (now (work .entry)) (now (sheet .entry)) (now (pairs .entry)) (now (block .entry)) limit size (now (stack .exit)) (now (work .exit)) (now (supports .exit)) (now (tables .exit)) (now (numbers .exit)) r ⌝ }
 {
-    let mut images = [0u8; 26112];
+    let mut images = [0u8; IMAGES];
     let mut order = [0u8; 16];
     let verdict = lent::compile(
         sheet,
@@ -121,11 +128,11 @@ pub fn prepare(
 
 // The run on arrays that are lent: the questions, then the search. REFUSED where a question is answered "no", else how the search stopped.
 pub fn explore(
-    stack: &mut [u16; 208],
-    work: &mut [u64; 256],
-    supports: &mut [u16; 8192],
-    tables: &mut [u16; 55296],
-    numbers: &mut [u64; 2432],
+    stack: &mut Stack,
+    work: &mut Work,
+    supports: &mut Supports,
+    tables: &mut Tables,
+    numbers: &mut Numbers,
     sheet: &[u8],
     pairs: &[u8],
     block: &[u8],

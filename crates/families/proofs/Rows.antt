@@ -17,6 +17,7 @@ use Rattle.model.proofs.Obey.{first-i}
 use Rattle.model.proofs.Pairs as P
 use Rattle.model.proofs.Symmetry as S
 use Rattle.layout.specs.Layout.{symmetryAt}
+use Rattle.layout.specs.Places.{IMAGES}
 use Rattle.families.specs.Families.{solutionsOf}
 use Rattle.families.specs.Walk.{solutionAt, imageAt, Between}
 use Rattle.families.specs.Numbered.{keyOf, Keys, Listed, Imaging, Finding, Numbering}
@@ -105,7 +106,7 @@ module _ {p : Problem} {rows images : List ℕ} {variables i k : ℕ} (a : Imagi
     pub imaging-value : at rows (i * variables + x) < 16
     imaging-value = listed-small (a .lent .listed) i (a .solution) x l
 
-    pub imaging-index : 192 * k + 16 * x + at rows (i * variables + x) < 26112
+    pub imaging-index : 192 * k + 16 * x + at rows (i * variables + x) < IMAGES
     imaging-index = let b = imaging-value in let c = imaging-bounds in omega arith
 
     coded : sent rows images variables i k x ≡ 16 * (goes x / p .values) + goes x % p .values

@@ -1,4 +1,5 @@
 // Counts the families of solutions by breadth-first search over their numbers (paper 02, #104).
+use layout::Images;
 ghost use mathlib.Core.Path.{_≡_};
 ghost use mathlib.Core.List.{List};
 ghost use Prim.Native.Nat.{ℕ, _+_, _*_, _<_, _≤_};
@@ -36,7 +37,7 @@ fn fill(rows: &[u8], variables: usize, solutions: usize, keys: &mut [u64; 4096])
 }
 
 // The key of the row to which a symmetry takes a solution: each pair's image is a digit of it.
-fn carry(rows: &[u8], images: &[u8; 26112], variables: usize, i: usize, k: usize) -> u64
+fn carry(rows: &[u8], images: &Images, variables: usize, i: usize, k: usize) -> u64
     requires { ⌜ ((p : Problem) × Imaging p (now rows) (now images) variables i k) ⌝ }
     ensures { λ r. ⌜ ((p : Problem) → Imaging p (now (rows .entry)) (now (images .entry)) variables i k → r ≡ keyOf variables (at (solutionAt p (imageAt p k i)))) ⌝ }
 {
@@ -79,7 +80,7 @@ fn find(keys: &[u64; 4096], key: u64, solutions: usize) -> usize
 // The number of the solution to which a symmetry takes a solution.
 fn image(
     rows: &[u8],
-    images: &[u8; 26112],
+    images: &Images,
     keys: &[u64; 4096],
     variables: usize,
     solutions: usize,
@@ -96,7 +97,7 @@ fn image(
 // Looks at the images of the solution at the head of the queue, and puts those that were not met yet into it; the new tail.
 fn spread(
     rows: &[u8],
-    images: &[u8; 26112],
+    images: &Images,
     keys: &[u64; 4096],
     variables: usize,
     symmetries: usize,
@@ -127,7 +128,7 @@ fn spread(
 // Empties the queue; its tail, which is then its head.
 fn flood(
     rows: &[u8],
-    images: &[u8; 26112],
+    images: &Images,
     keys: &[u64; 4096],
     variables: usize,
     symmetries: usize,
@@ -163,7 +164,7 @@ fn flood(
 // The number of families, given all solutions, ascending, and the images of the pairs under each symmetry. Each solution is taken up once.
 pub fn families(
     rows: &[u8],
-    images: &[u8; 26112],
+    images: &Images,
     variables: usize,
     symmetries: usize,
     solutions: usize,

@@ -16,7 +16,7 @@ use Rattle.model.specs.WellFormed.{WellFormed}
 use Rattle.model.specs.Filling.{Filled}
 use Rattle.model.proofs.Lists.{at-set, at-set-other}
 use Rattle.model.proofs.Sets.{has-lt, has-mask, has-at-lt}
-use Rattle.layout.specs.Places.{INITIAL, SCOPES, VARIABLES, VALUES, CONSTRAINTS, SYMMETRIES, LINKED, BY-ROWS, OTHERS, LOOSE, LOOKS, SPREAD}
+use Rattle.layout.specs.Places.{INITIAL, SCOPES, VARIABLES, VALUES, CONSTRAINTS, SYMMETRIES, LINKED, BY-ROWS, OTHERS, LOOSE, LOOKS, SPREAD, NUMBERS}
 use Rattle.layout.specs.Layout.{Numbers}
 use Rattle.layout.specs.Tables.{goes, Rows, Linked}
 use Rattle.index.specs.Index.{Compact, Made}
@@ -144,15 +144,15 @@ module _ (p : Problem) (n0 supports images t0 : List ℕ) (c : Compact p n0 supp
     link-bounds = (omega (arith, bounds .0, l .kept VARIABLES (omega arith)), omega (arith, bounds .1, l .kept CONSTRAINTS (omega arith)), omega (arith, bounds .2, l .kept SYMMETRIES (omega arith)))
 
     module _ (r : ℕ) where
-      pub looks-bounds : (at (set n1 LOOSE r) CONSTRAINTS ≤ 32) × (length (set n1 LOOSE r) ≡ 2432)
+      pub looks-bounds : (at (set n1 LOOSE r) CONSTRAINTS ≤ 32) × (length (set n1 LOOSE r) ≡ NUMBERS)
       looks-bounds = (omega (arith, link-bounds .1, at-set-other n1 LOOSE r CONSTRAINTS (λ e. omega arith)), length-set n1 LOOSE r ∙ l .size ∙ c .numbers-length)
 
       module _ {P : ℕ → ℕ → Type 0} {n2 : List ℕ} (k : Filled (λ i. LOOKS + i) P 13 (set n1 LOOSE r) n2) where
-        pub spreads-long : length n2 ≡ 2432
+        pub spreads-long : length n2 ≡ NUMBERS
         spreads-long = k .size ∙ looks-bounds .1
 
         module _ {Q : ℕ → ℕ → Type 0} {n3 : List ℕ} (s : Filled (λ b. SPREAD + b) Q 256 n2 n3) where
-          pub unions-long : length n3 ≡ 2432
+          pub unions-long : length n3 ≡ NUMBERS
           unions-long = s .size ∙ spreads-long
 
           pub unions-bounds : {supports n4 : List ℕ} → Unions supports 32 n3 n4 → (at n4 VARIABLES ≤ 12) × (at n4 SYMMETRIES ≤ 16)

@@ -19,7 +19,7 @@ use Rattle.model.proofs.Lists.{T-ext, T-of, of-T, of-not, not-of, both-i, both-
 use Rattle.model.proofs.Sets.{has-none, has-mask, mask-lt, mask-ext, members-i, members-e}
 use Rattle.model.proofs.Masks.{has-or, has-one, union-op}
 use Rattle.model.proofs.Members.{both-no, either-no, one-op}
-use Rattle.layout.specs.Places.{OWN, SMALLER}
+use Rattle.layout.specs.Places.{OWN, SMALLER, TABLES}
 use Rattle.index.specs.Steps.{initialOf, smallerOf, PairStored, VariableStored, EarlierKept, PairsStored, SymmetryStored, SymmetriesStored}
 
 -- ---- the images of the smaller values
@@ -120,7 +120,7 @@ module _ (images : List ℕ) (m from v : ℕ) (old new sets : List ℕ) (room : 
       stored u l t (yes q) = absurd (of-not (has m v) e (subst (λ (z : ℕ). T (has m z)) q t))
       stored u l t (no n) = d .stored u (omega arith) t
 
-  module _ (filled : List ℕ) (r : Filled (λ i. SMALLER + 16 * (from + v) + i) (λ i w. w ≡ at sets i) 16 new filled) (y : ℕ) (img : y ≡ at images (from + v)) (byte : y < 256) (t : T (has m v)) (long : length new ≡ 55296)
+  module _ (filled : List ℕ) (r : Filled (λ i. SMALLER + 16 * (from + v) + i) (λ i w. w ≡ at sets i) 16 new filled) (y : ℕ) (img : y ≡ at images (from + v)) (byte : y < 256) (t : T (has m v)) (long : length new ≡ TABLES)
       (one more : ℕ) (on : one ≡ onlyMask (fullMask 16) (y % 16)) (mo : more ≡ unionMask (at sets (y / 16)) one) where
     kept-here : EarlierKept (from + v) new (set filled (OWN + (from + v)) y)
     kept-here = record {

@@ -17,7 +17,7 @@ use Rattle.model.specs.Filling.{Filled, Gathered}
 use Rattle.model.proofs.Lists.{T-of, among-e, at-set, at-set-other}
 use Rattle.model.proofs.Masks.{has-and, has-not}
 use Rattle.model.proofs.Members.{has-0, and-i}
-use Rattle.layout.specs.Places.{BY-ROWS, CONSTRAINTS, LINKED, LOOSE, OTHERS, VARIABLES}
+use Rattle.layout.specs.Places.{BY-ROWS, CONSTRAINTS, LINKED, LOOSE, OTHERS, VARIABLES, NUMBERS}
 use Rattle.layout.specs.Layout.{constraintAt, Numbers}
 use Rattle.layout.specs.Tables.{byRows}
 use Rattle.layout.proofs.Links.{good}
@@ -32,7 +32,7 @@ meet a b k s t = ap not (ne-eqb (bitAnd a b) 0 (λ e. has-0 k (subst (λ (n : �
 pub scope-below : (p : Problem) → WellFormed p → (k x : ℕ) → k < length (p .constraints) → T (any (eqb x) (constraintAt p k .scope)) → x < p .variables
 scope-below p wf k x h t = good wf k h .inside x (among-e x (constraintAt p k .scope) t)
 
-module _ (old : List ℕ) (m vars : ℕ) (long : length old ≡ 2432) (small : m < 2 ^ 64)
+module _ (old : List ℕ) (m vars : ℕ) (long : length old ≡ NUMBERS) (small : m < 2 ^ 64)
     (gm : (p : Problem) → Numbers p old → Gathered (byRows p) (length (p .constraints)) m)
     (gv : Gathered (λ x. not (eqb (bitAnd (at old x) m) 0)) (at old VARIABLES) vars)
     (new : List ℕ) (r : Filled (λ x. OTHERS + x) (λ x w. w ≡ bitAnd (at (set (set old LINKED vars) BY-ROWS m) x) ((2 ^ 64 - 1) - m)) 16 (set (set old LINKED vars) BY-ROWS m) new) where
@@ -57,7 +57,7 @@ module _ (old : List ℕ) (m vars : ℕ) (long : length old ≡ 2432) (small : m
   first-at : (j : ℕ) → (j ≡ LOOSE → ⊥) → at first j ≡ at new j
   first-at j n = at-set-other new LOOSE 0 j n
 
-  new-long : length new ≡ 2432
+  new-long : length new ≡ NUMBERS
   new-long = r .size ∙ length-set (set old LINKED vars) BY-ROWS m ∙ length-set old LINKED vars ∙ long
 
   none-loose : (x : ℕ) → T (has (at first LOOSE) x) → ⊥

@@ -7,7 +7,7 @@ use lib.ListN.{length}
 use Rattle.model.specs.Lists.{at}
 use Rattle.model.specs.Problem.{Problem}
 use Rattle.model.specs.WellFormed.{WellFormed}
-use Rattle.layout.specs.Places.{LINKED}
+use Rattle.layout.specs.Places.{LINKED, NUMBERS, TABLES}
 use Rattle.layout.specs.Layout.{Compiled}
 use Rattle.layout.specs.Tables.{Indexed}
 
@@ -17,8 +17,8 @@ pub record Compact (p : Problem) (numbers supports images tables : List ℕ) : T
   pub wellFormed : WellFormed p
   pub constraints : length (p .constraints) ≤ 32
   pub symmetries : length (p .symmetries) ≤ 16
-  pub numbers-length : length numbers ≡ 2432
-  pub tables-length : length tables ≡ 55296
+  pub numbers-length : length numbers ≡ NUMBERS
+  pub tables-length : length tables ≡ TABLES
 
 -- the tables are made, and the numbers before LINKED are as they were
 pub record Made (p : Problem) (numbers supports tables numbers′ tables′ : List ℕ) : Type 0 where

@@ -1,8 +1,11 @@
 // For each symmetry and pair its image, and the sets of the images of the variable's smaller values.
 use crate::sets::initial;
+use layout::Images;
+use layout::Numbers;
 use layout::OWN;
 use layout::SMALLER;
 use layout::SYMMETRIES;
+use layout::Tables;
 use layout::VARIABLES;
 use model::ValueSet;
 ghost use mathlib.Core.Path.{_≡_};
@@ -11,12 +14,12 @@ ghost use Prim.Native.Nat.{ℕ, _+_, _≤_, _<_};
 ghost use lib.ListN.{length};
 ghost use Rattle.model.specs.Lists.{at};
 ghost use Rattle.model.specs.Filling.{Filled};
-ghost use Rattle.layout.specs.Places.{VARIABLES, SYMMETRIES};
+ghost use Rattle.layout.specs.Places.{VARIABLES, SYMMETRIES, TABLES};
 ghost use Rattle.index.specs.Steps.{PairsStored, VariableStored, EarlierKept, SymmetryStored, SymmetriesStored};
 
 // Sixteen sets into the tables.
-fn store_sets(tables: &mut [u16; 55296], from: usize, sets: &[u16; 16])
-    requires { ⌜ (from + 16 ≤ 55296) × (length (now tables) ≡ 55296) ⌝ }
+fn store_sets(tables: &mut Tables, from: usize, sets: &[u16; 16])
+    requires { ⌜ (from + 16 ≤ TABLES) × (length (now tables) ≡ TABLES) ⌝ }
     ensures { λ _. ⌜ Filled (λ i. from + i) (λ i r. r ≡ at (now (sets .entry)) i) 16 (now (tables .entry)) (now (tables .exit)) ⌝ }
 {
     let mut i = 0;
@@ -27,7 +30,7 @@ fn store_sets(tables: &mut [u16; 55296], from: usize, sets: &[u16; 16])
 }
 
 // Read by a function, whose result is known to be a byte.
-fn image(images: &[u8; 26112], q: usize) -> u8
+fn image(images: &Images, q: usize) -> u8
     requires { ⌜ q < 3072 ⌝ }
     ensures { λ r. ⌜ r ≡ at (now (images .entry)) q ⌝ }
 {
@@ -36,14 +39,14 @@ fn image(images: &[u8; 26112], q: usize) -> u8
 
 // The pair of value v, if that is in the set m; its image then goes into the sets.
 fn pair(
-    images: &[u8; 26112],
+    images: &Images,
     m: ValueSet,
     from: usize,
     v: u16,
-    tables: &mut [u16; 55296],
+    tables: &mut Tables,
     sets: &mut [u16; 16],
 )
-    requires { ⌜ (from + 16 ≤ 3072) × (v < 16) × (length (now tables) ≡ 55296) × (length (now sets) ≡ 16) ⌝ }
+    requires { ⌜ (from + 16 ≤ 3072) × (v < 16) × (length (now tables) ≡ TABLES) × (length (now sets) ≡ 16) ⌝ }
     ensures { λ _. ⌜ ((old : List ℕ) → PairsStored (now (images .entry)) (m .bits) from v old (now (tables .entry)) (now (sets .entry)) → PairsStored (now (images .entry)) (m .bits) from (v + 1) old (now (tables .exit)) (now (sets .exit))) ⌝ }
 {
     if !m.contains(v) {
@@ -60,8 +63,8 @@ fn pair(
 }
 
 // The pairs of a variable whose initial set is m.
-fn variable(images: &[u8; 26112], m: ValueSet, from: usize, tables: &mut [u16; 55296])
-    requires { ⌜ (from + 16 ≤ 3072) × (length (now tables) ≡ 55296) ⌝ }
+fn variable(images: &Images, m: ValueSet, from: usize, tables: &mut Tables)
+    requires { ⌜ (from + 16 ≤ 3072) × (length (now tables) ≡ TABLES) ⌝ }
     ensures { λ _. ⌜ VariableStored (now (images .entry)) (m .bits) from (now (tables .exit)) × EarlierKept from (now (tables .entry)) (now (tables .exit)) ⌝ }
 {
     let mut sets = [0u16; 16];
@@ -73,8 +76,8 @@ fn variable(images: &[u8; 26112], m: ValueSet, from: usize, tables: &mut [u16; 5
 }
 
 // The pairs of the symmetry whose images start there.
-fn symmetry(numbers: &[u64; 2432], images: &[u8; 26112], from: usize, tables: &mut [u16; 55296])
-    requires { ⌜ (from + 192 ≤ 3072) × (at (now numbers) VARIABLES ≤ 12) × (length (now tables) ≡ 55296) ⌝ }
+fn symmetry(numbers: &Numbers, images: &Images, from: usize, tables: &mut Tables)
+    requires { ⌜ (from + 192 ≤ 3072) × (at (now numbers) VARIABLES ≤ 12) × (length (now tables) ≡ TABLES) ⌝ }
     ensures { λ _. ⌜ SymmetryStored (now (numbers .entry)) (now (images .entry)) from (at (now (numbers .entry)) VARIABLES) (now (tables .entry)) (now (tables .exit)) ⌝ }
 {
     let n = numbers[VARIABLES] as usize;
@@ -86,8 +89,8 @@ fn symmetry(numbers: &[u64; 2432], images: &[u8; 26112], from: usize, tables: &m
 }
 
 // The pairs of every symmetry.
-pub fn image_tables(numbers: &[u64; 2432], images: &[u8; 26112], tables: &mut [u16; 55296])
-    requires { ⌜ (at (now numbers) VARIABLES ≤ 12) × (at (now numbers) SYMMETRIES ≤ 16) × (length (now tables) ≡ 55296) ⌝ }
+pub fn image_tables(numbers: &Numbers, images: &Images, tables: &mut Tables)
+    requires { ⌜ (at (now numbers) VARIABLES ≤ 12) × (at (now numbers) SYMMETRIES ≤ 16) × (length (now tables) ≡ TABLES) ⌝ }
     ensures { λ _. ⌜ SymmetriesStored (now (numbers .entry)) (now (images .entry)) (at (now (numbers .entry)) VARIABLES) (at (now (numbers .entry)) SYMMETRIES) (now (tables .entry)) (now (tables .exit)) ⌝ }
 {
     let g = numbers[SYMMETRIES] as usize;

@@ -1,6 +1,10 @@
 // The search's tables, made once from the compiled problem: constraints on two variables by variable, constraints on three by unions in numbers of
 // eight lanes and by the depth of their look-ups, and for each symmetry and pair the images of the smaller values.
+use layout::Images;
 use layout::LOOSE;
+use layout::Numbers;
+use layout::Supports;
+use layout::Tables;
 ghost use Rattle.model.specs.Problem.{Problem};
 ghost use Rattle.index.specs.Index.{Compact, Made};
 
@@ -14,12 +18,7 @@ mod spreads;
 mod unions;
 mod words;
 
-pub fn index(
-    numbers: &mut [u64; 2432],
-    supports: &[u16; 8192],
-    images: &[u8; 26112],
-    tables: &mut [u16; 55296],
-)
+pub fn index(numbers: &mut Numbers, supports: &Supports, images: &Images, tables: &mut Tables)
     requires { ⌜ ((p : Problem) × Compact p (now numbers) (now supports) (now images) (now tables)) ⌝ }
     ensures { λ _. ⌜ ((p : Problem) → Compact p (now (numbers .entry)) (now (supports .entry)) (now (images .entry)) (now (tables .entry)) → Made p (now (numbers .entry)) (now (supports .entry)) (now (tables .entry)) (now (numbers .exit)) (now (tables .exit))) ⌝ }
 {

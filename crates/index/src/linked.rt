@@ -3,6 +3,7 @@ use crate::sets::one_if;
 use layout::BY_ROWS;
 use layout::CONSTRAINTS;
 use layout::LINKED;
+use layout::Numbers;
 use layout::OTHERS;
 use layout::SCOPES;
 use layout::VARIABLES;
@@ -15,13 +16,13 @@ ghost use lib.ListN.{length};
 ghost use Rattle.model.specs.Lists.{at};
 ghost use Rattle.model.specs.Problem.{Problem};
 ghost use Rattle.model.specs.Filling.{Filled, Gathered};
-ghost use Rattle.layout.specs.Places.{VARIABLES, CONSTRAINTS, OTHERS};
+ghost use Rattle.layout.specs.Places.{VARIABLES, CONSTRAINTS, OTHERS, NUMBERS};
 ghost use Rattle.layout.specs.Layout.{Numbers};
 ghost use Rattle.layout.specs.Tables.{byRows};
 ghost use Rattle.index.specs.Steps.{LinkNumbers};
 
 // Whether constraint k is the first on its two variables: an arity of 2 and two variables are the number's first three bytes.
-fn first(numbers: &[u64; 2432], k: usize) -> bool
+fn first(numbers: &Numbers, k: usize) -> bool
     requires { ⌜ k < 32 ⌝ }
     ensures { λ r. ⌜ ((p : Problem) → Numbers p (now (numbers .entry)) → k < length (p .constraints) → r ≡ byRows p k) ⌝ }
 {
@@ -40,7 +41,7 @@ fn first(numbers: &[u64; 2432], k: usize) -> bool
 }
 
 // The set of all such constraints.
-fn all_first(numbers: &[u64; 2432]) -> u64
+fn all_first(numbers: &Numbers) -> u64
     requires { ⌜ at (now numbers) CONSTRAINTS ≤ 32 ⌝ }
     ensures { λ r. ⌜ ((p : Problem) → Numbers p (now (numbers .entry)) → Gathered (byRows p) (length (p .constraints)) r) ⌝ }
 {
@@ -55,7 +56,7 @@ fn all_first(numbers: &[u64; 2432]) -> u64
 }
 
 // The variables that a constraint of a set has in its scope.
-fn variables_of(numbers: &[u64; 2432], set: u64) -> u64
+fn variables_of(numbers: &Numbers, set: u64) -> u64
     requires { ⌜ at (now numbers) VARIABLES ≤ 12 ⌝ }
     ensures { λ r. ⌜ Gathered (λ x. not (eqb (bitAnd (at (now (numbers .entry)) x) set) 0)) (at (now (numbers .entry)) VARIABLES) r ⌝ }
 {
@@ -70,8 +71,8 @@ fn variables_of(numbers: &[u64; 2432], set: u64) -> u64
 }
 
 // For each variable the constraints outside a set that have it in their scope.
-fn others(numbers: &mut [u64; 2432], set: u64)
-    requires { ⌜ length (now numbers) ≡ 2432 ⌝ }
+fn others(numbers: &mut Numbers, set: u64)
+    requires { ⌜ length (now numbers) ≡ NUMBERS ⌝ }
     ensures { λ _. ⌜ Filled (λ x. OTHERS + x) (λ x r. r ≡ bitAnd (at (now (numbers .entry)) x) ((2 ^ 64 - 1) - set)) 16 (now (numbers .entry)) (now (numbers .exit)) ⌝ }
 {
     let mut x = 0;
@@ -82,8 +83,8 @@ fn others(numbers: &mut [u64; 2432], set: u64)
 }
 
 // The linked variables, the constraints pruned by variable, and each variable's other constraints.
-pub fn linked(numbers: &mut [u64; 2432])
-    requires { ⌜ (at (now numbers) VARIABLES ≤ 12) × (at (now numbers) CONSTRAINTS ≤ 32) × (length (now numbers) ≡ 2432) ⌝ }
+pub fn linked(numbers: &mut Numbers)
+    requires { ⌜ (at (now numbers) VARIABLES ≤ 12) × (at (now numbers) CONSTRAINTS ≤ 32) × (length (now numbers) ≡ NUMBERS) ⌝ }
     ensures { λ _. ⌜ LinkNumbers (now (numbers .entry)) (now (numbers .exit)) ⌝ }
 {
     let set = all_first(numbers);

@@ -2,6 +2,7 @@
 use crate::sets::one_if;
 use layout::CONSTRAINTS;
 use layout::LOOKS;
+use layout::Numbers;
 use layout::SCOPES;
 use layout::VALUES;
 ghost use mathlib.Core.Path.{_≡_};
@@ -9,12 +10,12 @@ ghost use Prim.Native.Nat.{_+_, _≤_};
 ghost use lib.ListN.{length};
 ghost use Rattle.model.specs.Lists.{at};
 ghost use Rattle.model.specs.Filling.{Filled};
-ghost use Rattle.layout.specs.Places.{CONSTRAINTS, LOOKS};
+ghost use Rattle.layout.specs.Places.{CONSTRAINTS, LOOKS, NUMBERS};
 ghost use Rattle.index.specs.Steps.{LookScopes};
 
 // Those whose second variable is the last of the first k: an arity of 3 and that variable in one number.
 // None where there are fewer than nine values: there the numbers of lanes are faster.
-fn at_depth(numbers: &[u64; 2432], k: usize) -> u64
+fn at_depth(numbers: &Numbers, k: usize) -> u64
     requires { ⌜ (at (now numbers) CONSTRAINTS ≤ 32) × (k ≤ 12) ⌝ }
     ensures { λ r. ⌜ LookScopes (now (numbers .entry)) k r ⌝ }
 {
@@ -34,8 +35,8 @@ fn at_depth(numbers: &[u64; 2432], k: usize) -> u64
 }
 
 // A set for each of thirteen depths.
-pub fn looks(numbers: &mut [u64; 2432])
-    requires { ⌜ (at (now numbers) CONSTRAINTS ≤ 32) × (length (now numbers) ≡ 2432) ⌝ }
+pub fn looks(numbers: &mut Numbers)
+    requires { ⌜ (at (now numbers) CONSTRAINTS ≤ 32) × (length (now numbers) ≡ NUMBERS) ⌝ }
     ensures { λ _. ⌜ Filled (λ k. LOOKS + k) (LookScopes (now (numbers .entry))) 13 (now (numbers .entry)) (now (numbers .exit)) ⌝ }
 {
     let mut k = 0;

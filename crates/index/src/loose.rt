@@ -2,6 +2,8 @@
 use crate::sets::initial;
 use crate::sets::one_if;
 use crate::sets::outside;
+use layout::Numbers;
+use layout::Tables;
 use layout::VARIABLES;
 use model::ValueSet;
 ghost use mathlib.Core.Path.{_≡_};
@@ -12,7 +14,7 @@ ghost use Rattle.layout.specs.Places.{VARIABLES, SMALLER};
 ghost use Rattle.index.specs.Steps.{Refused, Twice, LooseTo, LooseSet};
 
 // What value v refuses, if it is in the set m.
-fn refused(tables: &[u16; 55296], m: ValueSet, from: usize, v: u16) -> ValueSet
+fn refused(tables: &Tables, m: ValueSet, from: usize, v: u16) -> ValueSet
     requires { ⌜ (from < SMALLER) × (v < 16) ⌝ }
     ensures { λ r. ⌜ Refused (now (tables .entry)) (m .bits) from v (r .bits) ⌝ }
 {
@@ -25,7 +27,7 @@ fn refused(tables: &[u16; 55296], m: ValueSet, from: usize, v: u16) -> ValueSet
 }
 
 // What two values of m refuse.
-fn twice(tables: &[u16; 55296], m: ValueSet, from: usize) -> ValueSet
+fn twice(tables: &Tables, m: ValueSet, from: usize) -> ValueSet
     requires { ⌜ from < SMALLER ⌝ }
     ensures { λ r. ⌜ Twice (now (tables .entry)) (m .bits) from 16 (r .bits) ⌝ }
 {
@@ -42,7 +44,7 @@ fn twice(tables: &[u16; 55296], m: ValueSet, from: usize) -> ValueSet
 }
 
 // No value of a variable's initial set is refused by two values of x.
-fn is_loose(numbers: &[u64; 2432], tables: &[u16; 55296], x: usize) -> bool
+fn is_loose(numbers: &Numbers, tables: &Tables, x: usize) -> bool
     requires { ⌜ (x < 12) × (at (now numbers) VARIABLES ≤ 12) ⌝ }
     ensures { λ r. ⌜ (r ≡ true → LooseTo (now (numbers .entry)) (now (tables .entry)) x (at (now (numbers .entry)) VARIABLES)) ⌝ }
 {
@@ -60,7 +62,7 @@ fn is_loose(numbers: &[u64; 2432], tables: &[u16; 55296], x: usize) -> bool
 }
 
 // The set of the loose variables.
-pub fn loose(numbers: &[u64; 2432], tables: &[u16; 55296]) -> u64
+pub fn loose(numbers: &Numbers, tables: &Tables) -> u64
     requires { ⌜ at (now numbers) VARIABLES ≤ 12 ⌝ }
     ensures { λ r. ⌜ LooseSet (now (numbers .entry)) (now (tables .entry)) (at (now (numbers .entry)) VARIABLES) r ⌝ }
 {

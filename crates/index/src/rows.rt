@@ -3,8 +3,11 @@ use crate::sets::contains;
 use crate::sets::one_if;
 use layout::BY_ROWS;
 use layout::CONSTRAINTS;
+use layout::Numbers;
 use layout::SCOPES;
 use layout::SMALLER;
+use layout::Supports;
+use layout::Tables;
 use model::ValueSet;
 ghost use mathlib.Core.Path.{_≡_};
 ghost use Prim.Native.Nat.{_+_, _*_, _≤_, _<_};
@@ -13,13 +16,13 @@ ghost use Rattle.model.specs.Lists.{at};
 ghost use Rattle.model.specs.ValueSets.{has, maskOf};
 ghost use Rattle.model.specs.Problem.{Problem};
 ghost use Rattle.model.specs.Filling.{Filled};
-ghost use Rattle.layout.specs.Places.{CONSTRAINTS, SMALLER};
+ghost use Rattle.layout.specs.Places.{CONSTRAINTS, SMALLER, SUPPORTS, TABLES};
 ghost use Rattle.layout.specs.Tables.{Rows};
 ghost use Rattle.index.specs.Steps.{RowsSource, RowsTo};
 
 // At first every value goes with every pair.
-fn clear(tables: &mut [u16; 55296])
-    requires { ⌜ length (now tables) ≡ 55296 ⌝ }
+fn clear(tables: &mut Tables)
+    requires { ⌜ length (now tables) ≡ TABLES ⌝ }
     ensures { λ _. ⌜ Filled (λ i. i) (λ i r. r ≡ 65535) SMALLER (now (tables .entry)) (now (tables .exit)) ⌝ }
 {
     let mut i = 0;
@@ -30,8 +33,8 @@ fn clear(tables: &mut [u16; 55296])
 }
 
 // The values whose sets have w, of sixteen sets from a base on.
-fn column(supports: &[u16; 8192], base: usize, w: u16) -> ValueSet
-    requires { ⌜ (base + 16 ≤ 8192) × (w < 16) ⌝ }
+fn column(supports: &Supports, base: usize, w: u16) -> ValueSet
+    requires { ⌜ (base + 16 ≤ SUPPORTS) × (w < 16) ⌝ }
     ensures { λ r. ⌜ r .bits ≡ maskOf (λ v. has (at (now (supports .entry)) (base + v)) w) ⌝ }
 {
     let one = ValueSet::full(16).only(w);
@@ -50,8 +53,8 @@ fn column(supports: &[u16; 8192], base: usize, w: u16) -> ValueSet
 }
 
 // Sixteen support sets into the rows of a variable, each at the other variable.
-fn across(supports: &[u16; 8192], base: usize, from: usize, tables: &mut [u16; 55296])
-    requires { ⌜ (base + 16 ≤ 8192) × (from + 256 ≤ 55296) × (length (now tables) ≡ 55296) ⌝ }
+fn across(supports: &Supports, base: usize, from: usize, tables: &mut Tables)
+    requires { ⌜ (base + 16 ≤ SUPPORTS) × (from + 256 ≤ TABLES) × (length (now tables) ≡ TABLES) ⌝ }
     ensures { λ _. ⌜ Filled (λ v. from + 16 * v) (λ v r. r ≡ at (now (supports .entry)) (base + v)) 16 (now (tables .entry)) (now (tables .exit)) ⌝ }
 {
     let mut v = 0;
@@ -62,8 +65,8 @@ fn across(supports: &[u16; 8192], base: usize, from: usize, tables: &mut [u16; 5
 }
 
 // The same the other way round.
-fn back(supports: &[u16; 8192], base: usize, from: usize, tables: &mut [u16; 55296])
-    requires { ⌜ (base + 16 ≤ 8192) × (from + 256 ≤ 55296) × (length (now tables) ≡ 55296) ⌝ }
+fn back(supports: &Supports, base: usize, from: usize, tables: &mut Tables)
+    requires { ⌜ (base + 16 ≤ SUPPORTS) × (from + 256 ≤ TABLES) × (length (now tables) ≡ TABLES) ⌝ }
     ensures { λ _. ⌜ Filled (λ w. from + 16 * w) (λ w r. r ≡ maskOf (λ v. has (at (now (supports .entry)) (base + v)) w)) 16 (now (tables .entry)) (now (tables .exit)) ⌝ }
 {
     let mut w = 0;
@@ -75,8 +78,8 @@ fn back(supports: &[u16; 8192], base: usize, from: usize, tables: &mut [u16; 552
 }
 
 // The rows of constraint k, if it is pruned by variable.
-fn link(numbers: &[u64; 2432], supports: &[u16; 8192], k: usize, tables: &mut [u16; 55296])
-    requires { ⌜ (k < 32) × (length (now tables) ≡ 55296) ⌝ }
+fn link(numbers: &Numbers, supports: &Supports, k: usize, tables: &mut Tables)
+    requires { ⌜ (k < 32) × (length (now tables) ≡ TABLES) ⌝ }
     ensures { λ _. ⌜ (length (now (tables .exit)) ≡ length (now (tables .entry))) × ((p : Problem) → RowsSource p (now (numbers .entry)) (now (supports .entry)) → k < length (p .constraints) → RowsTo p k (now (tables .entry)) → RowsTo p (k + 1) (now (tables .exit))) ⌝ }
 {
     if !contains(numbers[BY_ROWS], k) {
@@ -90,8 +93,8 @@ fn link(numbers: &[u64; 2432], supports: &[u16; 8192], k: usize, tables: &mut [u
 }
 
 // The rows of every variable, value and other variable.
-pub fn rows(numbers: &[u64; 2432], supports: &[u16; 8192], tables: &mut [u16; 55296])
-    requires { ⌜ (at (now numbers) CONSTRAINTS ≤ 32) × (length (now tables) ≡ 55296) ⌝ }
+pub fn rows(numbers: &Numbers, supports: &Supports, tables: &mut Tables)
+    requires { ⌜ (at (now numbers) CONSTRAINTS ≤ 32) × (length (now tables) ≡ TABLES) ⌝ }
     ensures { λ _. ⌜ (length (now (tables .exit)) ≡ length (now (tables .entry))) × ((p : Problem) → RowsSource p (now (numbers .entry)) (now (supports .entry)) → Rows p (now (tables .exit))) ⌝ }
 {
     clear(tables);

@@ -1,6 +1,7 @@
 // Sets of variables and of constraints, as numbers of 64 bits: the member test, and sets of one.
 // Sets of values: the initial set of a variable, and what a set lacks.
 use layout::INITIAL;
+use layout::Numbers;
 use model::ValueSet;
 ghost use mathlib.Core.Path.{_≡_};
 ghost use mathlib.Core.Bool.{not};
@@ -24,7 +25,7 @@ pub fn one_if(b: bool, v: usize) -> u64
 }
 
 // The initial set of variable x.
-pub fn initial(numbers: &[u64; 2432], x: usize) -> ValueSet
+pub fn initial(numbers: &Numbers, x: usize) -> ValueSet
     requires { ⌜ x < 16 ⌝ }
     ensures { λ r. ⌜ r .bits ≡ initialOf (now (numbers .entry)) x ⌝ }
 {

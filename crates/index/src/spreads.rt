@@ -1,15 +1,16 @@
 // All of the lanes of each set of values below 8.
+use layout::Numbers;
 use layout::SPREAD;
 ghost use mathlib.Core.Path.{_≡_};
 ghost use Prim.Native.Nat.{_+_};
 ghost use lib.ListN.{length};
 ghost use Rattle.model.specs.Filling.{Filled};
-ghost use Rattle.layout.specs.Places.{SPREAD};
+ghost use Rattle.layout.specs.Places.{SPREAD, NUMBERS};
 ghost use Rattle.index.specs.Steps.{Spread};
 
 // Value v + 1 of a set is value v of its half: its lanes are those of its half moved by one, and its first lane.
-pub fn spreads(numbers: &mut [u64; 2432])
-    requires { ⌜ length (now numbers) ≡ 2432 ⌝ }
+pub fn spreads(numbers: &mut Numbers)
+    requires { ⌜ length (now numbers) ≡ NUMBERS ⌝ }
     ensures { λ _. ⌜ Filled (λ b. SPREAD + b) Spread 256 (now (numbers .entry)) (now (numbers .exit)) ⌝ }
 {
     numbers[SPREAD] = 0;

@@ -1,7 +1,9 @@
 // Unions of support sets of constraints on three variables: for each constraint, each half of eight values and each set of four.
 use crate::sets::contains;
 use crate::words::words;
+use layout::Numbers;
 use layout::SCOPES;
+use layout::Supports;
 use layout::UNIONS;
 ghost use mathlib.Core.Path.{_≡_};
 ghost use Prim.Native.Nat.{_+_, _*_, _/_, _%_, _≤_, _<_};
@@ -9,7 +11,7 @@ ghost use lib.ListN.{length};
 ghost use Rattle.model.specs.Lists.{at, choose};
 ghost use Rattle.model.specs.ValueSets.{has};
 ghost use Rattle.model.specs.Filling.{Filled};
-ghost use Rattle.layout.specs.Places.{UNIONS};
+ghost use Rattle.layout.specs.Places.{UNIONS, NUMBERS};
 ghost use Rattle.index.specs.Steps.{United, Unioned, Unions};
 
 // The number w, or 0 where i is not in the set m.
@@ -31,8 +33,8 @@ fn union(words: &[u64; 16], base: usize, m: u64) -> u64
 }
 
 // The 64 unions of constraint k, sixteen for each four of its numbers.
-fn unite(supports: &[u16; 8192], numbers: &mut [u64; 2432], k: usize)
-    requires { ⌜ (k < 32) × (length (now numbers) ≡ 2432) ⌝ }
+fn unite(supports: &Supports, numbers: &mut Numbers, k: usize)
+    requires { ⌜ (k < 32) × (length (now numbers) ≡ NUMBERS) ⌝ }
     ensures { λ _. ⌜ Filled (λ c. UNIONS + 64 * k + c) (λ c. Unioned (now (supports .entry)) k (c / 16) (c % 16)) 64 (now (numbers .entry)) (now (numbers .exit)) ⌝ }
 {
     let mut made = [0u64; 16];
@@ -45,8 +47,8 @@ fn unite(supports: &[u16; 8192], numbers: &mut [u64; 2432], k: usize)
 }
 
 // The unions of the constraints on three variables: an arity of 3 is the packed scope's first byte.
-pub fn unions(supports: &[u16; 8192], numbers: &mut [u64; 2432])
-    requires { ⌜ length (now numbers) ≡ 2432 ⌝ }
+pub fn unions(supports: &Supports, numbers: &mut Numbers)
+    requires { ⌜ length (now numbers) ≡ NUMBERS ⌝ }
     ensures { λ _. ⌜ Unions (now (supports .entry)) 32 (now (numbers .entry)) (now (numbers .exit)) ⌝ }
 {
     let mut k = 0;

@@ -1,14 +1,16 @@
 // Support sets of constraints on three variables, eight values of eight sets in one number.
+use layout::Supports;
 ghost use mathlib.Core.Path.{_≡_};
 ghost use Prim.Native.Nat.{_+_, _*_, _≤_, _<_};
 ghost use lib.ListN.{length};
 ghost use Rattle.model.specs.Lists.{at};
 ghost use Rattle.model.specs.Filling.{Filled};
+ghost use Rattle.layout.specs.Places.{SUPPORTS};
 ghost use Rattle.index.specs.Steps.{Lanes, Word};
 
 // Eight values of each of eight sets, a step apart from a base on: the first set's in the lowest byte.
-fn lanes(supports: &[u16; 8192], base: usize, step: usize) -> u64
-    requires { ⌜ (base + 112 < 8192) × (step ≤ 16) ⌝ }
+fn lanes(supports: &Supports, base: usize, step: usize) -> u64
+    requires { ⌜ (base + 112 < SUPPORTS) × (step ≤ 16) ⌝ }
     ensures { λ r. ⌜ Lanes (λ v. at (now (supports .entry)) (base + step * v)) r ⌝ }
 {
     let mut all = 0u64;
@@ -21,7 +23,7 @@ fn lanes(supports: &[u16; 8192], base: usize, step: usize) -> u64
 }
 
 // Number n of constraint k's sixteen: eight of the first variable's values in lanes by the second's, then eight of the second's in lanes by the first's.
-fn word(supports: &[u16; 8192], k: usize, n: usize) -> u64
+fn word(supports: &Supports, k: usize, n: usize) -> u64
     requires { ⌜ (k < 32) × (n < 16) ⌝ }
     ensures { λ r. ⌜ Word (now (supports .entry)) k n r ⌝ }
 {
@@ -34,7 +36,7 @@ fn word(supports: &[u16; 8192], k: usize, n: usize) -> u64
 }
 
 // The sixteen numbers of constraint k.
-pub fn words(supports: &[u16; 8192], k: usize, made: &mut [u64; 16])
+pub fn words(supports: &Supports, k: usize, made: &mut [u64; 16])
     requires { ⌜ (k < 32) × (length (now made) ≡ 16) ⌝ }
     ensures { λ _. ⌜ Filled (λ n. n) (Word (now (supports .entry)) k) 16 (now (made .entry)) (now (made .exit)) ⌝ }
 {

@@ -22,7 +22,7 @@ place [] = 0
 place (x ∷ []) = x
 place (x ∷ y ∷ r) = 16 * x + y
 
--- `numbers`, 2432 of 64 bits: at the front, for each of sixteen variables, the set of the constraints that have it in their scope;
+-- `numbers`: at the front, for each of sixteen variables, the set of the constraints that have it in their scope;
 -- the initial sets, {0} for a variable from n up; for each constraint its arity and its scope, a byte each; n, d, c and g
 pub record Numbers (p : Problem) (numbers : List ℕ) : Type 0 where
   pub touching : (x k : ℕ) → x < 16 → k < length (p .constraints) → has (at numbers x) k ≡ any (eqb x) (constraintAt p k .scope)

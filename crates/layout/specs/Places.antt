@@ -1,6 +1,25 @@
 -- Where the arrays of the compiled problem have what, and the numbers that name an outcome: the constants of src/lib.rt.
 use Prim.Native.Nat.{ℕ}
 
+-- ---- the arrays
+abbrev pub NUMBERS : ℕ
+NUMBERS = 2432
+
+abbrev pub SUPPORTS : ℕ
+SUPPORTS = 8192
+
+abbrev pub IMAGES : ℕ
+IMAGES = 26112
+
+abbrev pub TABLES : ℕ
+TABLES = 55296
+
+abbrev pub STACK : ℕ
+STACK = 208
+
+abbrev pub WORK : ℕ
+WORK = 256
+
 -- ---- `numbers`
 abbrev pub TOUCHING : ℕ
 TOUCHING = 0

@@ -1,6 +1,33 @@
 // The layout of the compiled problem: definitions (specs/), where the arrays have what, and the numbers by which the parts of the search name
 // an outcome. specs/Places.antt has the same names.
 
+// ---- the arrays
+pub const NUMBERS: usize = 2432;
+
+pub const SUPPORTS: usize = 8192;
+
+pub const IMAGES: usize = 26112;
+
+pub const TABLES: usize = 55296;
+
+pub const STACK: usize = 208;
+
+pub const WORK: usize = 256;
+
+// What a sheet is compiled into: its counts, sets and scopes; its rows as sets; its symmetries.
+pub type Numbers = [u64; NUMBERS];
+
+pub type Supports = [u16; SUPPORTS];
+
+pub type Images = [u8; IMAGES];
+
+// What the search has besides: its tables, the sets of each depth, the prefix with the marks of each depth.
+pub type Tables = [u16; TABLES];
+
+pub type Stack = [u16; STACK];
+
+pub type Work = [u64; WORK];
+
 // ---- `numbers`
 // From here on for each variable the set of the constraints on it, the initial sets, and the packed scopes of the constraints.
 pub const TOUCHING: usize = 0;

@@ -2,10 +2,17 @@
 ghost use mathlib.Core.Path.{_≡_};
 ghost use lib.ListN.{length};
 ghost use Rattle.model.specs.Problem.{Problem};
+ghost use Rattle.layout.specs.Places.{IMAGES, NUMBERS, SUPPORTS};
 ghost use Rattle.sheet.specs.Form.{Zeros};
 ghost use Rattle.orderings.specs.Asked.{Held};
 ghost use Rattle.lent.specs.Calls.{CallQuestionLent};
 ghost use Rattle.lent.specs.Compile.{Lendings, AskedLent, CompiledLent};
+use layout::IMAGES;
+use layout::Images;
+use layout::NUMBERS;
+use layout::Numbers;
+use layout::SUPPORTS;
+use layout::Supports;
 use layout::VARIABLES;
 use sheet::Answer;
 
@@ -13,8 +20,8 @@ use sheet::Answer;
 fn lendings(
     pairs: &[u8],
     block: &[u8],
-    numbers: &[u64; 2432],
-    supports: &[u16; 8192],
+    numbers: &Numbers,
+    supports: &Supports,
     order: &mut [u8; 16],
 ) -> Answer
     requires { ⌜ ((p : Problem) × Held p (now numbers) (now supports)) × (length (now order) ≡ 16) ⌝ }
@@ -32,12 +39,12 @@ pub fn ask(
     sheet: &[u8],
     pairs: &[u8],
     block: &[u8],
-    numbers: &mut [u64; 2432],
-    supports: &mut [u16; 8192],
-    images: &mut [u8; 26112],
+    numbers: &mut Numbers,
+    supports: &mut Supports,
+    images: &mut Images,
     order: &mut [u8; 16],
 ) -> Answer
-    requires { ⌜ Zeros 2432 (now numbers) × Zeros 8192 (now supports) × (length (now images) ≡ 26112) × (length (now order) ≡ 16) ⌝ }
+    requires { ⌜ Zeros NUMBERS (now numbers) × Zeros SUPPORTS (now supports) × (length (now images) ≡ IMAGES) × (length (now order) ≡ 16) ⌝ }
     ensures { λ r. ⌜ AskedLent (now (sheet .entry)) (now (pairs .entry)) (now (block .entry)) (now (numbers .exit)) (now (supports .exit)) (now (images .exit)) (now (order .exit)) r ⌝ }
 {
     let first = sheet::compile(sheet, numbers, supports, images);
@@ -51,9 +58,9 @@ pub fn ask(
 pub fn question(sheet: &[u8], pairs: &[u8], block: &[u8]) -> Answer
     ensures { λ r. ⌜ CallQuestionLent (now (sheet .entry)) (now (pairs .entry)) (now (block .entry)) r ⌝ }
 {
-    let mut numbers = [0u64; 2432];
-    let mut supports = [0u16; 8192];
-    let mut images = [0u8; 26112];
+    let mut numbers = [0u64; NUMBERS];
+    let mut supports = [0u16; SUPPORTS];
+    let mut images = [0u8; IMAGES];
     let mut order = [0u8; 16];
     ask(
         sheet,
@@ -73,12 +80,12 @@ pub fn compile(
     sheet: &[u8],
     pairs: &[u8],
     block: &[u8],
-    numbers: &mut [u64; 2432],
-    supports: &mut [u16; 8192],
-    images: &mut [u8; 26112],
+    numbers: &mut Numbers,
+    supports: &mut Supports,
+    images: &mut Images,
     order: &mut [u8; 16],
 ) -> Answer
-    requires { ⌜ Zeros 2432 (now numbers) × Zeros 8192 (now supports) × (length (now images) ≡ 26112) × (length (now order) ≡ 16) ⌝ }
+    requires { ⌜ Zeros NUMBERS (now numbers) × Zeros SUPPORTS (now supports) × (length (now images) ≡ IMAGES) × (length (now order) ≡ 16) ⌝ }
     ensures { λ r. ⌜ CompiledLent (now (sheet .entry)) (now (pairs .entry)) (now (block .entry)) (now (numbers .exit)) (now (supports .exit)) (now (images .exit)) (now (order .exit)) r ⌝ }
 {
     let answer = ask(sheet, pairs, block, numbers, supports, images, order);

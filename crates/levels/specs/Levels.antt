@@ -16,7 +16,7 @@ use Rattle.model.specs.Nogood.{Entry, equality, disequality, filtered, FilterEn
 use Rattle.model.specs.Search.{nogoodsOf}
 use Rattle.model.specs.Pruning.{Inside}
 use Rattle.model.specs.WellFormed.{WellFormed}
-use Rattle.layout.specs.Places.{SMALLER, OWN, ENTAILED, OBEYED, FAILED}
+use Rattle.layout.specs.Places.{SMALLER, OWN, ENTAILED, OBEYED, FAILED, WORK}
 use Rattle.layout.specs.Layout.{symmetryAt}
 use Rattle.layout.specs.Tables.{ImageTables, imageOf}
 use Rattle.nogood.specs.declared.entry.Step.{Step}
@@ -55,7 +55,7 @@ pub record FilterRequires (p : Problem) (sets work tables : List ℕ) (e k start
   pub symmetry : e < length (p .symmetries)
   pub bound : k ≤ p .variables
   pub drawn : (j : ℕ) → j < k → T (has (at (p .initial) j) (at work j))
-  pub work-length : length work ≡ 256
+  pub work-length : length work ≡ WORK
   pub live : Live (p .variables) sets
   pub unused : (x : ℕ) → p .variables ≤ x → x < 16 → at sets x ≡ 1
   pub begun : start ≤ k

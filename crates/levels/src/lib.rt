@@ -3,7 +3,7 @@
 ghost use mathlib.Core.Path.{_≡_};
 ghost use Prim.Native.Nat.{_+_, _*_, _%_, _≤_, _<_};
 ghost use lib.Dec.{ltb};
-ghost use Rattle.layout.specs.Places.{ENTAILED};
+ghost use Rattle.layout.specs.Places.{ENTAILED, TABLES};
 ghost use lib.ListN.{length};
 ghost use Rattle.model.specs.Lists.{at};
 ghost use Rattle.model.specs.Problem.{Problem};
@@ -13,12 +13,14 @@ use layout::FAILED;
 use layout::OBEYED;
 use layout::OWN;
 use layout::SMALLER;
+use layout::Tables;
+use layout::Work;
 use nogood::entry;
 use nogood::entry::Step;
 
 // Whether the level from a place of the tables on takes a value of some set.
-fn hits(sets: &[u16; 16], tables: &[u16; 55296], first: usize) -> bool
-    requires { ⌜ first + 16 ≤ 55296 ⌝ }
+fn hits(sets: &[u16; 16], tables: &Tables, first: usize) -> bool
+    requires { ⌜ first + 16 ≤ TABLES ⌝ }
     ensures { λ r. ⌜ Missed r (now (sets .entry)) (now (tables .entry)) first ⌝ }
 {
     let mut hit = 0u16;
@@ -31,8 +33,8 @@ fn hits(sets: &[u16; 16], tables: &[u16; 55296], first: usize) -> bool
 }
 
 // Takes the level's sets from the sets; true where one is left empty.
-fn take(sets: &mut [u16; 16], tables: &[u16; 55296], first: usize) -> bool
-    requires { ⌜ (length (now sets) ≡ 16) × (first + 16 ≤ 55296) ⌝ }
+fn take(sets: &mut [u16; 16], tables: &Tables, first: usize) -> bool
+    requires { ⌜ (length (now sets) ≡ 16) × (first + 16 ≤ TABLES) ⌝ }
     ensures { λ r. ⌜ Taken (now (sets .entry)) (now (tables .entry)) first (now (sets .exit)) r ⌝ }
 {
     let mut empty = false;
@@ -47,7 +49,7 @@ fn take(sets: &mut [u16; 16], tables: &[u16; 55296], first: usize) -> bool
 }
 
 // The images of the smaller values of x's initial set go; true at an empty set.
-fn cut(sets: &mut [u16; 16], tables: &[u16; 55296], e: usize, x: usize, v: usize) -> bool
+fn cut(sets: &mut [u16; 16], tables: &Tables, e: usize, x: usize, v: usize) -> bool
     requires { ⌜ ((p : Problem) × Level p (now sets) (now tables) e x v) ⌝ }
     ensures sixteen { λ _. ⌜ length (now (sets .exit)) ≡ length (now (sets .entry)) ⌝ }
     ensures entries { λ r. ⌜ ((p : Problem) → Level p (now (sets .entry)) (now (tables .entry)) e x v → CutResult r (p .variables) (now (sets .entry)) (cuts p e x v) (now (sets .exit))) ⌝ }
@@ -60,7 +62,7 @@ fn cut(sets: &mut [u16; 16], tables: &[u16; 55296], e: usize, x: usize, v: usize
 }
 
 // The image of the pair (x, v) under symmetry e: 16 times its variable plus its value.
-fn image(tables: &[u16; 55296], e: usize, x: usize, v: usize) -> u16
+fn image(tables: &Tables, e: usize, x: usize, v: usize) -> u16
     requires { ⌜ (e < 16) × (x < 12) × (v < 16) ⌝ }
     ensures { λ r. ⌜ r ≡ at (now (tables .entry)) (imageAt e x v) ⌝ }
 {
@@ -68,7 +70,7 @@ fn image(tables: &[u16; 55296], e: usize, x: usize, v: usize) -> u16
 }
 
 // A level: the cuts are made, and then the image of the prefix's own pair is an equality.
-fn level(sets: &mut [u16; 16], tables: &[u16; 55296], e: usize, x: usize, v: usize) -> Step
+fn level(sets: &mut [u16; 16], tables: &Tables, e: usize, x: usize, v: usize) -> Step
     requires { ⌜ ((p : Problem) × Level p (now sets) (now tables) e x v) ⌝ }
     ensures sixteen { λ _. ⌜ length (now (sets .exit)) ≡ length (now (sets .entry)) ⌝ }
     ensures entries { λ r. ⌜ ((p : Problem) → Level p (now (sets .entry)) (now (tables .entry)) e x v → LevelResult r p (now (sets .entry)) e x v (now (sets .exit))) ⌝ }
@@ -81,14 +83,7 @@ fn level(sets: &mut [u16; 16], tables: &[u16; 55296], e: usize, x: usize, v: usi
 }
 
 // Passes the levels from a start, until the result is known: FAILED, OBEYED, the level that splits the assignments, or the mark of the end.
-fn pass(
-    sets: &mut [u16; 16],
-    work: &[u64; 256],
-    tables: &[u16; 55296],
-    e: usize,
-    k: usize,
-    start: usize,
-) -> u64
+fn pass(sets: &mut [u16; 16], work: &Work, tables: &Tables, e: usize, k: usize, start: usize) -> u64
     requires { ⌜ ((p : Problem) × Ready p (now sets) (now work) (now tables) e k start) ⌝ }
     ensures sixteen { λ _. ⌜ length (now (sets .exit)) ≡ length (now (sets .entry)) ⌝ }
     ensures entries { λ r. ⌜ ((p : Problem) → Ready p (now (sets .entry)) (now (work .entry)) (now (tables .entry)) e k start → PassResult p (now (sets .entry)) (now (work .entry)) (now (tables .entry)) e k start (now (sets .exit)) r) ⌝ }
@@ -112,8 +107,8 @@ fn pass(
 // there. The mark says whether every assignment from the sets left obeys.
 fn resolve(
     sets: &mut [u16; 16],
-    work: &[u64; 256],
-    tables: &[u16; 55296],
+    work: &Work,
+    tables: &Tables,
     e: usize,
     k: usize,
     split: usize,
@@ -159,8 +154,8 @@ pub fn due(mark: u64, k: usize) -> bool
 // whether every assignment from the sets left obeys.
 pub fn filter(
     sets: &mut [u16; 16],
-    work: &[u64; 256],
-    tables: &[u16; 55296],
+    work: &Work,
+    tables: &Tables,
     e: usize,
     k: usize,
     mark: u64,

@@ -1,6 +1,8 @@
 // Pruning by the constraints on two variables (paper 01, "The search"), by variable: a changed set cuts all other sets at once.
 use layout::DEAD;
 use layout::LOOSE;
+use layout::Numbers;
+use layout::Tables;
 use model::ValueSet;
 ghost use mathlib.Core.Path.{_≡_};
 ghost use mathlib.Core.Bool.{false};
@@ -8,12 +10,13 @@ ghost use Prim.Native.Nat.{_+_, _*_, _≤_, _<_};
 ghost use lib.ListN.{length};
 ghost use Rattle.model.specs.Problem.{Problem};
 ghost use Rattle.model.specs.Pruning.{Sets};
+ghost use Rattle.layout.specs.Places.{TABLES};
 ghost use Rattle.links.specs.Links.{ArcsPending, Settled, ArcsMade};
 ghost use Rattle.links.specs.Steps.{Narrow, Added, Cover, Covered, Spared, CutToCover, CanCut, CutBy};
 
 // Adds sixteen sets of the tables, from a base on, to the cover.
-fn add(cover: &mut [u16; 16], tables: &[u16; 55296], base: usize)
-    requires { ⌜ (base + 16 ≤ 55296) × Narrow (now tables) base 16 × Sets 16 (now cover) ⌝ }
+fn add(cover: &mut [u16; 16], tables: &Tables, base: usize)
+    requires { ⌜ (base + 16 ≤ TABLES) × Narrow (now tables) base 16 × Sets 16 (now cover) ⌝ }
     ensures { λ _. ⌜ Added (now (cover .entry)) (now (tables .entry)) base (now (cover .exit)) ⌝ }
 {
     let mut y = 0;
@@ -24,7 +27,7 @@ fn add(cover: &mut [u16; 16], tables: &[u16; 55296], base: usize)
 }
 
 // The values that go together with some value of the set of x: sixteen sets.
-fn cover_of(tables: &[u16; 55296], x: usize, set: ValueSet) -> [u16; 16]
+fn cover_of(tables: &Tables, x: usize, set: ValueSet) -> [u16; 16]
     requires { ⌜ (x < 12) × Narrow (now tables) (256 * x) 256 ⌝ }
     ensures { λ r. ⌜ Cover (now (tables .entry)) x (set .bits) r ⌝ }
 {
@@ -99,7 +102,7 @@ fn cut_row(sets: &mut [u16; 16], row: &[u16], low: usize) -> u64
 }
 
 // Cuts by the set of x: the cover of one value is its row of the tables, and two values leave nothing to do where x is loose.
-fn cut_by(sets: &mut [u16; 16], tables: &[u16; 55296], loose: u64, x: usize, low: usize) -> u64
+fn cut_by(sets: &mut [u16; 16], tables: &Tables, loose: u64, x: usize, low: usize) -> u64
     requires { ⌜ ((p : Problem) × CanCut p (now tables) (now sets) loose x low) ⌝ }
     ensures { λ r. ⌜ ((p : Problem) → CanCut p (now (tables .entry)) (now (sets .entry)) loose x low → CutBy p (now (sets .entry)) (now (sets .exit)) x r) ⌝ }
 {
@@ -120,13 +123,7 @@ fn cut_by(sets: &mut [u16; 16], tables: &[u16; 55296], loose: u64, x: usize, low
 }
 
 // Cuts by the sets of the dirty variables, and again by those that changed, until nothing moves. The variables below `low` are settled.
-pub fn arcs(
-    sets: &mut [u16; 16],
-    tables: &[u16; 55296],
-    numbers: &[u64; 2432],
-    dirty: u64,
-    low: usize,
-) -> u64
+pub fn arcs(sets: &mut [u16; 16], tables: &Tables, numbers: &Numbers, dirty: u64, low: usize) -> u64
     requires { ⌜ Settled (now sets) dirty low ⌝ }
     requires { ⌜ ((p : Problem) × ArcsPending p (now numbers) (now tables) (now sets) dirty) ⌝ }
     ensures { λ r. ⌜ ((p : Problem) → ArcsPending p (now (numbers .entry)) (now (tables .entry)) (now (sets .entry)) dirty → ArcsMade p (now (sets .entry)) (now (sets .exit)) r) ⌝ }

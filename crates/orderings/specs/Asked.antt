@@ -9,6 +9,7 @@ use Rattle.model.specs.Sheet.{words, permutesPairs}
 use Rattle.model.specs.WellFormed.{WellFormed}
 use Rattle.symmetry.specs.Table.{Framed, Ready, answerOf}
 use Rattle.layout.specs.Layout.{Images, pairCode}
+use Rattle.layout.specs.Places.{IMAGES}
 use Rattle.block.specs.Block.{orderings, factorial, orderingTable, tablesLent}
 use lib.ListN.{length}
 
@@ -53,12 +54,12 @@ pub record Imaged (p : Problem) (numbers images : List ℕ) : Type 0 where
   pub framed : Framed p numbers
   pub symmetries : length (p .symmetries) ≤ 16
   pub imaged : Images p images
-  pub sized : length images ≡ 26112
+  pub sized : length images ≡ IMAGES
 
 -- all symmetries of a problem have their images, and there are n
 pub record Put (p : Problem) (images : List ℕ) (n : ℕ) : Type 0 where
   pub imaged : Images p images
-  pub sized : length images ≡ 26112
+  pub sized : length images ≡ IMAGES
   pub all : n ≡ length (p .symmetries)
   pub few : n ≤ 136
 

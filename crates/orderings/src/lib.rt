@@ -7,14 +7,17 @@ ghost use Rattle.model.specs.Lists.{at};
 ghost use Rattle.model.specs.Filling.{Gathered};
 ghost use Rattle.model.specs.Problem.{Problem};
 ghost use Rattle.model.specs.Verdict.{accepted};
+ghost use Rattle.layout.specs.Places.{IMAGES};
 ghost use Rattle.sheet.specs.Meaning.{means};
 ghost use Rattle.block.specs.Block.{ordering, factorial, inBlock, imageOf, orderingTable, withBlock, isBlock, blockVerdict, blockLent, inLent};
 ghost use Rattle.orderings.specs.Asked.{Held, Row, BlockRow, TableBytes, rowAnswer, RowPut, Imaged, PutOn, withLent};
+use layout::Images;
+use layout::Numbers;
 use layout::SYMMETRIES;
+use layout::Supports;
 use layout::VALUES;
 use layout::VARIABLES;
 use sheet::Answer;
-use symmetry::Numbers;
 use symmetry::is_pair;
 use symmetry::pair_code;
 use symmetry::table_question;
@@ -68,7 +71,7 @@ fn row_question(
     first: usize,
     m: usize,
     numbers: &Numbers,
-    supports: &[u16; 8192],
+    supports: &Supports,
 ) -> u8
     requires { ⌜ ((p : Problem) × Held p (now numbers) (now supports) × BlockRow p (now rows) row first m (now numbers)) ⌝ }
     ensures { λ r. ⌜ ((p : Problem) → Held p (now (numbers .entry)) (now (supports .entry)) → BlockRow p (now (rows .entry)) row first m (now (numbers .entry)) → r ≡ rowAnswer p first m row) ⌝ }
@@ -78,7 +81,7 @@ fn row_question(
 }
 
 // Questions 15 and 16 to a block's orderings: to the trades of neighbours, rows 1, 2, 6 and 24, of which the first that is refused decides.
-fn trades(first: usize, m: usize, numbers: &Numbers, supports: &[u16; 8192]) -> Answer
+fn trades(first: usize, m: usize, numbers: &Numbers, supports: &Supports) -> Answer
     requires { ⌜ ((p : Problem) × Held p (now numbers) (now supports) × T (isBlock p first m)) ⌝ }
     ensures { λ r. ⌜ ((p : Problem) → Held p (now (numbers .entry)) (now (supports .entry)) → T (isBlock p first m) → means r ≡ blockVerdict p first m) ⌝ }
 {
@@ -115,7 +118,7 @@ fn is_block(n: usize, first: usize, m: usize) -> bool
 }
 
 // The questions to a block of m variables from `first` on.
-fn ask(first: usize, m: usize, numbers: &Numbers, supports: &[u16; 8192]) -> Answer
+fn ask(first: usize, m: usize, numbers: &Numbers, supports: &Supports) -> Answer
     requires { ⌜ ((p : Problem) × Held p (now numbers) (now supports)) × (first ≤ 255) × (m ≤ 255) ⌝ }
     ensures { λ r. ⌜ ((p : Problem) → Held p (now (numbers .entry)) (now (supports .entry)) → means r ≡ blockVerdict p first m) ⌝ }
 {
@@ -129,7 +132,7 @@ fn ask(first: usize, m: usize, numbers: &Numbers, supports: &[u16; 8192]) -> Ans
 }
 
 // The questions to a block as it is lent.
-pub fn question(block: &[u8], numbers: &Numbers, supports: &[u16; 8192]) -> Answer
+pub fn question(block: &[u8], numbers: &Numbers, supports: &Supports) -> Answer
     requires { ⌜ ((p : Problem) × Held p (now numbers) (now supports)) ⌝ }
     ensures { λ r. ⌜ ((p : Problem) → Held p (now (numbers .entry)) (now (supports .entry)) → means r ≡ blockLent p (now (block .entry))) ⌝ }
 {
@@ -198,9 +201,9 @@ fn put_row(
     m: usize,
     numbers: &Numbers,
     base: usize,
-    images: &mut [u8; 26112],
+    images: &mut Images,
 )
-    requires { ⌜ ((p : Problem) × BlockRow p (now rows) row first m (now numbers)) × (base + 192 ≤ 26112) × (length (now images) ≡ 26112) ⌝ }
+    requires { ⌜ ((p : Problem) × BlockRow p (now rows) row first m (now numbers)) × (base + 192 ≤ IMAGES) × (length (now images) ≡ IMAGES) ⌝ }
     ensures { λ _. ⌜ ((p : Problem) → BlockRow p (now (rows .entry)) row first m (now (numbers .entry)) → RowPut p first m row base (now (images .entry)) (now (images .exit))) ⌝ }
 {
     let d = numbers[VALUES] as usize;
@@ -228,7 +231,7 @@ fn row_count(m: usize) -> usize
 }
 
 // Writes the images of a block's tables after the problem's own, and nothing else; how many there are then.
-fn put_rows(first: usize, m: usize, numbers: &Numbers, images: &mut [u8; 26112]) -> usize
+fn put_rows(first: usize, m: usize, numbers: &Numbers, images: &mut Images) -> usize
     requires { ⌜ ((p : Problem) × Imaged p (now numbers) (now images) × T (isBlock p first m)) ⌝ }
     ensures { λ r. ⌜ ((p : Problem) → Imaged p (now (numbers .entry)) (now (images .entry)) → T (isBlock p first m) → PutOn (withBlock first m p) (now (images .entry)) (now (images .exit)) r) ⌝ }
 {
@@ -244,7 +247,7 @@ fn put_rows(first: usize, m: usize, numbers: &Numbers, images: &mut [u8; 26112])
 }
 
 // The same of a block as it is lent, of which the questions are passed.
-pub fn put_images(block: &[u8], numbers: &Numbers, images: &mut [u8; 26112]) -> usize
+pub fn put_images(block: &[u8], numbers: &Numbers, images: &mut Images) -> usize
     requires { ⌜ ((p : Problem) × Imaged p (now numbers) (now images) × (blockLent p (now block) ≡ accepted)) ⌝ }
     ensures { λ r. ⌜ ((p : Problem) → Imaged p (now (numbers .entry)) (now (images .entry)) → blockLent p (now (block .entry)) ≡ accepted → PutOn (withLent (now (block .entry)) p) (now (images .entry)) (now (images .exit)) r) ⌝ }
 {

@@ -21,7 +21,7 @@ use Rattle.model.proofs.Firsts.{take-sets, take-e, take-i, full-take}
 use Rattle.model.proofs.Filter.{filtered-inside}
 use Rattle.model.proofs.Prune.{filter-removal}
 use Rattle.model.proofs.Prunes.{prunes-none, prunes-then, removal-prunes}
-use Rattle.layout.specs.Places.{ENTAILED, FAILED, MARKS, SYMMETRIES}
+use Rattle.layout.specs.Places.{ENTAILED, FAILED, MARKS, SYMMETRIES, WORK}
 use Rattle.layout.specs.Layout.{symmetryAt}
 use Rattle.layout.specs.Pruning.{setsOf}
 use Rattle.nogood.specs.Marks.{Vacuous}
@@ -44,16 +44,16 @@ kept-set a b k e m h r = record {
   size = length-set b (16 * k + MARKS + e) m ∙ r .size;
 }
 
-take-length : (work : List ℕ) (j : ℕ) → length work ≡ 256 → j ≤ 16 → length (take j work) ≡ j
+take-length : (work : List ℕ) (j : ℕ) → length work ≡ WORK → j ≤ 16 → length (take j work) ≡ j
 take-length work j l h = length-take-le j work (omega (arith, l))
 
 -- the first values are the same
-pub same-take : (work work′ : List ℕ) (k j : ℕ) → length work ≡ 256 → OnlyMarks work work′ k → j ≤ 16 → take j work′ ≡ take j work
+pub same-take : (work work′ : List ℕ) (k j : ℕ) → length work ≡ WORK → OnlyMarks work work′ k → j ≤ 16 → take j work′ ≡ take j work
 same-take work work′ k j l r h =
     at-ext (take j work′) (take j work) (take-length work′ j (r .size ∙ l) h ∙ sym (take-length work j l h))
     (λ i m. let m′ : i < j = subst (λ (n : ℕ). i < n) (take-length work′ j (r .size ∙ l) h) m in at-take j work′ i m′ ∙ r .before i (omega arith) ∙ sym (at-take j work i m′))
 
-take-take : (work : List ℕ) (j k : ℕ) → length work ≡ 256 → j ≤ k → k ≤ 16 → take j (take k work) ≡ take j work
+take-take : (work : List ℕ) (j k : ℕ) → length work ≡ WORK → j ≤ k → k ≤ 16 → take j (take k work) ≡ take j work
 take-take work j k l h f =
     at-ext (take j (take k work)) (take j work) (length-take-le j (take k work) (omega (arith, take-length work k l f)) ∙ sym (take-length work j l (omega arith)))
     (λ i m. let m′ : i < j = subst (λ (n : ℕ). i < n) (length-take-le j (take k work) (omega (arith, take-length work k l f))) m in at-take j (take k work) i m′ ∙ at-take k work i (omega arith) ∙ sym (at-take j work i m′))

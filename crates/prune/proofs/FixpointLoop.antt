@@ -23,7 +23,7 @@ use Rattle.model.proofs.Members.{has-0, or-e, and-e}
 use Rattle.model.proofs.Firsts.{take-sets, take-i, full-take}
 use Rattle.model.proofs.Prune.{narrowed-e, Sized, Kept, fixed-i, largest, live-is, way-live, way-end}
 use Rattle.model.proofs.Tree.{well-sized}
-use Rattle.layout.specs.Places.{DEAD, LINKED, LOOKS, MARKS, SYMMETRIES}
+use Rattle.layout.specs.Places.{DEAD, LINKED, LOOKS, MARKS, SYMMETRIES, WORK}
 use Rattle.layout.specs.Layout.{constraintAt}
 use Rattle.layout.specs.Tables.{LooksUp}
 use Rattle.layout.proofs.Links.{good}
@@ -73,7 +73,7 @@ module _ (ds es : List ℕ) (s : Sets 16 ds) (t : Sets 16 es) (changed : ℕ) (d
       go false q = absurd (some-differs h n (inside-antisym 16 es ds t s i (size-strict es ds (t .0 ∙ sym (s .0)) (s .1) i (ltb-false (size es) (size ds) q))))
 
 -- ---- what is said of work's prefix is said of another with the same prefix
-module _ {p : Problem} {supports tables numbers : List ℕ} (st : ArraysHold p supports tables numbers) {work₀ work : List ℕ} {k : ℕ} (l : length work₀ ≡ 256) (h : k ≤ p .variables) (r : OnlyMarks work₀ work k) where
+module _ {p : Problem} {supports tables numbers : List ℕ} (st : ArraysHold p supports tables numbers) {work₀ work : List ℕ} {k : ℕ} (l : length work₀ ≡ WORK) (h : k ≤ p .variables) (r : OnlyMarks work₀ work k) where
   same-prefix : take k work ≡ take k work₀
   same-prefix = same-take work₀ work k k l r (omega (arith, h, st .wellFormed .few))
 

@@ -25,7 +25,7 @@ use Rattle.model.proofs.Members.{one-bit, only-member}
 use Rattle.model.proofs.Firsts.{take-at, take-e, take-i, take-sets, take-length, take-full}
 use Rattle.model.proofs.Prune.{narrowed-e, Largest, largest, fixed-e, way-start, setsAt-live, setsAt-sets, live-closed}
 use Rattle.model.proofs.Tree.{well-sized}
-use Rattle.layout.specs.Places.{INITIAL, LINKED, MARKS, OTHERS, SYMMETRIES, VARIABLES}
+use Rattle.layout.specs.Places.{INITIAL, LINKED, MARKS, OTHERS, SYMMETRIES, VARIABLES, WORK}
 use Rattle.layout.specs.Layout.{constraintAt}
 use Rattle.layout.specs.Tables.{byRows}
 use Rattle.layout.proofs.Links.{is-one, good}
@@ -273,7 +273,7 @@ module _ {p : Problem} {gs : List (List ℕ)} {stack work supports tables number
     pub value-small : at middle k % 16 ≡ at middle k
     value-small = omega (arith, value-is, v-lt)
 
-    middle-length : length middle ≡ 256
+    middle-length : length middle ≡ WORK
     middle-length = c .kept .size ∙ a .ready .work-length
 
     pub child-prefix : take (k + 1) middle ≡ longer work k

@@ -13,7 +13,7 @@ use Rattle.model.specs.ValueSets.{has}
 use Rattle.model.specs.Problem.{Problem}
 use Rattle.model.specs.Search.{setsAt, isLive}
 use Rattle.model.specs.WellFormed.{WellFormed}
-use Rattle.layout.specs.Places.{BLOCK, MARKS}
+use Rattle.layout.specs.Places.{BLOCK, MARKS, STACK, WORK}
 use Rattle.block.specs.BlockSets.{BlockIn}
 use Rattle.layout.specs.Tables.{Indexed}
 use Rattle.levels.specs.Levels.{Mark}
@@ -40,8 +40,8 @@ pub record Ready (p : Problem) (gs : List (List ℕ)) (stack work supports table
   pub block-few : (x : ℕ) → T (blockOf numbers x) → x < p .variables
   pub constraints : length (p .constraints) ≤ 32
   pub symmetries : length (p .symmetries) ≤ 16
-  pub stack-length : length stack ≡ 208
-  pub work-length : length work ≡ 256
+  pub stack-length : length stack ≡ STACK
+  pub work-length : length work ≡ WORK
 
 -- the marks of depth k are right for sets at a prefix
 abbrev pub MarksRight : Problem → List ℕ → List ℕ → List ℕ → ℕ → Type 0

@@ -13,7 +13,7 @@ use Rattle.model.specs.Nogood.{filtered}
 use Rattle.model.specs.Search.{nogoodsOf, setsAt, isLive}
 use Rattle.model.specs.Pruning.{Sets, Inside, Way, Prunes}
 use Rattle.model.specs.WellFormed.{WellFormed}
-use Rattle.layout.specs.Places.{MARKS, DEAD}
+use Rattle.layout.specs.Places.{MARKS, DEAD, WORK}
 use Rattle.layout.specs.Layout.{constraintAt}
 use Rattle.layout.specs.Tables.{Indexed, byRows}
 use Rattle.layout.specs.Pruning.{Given, Ended, Fixed, Arc, setsOf}
@@ -58,7 +58,7 @@ pub record AllConstrainedOr (p : Problem) (sets sets′ : List ℕ) (dead : Bool
 pub record PrefixHeld (p : Problem) (work : List ℕ) (k : ℕ) : Type 0 where
   pub depth : k ≤ p .variables
   pub values : (j : ℕ) → j < k → T (has (at (p .initial) j) (at work j))
-  pub work-length : length work ≡ 256
+  pub work-length : length work ≡ WORK
 
 -- none of p's sets is empty, and every unused set is {0}
 pub record LiveSets (p : Problem) (sets : List ℕ) : Type 0 where

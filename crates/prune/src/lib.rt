@@ -6,9 +6,14 @@ use layout::INITIAL;
 use layout::LINKED;
 use layout::LOOKS;
 use layout::MARKS;
+use layout::Numbers;
 use layout::OTHERS;
 use layout::SYMMETRIES;
+use layout::Stack;
+use layout::Supports;
+use layout::Tables;
 use layout::VARIABLES;
+use layout::Work;
 use model::ValueSet;
 ghost use mathlib.Core.Path.{_≡_};
 ghost use mathlib.Core.Bool.{not};
@@ -21,7 +26,7 @@ ghost use Rattle.model.specs.ValueSets.{has, maskOf};
 ghost use Rattle.model.specs.Problem.{Problem};
 ghost use Rattle.model.specs.Pruning.{Sets};
 ghost use Rattle.block.specs.BlockSets.{cutAfter};
-ghost use Rattle.layout.specs.Places.{INITIAL, SYMMETRIES};
+ghost use Rattle.layout.specs.Places.{INITIAL, SYMMETRIES, STACK, WORK};
 ghost use Rattle.layout.specs.Pruning.{setsOf};
 ghost use Rattle.prune.specs.Node.{Ready, MarksRight, AtNode, Reached, longer};
 ghost use Rattle.prune.specs.Steps.{ArraysHold, Blocked, Pending, AllConstrainedOr, PrefixHeld, LiveSets, AllFilteredOr, BeforeFixpoint, LastSettled, AfterFixpoint, Differ, cutBelow, CutOr, Loaded, Stored, MarksCopied};
@@ -29,9 +34,9 @@ ghost use Rattle.prune.specs.Steps.{ArraysHold, Blocked, Pending, AllCon
 // Prunes by the constraints until nothing moves, those by variable and the others by turns; true where a set is empty.
 fn constrain(
     sets: &mut [u16; 16],
-    supports: &[u16; 8192],
-    tables: &[u16; 55296],
-    numbers: &[u64; 2432],
+    supports: &Supports,
+    tables: &Tables,
+    numbers: &Numbers,
     todo: u64,
     dirty: u64,
     settled: u64,
@@ -62,10 +67,10 @@ fn constrain(
 // The filter of every symmetry's nogoods at the prefix of k values, one after another, each from its mark on; true where a set is empty.
 fn filters(
     sets: &mut [u16; 16],
-    work: &mut [u64; 256],
-    supports: &[u16; 8192],
-    tables: &[u16; 55296],
-    numbers: &[u64; 2432],
+    work: &mut Work,
+    supports: &Supports,
+    tables: &Tables,
+    numbers: &Numbers,
     k: usize,
 ) -> bool
     requires { ⌜ ((p : Problem) × ArraysHold p (now supports) (now tables) (now numbers) × PrefixHeld p (now work) k × LiveSets p (now sets) × MarksRight p (setsOf p (now sets)) (take k (now work)) (now work) k) ⌝ }
@@ -103,10 +108,10 @@ fn difference(old: &[u16; 16], new: &[u16; 16]) -> u64
 // The filters and the constraints by turns until nothing moves, from where no constraint takes anything. True where the prefix is dead.
 fn alternate(
     sets: &mut [u16; 16],
-    work: &mut [u64; 256],
-    supports: &[u16; 8192],
-    tables: &[u16; 55296],
-    numbers: &[u64; 2432],
+    work: &mut Work,
+    supports: &Supports,
+    tables: &Tables,
+    numbers: &Numbers,
     k: usize,
 ) -> bool
     requires { ⌜ ((p : Problem) × (gs : List (List ℕ)) × ArraysHold p (now supports) (now tables) (now numbers) × Blocked p gs (now numbers) × BeforeFixpoint p gs (now work) (now numbers) (now sets) k 0 0) ⌝ }
@@ -141,10 +146,10 @@ fn alternate(
 // constraints that are due, if any are, and the filters. True where the prefix is dead.
 fn fixpoint(
     sets: &mut [u16; 16],
-    work: &mut [u64; 256],
-    supports: &[u16; 8192],
-    tables: &[u16; 55296],
-    numbers: &[u64; 2432],
+    work: &mut Work,
+    supports: &Supports,
+    tables: &Tables,
+    numbers: &Numbers,
     k: usize,
     todo: u64,
     dirty: u64,
@@ -175,7 +180,7 @@ fn fixpoint(
     alternate(sets, work, supports, tables, numbers, k)
 }
 
-fn load(stack: &[u16; 208], k: usize, sets: &mut [u16; 16])
+fn load(stack: &Stack, k: usize, sets: &mut [u16; 16])
     requires { ⌜ (k < 13) × (length (now sets) ≡ 16) ⌝ }
     ensures { λ _. ⌜ Loaded (now (stack .entry)) k (now (sets .exit)) ⌝ }
 {
@@ -186,8 +191,8 @@ fn load(stack: &[u16; 208], k: usize, sets: &mut [u16; 16])
     }
 }
 
-fn store(stack: &mut [u16; 208], k: usize, sets: &[u16; 16])
-    requires { ⌜ (k < 13) × (length (now stack) ≡ 208) ⌝ }
+fn store(stack: &mut Stack, k: usize, sets: &[u16; 16])
+    requires { ⌜ (k < 13) × (length (now stack) ≡ STACK) ⌝ }
     ensures { λ _. ⌜ Stored (now (stack .entry)) k (at (now (sets .entry))) (now (stack .exit)) ⌝ }
 {
     let mut i = 0;
@@ -198,7 +203,7 @@ fn store(stack: &mut [u16; 208], k: usize, sets: &[u16; 16])
 }
 
 // The initial sets.
-fn initial(numbers: &[u64; 2432], sets: &mut [u16; 16])
+fn initial(numbers: &Numbers, sets: &mut [u16; 16])
     requires { ⌜ length (now sets) ≡ 16 ⌝ }
     ensures { λ _. ⌜ (length (now (sets .exit)) ≡ 16) × ((x : ℕ) → x < 16 → at (now (sets .exit)) x ≡ at (now (numbers .entry)) (INITIAL + x) % 65536) ⌝ }
 {
@@ -259,8 +264,8 @@ fn cut_later(sets: &mut [u16; 16], block: u64, k: usize, v: u16) -> u64
 }
 
 // The marks of depth 0: nothing is known yet.
-fn clear_marks(work: &mut [u64; 256])
-    requires { ⌜ length (now work) ≡ 256 ⌝ }
+fn clear_marks(work: &mut Work)
+    requires { ⌜ length (now work) ≡ WORK ⌝ }
     ensures { λ _. ⌜ Stored (now (work .entry)) 1 (λ e. 0) (now (work .exit)) ⌝ }
 {
     let mut e = 0;
@@ -271,8 +276,8 @@ fn clear_marks(work: &mut [u64; 256])
 }
 
 // What is known of the symmetries at depth k, where there are any, is known at depth k + 1.
-fn copy_marks(work: &mut [u64; 256], numbers: &[u64; 2432], k: usize)
-    requires { ⌜ (k < 12) × (length (now work) ≡ 256) ⌝ }
+fn copy_marks(work: &mut Work, numbers: &Numbers, k: usize)
+    requires { ⌜ (k < 12) × (length (now work) ≡ WORK) ⌝ }
     ensures { λ _. ⌜ MarksCopied (now (work .entry)) (at (now (numbers .entry)) SYMMETRIES) k (now (work .exit)) ⌝ }
 {
     if numbers[SYMMETRIES] == 0 {
@@ -289,11 +294,11 @@ fn copy_marks(work: &mut [u64; 256], numbers: &[u64; 2432], k: usize)
 
 // Puts the sets and marks at the empty prefix at depth 0; true where it is dead.
 pub fn root(
-    stack: &mut [u16; 208],
-    work: &mut [u64; 256],
-    supports: &[u16; 8192],
-    tables: &[u16; 55296],
-    numbers: &[u64; 2432],
+    stack: &mut Stack,
+    work: &mut Work,
+    supports: &Supports,
+    tables: &Tables,
+    numbers: &Numbers,
 ) -> bool
     requires { ⌜ ((p : Problem) × (gs : List (List ℕ)) × Ready p gs (now stack) (now work) (now supports) (now tables) (now numbers)) ⌝ }
     ensures { λ r. ⌜ ((p : Problem) (gs : List (List ℕ)) → Ready p gs (now (stack .entry)) (now (work .entry)) (now (supports .entry)) (now (tables .entry)) (now (numbers .entry)) → Reached p gs [] 0 (now (stack .entry)) (now (work .entry)) (now (stack .exit)) (now (work .exit)) r) ⌝ }
@@ -322,11 +327,11 @@ pub fn root(
 
 // Puts the sets and marks at the prefix of work's first k + 1 values at depth k + 1, from those of the first k values at depth k; true where it is dead.
 pub fn child(
-    stack: &mut [u16; 208],
-    work: &mut [u64; 256],
-    supports: &[u16; 8192],
-    tables: &[u16; 55296],
-    numbers: &[u64; 2432],
+    stack: &mut Stack,
+    work: &mut Work,
+    supports: &Supports,
+    tables: &Tables,
+    numbers: &Numbers,
     k: usize,
 ) -> bool
     requires { ⌜ ((p : Problem) × (gs : List (List ℕ)) × AtNode p gs (now stack) (now work) (now supports) (now tables) (now numbers) k) ⌝ }

@@ -14,7 +14,7 @@ use Rattle.model.specs.Problem.{Problem}
 use Rattle.model.specs.Search.{setsAt, isLive}
 use Rattle.model.specs.Run.{Tally}
 use Rattle.model.proofs.Lists.{at-set, at-set-other, at-take}
-use Rattle.layout.specs.Places.{ROOM, PLANS, LAST, DEEPER}
+use Rattle.layout.specs.Places.{ROOM, PLANS, LAST, DEEPER, WORK}
 use Rattle.prune.specs.Node.{Holds, Marked}
 use Rattle.prune.proofs.Marks.{marked-on}
 use Rattle.walk.specs.Walk.{noNodes}
@@ -34,7 +34,7 @@ pub record Putting (path work₀ work : List ℕ) (i : ℕ) : Type 0 where
 pub putting-start : (path work : List ℕ) → Putting path work work 0
 putting-start path work = record { values = λ j l. absurd (omega arith); bytes = λ j l. absurd (omega arith); others = λ j l. refl; same = refl }
 
-pub putting-next : (path work₀ work : List ℕ) (i v : ℕ) → Putting path work₀ work i → length work₀ ≡ 256 → i < 12 → v ≡ at path i → v < 256 → Putting path work₀ (set work i v) (i + 1)
+pub putting-next : (path work₀ work : List ℕ) (i v : ℕ) → Putting path work₀ work i → length work₀ ≡ WORK → i < 12 → v ≡ at path i → v < 256 → Putting path work₀ (set work i v) (i + 1)
 putting-next path work₀ work i v h n l e b = record {
   values = λ j k. by-case (eqb j i) refl (λ q. ap (at (set work i v)) q ∙ here ∙ e ∙ ap (at path) (sym q)) (λ q. at-set-other work i v j q ∙ h .values j (omega arith));
   bytes = λ j k. by-case2 (eqb j i) refl (λ q. subst (λ (x : ℕ). x < 256) (sym (ap (at (set work i v)) q ∙ here)) b) (λ q. subst (λ (x : ℕ). x < 256) (sym (at-set-other work i v j q)) (h .bytes j (omega arith)));
@@ -53,7 +53,7 @@ putting-next path work₀ work i v h n l e b = record {
     by-case2 {j} true q f g = f (eqb-true j i q)
     by-case2 {j} false q f g = g (eqb-false j i q)
 
-pub putting-done : (path work₀ work : List ℕ) (i end : ℕ) → Putting path work₀ work i → length work₀ ≡ 256 → end ≡ min (length path) 12 → end ≤ i → i ≤ end → PutPath path work₀ (set work LAST end)
+pub putting-done : (path work₀ work : List ℕ) (i end : ℕ) → Putting path work₀ work i → length work₀ ≡ WORK → end ≡ min (length path) 12 → end ≤ i → i ≤ end → PutPath path work₀ (set work LAST end)
 putting-done path work₀ work i end h n e l u =
     let here : at (set work LAST end) LAST ≡ end = at-set work LAST end (let s = h .same in omega arith) in
     record {
@@ -69,10 +69,10 @@ pub record Begun (path work work′ : List ℕ) : Type 0 where
   pub values : (i : ℕ) → i < length path → i < 12 → at work′ i ≡ at path i
   pub last : at work′ LAST ≡ min (length path) 12
   pub bytes : (i : ℕ) → i < at work′ LAST → at work′ i < 256
-  pub others : (i : ℕ) → 12 ≤ i → i < 256 → (i ≡ LAST → ⊥) → at work′ i ≡ at work i
-  pub sized : length work′ ≡ 256
+  pub others : (i : ℕ) → 12 ≤ i → i < WORK → (i ≡ LAST → ⊥) → at work′ i ≡ at work i
+  pub sized : length work′ ≡ WORK
 
-pub begun-so : (path work copy work′ : List ℕ) → length copy ≡ 256 → ((i : ℕ) → i < 256 → at copy i ≡ at work i) → PutPath path copy work′ → Begun path work work′
+pub begun-so : (path work copy work′ : List ℕ) → length copy ≡ WORK → ((i : ℕ) → i < WORK → at copy i ≡ at work i) → PutPath path copy work′ → Begun path work work′
 begun-so path work copy work′ n c h = record { values = h .values; last = h .last; bytes = h .bytes; others = λ i l u q. h .others i (omega arith) q ∙ c i u; sized = h .work-length ∙ n }
 
 module _ (path work work′ : List ℕ) (h : Begun path work work′) where
@@ -121,7 +121,7 @@ valued-last work last l h =
     prefix-is (take (at work LAST) last) work (at work LAST) (length-take-le (at work LAST) last (let z = h .twelve in omega arith)) (λ i m. at-take (at work LAST) last i m ∙ h .values i m)
 
 -- ---- `copied`
-pub copying : (copy work : List ℕ) (i : ℕ) → length copy ≡ 256 → i < 256 → ((j : ℕ) → j < i → at copy j ≡ at work j) → (j : ℕ) → j < i + 1 → at (set copy i (at work i)) j ≡ at work j
+pub copying : (copy work : List ℕ) (i : ℕ) → length copy ≡ WORK → i < WORK → ((j : ℕ) → j < i → at copy j ≡ at work j) → (j : ℕ) → j < i + 1 → at (set copy i (at work i)) j ≡ at work j
 copying copy work i n l h j k = go (eqb j i) refl
   where
     go : (c : Bool) → eqb j i ≡ c → at (set copy i (at work i)) j ≡ at work j

@@ -3,8 +3,18 @@
 use layout::ALL;
 use layout::DEEPER;
 use layout::LAST;
+use layout::NUMBERS;
+use layout::Numbers;
 use layout::SPENT;
+use layout::STACK;
+use layout::SUPPORTS;
+use layout::Stack;
+use layout::Supports;
+use layout::TABLES;
+use layout::Tables;
 use layout::VARIABLES;
+use layout::WORK;
+use layout::Work;
 use model::ValueSet;
 use search::Answer;
 use settle::CountedPart;
@@ -21,7 +31,7 @@ ghost use Rattle.walk.specs.Meaning.{tallyIn};
 ghost use Rattle.ranges.specs.Within.{within, intoNodes, ontoNodes, upToNodes};
 ghost use Rattle.range_run.specs.Steps.{rangeMask, AtStep, Stepped, AtPut, PutNode, AtBelow, AtInto, AtUpTo, AtOnto, PutPath, Valued, Parted};
 ghost use Rattle.range_run.specs.Calls.{CallPart};
-ghost use Rattle.layout.specs.Places.{LAST, DEEPER};
+ghost use Rattle.layout.specs.Places.{LAST, DEEPER, WORK};
 ghost use Rattle.walk.specs.Walk.{noNodes};
 
 // What a part answers, what it counted, and where it stands: the last node that it made, else where it began, as many of the values as the length says.
@@ -60,7 +70,7 @@ fn middle(set: ValueSet, low: u16, high: u16) -> ValueSet
 }
 
 // The values of the set of variable k at depth k from `low` up and below `high`.
-fn values_within(stack: &[u16; 208], k: usize, low: u16, high: u16) -> u16
+fn values_within(stack: &Stack, k: usize, low: u16, high: u16) -> u16
     requires { ⌜ k < 12 ⌝ }
     ensures { λ r. ⌜ r ≡ rangeMask (at (now (stack .entry)) (17 * k)) low high ⌝ }
 {
@@ -73,11 +83,11 @@ fn values_within(stack: &[u16; 208], k: usize, low: u16, high: u16) -> u16
 
 // Goes one value down the path that stands in `work`: whether the set of variable k leaves its value, and the prefix with it is live.
 fn step(
-    stack: &mut [u16; 208],
-    work: &mut [u64; 256],
-    supports: &[u16; 8192],
-    tables: &[u16; 55296],
-    numbers: &[u64; 2432],
+    stack: &mut Stack,
+    work: &mut Work,
+    supports: &Supports,
+    tables: &Tables,
+    numbers: &Numbers,
     k: usize,
 ) -> bool
     requires { ⌜ ((p : Problem) × (list : List ℕ) × (tally : Run.Tally) × AtStep p (now stack) (now work) (now supports) (now tables) (now numbers) list tally k) ⌝ }
@@ -94,11 +104,11 @@ fn step(
 
 // Makes the node of value v at depth k, which is not the last, but for its count: whether its prefix is live.
 fn put_node(
-    stack: &mut [u16; 208],
-    work: &mut [u64; 256],
-    supports: &[u16; 8192],
-    tables: &[u16; 55296],
-    numbers: &[u64; 2432],
+    stack: &mut Stack,
+    work: &mut Work,
+    supports: &Supports,
+    tables: &Tables,
+    numbers: &Numbers,
     k: usize,
     v: u8,
 ) -> bool
@@ -112,11 +122,11 @@ fn put_node(
 
 // Walks along the nodes below the value at depth k of the path in `work`, where the sets leave it, from the path's rest up to another.
 fn into(
-    stack: &mut [u16; 208],
-    work: &mut [u64; 256],
-    supports: &[u16; 8192],
-    tables: &[u16; 55296],
-    numbers: &[u64; 2432],
+    stack: &mut Stack,
+    work: &mut Work,
+    supports: &Supports,
+    tables: &Tables,
+    numbers: &Numbers,
     list: &mut [u8],
     from: &[u8],
     upto: &[u8],
@@ -148,11 +158,11 @@ fn into(
 
 // Walks along the node of value v at depth k, which is not the last, where the sets leave it, and the nodes below it that are not after the path.
 fn onto(
-    stack: &mut [u16; 208],
-    work: &mut [u64; 256],
-    supports: &[u16; 8192],
-    tables: &[u16; 55296],
-    numbers: &[u64; 2432],
+    stack: &mut Stack,
+    work: &mut Work,
+    supports: &Supports,
+    tables: &Tables,
+    numbers: &Numbers,
     list: &mut [u8],
     v: u8,
     upto: &[u8],
@@ -196,11 +206,11 @@ fn onto(
 
 // Walks along the nodes of the values from `low` up that are not after the path, whose first value is not below `low`.
 fn up_to(
-    stack: &mut [u16; 208],
-    work: &mut [u64; 256],
-    supports: &[u16; 8192],
-    tables: &[u16; 55296],
-    numbers: &[u64; 2432],
+    stack: &mut Stack,
+    work: &mut Work,
+    supports: &Supports,
+    tables: &Tables,
+    numbers: &Numbers,
     list: &mut [u8],
     low: u16,
     upto: &[u8],
@@ -238,11 +248,11 @@ fn up_to(
 
 // Walks along the nodes below the prefix of k values that come after it with one path behind, which stands in `work`, and not after it with another.
 fn below(
-    stack: &mut [u16; 208],
-    work: &mut [u64; 256],
-    supports: &[u16; 8192],
-    tables: &[u16; 55296],
-    numbers: &[u64; 2432],
+    stack: &mut Stack,
+    work: &mut Work,
+    supports: &Supports,
+    tables: &Tables,
+    numbers: &Numbers,
     list: &mut [u8],
     from: &[u8],
     upto: &[u8],
@@ -335,8 +345,8 @@ fn lesser(a: usize, b: usize) -> usize
 }
 
 // Puts a path in `work`, of which twelve values are kept, as the last node made.
-pub fn put_path(work: &mut [u64; 256], path: &[u8])
-    requires { ⌜ length (now work) ≡ 256 ⌝ }
+pub fn put_path(work: &mut Work, path: &[u8])
+    requires { ⌜ length (now work) ≡ WORK ⌝ }
     ensures { λ _. ⌜ PutPath (now (path .entry)) (now (work .entry)) (now (work .exit)) ⌝ }
 {
     let end = lesser(path.len(), 12);
@@ -349,7 +359,7 @@ pub fn put_path(work: &mut [u64; 256], path: &[u8])
 }
 
 // The values of the last node in `work`, as bytes.
-pub fn last_values(work: &[u64; 256]) -> [u8; 12]
+pub fn last_values(work: &Work) -> [u8; 12]
     requires { ⌜ (at (now work) LAST ≤ 12) × ((i : ℕ) → i < at (now work) LAST → at (now work) i < 256) ⌝ }
     ensures { λ r. ⌜ Valued (now (work .entry)) r ⌝ }
 {
@@ -364,12 +374,12 @@ pub fn last_values(work: &[u64; 256]) -> [u8; 12]
 }
 
 // The numbers of `work` in an array of their own, whose length is known.
-fn copied(work: &[u64; 256]) -> [u64; 256]
-    ensures { λ r. ⌜ (length r ≡ 256) × ((i : ℕ) → i < 256 → at r i ≡ at (now (work .entry)) i) ⌝ }
+fn copied(work: &Work) -> Work
+    ensures { λ r. ⌜ (length r ≡ WORK) × ((i : ℕ) → i < WORK → at r i ≡ at (now (work .entry)) i) ⌝ }
 {
-    let mut copy = [0u64; 256];
+    let mut copy = [0u64; WORK];
     let mut i = 0;
-    while i < 256 {
+    while i < WORK {
         copy[i] = work[i];
         i += 1;
     }
@@ -378,11 +388,11 @@ fn copied(work: &[u64; 256]) -> [u64; 256]
 
 // The walk along the part, where there are nodes: the step says whether there are.
 pub fn walk_part(
-    stack: &mut [u16; 208],
-    work: &mut [u64; 256],
-    supports: &[u16; 8192],
-    tables: &[u16; 55296],
-    numbers: &[u64; 2432],
+    stack: &mut Stack,
+    work: &mut Work,
+    supports: &Supports,
+    tables: &Tables,
+    numbers: &Numbers,
     list: &mut [u8],
     from: &[u8],
     upto: &[u8],
@@ -421,11 +431,11 @@ pub fn run_part(
 ) -> PartRun
     ensures { λ r. ⌜ CallPart (now (sheet .entry)) (now (pairs .entry)) (now (block .entry)) (now (from .entry)) (now (upto .entry)) limit (now (list .entry)) r (now (list .exit)) ⌝ }
 {
-    let mut stack = [0u16; 208];
-    let mut work = [0u64; 256];
-    let mut supports = [0u16; 8192];
-    let mut tables = [0u16; 55296];
-    let mut numbers = [0u64; 2432];
+    let mut stack = [0u16; STACK];
+    let mut work = [0u64; WORK];
+    let mut supports = [0u16; SUPPORTS];
+    let mut tables = [0u16; TABLES];
+    let mut numbers = [0u64; NUMBERS];
     let step = explore::prepare(
         &mut stack,
         &mut work,

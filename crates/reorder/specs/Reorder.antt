@@ -10,6 +10,7 @@ use Rattle.order.specs.Order.{Ordering}
 use Rattle.order.specs.Reordered.{reordered}
 use Rattle.model.specs.WellFormed.{WellFormed}
 use Rattle.layout.specs.Layout.{Compiled}
+use Rattle.layout.specs.Places.{IMAGES, NUMBERS, SUPPORTS}
 
 -- the order of p's variables stands in the first bytes
 abbrev pub orderOf : Problem → List ℕ → List ℕ
@@ -22,9 +23,9 @@ pub record Movable (p : Problem) (order numbers supports images : List ℕ) : Ty
   pub ordering : Ordering (p .variables) (orderOf p order)
   pub constraints : length (p .constraints) ≤ 32
   pub symmetries : length (p .symmetries) ≤ 136
-  pub numbers-length : length numbers ≡ 2432
-  pub supports-length : length supports ≡ 8192
-  pub images-length : length images ≡ 26112
+  pub numbers-length : length numbers ≡ NUMBERS
+  pub supports-length : length supports ≡ SUPPORTS
+  pub images-length : length images ≡ IMAGES
 
 -- they hold the reordered problem; the numbers from 64 on are as they were
 pub record Moved (p : Problem) (order numbers supports images numbers′ supports′ images′ : List ℕ) : Type 0 where

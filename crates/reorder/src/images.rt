@@ -1,15 +1,17 @@
 // The images of the pairs, with the variables renamed on both sides.
 use crate::places::entry;
+use layout::Images;
 ghost use mathlib.Core.Path.{_≡_};
 ghost use Prim.Native.Nat.{_+_, _*_, _≤_, _<_};
 ghost use lib.ListN.{length};
 ghost use Rattle.model.specs.Lists.{at};
 ghost use Rattle.model.specs.Filling.{Filled};
+ghost use Rattle.layout.specs.Places.{IMAGES};
 ghost use Rattle.reorder.specs.Steps.{Small, renamedTo, imageFrom, MovedImages};
 
 // The images of a symmetry, which stand from a place on.
-fn load(images: &[u8; 26112], from: usize, old: &mut [u8; 192])
-    requires { ⌜ (from + 192 ≤ 26112) × (length (now old) ≡ 192) ⌝ }
+fn load(images: &Images, from: usize, old: &mut [u8; 192])
+    requires { ⌜ (from + 192 ≤ IMAGES) × (length (now old) ≡ 192) ⌝ }
     ensures { λ _. ⌜ Filled (λ j. j) (λ j r. r ≡ at (now (images .entry)) (from + j)) 192 (now (old .entry)) (now (old .exit)) ⌝ }
 {
     let mut j = 0;
@@ -36,8 +38,8 @@ fn renamed(stands: &[u8; 16], q: u8) -> u8
 }
 
 // The pairs of a symmetry whose images stand from a place on.
-fn symmetry(order: &[u8; 16], stands: &[u8; 16], n: usize, from: usize, images: &mut [u8; 26112])
-    requires { ⌜ (n ≤ 12) × (from + 192 ≤ 26112) × Small n (now order) × (length (now images) ≡ 26112) ⌝ }
+fn symmetry(order: &[u8; 16], stands: &[u8; 16], n: usize, from: usize, images: &mut Images)
+    requires { ⌜ (n ≤ 12) × (from + 192 ≤ IMAGES) × Small n (now order) × (length (now images) ≡ IMAGES) ⌝ }
     ensures { λ _. ⌜ Filled (λ j. from + j) (λ j r. r ≡ renamedTo (now (stands .entry)) (at (now (images .entry)) (from + imageFrom (now (order .entry)) j))) (16 * n) (now (images .entry)) (now (images .exit)) ⌝ }
 {
     let mut old = [0u8; 192];
@@ -52,8 +54,8 @@ fn symmetry(order: &[u8; 16], stands: &[u8; 16], n: usize, from: usize, images: 
 }
 
 // The pairs of every symmetry.
-pub fn rename(order: &[u8; 16], stands: &[u8; 16], n: usize, g: usize, images: &mut [u8; 26112])
-    requires { ⌜ (n ≤ 12) × (g ≤ 136) × Small n (now order) × (length (now images) ≡ 26112) ⌝ }
+pub fn rename(order: &[u8; 16], stands: &[u8; 16], n: usize, g: usize, images: &mut Images)
+    requires { ⌜ (n ≤ 12) × (g ≤ 136) × Small n (now order) × (length (now images) ≡ IMAGES) ⌝ }
     ensures { λ _. ⌜ MovedImages n (now (order .entry)) (now (stands .entry)) g (now (images .entry)) (now (images .exit)) ⌝ }
 {
     let mut e = 0;

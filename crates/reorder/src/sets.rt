@@ -1,16 +1,18 @@
 // The numbers that are kept by variable: the sets of constraints that touch it, and the initial sets.
 use crate::places::entry;
 use layout::INITIAL;
+use layout::Numbers;
 use layout::TOUCHING;
 ghost use mathlib.Core.Path.{_≡_};
 ghost use Prim.Native.Nat.{_+_, _≤_};
 ghost use lib.ListN.{length};
 ghost use Rattle.model.specs.Lists.{at};
 ghost use Rattle.model.specs.Filling.{Filled};
+ghost use Rattle.layout.specs.Places.{NUMBERS};
 ghost use Rattle.reorder.specs.Steps.{Small, MovedSets};
 
 // The numbers of sixteen variables, which stand from a place on.
-fn load(numbers: &[u64; 2432], from: usize, old: &mut [u64; 16])
+fn load(numbers: &Numbers, from: usize, old: &mut [u64; 16])
     requires { ⌜ (from ≤ 16) × (length (now old) ≡ 16) ⌝ }
     ensures { λ _. ⌜ Filled (λ j. j) (λ j r. r ≡ at (now (numbers .entry)) (from + j)) 16 (now (old .entry)) (now (old .exit)) ⌝ }
 {
@@ -22,8 +24,8 @@ fn load(numbers: &[u64; 2432], from: usize, old: &mut [u64; 16])
 }
 
 // From a place on, number i becomes that of variable order[i].
-fn spread(order: &[u8; 16], n: usize, from: usize, numbers: &mut [u64; 2432])
-    requires { ⌜ (n ≤ 12) × (from ≤ 16) × Small n (now order) × (length (now numbers) ≡ 2432) ⌝ }
+fn spread(order: &[u8; 16], n: usize, from: usize, numbers: &mut Numbers)
+    requires { ⌜ (n ≤ 12) × (from ≤ 16) × Small n (now order) × (length (now numbers) ≡ NUMBERS) ⌝ }
     ensures { λ _. ⌜ Filled (λ i. from + i) (λ i r. r ≡ at (now (numbers .entry)) (from + at (now (order .entry)) i)) n (now (numbers .entry)) (now (numbers .exit)) ⌝ }
 {
     let mut old = [0u64; 16];
@@ -35,8 +37,8 @@ fn spread(order: &[u8; 16], n: usize, from: usize, numbers: &mut [u64; 2432])
     }
 }
 
-pub fn move_sets(order: &[u8; 16], n: usize, numbers: &mut [u64; 2432])
-    requires { ⌜ (n ≤ 12) × Small n (now order) × (length (now numbers) ≡ 2432) ⌝ }
+pub fn move_sets(order: &[u8; 16], n: usize, numbers: &mut Numbers)
+    requires { ⌜ (n ≤ 12) × Small n (now order) × (length (now numbers) ≡ NUMBERS) ⌝ }
     ensures { λ _. ⌜ MovedSets n (now (order .entry)) (now (numbers .entry)) (now (numbers .exit)) ⌝ }
 {
     spread(order, n, TOUCHING, numbers);

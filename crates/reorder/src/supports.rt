@@ -1,11 +1,13 @@
 // A support table with two coordinates exchanged. A constraint has 256 sets: the set of last values stands at 16 times the first value plus the second of three,
 // at the first of two, and at 0 for one.
+use layout::Supports;
 ghost use mathlib.Core.Path.{_≡_};
 ghost use Prim.Native.Nat.{ℕ, _+_, _≤_, _<_};
 ghost use lib.ListN.{length};
 ghost use Rattle.model.specs.Lists.{at};
 ghost use Rattle.model.specs.ValueSets.{has, maskOf};
 ghost use Rattle.model.specs.Filling.{Filled};
+ghost use Rattle.layout.specs.Places.{SUPPORTS};
 ghost use Rattle.reorder.specs.Steps.{Cell, Added, Narrow, Crossed, Swapped, Transposed};
 
 // The set of v if w is in the set, else none.
@@ -29,8 +31,8 @@ fn add(s: u16, v: usize, columns: &mut [u16; 16])
 }
 
 // For each w the values whose sets have it, of sixteen sets from a base on.
-fn gather(supports: &[u16; 8192], base: usize, columns: &mut [u16; 16])
-    requires { ⌜ (base + 16 ≤ 8192) × (length (now columns) ≡ 16) × ((w : ℕ) → at (now columns) w ≡ 0) ⌝ }
+fn gather(supports: &Supports, base: usize, columns: &mut [u16; 16])
+    requires { ⌜ (base + 16 ≤ SUPPORTS) × (length (now columns) ≡ 16) × ((w : ℕ) → at (now columns) w ≡ 0) ⌝ }
     ensures { λ _. ⌜ (length (now (columns .exit)) ≡ 16) × ((w : ℕ) → w < 16 → at (now (columns .exit)) w ≡ maskOf (λ v. has (at (now (supports .entry)) (base + v)) w)) ⌝ }
 {
     let mut v = 0;
@@ -41,8 +43,8 @@ fn gather(supports: &[u16; 8192], base: usize, columns: &mut [u16; 16])
 }
 
 // The sets with first value v and second w are exchanged with those of w and v, for each w below v.
-fn cross(base: usize, v: usize, supports: &mut [u16; 8192])
-    requires { ⌜ (base + 256 ≤ 8192) × (v < 16) × (length (now supports) ≡ 8192) ⌝ }
+fn cross(base: usize, v: usize, supports: &mut Supports)
+    requires { ⌜ (base + 256 ≤ SUPPORTS) × (v < 16) × (length (now supports) ≡ SUPPORTS) ⌝ }
     ensures { λ _. ⌜ Crossed base v v (now (supports .entry)) (now (supports .exit)) ⌝ }
 {
     let mut w = 0;
@@ -57,8 +59,8 @@ fn cross(base: usize, v: usize, supports: &mut [u16; 8192])
 }
 
 // The first and the second of three values, all below d.
-pub fn swap(base: usize, d: usize, supports: &mut [u16; 8192])
-    requires { ⌜ (base + 256 ≤ 8192) × (d ≤ 16) × Narrow d base (now supports) × (length (now supports) ≡ 8192) ⌝ }
+pub fn swap(base: usize, d: usize, supports: &mut Supports)
+    requires { ⌜ (base + 256 ≤ SUPPORTS) × (d ≤ 16) × Narrow d base (now supports) × (length (now supports) ≡ SUPPORTS) ⌝ }
     ensures { λ _. ⌜ Swapped base (now (supports .entry)) (now (supports .exit)) ⌝ }
 {
     let mut v = 0;
@@ -69,8 +71,8 @@ pub fn swap(base: usize, d: usize, supports: &mut [u16; 8192])
 }
 
 // The two values of sixteen sets.
-pub fn transpose(base: usize, supports: &mut [u16; 8192])
-    requires { ⌜ (base + 16 ≤ 8192) × (length (now supports) ≡ 8192) ⌝ }
+pub fn transpose(base: usize, supports: &mut Supports)
+    requires { ⌜ (base + 16 ≤ SUPPORTS) × (length (now supports) ≡ SUPPORTS) ⌝ }
     ensures { λ _. ⌜ Transposed base 16 (now (supports .entry)) (now (supports .exit)) ⌝ }
 {
     let mut columns = [0u16; 16];
@@ -83,8 +85,8 @@ pub fn transpose(base: usize, supports: &mut [u16; 8192])
 }
 
 // The second and the last of three values, all below d.
-pub fn transpose_each(base: usize, d: usize, supports: &mut [u16; 8192])
-    requires { ⌜ (base + 256 ≤ 8192) × (d ≤ 16) × Narrow d base (now supports) × (length (now supports) ≡ 8192) ⌝ }
+pub fn transpose_each(base: usize, d: usize, supports: &mut Supports)
+    requires { ⌜ (base + 256 ≤ SUPPORTS) × (d ≤ 16) × Narrow d base (now supports) × (length (now supports) ≡ SUPPORTS) ⌝ }
     ensures { λ _. ⌜ Transposed base 256 (now (supports .entry)) (now (supports .exit)) ⌝ }
 {
     let mut v = 0;

@@ -26,7 +26,7 @@ use Rattle.parts.specs.Parts.{after, nodesAfter, lastOf, Progress, goOn, madeIn
 use Rattle.parts.proofs.Resume.{node-values, last-in, taken}
 use Rattle.parts.proofs.Counts.{counts-none}
 use Rattle.parts.proofs.Anywhere.{no-fewer}
-use Rattle.layout.specs.Places.{LIMIT, ROOM, PLANS, LAST, ALL, DEEPER}
+use Rattle.layout.specs.Places.{LIMIT, ROOM, PLANS, LAST, ALL, DEEPER, WORK}
 use Rattle.sheet.specs.Form.{compilable}
 use Rattle.walk.specs.Walk.{State, noNodes, kept, walk, stopIn, tallyBy}
 use Rattle.walk.specs.Pair.{prefixOf, orderIn, ownIn, stateOf, AtPrefix, Walked}
@@ -41,7 +41,7 @@ use Rattle.range_run.proofs.Ends.{valued-last}
 use Rattle.resume.specs.Resume.{treeOf, Put, Stands, PreparedAgain, GoesOn, GoneOn}
 
 -- ---- `put_progress`
-pub put-so : (k : ℕ) (path work work′ : List ℕ) → length work ≡ 256 → length path ≤ 12 → PutPath path (set work PLANS k) work′ → Put k path work work′
+pub put-so : (k : ℕ) (path work work′ : List ℕ) → length work ≡ WORK → length path ≤ 12 → PutPath path (set work PLANS k) work′ → Put k path work work′
 put-so k path work work′ long short h =
     let n : at work′ LAST ≡ length path = (let e = h .last in omega arith) in
     record {

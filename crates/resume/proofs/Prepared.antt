@@ -17,7 +17,7 @@ use Rattle.model.specs.WellFormed.{WellFormed}
 use Rattle.model.proofs.Accepted.{constraints-are, symmetries-are}
 use Rattle.model.proofs.Lists.{T-of, at-set, at-set-other}
 use Rattle.lent.specs.Compile.{WithinLimits}
-use Rattle.layout.specs.Places.{VARIABLES, LIMIT, ROOM, PLANS, ALL, DEEPER}
+use Rattle.layout.specs.Places.{VARIABLES, LIMIT, ROOM, PLANS, ALL, DEEPER, NUMBERS}
 use Rattle.layout.specs.Layout.{Compiled}
 use Rattle.sheet.specs.Form.{compilable, Recompilation}
 use Rattle.sheet.proofs.Compilable.{compilable-fits, compilable-well}
@@ -73,7 +73,7 @@ module _ (b numbers supports images : List ℕ) (r : Bool) (left : Recompilation
     abbrev room : ℕ
     room = size / at numbers VARIABLES
 
-    long : length numbers ≡ 2432
+    long : length numbers ≡ NUMBERS
     long = left .sizes is .numbers-length
 
     at-limit : at bounded LIMIT ≡ more
@@ -82,7 +82,7 @@ module _ (b numbers supports images : List ℕ) (r : Bool) (left : Recompilation
     at-room : at bounded ROOM ≡ room
     at-room = ap (λ (l : List ℕ). at l ROOM) put ∙ at-set (set numbers LIMIT more) ROOM room (let l = length-set numbers LIMIT more in let e = long in omega arith)
 
-    bounded-length : length bounded ≡ 2432
+    bounded-length : length bounded ≡ NUMBERS
     bounded-length = ap length put ∙ length-set (set numbers LIMIT more) ROOM room ∙ length-set numbers LIMIT more ∙ long
 
     compiled : Compiled p bounded supports images

@@ -11,7 +11,7 @@ use Rattle.model.specs.Search.{nodes}
 use Rattle.model.specs.Sheet.{problemOf}
 use Rattle.model.specs.Run.{plansIn, nodesIn, written, Tally, settledBy, countsBy}
 use Rattle.parts.specs.Parts.{Progress, goOn, madeIn, lastAfter}
-use Rattle.layout.specs.Places.{LIMIT, ROOM, PLANS, LAST, ALL, DEEPER}
+use Rattle.layout.specs.Places.{LIMIT, ROOM, PLANS, LAST, ALL, DEEPER, NUMBERS, STACK, SUPPORTS, TABLES, WORK}
 use Rattle.sheet.specs.Form.{Zeros, compilable}
 use Rattle.walk.specs.Walk.{noNodes, stopIn}
 use Rattle.walk.specs.Pair.{prefixOf, orderIn, AtPrefix}
@@ -27,15 +27,15 @@ pub record Put (k : ℕ) (path work work′ : List ℕ) : Type 0 where
   pub short : at work′ LAST ≤ 12
   pub bytes : (i : ℕ) → i < at work′ LAST → at work′ i < 256
   pub others : (i : ℕ) → length path ≤ i → (i ≡ PLANS → ⊥) → (i ≡ LAST → ⊥) → at work′ i ≡ at work i
-  pub work-length : length work′ ≡ 256
+  pub work-length : length work′ ≡ WORK
 
 -- new arrays, but for the first numbers of `work`
 pub record Fresh (stack work supports tables numbers : List ℕ) : Type 0 where
-  pub stack-length : length stack ≡ 208
-  pub work-length : length work ≡ 256
-  pub supports-blank : Zeros 8192 supports
-  pub tables-length : length tables ≡ 55296
-  pub numbers-blank : Zeros 2432 numbers
+  pub stack-length : length stack ≡ STACK
+  pub work-length : length work ≡ WORK
+  pub supports-blank : Zeros SUPPORTS supports
+  pub tables-length : length tables ≡ TABLES
+  pub numbers-blank : Zeros NUMBERS numbers
 
 -- a run that stands so: its plans are counted in `work` and stand at the front of the list, its last node stands in `work`
 pub record Stands (s : Progress) (work list : List ℕ) : Type 0 where

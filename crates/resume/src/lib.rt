@@ -1,21 +1,28 @@
 // A run that goes on from its last node (paper 02, #113), on arrays that are lent: where it stands is put in `work`, the compiled problem is made again, and the
 // nodes after the last one are walked along, with a tally from nothing.
 use layout::ALL;
+use layout::IMAGES;
 use layout::LAST;
+use layout::Numbers;
 use layout::PLANS;
+use layout::Stack;
+use layout::Supports;
+use layout::Tables;
 use layout::VARIABLES;
+use layout::Work;
 use settle::CountedPart;
 ghost use mathlib.Core.Path.{_≡_};
 ghost use Prim.Native.Nat.{ℕ, _≤_};
 ghost use lib.ListN.{length};
 ghost use Rattle.model.specs.Problem.{Problem};
+ghost use Rattle.layout.specs.Places.{WORK};
 ghost use Rattle.parts.specs.Parts.{Progress};
 ghost use Rattle.walk.specs.Meaning.{tallyIn};
 ghost use Rattle.resume.specs.Resume.{Put, Fresh, PreparedAgain, GoesOn, GoneOn};
 
 // Puts where a run stands in `work`: the plans listed, and the last node made.
-pub fn put_progress(work: &mut [u64; 256], plans: usize, last: &[u8])
-    requires { ⌜ (length (now work) ≡ 256) × (length (now last) ≤ 12) ⌝ }
+pub fn put_progress(work: &mut Work, plans: usize, last: &[u8])
+    requires { ⌜ (length (now work) ≡ WORK) × (length (now last) ≤ 12) ⌝ }
     ensures { λ _. ⌜ Put plans (now (last .entry)) (now (work .entry)) (now (work .exit)) ⌝ }
 {
     work[PLANS] = plans as u64;
@@ -25,11 +32,11 @@ pub fn put_progress(work: &mut [u64; 256], plans: usize, last: &[u8])
 // Makes all that the search reads of a sheet again, for so many nodes more and a list of this size: ALL where there are no nodes (a sheet that questions 1 to
 // 15 refuse counts as one without), else DEEPER. Question 16 is not asked.
 pub fn prepare_again(
-    stack: &mut [u16; 208],
-    work: &mut [u64; 256],
-    supports: &mut [u16; 8192],
-    tables: &mut [u16; 55296],
-    numbers: &mut [u64; 2432],
+    stack: &mut Stack,
+    work: &mut Work,
+    supports: &mut Supports,
+    tables: &mut Tables,
+    numbers: &mut Numbers,
     sheet: &[u8],
     more: u32,
     size: usize,
@@ -37,7 +44,7 @@ pub fn prepare_again(
     requires { ⌜ Fresh (now stack) (now work) (now supports) (now tables) (now numbers) ⌝ }
     ensures { λ r. ⌜ PreparedAgain (now (sheet .entry)) more size (now (work .entry)) (now (stack .exit)) (now (work .exit)) (now (supports .exit)) (now (tables .exit)) (now (numbers .exit)) r ⌝ }
 {
-    let mut images = [0u8; 26112];
+    let mut images = [0u8; IMAGES];
     if sheet::recompile(sheet, numbers, supports, &mut images) {
         let n = numbers[VARIABLES] as usize;
         task::put_bounds(numbers, more as u64, (size / n) as u64);
@@ -51,11 +58,11 @@ pub fn prepare_again(
 // Goes on with a run from its last node, whose values and plans stand in `work`: how it stopped, and what it counted in this part. The step is what
 // `prepare_again` answered.
 pub fn go_on(
-    stack: &mut [u16; 208],
-    work: &mut [u64; 256],
-    supports: &[u16; 8192],
-    tables: &[u16; 55296],
-    numbers: &[u64; 2432],
+    stack: &mut Stack,
+    work: &mut Work,
+    supports: &Supports,
+    tables: &Tables,
+    numbers: &Numbers,
     list: &mut [u8],
     step: u8,
 ) -> CountedPart

@@ -20,7 +20,7 @@ use Rattle.order.specs.Reordered.{write}
 use Rattle.order.specs.RunBy.{resultBy, placeCounts}
 use Rattle.lent.specs.Lent.{verdictLent, orderLent, problemLent, answerLentFor, answerLent, listLentFor, listLent, tallyLentFor, tallyLent}
 use Rattle.lent.proofs.Lent.{passed-all, well-sheet}
-use Rattle.layout.specs.Places.{PLANS, ALL, SPENT, REFUSED}
+use Rattle.layout.specs.Places.{PLANS, ALL, SPENT, REFUSED, NUMBERS, STACK, SUPPORTS, TABLES, WORK}
 use Rattle.sheet.proofs.Whole.{zeros}
 use Rattle.walk.specs.Walk.{kept, stopIn, tallyBy}
 use Rattle.search.specs.Meaning.{means}
@@ -159,28 +159,28 @@ module _ (task b pairs block : List ℕ) (limit : ℕ) (list : List ℕ) (tally 
 -- ---- a run that counts up to one plan less than are asked for
 module _ (wanted : ℕ) (some : wanted ≡ 0 → ⊥) where
   abbrev task : List ℕ
-  task = set (replicate 256 0) WANTED wanted
+  task = set (replicate WORK 0) WANTED wanted
 
-  at-wanted : at (set (replicate 256 0) WANTED wanted) WANTED ≡ wanted
-  at-wanted = at-set (replicate 256 0) WANTED wanted (let l = zeros 256 .sized in omega arith)
+  at-wanted : at (set (replicate WORK 0) WANTED wanted) WANTED ≡ wanted
+  at-wanted = at-set (replicate WORK 0) WANTED wanted (let l = zeros WORK .sized in omega arith)
 
-  pub wanted-blank : Blank (replicate 208 0) (set (replicate 256 0) WANTED wanted) (replicate 8192 0) (replicate 55296 0) (replicate 2432 0) 0
+  pub wanted-blank : Blank (replicate STACK 0) (set (replicate WORK 0) WANTED wanted) (replicate SUPPORTS 0) (replicate TABLES 0) (replicate NUMBERS 0) 0
   wanted-blank = record {
-    stack-length = zeros 208 .sized;
-    work-length = length-set (replicate 256 0) WANTED wanted ∙ zeros 256 .sized;
-    none-listed = at-set-other (replicate 256 0) WANTED wanted PLANS (λ e. omega arith) ∙ zeros 256 .blank PLANS;
-    supports-blank = zeros 8192;
-    tables-length = zeros 55296 .sized;
-    numbers-blank = zeros 2432;
+    stack-length = zeros STACK .sized;
+    work-length = length-set (replicate WORK 0) WANTED wanted ∙ zeros WORK .sized;
+    none-listed = at-set-other (replicate WORK 0) WANTED wanted PLANS (λ e. omega arith) ∙ zeros WORK .blank PLANS;
+    supports-blank = zeros SUPPORTS;
+    tables-length = zeros TABLES .sized;
+    numbers-blank = zeros NUMBERS;
     unlisted = λ n. refl;
   }
 
-  pub wanted-so : (b pairs block : List ℕ) (limit : ℕ) (list : List ℕ) (tally : Tally) (list′ : List ℕ) (tally′ : Tally) (r : Answer) → Ran (set (replicate 256 0) WANTED wanted) b pairs block limit list tally list′ tally′ r → Wanted wanted b pairs block limit r
+  pub wanted-so : (b pairs block : List ℕ) (limit : ℕ) (list : List ℕ) (tally : Tally) (list′ : List ℕ) (tally′ : Tally) (r : Answer) → Ran (set (replicate WORK 0) WANTED wanted) b pairs block limit list tally list′ tally′ r → Wanted wanted b pairs block limit r
   wanted-so b pairs block limit list tally list′ tally′ r h = record {
     refused = λ number item v. h .refused number item v .0;
     ended = λ v. h .ended v .0 ∙ ap (λ (k : ℕ). ended (resultOf (problemLent b pairs block) limit k .ending)) (bytes (eqb (at task WANTED) 0) refl ∙ ap (λ (w : ℕ). (w - 1) * problemOf b .variables) at-wanted);
   }
     where
-      bytes : (c : Bool) → eqb (at (set (replicate 256 0) WANTED wanted) WANTED) 0 ≡ c → choose c (length list) ((at (set (replicate 256 0) WANTED wanted) WANTED - 1) * problemOf b .variables) ≡ (at (set (replicate 256 0) WANTED wanted) WANTED - 1) * problemOf b .variables
+      bytes : (c : Bool) → eqb (at (set (replicate WORK 0) WANTED wanted) WANTED) 0 ≡ c → choose c (length list) ((at (set (replicate WORK 0) WANTED wanted) WANTED - 1) * problemOf b .variables) ≡ (at (set (replicate WORK 0) WANTED wanted) WANTED - 1) * problemOf b .variables
       bytes true e = absurd (some (sym at-wanted ∙ eqb-true (at task WANTED) 0 e))
       bytes false e = refl

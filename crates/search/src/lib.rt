@@ -2,9 +2,15 @@
 use layout::ALL;
 use layout::ITEM;
 use layout::NUMBER;
+use layout::NUMBERS;
 use layout::PLANS;
 use layout::REFUSED;
 use layout::SPENT;
+use layout::STACK;
+use layout::SUPPORTS;
+use layout::TABLES;
+use layout::WORK;
+use layout::Work;
 use task::WANTED;
 use walk::Tally;
 ghost use mathlib.Core.Path.{_≡_};
@@ -40,7 +46,7 @@ pub struct CountedRun {
 }
 
 // The answer of a run that has stopped so, with what stands in `work` and this many nodes.
-pub fn answered(work: &[u64; 256], made: u32, stop: u8) -> Answer
+pub fn answered(work: &Work, made: u32, stop: u8) -> Answer
     requires { ⌜ Stopped (now work) stop ⌝ }
     ensures { λ r. ⌜ Answered (now (work .entry)) made stop r ⌝ }
 {
@@ -74,11 +80,11 @@ pub fn run_lent(
 ) -> Answer
     ensures { λ r. ⌜ CallLent (now (sheet .entry)) (now (pairs .entry)) (now (block .entry)) limit (now (list .entry)) (now (tally .entry)) r (now (list .exit)) (now (tally .exit)) ⌝ }
 {
-    let mut stack = [0u16; 208];
-    let mut work = [0u64; 256];
-    let mut supports = [0u16; 8192];
-    let mut tables = [0u16; 55296];
-    let mut numbers = [0u64; 2432];
+    let mut stack = [0u16; STACK];
+    let mut work = [0u64; WORK];
+    let mut supports = [0u16; SUPPORTS];
+    let mut tables = [0u16; TABLES];
+    let mut numbers = [0u64; NUMBERS];
     let stop = explore::explore(
         &mut stack,
         &mut work,
@@ -100,11 +106,11 @@ fn run_wanted(sheet: &[u8], pairs: &[u8], block: &[u8], limit: u32, wanted: u64)
     requires { ⌜ (wanted ≡ 0 → ⊥) ⌝ }
     ensures { λ r. ⌜ Wanted wanted (now (sheet .entry)) (now (pairs .entry)) (now (block .entry)) limit r ⌝ }
 {
-    let mut stack = [0u16; 208];
-    let mut work = [0u64; 256];
-    let mut supports = [0u16; 8192];
-    let mut tables = [0u16; 55296];
-    let mut numbers = [0u64; 2432];
+    let mut stack = [0u16; STACK];
+    let mut work = [0u64; WORK];
+    let mut supports = [0u16; SUPPORTS];
+    let mut tables = [0u16; TABLES];
+    let mut numbers = [0u64; NUMBERS];
     let mut none = [0u8; 0];
     work[WANTED] = wanted;
     let step = explore::prepare(

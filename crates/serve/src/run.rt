@@ -17,7 +17,13 @@ use desk::read_long;
 use layout::ALL;
 use layout::FULL;
 use layout::LAST;
+use layout::NUMBERS;
 use layout::PLANS;
+use layout::STACK;
+use layout::SUPPORTS;
+use layout::TABLES;
+use layout::WORK;
+use layout::Work;
 use settle::CountedPart;
 ghost use mathlib.Core.Path.{_≡_};
 ghost use mathlib.Core.Bool.{true};
@@ -26,6 +32,7 @@ ghost use lib.ListN.{length};
 ghost use Rattle.model.specs.Lists.{at};
 ghost use Rattle.model.specs.Run.{Ending, nodesIn};
 ghost use Rattle.model.specs.Written.{placed};
+ghost use Rattle.layout.specs.Places.{WORK};
 ghost use Rattle.parts.specs.Parts.{added};
 ghost use Rattle.walk.specs.Meaning.{tallyIn};
 ghost use Rattle.walk.specs.Walk.{stopIn};
@@ -81,7 +88,7 @@ fn standing_after(stop: u8, made: usize, limit: usize) -> u8
 }
 
 // The bytes of a seat that say where its run stands, but for its counts.
-fn run_bytes(standing: u8, made: usize, work: &[u64; 256]) -> [u8; 20]
+fn run_bytes(standing: u8, made: usize, work: &Work) -> [u8; 20]
     requires { ⌜ ((h : Hall) × Shows h standing made (now work)) ⌝ }
     ensures { λ r. ⌜ ((h : Hall) → Shows h standing made (now (work .entry)) → r ≡ stateBytes h) ⌝ }
 {
@@ -137,14 +144,14 @@ fn put_counts(desk: &mut [u8], p: usize, before: [u32; 12], more: [u32; 12])
 }
 
 // Goes on with the run of the seat at p by so many nodes at most; the plans go to its list, where it stands to `work`.
-fn go_on(desk: &mut [u8], p: usize, more: u32, work: &mut [u64; 256]) -> CountedPart
-    requires { ⌜ (p + SEAT ≤ length (now desk)) × (length (now work) ≡ 256) ⌝ }
+fn go_on(desk: &mut [u8], p: usize, more: u32, work: &mut Work) -> CountedPart
+    requires { ⌜ (p + SEAT ≤ length (now desk)) × (length (now work) ≡ WORK) ⌝ }
     ensures { λ r. ⌜ PartDone (now (desk .entry)) p more (now (desk .exit)) (now (work .exit)) (r .stop) (tallyIn (r .tally)) ⌝ }
 {
-    let mut stack = [0u16; 208];
-    let mut supports = [0u16; 8192];
-    let mut tables = [0u16; 55296];
-    let mut numbers = [0u64; 2432];
+    let mut stack = [0u16; STACK];
+    let mut supports = [0u16; SUPPORTS];
+    let mut tables = [0u16; TABLES];
+    let mut numbers = [0u64; NUMBERS];
     let plans = bounded(desk, p + desk::PLANS, 4096);
     let last = p + desk::LAST;
     let after = last + byte(desk, p + DEPTH, 12) as usize;
@@ -185,7 +192,7 @@ pub fn serve(desk: &mut [u8], k: usize, turns: u32) -> Served
     let made = nodes_at(desk, p);
     let before = counts_at(desk, p);
     let more = share(limit - made, turns);
-    let mut work = [0u64; 256];
+    let mut work = [0u64; WORK];
     let part = go_on(desk, p, more, &mut work);
     let counted = part.tally;
     let nodes = made + counted.nodes as usize;

@@ -21,7 +21,7 @@ use Rattle.model.proofs.Tree.{well-sized}
 use Rattle.model.specs.WellFormed.{WellFormed}
 use Rattle.order.specs.Order.{Ordering}
 use Rattle.order.specs.Reordered.{write}
-use Rattle.layout.specs.Places.{VARIABLES, LIMIT, ROOM, PLANS, LAST, MARKS, ALL, SPENT, DEEPER}
+use Rattle.layout.specs.Places.{VARIABLES, LIMIT, ROOM, PLANS, LAST, MARKS, ALL, SPENT, DEEPER, WORK}
 use Rattle.prune.specs.Node.{Ready, Holds, Marked, AtNode, Reached, longer}
 use Rattle.prune.proofs.Marks.{marked-on}
 use Rattle.walk.specs.Walk.{withNode, Summed, State, listed, counted, walk, nodesFor}
@@ -327,7 +327,7 @@ module _ (p : Problem) (stack work supports tables numbers list : List ℕ) (tal
     pub plan-order : Ordering (at numbers VARIABLES) (orderIn numbers (at numbers VARIABLES))
     plan-order = subst (λ (n : ℕ). Ordering n (orderIn numbers n)) (sym (h .ready .indexed .numbered .variables)) (h .order)
 
-    pub plan-sized : length work₂ ≡ 256
+    pub plan-sized : length work₂ ≡ WORK
     plan-sized = work-length₂ ∙ h .ready .work-length
 
     pub entered-plan : dead ≡ false → k + 1 ≡ p .variables → (work₃ list₃ : List ℕ) (stop : ℕ) → Listed (at numbers VARIABLES) (at numbers ROOM) (orderIn numbers (at numbers VARIABLES)) work₂ list work₃ list₃ stop → Out stack₂ work₃ list₃ stop

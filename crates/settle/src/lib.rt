@@ -2,8 +2,13 @@
 use layout::ALL;
 use layout::DEEPER;
 use layout::LAST;
+use layout::Numbers;
 use layout::SPENT;
+use layout::Stack;
+use layout::Supports;
+use layout::Tables;
 use layout::VARIABLES;
+use layout::Work;
 use model::ValueSet;
 use walk::Tally;
 ghost use Rattle.model.specs.Problem.{Problem};
@@ -14,11 +19,11 @@ ghost use Rattle.walk.specs.Meaning.{tallyIn};
 // Makes the node of the lowest of the values m of variable k: ALL where it is dead or its plan was listed, FULL where a plan has no room,
 // DEEPER where the next variable is to be settled.
 fn enter(
-    stack: &mut [u16; 208],
-    work: &mut [u64; 256],
-    supports: &[u16; 8192],
-    tables: &[u16; 55296],
-    numbers: &[u64; 2432],
+    stack: &mut Stack,
+    work: &mut Work,
+    supports: &Supports,
+    tables: &Tables,
+    numbers: &Numbers,
     list: &mut &mut [u8],
     k: usize,
     m: u16,
@@ -42,11 +47,11 @@ fn enter(
 
 // Walks along the nodes of the values m of variable k, lowest first: ALL, or SPENT or FULL once the run is.
 pub fn settle(
-    stack: &mut [u16; 208],
-    work: &mut [u64; 256],
-    supports: &[u16; 8192],
-    tables: &[u16; 55296],
-    numbers: &[u64; 2432],
+    stack: &mut Stack,
+    work: &mut Work,
+    supports: &Supports,
+    tables: &Tables,
+    numbers: &Numbers,
     list: &mut &mut [u8],
     tally: &mut Tally,
     k: usize,
@@ -81,11 +86,11 @@ pub fn settle(
 
 // Walks along the node of the lowest of the values m of variable k and those below it, which are the next variable's.
 fn try_value(
-    stack: &mut [u16; 208],
-    work: &mut [u64; 256],
-    supports: &[u16; 8192],
-    tables: &[u16; 55296],
-    numbers: &[u64; 2432],
+    stack: &mut Stack,
+    work: &mut Work,
+    supports: &Supports,
+    tables: &Tables,
+    numbers: &Numbers,
     list: &mut &mut [u8],
     tally: &mut Tally,
     k: usize,
@@ -123,11 +128,11 @@ pub struct CountedPart {
 
 // Walks along the nodes of the values m of variable k, lowest first, in a run that has counted so far.
 pub fn walk_counted(
-    stack: &mut [u16; 208],
-    work: &mut [u64; 256],
-    supports: &[u16; 8192],
-    tables: &[u16; 55296],
-    numbers: &[u64; 2432],
+    stack: &mut Stack,
+    work: &mut Work,
+    supports: &Supports,
+    tables: &Tables,
+    numbers: &Numbers,
     list: &mut [u8],
     before: Tally,
     k: usize,

@@ -16,6 +16,7 @@ use Rattle.model.proofs.Sets.{has-none}
 use Rattle.model.proofs.Masks.{is-mask}
 use Rattle.model.proofs.Accepted.{length-words}
 use Rattle.layout.specs.Layout.{place}
+use Rattle.layout.specs.Places.{SUPPORTS}
 use Rattle.sheet.specs.Fill.{rowKey, rowFits, supportsWith, withRows}
 use Rattle.sheet.specs.Steps.{offsetAt, supportsTo}
 use Rattle.sheet.proofs.Any.{any-same}
@@ -43,7 +44,7 @@ pub record Backed (b : List ℕ) (o k : ℕ) (l new : List ℕ) : Type 0 where
   pub rest : (y : ℕ) → 256 * k ≤ y → at new y ≡ at l y
   pub holds : (j q v : ℕ) → j < k → q < 256 → v < 16 → has (at new (256 * j + q)) v ≡ any (eqb (16 * q + v)) (keysAt b (offsetAt b o j))
 
-module _ (b : List ℕ) (n d o c : ℕ) (d16 : d ≤ 16) (c32 : c ≤ 32) (good : (j : ℕ) → j < c → Good b n d (offsetAt b o j)) (l : List ℕ) (long : length l ≡ 8192) (blank : (y : ℕ) → at l y ≡ 0) where
+module _ (b : List ℕ) (n d o c : ℕ) (d16 : d ≤ 16) (c32 : c ≤ 32) (good : (j : ℕ) → j < c → Good b n d (offsetAt b o j)) (l : List ℕ) (long : length l ≡ SUPPORTS) (blank : (y : ℕ) → at l y ≡ 0) where
   pub backed : (k : ℕ) → k ≤ c → Backed b o k l (supportsTo b o k l)
   unfolding supportsTo keysAt
   backed zero h =

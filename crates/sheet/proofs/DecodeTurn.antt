@@ -19,6 +19,7 @@ use Rattle.model.proofs.Accepted.{at-words}
 use Rattle.model.proofs.Filling.{filled-turn}
 use Rattle.model.specs.Filling.{Filled}
 use Rattle.layout.specs.Layout.{Images, symmetryAt, pairCode}
+use Rattle.layout.specs.Places.{IMAGES}
 use Rattle.symmetry.proofs.Codes.{code-small, code-inj}
 use Rattle.sheet.specs.Decoding.{Decodable, Decoded, permuting, TablesDecoded}
 use Rattle.sheet.proofs.Any.{getD-below}
@@ -96,11 +97,11 @@ permuted-not b e l n = go (permuting b) refl
 -- the first e tables pass question 15 and were decoded, and the next stands at an offset
 pub record ImagesTo (b : List ℕ) (e o : ℕ) (new : List ℕ) : Type 0 where
   pub here : o ≡ tableOffset b e
-  pub sized : length new ≡ 26112
+  pub sized : length new ≡ IMAGES
   pub permuted : (f : ℕ) → f < e → permutedAt b f ≡ true
   pub images : (f q : ℕ) → f < e → q < headerOf b .variables * headerOf b .values → at new (192 * f + pairCode (headerOf b .values) q) ≡ pairCode (headerOf b .values) (word b (tableOffset b f + 2 * q))
 
-pub images-none : (b : List ℕ) (o : ℕ) (new : List ℕ) → o ≡ headerOf b .third → length new ≡ 26112 → ImagesTo b 0 o new
+pub images-none : (b : List ℕ) (o : ℕ) (new : List ℕ) → o ≡ headerOf b .third → length new ≡ IMAGES → ImagesTo b 0 o new
 images-none b o new e s =
     record {
       here = (let z : tableOffset b 0 ≡ headerOf b .third = omega arith in e ∙ sym z);

@@ -11,8 +11,9 @@ use Rattle.model.specs.Lists.{at}
 use Rattle.model.specs.Verdict.{Verdict, accepted, refused, ask, isAccepted}
 use Rattle.model.specs.Sheet.{Header as Numbers′, headerOf, problemOf, tablesFit, formVerdict}
 use Rattle.layout.specs.Layout.{Numbers, Supports}
+use Rattle.layout.specs.Places.{SUPPORTS, NUMBERS}
 use Rattle.sheet.specs.Meaning.{means, andThen, Answers}
-use Rattle.sheet.specs.Parts.{headerAsked, setsAsked, Fit, AllSets, SetsAsked, entries}
+use Rattle.sheet.specs.Parts.{headerAsked, setsAsked, Fit, AllSets, SetsAsked}
 use Rattle.sheet.specs.Steps.{constraintsAsked, ConstraintsAsked, numbersTo, supportsTo}
 use Rattle.sheet.specs.Form.{Zeros, counted, FormAsked}
 use Rattle.reader.specs.Read.{stated}
@@ -86,7 +87,7 @@ module _ (b : List ℕ) where
         pub form-length : t ≡ false → FormAsked b numbers supports (Refused 14 0)
         form-length q = refusal b numbers supports (Refused 14 0) 14 0 refl (asked false q)
 
-        pub form-whole : (last : List ℕ) → t ≡ true → m ≡ headerOf b .variables → Zeros entries old → Zeros 8192 sup → last ≡ counted (h .variables) (h .values) (h .constraints) (h .symmetries) numbers → FormAsked b last supports Accepted
+        pub form-whole : (last : List ℕ) → t ≡ true → m ≡ headerOf b .variables → Zeros NUMBERS old → Zeros SUPPORTS sup → last ≡ counted (h .variables) (h .values) (h .constraints) (h .symmetries) numbers → FormAsked b last supports Accepted
         form-whole last q em zn zs el =
             let f = fit-of b r₁ e₁ a₁ in
             let gs = good b (headerOf b) (headerOf b .constraints) 0 (headerOf b .second) accepted (is-accepted (constraintsAsked b accepted) (no-no (constraintsAsked b) r₃ e₃ (a₃ .answers) accepted)) .0 in

@@ -15,7 +15,8 @@ use Rattle.model.proofs.Lists.{length-below, at-set, at-set-other}
 use Rattle.model.proofs.Sets.{has-none}
 use Rattle.model.proofs.Accepted.{length-words, at-words}
 use Rattle.layout.specs.Layout.{Numbers, Supports, constraintAt, place}
-use Rattle.sheet.specs.Parts.{Fit, AllSets, entries}
+use Rattle.layout.specs.Places.{SUPPORTS, NUMBERS}
+use Rattle.sheet.specs.Parts.{Fit, AllSets}
 use Rattle.sheet.specs.Fill.{packed}
 use Rattle.sheet.specs.Steps.{offsetAt, numbersTo, supportsTo}
 use Rattle.sheet.specs.Form.{counted}
@@ -24,19 +25,19 @@ use Rattle.sheet.proofs.Backing.{Backed, backed, set-of-rows}
 use Rattle.sheet.proofs.Passed.{length-constraints, constraint-at}
 
 -- ---- the four counts
-module _ (n d c g : ℕ) (l : List ℕ) (long : length l ≡ entries) where
+module _ (n d c g : ℕ) (l : List ℕ) (long : length l ≡ NUMBERS) where
   counted-low : (i : ℕ) → i < 64 → at (counted n d c g l) i ≡ at l i
   counted-low i h =
       at-set-other (set (set (set l 64 n) 65 d) 66 c) 67 g i (λ e. omega arith) ∙ at-set-other (set (set l 64 n) 65 d) 66 c i (λ e. omega arith)
       ∙ at-set-other (set l 64 n) 65 d i (λ e. omega arith) ∙ at-set-other l 64 n i (λ e. omega arith)
 
-  long1 : length (set l 64 n) ≡ entries
+  long1 : length (set l 64 n) ≡ NUMBERS
   long1 = length-set l 64 n ∙ long
 
-  long2 : length (set (set l 64 n) 65 d) ≡ entries
+  long2 : length (set (set l 64 n) 65 d) ≡ NUMBERS
   long2 = length-set (set l 64 n) 65 d ∙ long1
 
-  long3 : length (set (set (set l 64 n) 65 d) 66 c) ≡ entries
+  long3 : length (set (set (set l 64 n) 65 d) 66 c) ≡ NUMBERS
   long3 = length-set (set (set l 64 n) 65 d) 66 c ∙ long2
 
   counted-n : at (counted n d c g l) 64 ≡ n
@@ -52,7 +53,7 @@ module _ (n d c g : ℕ) (l : List ℕ) (long : length l ≡ entries) where
   counted-c : at (counted n d c g l) 66 ≡ c
   counted-c = at-set-other (set (set (set l 64 n) 65 d) 66 c) 67 g 66 (λ e. omega arith) ∙ at-set (set (set l 64 n) 65 d) 66 c (omega (arith, long2))
 
-  counted-length : length (counted n d c g l) ≡ entries
+  counted-length : length (counted n d c g l) ≡ NUMBERS
   counted-length = length-set (set (set (set l 64 n) 65 d) 66 c) 67 g ∙ long3
 
   counted-g : at (counted n d c g l) 67 ≡ g
@@ -86,7 +87,7 @@ module _ (b : List ℕ) where
 
   module _ (f : Fit b) (good : (j : ℕ) → j < headerOf b .constraints → Good b (headerOf b .variables) (headerOf b .values) (offsetAt b (headerOf b .second) j)) where
     -- ---- the numbers
-    module _ (l m : List ℕ) (long : length l ≡ entries) (blank : (i : ℕ) → at l i ≡ 0) (sets : AllSets b (headerOf b .variables) l m) where
+    module _ (l m : List ℕ) (long : length l ≡ NUMBERS) (blank : (i : ℕ) → at l i ≡ 0) (sets : AllSets b (headerOf b .variables) l m) where
       abbrev t : Held b (headerOf b .second) (headerOf b .constraints) m (numbersTo b (headerOf b .second) (headerOf b .constraints) m)
       t =
           held b (headerOf b .variables) (headerOf b .values) (headerOf b .second) (headerOf b .constraints) (omega (arith, f .few)) good m (sets .sized ∙ long) (f .constraints)
@@ -98,7 +99,7 @@ module _ (b : List ℕ) where
       abbrev new : List ℕ
       new = counted (headerOf b .variables) (headerOf b .values) (headerOf b .constraints) (headerOf b .symmetries) mid
 
-      sized : length mid ≡ entries
+      sized : length mid ≡ NUMBERS
       sized = t .sized ∙ sets .sized ∙ long
 
       low : (i : ℕ) → i < 64 → at new i ≡ at mid i
@@ -111,7 +112,7 @@ module _ (b : List ℕ) where
           ∙ ap₂ (λ (u v : Bool). either u (both v (any (eqb x) (scopeAt b (offsetAt b (headerOf b .second) k))))) (ap (λ (s : ℕ). has s k) (sets .low x hx ∙ blank x) ∙ has-none k) (lt-ltb k (headerOf b .constraints) h)
           ∙ ap (any (eqb x)) (sym (scope-is k h))
 
-      pub numbered-length : length new ≡ entries
+      pub numbered-length : length new ≡ NUMBERS
       numbered-length = counted-length (headerOf b .variables) (headerOf b .values) (headerOf b .constraints) (headerOf b .symmetries) mid sized
 
       pub numbered : Numbers (problemOf b) new
@@ -141,13 +142,13 @@ module _ (b : List ℕ) where
           tables = length-below (tableAt b (headerOf b)) (headerOf b .symmetries)
 
     -- ---- the support sets
-    supports-backed : (l : List ℕ) → length l ≡ 8192 → ((y : ℕ) → at l y ≡ 0) → Backed b (headerOf b .second) (headerOf b .constraints) l (supportsTo b (headerOf b .second) (headerOf b .constraints) l)
+    supports-backed : (l : List ℕ) → length l ≡ SUPPORTS → ((y : ℕ) → at l y ≡ 0) → Backed b (headerOf b .second) (headerOf b .constraints) l (supportsTo b (headerOf b .second) (headerOf b .constraints) l)
     supports-backed l long blank = backed b (headerOf b .variables) (headerOf b .values) (headerOf b .second) (headerOf b .constraints) (f .sixteen) (f .constraints) good l long blank (headerOf b .constraints) (omega arith)
 
-    pub supports-length : (l : List ℕ) → length l ≡ 8192 → ((y : ℕ) → at l y ≡ 0) → length (supportsTo b (headerOf b .second) (headerOf b .constraints) l) ≡ 8192
+    pub supports-length : (l : List ℕ) → length l ≡ SUPPORTS → ((y : ℕ) → at l y ≡ 0) → length (supportsTo b (headerOf b .second) (headerOf b .constraints) l) ≡ SUPPORTS
     supports-length l long blank = supports-backed l long blank .sized ∙ long
 
-    pub supports-hold : (l : List ℕ) → length l ≡ 8192 → ((y : ℕ) → at l y ≡ 0) → Supports (problemOf b) (supportsTo b (headerOf b .second) (headerOf b .constraints) l)
+    pub supports-hold : (l : List ℕ) → length l ≡ SUPPORTS → ((y : ℕ) → at l y ≡ 0) → Supports (problemOf b) (supportsTo b (headerOf b .second) (headerOf b .constraints) l)
     supports-hold l long blank k h vs size small =
         let w : k < headerOf b .constraints = omega (arith, many) in
         let p = offsetAt b (headerOf b .second) k in

@@ -14,7 +14,8 @@ use Rattle.model.specs.Sheet.{Header, word, headerOf, setsVerdict}
 use Rattle.model.proofs.Masks.{shl-one, shl-pos, full-op, full-all}
 use Rattle.model.proofs.Filling.{filled-turn}
 use Rattle.model.specs.Filling.{Filled}
-use Rattle.sheet.specs.Parts.{ZeroSets, AllSets, SetsAsked, entries}
+use Rattle.layout.specs.Places.{NUMBERS}
+use Rattle.sheet.specs.Parts.{ZeroSets, AllSets, SetsAsked}
 use Rattle.sheet.specs.declared.Answer.the-variants.{Accepted, Refused}
 
 -- ---- the question
@@ -92,7 +93,7 @@ ZeroTo x old new = Filled (λ y. 16 + y) (λ y w. w ≡ 1) x old new
 abbrev pub InitialTo : List ℕ → ℕ → List ℕ → List ℕ → Type 0
 InitialTo b x old new = Filled (λ y. 16 + y) (λ y w. w ≡ word b (16 + 2 * y)) x old new
 
-pub set-stored : (P : ℕ → ℕ → Type 0) (x s : ℕ) (old new : List ℕ) → x < 16 → length old ≡ entries → P x s → Filled (λ y. 16 + y) P x old new → Filled (λ y. 16 + y) P (x + 1) old (set new (16 + x) s)
+pub set-stored : (P : ℕ → ℕ → Type 0) (x s : ℕ) (old new : List ℕ) → x < 16 → length old ≡ NUMBERS → P x s → Filled (λ y. 16 + y) P x old new → Filled (λ y. 16 + y) P (x + 1) old (set new (16 + x) s)
 set-stored P x s old new h e p f = filled-turn (λ y. 16 + y) P old new x (16 + x) s f refl (omega arith) (λ y l q. omega arith) p
 
 pub zero-sets : (x : ℕ) (old new : List ℕ) → 16 ≤ x → x ≤ 16 → ZeroTo x old new → ZeroSets old new

@@ -16,7 +16,7 @@ use Rattle.model.specs.Sheet.{word, words, scopeAt}
 use Rattle.model.proofs.Lists.{at-set, at-set-other}
 use Rattle.model.proofs.Masks.{has-or, has-one}
 use Rattle.model.proofs.Members.{both-no, both-yes, either-no}
-use Rattle.sheet.specs.Parts.{entries}
+use Rattle.layout.specs.Places.{NUMBERS}
 use Rattle.sheet.specs.Fill.{touch, touched, packed, rowFits, numbersWith}
 use Rattle.sheet.specs.Steps.{offsetAt, numbersTo}
 use Rattle.sheet.proofs.Any.{either-assoc, any-more, any-none}
@@ -146,7 +146,7 @@ own j k f = go (eqb j k) refl
     go true e = ap f (sym (eqb-true j k e))
     go false e = refl
 
-module _ (b : List ℕ) (n d o c : ℕ) (n16 : n ≤ 16) (good : (j : ℕ) → j < c → Good b n d (offsetAt b o j)) (l : List ℕ) (long : length l ≡ entries) (c32 : c ≤ 32) (blank : (x : ℕ) → x < 16 → at l x ≡ 0) where
+module _ (b : List ℕ) (n d o c : ℕ) (n16 : n ≤ 16) (good : (j : ℕ) → j < c → Good b n d (offsetAt b o j)) (l : List ℕ) (long : length l ≡ NUMBERS) (c32 : c ≤ 32) (blank : (x : ℕ) → x < 16 → at l x ≡ 0) where
   pub held : (k : ℕ) → k ≤ c → Held b o k l (numbersTo b o k l)
   unfolding numbersTo scopeAt
   held zero h =

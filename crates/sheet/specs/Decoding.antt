@@ -8,6 +8,7 @@ use Rattle.model.specs.Lists.{at, all}
 use Rattle.model.specs.Verdict.{accepted}
 use Rattle.model.specs.Sheet.{word, problemOf, formVerdict, permutesPairs}
 use Rattle.layout.specs.Layout.{pairCode, Numbers, Images}
+use Rattle.layout.specs.Places.{IMAGES}
 
 -- a table of pair numbers at an offset, and room for its images
 pub record Decodable (b : List ℕ) (from count d base : ℕ) (old : List ℕ) : Type 0 where
@@ -15,8 +16,8 @@ pub record Decodable (b : List ℕ) (from count d base : ℕ) (old : List ℕ) :
   pub few : d ≤ 16
   pub small : count ≤ 12 * d
   pub whole : from + 2 * count ≤ length b
-  pub room : base + 192 ≤ 26112
-  pub sized : length old ≡ 26112
+  pub room : base + 192 ≤ IMAGES
+  pub sized : length old ≡ IMAGES
   pub pairs : (q : ℕ) → q < count → word b (from + 2 * q) < count
 
 -- the codes of the images of the pair numbers, and nothing else changed
@@ -39,4 +40,4 @@ pub record Tabled (b numbers : List ℕ) (asked : Bool) : Type 0 where
 pub record TablesDecoded (b images : List ℕ) (r : Bool) : Type 0 where
   pub answers : r ≡ permuting b
   pub imaged : r ≡ true → Images (problemOf b) images
-  pub sized : length images ≡ 26112
+  pub sized : length images ≡ IMAGES

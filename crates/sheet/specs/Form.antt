@@ -7,7 +7,7 @@ use lib.ListN.{length, set}
 use Rattle.model.specs.Lists.{at, all}
 use Rattle.model.specs.Verdict.{accepted, ask, isAccepted}
 use Rattle.model.specs.Sheet.{problemOf, formVerdict, permutesPairs, verdictOf}
-use Rattle.layout.specs.Places.{VARIABLES, VALUES, CONSTRAINTS, SYMMETRIES}
+use Rattle.layout.specs.Places.{VARIABLES, VALUES, CONSTRAINTS, SYMMETRIES, IMAGES, NUMBERS, SUPPORTS}
 use Rattle.layout.specs.Layout.{Numbers, Supports, Compiled}
 use Rattle.sheet.specs.Meaning.{means, Answers}
 use Rattle.sheet.specs.declared.Answer.{Answer}
@@ -27,8 +27,8 @@ pub record Formed (b : List ℕ) (numbers supports : List ℕ) : Type 0 where
   pub passed : formVerdict b accepted ≡ accepted
   pub numbered : Numbers (problemOf b) numbers
   pub supported : Supports (problemOf b) supports
-  pub numbers-length : length numbers ≡ 2432
-  pub supports-length : length supports ≡ 8192
+  pub numbers-length : length numbers ≡ NUMBERS
+  pub supports-length : length supports ≡ SUPPORTS
 
 pub record FormAsked (b : List ℕ) (numbers supports : List ℕ) (r : Answer) : Type 0 where
   pub answers : Answers (formVerdict b) r
@@ -36,9 +36,9 @@ pub record FormAsked (b : List ℕ) (numbers supports : List ℕ) (r : Answer) :
 
 -- the arrays have their lengths
 pub record Sized (numbers supports images : List ℕ) : Type 0 where
-  pub numbers-length : length numbers ≡ 2432
-  pub supports-length : length supports ≡ 8192
-  pub images-length : length images ≡ 26112
+  pub numbers-length : length numbers ≡ NUMBERS
+  pub supports-length : length supports ≡ SUPPORTS
+  pub images-length : length images ≡ IMAGES
 
 -- the answer to all questions, and the compiled problem of an accepted sheet
 pub record Compilation (b : List ℕ) (numbers supports images : List ℕ) (r : Answer) : Type 0 where

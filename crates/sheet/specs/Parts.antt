@@ -6,7 +6,7 @@ use lib.ListN.{length}
 use Rattle.model.specs.Lists.{below, at}
 use Rattle.model.specs.Verdict.{Verdict}
 use Rattle.model.specs.Sheet.{headerOf, word, headerVerdict, setsVerdict}
-use Rattle.layout.specs.Places.{INITIAL, SCOPES}
+use Rattle.layout.specs.Places.{INITIAL, SCOPES, NUMBERS}
 use Rattle.sheet.specs.Meaning.{Answers}
 use Rattle.sheet.specs.declared.Answer.{Answer}
 use Rattle.sheet.specs.declared.Answer.the-variants.{Accepted}
@@ -28,10 +28,6 @@ pub record Fit (b : List ℕ) : Type 0 where
   pub second : headerOf b .second ≡ 16 + 2 * headerOf b .variables
   pub ordered : headerOf b .second ≤ headerOf b .third
   pub third : headerOf b .third ≤ length b
-
--- how many numbers a compiled problem has
-abbrev pub entries : ℕ
-entries = 2432
 
 -- ---- question 8
 abbrev pub setsAsked : List ℕ → Verdict → Verdict

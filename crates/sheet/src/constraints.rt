@@ -1,10 +1,11 @@
 // Questions 9 to 13, and what they store of each constraint: its scope, and the set of constraints that touch a variable.
 use crate::Answer;
 use crate::rows;
+use layout::Numbers;
 use layout::SCOPES;
+use layout::Supports;
 use reader::Header;
 use reader::read_word;
-use symmetry::Numbers;
 ghost use Prim.Native.Nat.{_+_, _*_, _≤_, _<_};
 ghost use mathlib.Core.Path.{_≡_};
 ghost use lib.ListN.{length};
@@ -79,7 +80,7 @@ fn constraint(
     o: usize,
     k: usize,
     numbers: &mut Numbers,
-    supports: &mut [u16; 8192],
+    supports: &mut Supports,
 ) -> Step
     requires { ⌜ Fit (now sheet) × (n ≡ headerOf (now sheet) .variables) × (d ≡ headerOf (now sheet) .values) × (third ≡ headerOf (now sheet) .third) × (o ≤ third) × (k < 32) ⌝ }
     ensures { λ r. ⌜ ConstraintAsked (now (sheet .entry)) o k (now (numbers .entry)) (now (supports .entry)) (now (numbers .exit)) (now (supports .exit)) r ⌝ }
@@ -108,7 +109,7 @@ fn constraint(
 }
 
 // Questions 9 to 13 to each constraint in turn; after the last, whether it ends at the third offset.
-pub fn ask(sheet: &[u8], h: Header, numbers: &mut Numbers, supports: &mut [u16; 8192]) -> Answer
+pub fn ask(sheet: &[u8], h: Header, numbers: &mut Numbers, supports: &mut Supports) -> Answer
     requires { ⌜ Fit (now sheet) × (stated h ≡ headerOf (now sheet)) ⌝ }
     ensures { λ r. ⌜ ConstraintsAsked (now (sheet .entry)) (now (numbers .entry)) (now (supports .entry)) (now (numbers .exit)) (now (supports .exit)) r ⌝ }
 {

@@ -4,18 +4,19 @@ use crate::constraints;
 use crate::heading;
 use crate::sets;
 use layout::CONSTRAINTS;
+use layout::Numbers;
 use layout::SYMMETRIES;
+use layout::Supports;
 use layout::VALUES;
 use layout::VARIABLES;
 use reader::Header;
 use reader::read_header;
-use symmetry::Numbers;
 ghost use Prim.Native.Nat.{_^_, _≤_, _<_};
 ghost use mathlib.Core.Path.{_≡_};
 ghost use Rattle.model.specs.Sheet.{tablesFit};
+ghost use Rattle.layout.specs.Places.{SUPPORTS, NUMBERS};
 ghost use Rattle.reader.specs.Read.{stated};
 ghost use Rattle.sheet.specs.Form.{Zeros, counted, FormAsked};
-ghost use Rattle.sheet.specs.Parts.{entries};
 
 // Question 14: the symmetries' tables fill the rest.
 fn tables_fit(h: Header) -> bool
@@ -35,8 +36,8 @@ fn store_counts(h: Header, numbers: &mut Numbers)
 }
 
 // The arrays are lent full of zeros.
-pub fn ask(sheet: &[u8], numbers: &mut Numbers, supports: &mut [u16; 8192]) -> Answer
-    requires { ⌜ Zeros entries (now numbers) × Zeros 8192 (now supports) ⌝ }
+pub fn ask(sheet: &[u8], numbers: &mut Numbers, supports: &mut Supports) -> Answer
+    requires { ⌜ Zeros NUMBERS (now numbers) × Zeros SUPPORTS (now supports) ⌝ }
     ensures { λ r. ⌜ FormAsked (now (sheet .entry)) (now (numbers .exit)) (now (supports .exit)) r ⌝ }
 {
     let first = heading::ask(sheet);

@@ -3,6 +3,7 @@ ghost use mathlib.Core.Path.{_≡_};
 ghost use lib.ListN.{length};
 ghost use Rattle.sheet.specs.Calls.{CallQuestion};
 ghost use Rattle.sheet.specs.Form.{Zeros, Compilation, Recompilation};
+ghost use Rattle.layout.specs.Places.{IMAGES, NUMBERS, SUPPORTS};
 
 mod constraints; // questions 9 to 13
 mod form; // questions 1 to 14
@@ -11,6 +12,11 @@ mod rows; // questions 12 and 13 to one constraint
 mod sets; // question 8
 mod tables; // questions 15 and 16, and the images
 
+use layout::Images;
+use layout::NUMBERS;
+use layout::Numbers;
+use layout::SUPPORTS;
+use layout::Supports;
 use reader::read_header;
 
 // The first "no", with its number and item, or that there is none.
@@ -23,8 +29,8 @@ pub enum Answer {
 pub fn question(sheet: &[u8]) -> Answer
     ensures { λ r. ⌜ CallQuestion (now (sheet .entry)) r ⌝ }
 {
-    let mut numbers = [0u64; 2432];
-    let mut supports = [0u16; 8192];
+    let mut numbers = [0u64; NUMBERS];
+    let mut supports = [0u16; SUPPORTS];
     let first = form::ask(sheet, &mut numbers, &mut supports);
     let Answer::Accepted = first else {
         return first;
@@ -37,11 +43,11 @@ pub fn question(sheet: &[u8]) -> Answer
 // `numbers` and `supports` are lent full of zeros; after a refusal the arrays hold nothing that is meant.
 pub fn compile(
     sheet: &[u8],
-    numbers: &mut [u64; 2432],
-    supports: &mut [u16; 8192],
-    images: &mut [u8; 26112],
+    numbers: &mut Numbers,
+    supports: &mut Supports,
+    images: &mut Images,
 ) -> Answer
-    requires { ⌜ Zeros 2432 (now numbers) × Zeros 8192 (now supports) × (length (now images) ≡ 26112) ⌝ }
+    requires { ⌜ Zeros NUMBERS (now numbers) × Zeros SUPPORTS (now supports) × (length (now images) ≡ IMAGES) ⌝ }
     ensures { λ r. ⌜ Compilation (now (sheet .entry)) (now (numbers .exit)) (now (supports .exit)) (now (images .exit)) r ⌝ }
 {
     let first = form::ask(sheet, numbers, supports);
@@ -60,11 +66,11 @@ pub fn compile(
 // The same without question 16: the arrays of the compiled problem of bytes that pass questions 1 to 15, and whether they do.
 pub fn recompile(
     sheet: &[u8],
-    numbers: &mut [u64; 2432],
-    supports: &mut [u16; 8192],
-    images: &mut [u8; 26112],
+    numbers: &mut Numbers,
+    supports: &mut Supports,
+    images: &mut Images,
 ) -> bool
-    requires { ⌜ Zeros 2432 (now numbers) × Zeros 8192 (now supports) × (length (now images) ≡ 26112) ⌝ }
+    requires { ⌜ Zeros NUMBERS (now numbers) × Zeros SUPPORTS (now supports) × (length (now images) ≡ IMAGES) ⌝ }
     ensures { λ r. ⌜ Recompilation (now (sheet .entry)) (now (numbers .exit)) (now (supports .exit)) (now (images .exit)) r ⌝ }
 {
     let first = form::ask(sheet, numbers, supports);

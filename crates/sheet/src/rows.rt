@@ -1,4 +1,5 @@
 // Questions 12 and 13 to the rows of one constraint, and its support sets.
+use layout::Supports;
 use model::ValueSet;
 use reader::read_word;
 ghost use Prim.Native.Nat.{_+_, _*_, _≤_, _<_};
@@ -7,6 +8,7 @@ ghost use lib.ListN.{length};
 ghost use lib.Dec.{ltb};
 ghost use Rattle.sheet.specs.Fill.{withRow, RowRead, RowsAsked};
 ghost use Rattle.model.specs.Lists.{choose};
+ghost use Rattle.layout.specs.Places.{SUPPORTS};
 
 // The row of a values at an offset as one number, a hexadecimal digit for each value; 4096 where one is not below d.
 // Rows in their order have keys in theirs.
@@ -35,8 +37,8 @@ fn ordered(key: usize, least: usize, refused: u8) -> u8
 }
 
 // A row into the support sets from a base on: its last value to the set for the values before it.
-fn add_row(base: usize, key: usize, supports: &mut [u16; 8192])
-    requires { ⌜ (key < 4096) × (base + 256 ≤ 8192) ⌝ }
+fn add_row(base: usize, key: usize, supports: &mut Supports)
+    requires { ⌜ (key < 4096) × (base + 256 ≤ SUPPORTS) ⌝ }
     ensures { λ _. ⌜ now (supports .exit) ≡ withRow base key (now (supports .entry)) ⌝ }
 {
     let slot = base + key / 16;
@@ -56,9 +58,9 @@ pub fn ask(
     n: usize,
     d: usize,
     base: usize,
-    supports: &mut [u16; 8192],
+    supports: &mut Supports,
 ) -> u8
-    requires { ⌜ (1 ≤ a) × (a ≤ 3) × (n ≤ 256) × (d ≤ 16) × (from + 2 * (n * a) ≤ length (now sheet)) × (base + 256 ≤ 8192) ⌝ }
+    requires { ⌜ (1 ≤ a) × (a ≤ 3) × (n ≤ 256) × (d ≤ 16) × (from + 2 * (n * a) ≤ length (now sheet)) × (base + 256 ≤ SUPPORTS) ⌝ }
     ensures { λ r. ⌜ RowsAsked (now (sheet .entry)) from a n d base (now (supports .entry)) (now (supports .exit)) r ⌝ }
 {
     let mut refused = 0u8;

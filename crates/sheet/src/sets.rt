@@ -1,9 +1,9 @@
 // Question 8, and the initial sets, into `numbers` from 16 on.
 use crate::Answer;
 use layout::INITIAL;
+use layout::Numbers;
 use model::ValueSet;
 use reader::read_word;
-use symmetry::Numbers;
 ghost use Prim.Native.Nat.{_≤_};
 ghost use mathlib.Core.Bool.{not};
 ghost use mathlib.Core.Path.{_≡_};
@@ -11,7 +11,8 @@ ghost use lib.ListN.{length};
 ghost use lib.Dec.{leb, eqb};
 ghost use Rattle.model.specs.Lists.{both};
 ghost use Rattle.model.specs.Sheet.{headerOf};
-ghost use Rattle.sheet.specs.Parts.{Fit, entries, SetsAsked, ZeroSets};
+ghost use Rattle.layout.specs.Places.{NUMBERS};
+ghost use Rattle.sheet.specs.Parts.{Fit, SetsAsked, ZeroSets};
 
 // Whether a number is a set that is not empty, of values of the full set.
 fn is_set(s: usize, full: ValueSet) -> bool
@@ -27,7 +28,7 @@ fn is_set(s: usize, full: ValueSet) -> bool
 
 // The set {0} for each of the sixteen variables: it stays for those from n up.
 fn fill(numbers: &mut Numbers)
-    requires { ⌜ length (now numbers) ≡ entries ⌝ }
+    requires { ⌜ length (now numbers) ≡ NUMBERS ⌝ }
     ensures { λ _. ⌜ ZeroSets (now (numbers .entry)) (now (numbers .exit)) ⌝ }
 {
     let first = ValueSet::full(1);
@@ -39,7 +40,7 @@ fn fill(numbers: &mut Numbers)
 }
 
 pub fn ask(sheet: &[u8], n: usize, d: usize, numbers: &mut Numbers) -> Answer
-    requires { ⌜ Fit (now sheet) × (n ≡ headerOf (now sheet) .variables) × (d ≡ headerOf (now sheet) .values) × (length (now numbers) ≡ entries) ⌝ }
+    requires { ⌜ Fit (now sheet) × (n ≡ headerOf (now sheet) .variables) × (d ≡ headerOf (now sheet) .values) × (length (now numbers) ≡ NUMBERS) ⌝ }
     ensures { λ r. ⌜ SetsAsked (now (sheet .entry)) n (now (numbers .entry)) (now (numbers .exit)) r ⌝ }
 {
     fill(numbers);

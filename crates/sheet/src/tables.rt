@@ -1,20 +1,23 @@
 // Questions 15 and 16 to each table of symmetries, and the images of the pairs.
 use crate::Answer;
+use layout::Images;
+use layout::Numbers;
+use layout::Supports;
 use reader::Header;
 use reader::read_word;
-use symmetry::Numbers;
 use symmetry::pair_code;
 ghost use mathlib.Core.Path.{_≡_};
 ghost use mathlib.Core.Bool.{true};
 ghost use lib.ListN.{length};
 ghost use Rattle.model.specs.Sheet.{headerOf, problemOf, permutesPairs, symmetriesVerdict};
+ghost use Rattle.layout.specs.Places.{IMAGES};
 ghost use Rattle.symmetry.specs.Table.{TableAt, tableOf};
 ghost use Rattle.sheet.specs.Meaning.{means};
 ghost use Rattle.sheet.specs.Form.{Formed};
 ghost use Rattle.sheet.specs.Decoding.{Decodable, Decoded, Tabled, TablesDecoded};
 ghost use Rattle.reader.specs.Read.{stated};
 
-pub fn ask(sheet: &[u8], h: Header, numbers: &Numbers, supports: &[u16; 8192]) -> Answer
+pub fn ask(sheet: &[u8], h: Header, numbers: &Numbers, supports: &Supports) -> Answer
     requires { ⌜ Formed (now sheet) (now numbers) (now supports) × (stated h ≡ headerOf (now sheet)) ⌝ }
     ensures { λ r. ⌜ means r ≡ symmetriesVerdict (problemOf (now (sheet .entry))) 0 (problemOf (now (sheet .entry)) .symmetries) ⌝ }
 {
@@ -34,7 +37,7 @@ pub fn ask(sheet: &[u8], h: Header, numbers: &Numbers, supports: &[u16; 8192]) -
 }
 
 // The images of a table of pair numbers, 192 bytes from a base on.
-fn decode(sheet: &[u8], from: usize, count: usize, d: usize, base: usize, images: &mut [u8; 26112])
+fn decode(sheet: &[u8], from: usize, count: usize, d: usize, base: usize, images: &mut Images)
     requires { ⌜ Decodable (now sheet) from count d base (now images) ⌝ }
     ensures { λ _. ⌜ Decoded (now (sheet .entry)) from count d base (now (images .entry)) (now (images .exit)) ⌝ }
 {
@@ -63,9 +66,9 @@ pub fn decode_all(
     h: Header,
     numbers: &Numbers,
     asked: bool,
-    images: &mut [u8; 26112],
+    images: &mut Images,
 ) -> bool
-    requires { ⌜ Tabled (now sheet) (now numbers) asked × (stated h ≡ headerOf (now sheet)) × (length (now images) ≡ 26112) ⌝ }
+    requires { ⌜ Tabled (now sheet) (now numbers) asked × (stated h ≡ headerOf (now sheet)) × (length (now images) ≡ IMAGES) ⌝ }
     ensures { λ r. ⌜ TablesDecoded (now (sheet .entry)) (now (images .exit)) r ⌝ }
 {
     let g = h.symmetries;

@@ -14,6 +14,7 @@ use Rattle.model.specs.Problem.{Problem}
 use Rattle.model.proofs.Lists.{T-dec, both-i, mem-at}
 use Rattle.model.proofs.Sets.{mask-i}
 use Rattle.layout.specs.Layout.{constraintAt}
+use Rattle.layout.specs.Places.{SUPPORTS}
 use Rattle.symmetry.specs.Table.{Stated, Ready}
 use Rattle.symmetry.specs.Forbidden.{blocked, numberOf, PairCode, MaybePair, On, Sure, Across, FromRow, FromRows, SetFrom, Walking, keeps, packed, packedOn}
 use Rattle.symmetry.proofs.Codes.{good, init-16, code-16, variable-lt}
@@ -130,7 +131,7 @@ module _ (p : Problem) (vs numbers supports codes moves : List ℕ) (k ahead key
   one : length vs ≡ 1
   one = omega (arith, s .chosen .split)
 
-  pub carried-key : 256 * k + 16 * key + 15 < 8192
+  pub carried-key : 256 * k + 16 * key + 15 < SUPPORTS
   carried-key =
       let g = good p st k (s .chosen .inside) in
       omega (arith, s .chosen .keyed, one-key vs one (begun-digits p st (constraintAt p k .scope) vs (g .inside) (s .chosen .begun)), s .chosen .inside, st .most)

@@ -20,6 +20,7 @@ use Rattle.model.proofs.Members.{low-has}
 use Rattle.model.proofs.Pairs.{forbidden-excluded}
 use Rattle.model.specs.WellFormed.{GoodConstraint}
 use Rattle.layout.specs.Layout.{constraintAt}
+use Rattle.layout.specs.Places.{SUPPORTS}
 use Rattle.symmetry.specs.Table.{Stated}
 use Rattle.symmetry.specs.Forbidden.{blocked, numberOf, PairCode, MaybePair, Begun, Triple, packed, packedOn}
 use Rattle.symmetry.proofs.Codes.{good, init-16, constraint-in, variable-lt}
@@ -67,7 +68,7 @@ module _ (p : Problem) (numbers supports : List ℕ) (a b : ℕ) (t : Triple p n
   pub couple-lt : trailingZeros 64 set < length (p .constraints)
   couple-lt = has-lt (length (p .constraints)) set _ few low-in
 
-  pub couple-row : 256 * trailingZeros 64 set + a % 16 < 8192
+  pub couple-row : 256 * trailingZeros 64 set + a % 16 < SUPPORTS
   couple-row = omega (arith, couple-lt, w .most)
 
   module _ (h : a / 16 < b / 16) (two : length (constraintAt p (trailingZeros 64 set) .scope) ≡ 2) (s : ℕ) (e : s ≡ at supports (256 * trailingZeros 64 set + a % 16)) (no : has s (b % 16) ≡ false) where

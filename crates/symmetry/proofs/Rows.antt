@@ -15,6 +15,7 @@ use Rattle.model.specs.Problem.{Problem, Constraint}
 use Rattle.model.proofs.Lists.{of-T, not-of, both-l, all-i, all-e, at-mem, mem-at, at-map, map-append}
 use Rattle.model.specs.WellFormed.{GoodConstraint}
 use Rattle.layout.specs.Layout.{constraintAt, Supports}
+use Rattle.layout.specs.Places.{SUPPORTS}
 use Rattle.symmetry.specs.Table.{Ready}
 use Rattle.symmetry.specs.Forbidden.{packed, valueIn, refusedBy, LookedUp}
 use Rattle.symmetry.proofs.Codes.{good}
@@ -93,7 +94,7 @@ module _ (p : Problem) (numbers supports : List ℕ) (r : Ready p numbers suppor
       go zero q = absurd (omega arith)
       go (suc n) q = (n, refl)
 
-  pub looked-place : 256 * k + key / 16 < 8192
+  pub looked-place : 256 * k + key / 16 < SUPPORTS
   looked-place =
       let n = last in
       omega (arith, key-parts (n .0) (n .1) .0, looked-lt (constraintAt p k) a b e (n .0) _ (before (n .0) (n .1)) (omega (arith, n .1)) (g .few), r .framed .stated .most)

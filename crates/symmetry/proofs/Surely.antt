@@ -23,6 +23,7 @@ use Rattle.model.proofs.Filling.{gathered-begin, gathered-more}
 use Rattle.model.proofs.Pairs.{forbidden-excluded}
 use Rattle.model.specs.WellFormed.{GoodConstraint}
 use Rattle.layout.specs.Layout.{constraintAt}
+use Rattle.layout.specs.Places.{SUPPORTS}
 use Rattle.symmetry.specs.Table.{Stated, Ready}
 use Rattle.symmetry.specs.Forbidden.{blocked, numberOf, PairCode, MaybePair, Begun, Lacking, On, Sure, packed, packedOn}
 use Rattle.symmetry.proofs.Codes.{good, init-16, constraint-in, variable-lt}
@@ -138,7 +139,7 @@ module _ (p : Problem) (x y z : ℕ) where
       go q (List·Memᴰ·tail (List·Memᴰ·tail (List·Memᴰ·tail m))) = absurd (List·Memᴰ·not-nil m)
 
 -- ---- values that a set lacks, one after another
-pub lacking-place : (base step v : ℕ) → base + 15 * step < 8192 → v < 16 → base + step * v < 8192
+pub lacking-place : (base step v : ℕ) → base + 15 * step < SUPPORTS → v < 16 → base + step * v < SUPPORTS
 lacking-place base step v h l = let m : v ≤ 15 = omega arith in omega (arith, mul-le-mul-right step m, mul-comm step v)
 
 pub lacking-none : (supports : List ℕ) (base step w : ℕ) → Lacking supports base step w 0 0

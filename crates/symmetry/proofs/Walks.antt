@@ -17,6 +17,7 @@ use Rattle.model.proofs.Sets.{has-mask, mask-lt, mask-e, members-i, members-e}
 use Rattle.model.proofs.Lowest.{lowest-in, without-e, without-less}
 use Rattle.model.specs.WellFormed.{GoodConstraint}
 use Rattle.layout.specs.Layout.{constraintAt}
+use Rattle.layout.specs.Places.{SUPPORTS}
 use Rattle.symmetry.specs.Table.{Stated, Ready}
 use Rattle.symmetry.specs.Forbidden.{blocked, numberOf, PairCode, MaybePair, Coded, Begun, codesAt, keeps, lastThree, Lent, Chosen, Walking, Choices, Triple, Beside, allBlocked}
 use Rattle.symmetry.proofs.Codes.{good, init-16, init-small, none-out}
@@ -229,7 +230,7 @@ module _ (p : Problem) (vs codes numbers supports : List ℕ) (k ahead key x : �
   pub next-in : x < p .variables
   next-in = subst (λ (y : ℕ). y < p .variables) (sym e) (chosen-var p vs codes numbers supports k ahead key r c n)
 
-  pub row-small : 256 * k + key < 8192
+  pub row-small : 256 * k + key < SUPPORTS
   row-small = omega (arith, chosen-key p vs codes numbers supports k ahead key r c n, c .inside, r .framed .stated .most)
 
   module _ (set : ℕ) (h : set ≡ at (p .initial) x) where

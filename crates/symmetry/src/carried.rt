@@ -10,6 +10,7 @@ ghost use Rattle.model.specs.Lists.{at};
 ghost use Rattle.model.specs.ValueSets.{has};
 ghost use Rattle.model.specs.Problem.{Problem};
 ghost use Rattle.layout.specs.Layout.{constraintAt};
+ghost use Rattle.layout.specs.Places.{SUPPORTS};
 ghost use Rattle.symmetry.specs.Table.{Framed};
 ghost use Rattle.symmetry.specs.Forbidden.{Across, FromRows, SetFrom, Walking, keeps};
 use super::forbidden::arity;
@@ -21,7 +22,8 @@ use super::moves::place;
 use super::sure::refusing;
 use super::table::initial;
 use super::table::number;
-use crate::Numbers;
+use layout::Numbers;
+use layout::Supports;
 use model::ValueSet;
 
 // Whether the pairs of variable z with the values of a set come from values of `rows`.
@@ -43,7 +45,7 @@ fn all_from(moves: &[u8; 256], z: usize, set: ValueSet, rows: ValueSet) -> bool
 // Whether the rows of constraint m with the pair a, a pair of y and a pair of z come from values of the sets from `from` on.
 fn from_rows(
     numbers: &Numbers,
-    supports: &[u16; 8192],
+    supports: &Supports,
     moves: &[u8; 256],
     from: usize,
     m: usize,
@@ -51,7 +53,7 @@ fn from_rows(
     y: usize,
     z: usize,
 ) -> bool
-    requires { ⌜ ((p : Problem) × Across p (now numbers) (now supports) m a y z) × (from + 15 < 8192) × ((i : ℕ) → at (now moves) i < 16) ⌝ }
+    requires { ⌜ ((p : Problem) × Across p (now numbers) (now supports) m a y z) × (from + 15 < SUPPORTS) × ((i : ℕ) → at (now moves) i < 16) ⌝ }
     ensures { λ r. ⌜ (r ≡ true → (p : Problem) → Across p (now (numbers .entry)) (now (supports .entry)) m a y z → (v : ℕ) → T (has (at (p .initial) y) v) → FromRows p (now (supports .entry)) (now (moves .entry)) from a (16 * y + v) z) ⌝ }
 {
     let last = initial(numbers, z);
@@ -70,7 +72,7 @@ fn from_rows(
 // Whether the values of z in the set at base + step * v come, for each value v of y, from values of the sets from `from` on.
 fn sets_from(
     numbers: &Numbers,
-    supports: &[u16; 8192],
+    supports: &Supports,
     moves: &[u8; 256],
     from: usize,
     base: usize,
@@ -78,7 +80,7 @@ fn sets_from(
     y: usize,
     z: usize,
 ) -> bool
-    requires { ⌜ ((p : Problem) × Framed p (now numbers) × (y < p .variables) × (z < p .variables)) × (from + 15 < 8192) × (base + 15 * step < 8192) × ((i : ℕ) → at (now moves) i < 16) ⌝ }
+    requires { ⌜ ((p : Problem) × Framed p (now numbers) × (y < p .variables) × (z < p .variables)) × (from + 15 < SUPPORTS) × (base + 15 * step < SUPPORTS) × ((i : ℕ) → at (now moves) i < 16) ⌝ }
     ensures { λ r. ⌜ (r ≡ true → (p : Problem) → Framed p (now (numbers .entry)) → y < p .variables → z < p .variables → (v : ℕ) → T (has (at (p .initial) y) v) → SetFrom p (now (supports .entry)) (now (moves .entry)) from (base + step * v) (16 * y + v) z) ⌝ }
 {
     let last = initial(numbers, z);
@@ -98,7 +100,7 @@ fn sets_from(
 // The same as `from_rows`, by the sets of constraint m where z is the last of the three variables.
 fn rows_from(
     numbers: &Numbers,
-    supports: &[u16; 8192],
+    supports: &Supports,
     moves: &[u8; 256],
     from: usize,
     m: usize,
@@ -106,7 +108,7 @@ fn rows_from(
     y: usize,
     z: usize,
 ) -> bool
-    requires { ⌜ ((p : Problem) × Across p (now numbers) (now supports) m a y z) × (from + 15 < 8192) × ((i : ℕ) → at (now moves) i < 16) ⌝ }
+    requires { ⌜ ((p : Problem) × Across p (now numbers) (now supports) m a y z) × (from + 15 < SUPPORTS) × ((i : ℕ) → at (now moves) i < 16) ⌝ }
     ensures { λ r. ⌜ (r ≡ true → (p : Problem) → Across p (now (numbers .entry)) (now (supports .entry)) m a y z → (v : ℕ) → T (has (at (p .initial) y) v) → FromRows p (now (supports .entry)) (now (moves .entry)) from a (16 * y + v) z) ⌝ }
 {
     if z <= y {
@@ -141,7 +143,7 @@ fn pick(set: usize, k: usize) -> usize
 // The key is the value of the first, whose pair has the image a.
 pub fn carried(
     numbers: &Numbers,
-    supports: &[u16; 8192],
+    supports: &Supports,
     moves: &[u8; 256],
     k: usize,
     ahead: usize,

@@ -8,16 +8,18 @@ ghost use Rattle.model.specs.Lists.{at};
 ghost use Rattle.model.specs.ValueSets.{has, maskOf};
 ghost use Rattle.model.specs.Problem.{Problem};
 ghost use Rattle.layout.specs.Layout.{constraintAt};
+ghost use Rattle.layout.specs.Places.{SUPPORTS};
 ghost use Rattle.symmetry.specs.Table.{Framed, Ready};
 ghost use Rattle.symmetry.specs.Forbidden.{Refusing, Triple, clashes, valueIn, refusedBy, blocked as blockedBy, numberOf};
 use super::table::number;
-use crate::Numbers;
+use layout::Numbers;
 use layout::SCOPES;
+use layout::Supports;
 use model::ValueSet;
 
 // A support set.
-pub fn support(supports: &[u16; 8192], i: usize) -> ValueSet
-    requires { ⌜ i < 8192 ⌝ }
+pub fn support(supports: &Supports, i: usize) -> ValueSet
+    requires { ⌜ i < SUPPORTS ⌝ }
     ensures { λ r. ⌜ r .bits ≡ at (now (supports .entry)) i ⌝ }
 {
     ValueSet { bits: supports[i] }
@@ -71,14 +73,7 @@ fn value_in(a: usize, b: usize, e: usize, x: usize) -> usize
 }
 
 // Whether a constraint's scope lies among the variables of three pairs, whose values are no row of it.
-fn refused(
-    numbers: &Numbers,
-    supports: &[u16; 8192],
-    k: usize,
-    a: usize,
-    b: usize,
-    e: usize,
-) -> bool
+fn refused(numbers: &Numbers, supports: &Supports, k: usize, a: usize, b: usize, e: usize) -> bool
     requires { ⌜ ((p : Problem) × Ready p (now numbers) (now supports) × (k < length (p .constraints))) ⌝ }
     ensures { λ r. ⌜ ((p : Problem) → Ready p (now (numbers .entry)) (now (supports .entry)) → k < length (p .constraints) → r ≡ refusedBy (constraintAt p k) a b e) ⌝ }
 {
@@ -99,7 +94,7 @@ fn refused(
 // Whether a constraint of a set refuses three pairs.
 fn any_refuses(
     numbers: &Numbers,
-    supports: &[u16; 8192],
+    supports: &Supports,
     set: usize,
     a: usize,
     b: usize,
@@ -121,7 +116,7 @@ fn any_refuses(
 
 // Whether some forbidden set lies among three pairs: the constraints on two of their variables are asked first, as most often one of
 // these refuses.
-pub fn blocked(numbers: &Numbers, supports: &[u16; 8192], a: usize, b: usize, e: usize) -> bool
+pub fn blocked(numbers: &Numbers, supports: &Supports, a: usize, b: usize, e: usize) -> bool
     requires { ⌜ ((p : Problem) × Triple p (now numbers) (now supports) a b e) ⌝ }
     ensures { λ r. ⌜ ((p : Problem) → Triple p (now (numbers .entry)) (now (supports .entry)) a b e → r ≡ blockedBy p (numberOf p a ∷ numberOf p b ∷ numberOf p e ∷ [])) ⌝ }
 {

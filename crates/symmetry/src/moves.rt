@@ -9,8 +9,8 @@ ghost use Rattle.symmetry.specs.Forbidden.{Apart, BackTo, Coded, Moved, 
 use super::table::initial;
 use super::table::number;
 use super::table::wide;
-use crate::Numbers;
 use crate::pair_code;
+use layout::Numbers;
 use layout::VALUES;
 use layout::VARIABLES;
 

@@ -3,18 +3,20 @@ use super::forbidden::blocked;
 use super::forbidden::complement;
 use super::forbidden::support;
 use super::table::number;
-use crate::Numbers;
+use layout::Numbers;
+use layout::Supports;
 use model::ValueSet;
 ghost use mathlib.Core.Path.{_≡_};
 ghost use mathlib.Core.List.{List, [], _∷_};
 ghost use Prim.Native.Nat.{ℕ, _+_, _*_, _/_, _<_};
 ghost use Rattle.model.specs.Problem.{Problem};
+ghost use Rattle.layout.specs.Places.{SUPPORTS};
 ghost use Rattle.symmetry.specs.Table.{Ready};
 ghost use Rattle.symmetry.specs.Forbidden.{PairCode, MaybePair, Triple, Lacking, On, Sure, blocked as blockedBy, numberOf};
 
 // The values v for which the set at base + step * v lacks a value w.
-fn lacking(supports: &[u16; 8192], base: usize, step: usize, w: u16) -> ValueSet
-    requires { ⌜ (base + 15 * step < 8192) × (w < 16) ⌝ }
+fn lacking(supports: &Supports, base: usize, step: usize, w: u16) -> ValueSet
+    requires { ⌜ (base + 15 * step < SUPPORTS) × (w < 16) ⌝ }
     ensures { λ r. ⌜ Lacking (now (supports .entry)) base step w 16 (r .bits) ⌝ }
 {
     let mut set = ValueSet::EMPTY;
@@ -29,7 +31,7 @@ fn lacking(supports: &[u16; 8192], base: usize, step: usize, w: u16) -> ValueSet
 }
 
 // Values of variable y with which the pairs a and b are no row of constraint k, which is on the three variables.
-fn missing(supports: &[u16; 8192], k: usize, a: usize, b: usize, y: usize) -> ValueSet
+fn missing(supports: &Supports, k: usize, a: usize, b: usize, y: usize) -> ValueSet
     requires { ⌜ k < 32 ⌝ }
     ensures { λ r. ⌜ ((p : Problem) (numbers : List ℕ) → On p numbers (now (supports .entry)) k a b y → a / 16 < b / 16 → Sure p a b y (r .bits)) ⌝ }
 {
@@ -49,7 +51,7 @@ fn missing(supports: &[u16; 8192], k: usize, a: usize, b: usize, y: usize) -> Va
 }
 
 // The same for pairs in any order.
-pub fn refusing(supports: &[u16; 8192], k: usize, a: usize, b: usize, y: usize) -> ValueSet
+pub fn refusing(supports: &Supports, k: usize, a: usize, b: usize, y: usize) -> ValueSet
     requires { ⌜ k < 32 ⌝ }
     ensures { λ r. ⌜ ((p : Problem) (numbers : List ℕ) → On p numbers (now (supports .entry)) k a b y → Sure p a b y (r .bits)) ⌝ }
 {
@@ -63,7 +65,7 @@ pub fn refusing(supports: &[u16; 8192], k: usize, a: usize, b: usize, y: usize) 
 }
 
 // Values of variable y whose pairs are surely blocked with the pairs a and b, by a constraint on the three variables.
-fn surely(numbers: &Numbers, supports: &[u16; 8192], a: usize, b: usize, y: usize) -> ValueSet
+fn surely(numbers: &Numbers, supports: &Supports, a: usize, b: usize, y: usize) -> ValueSet
     requires { ⌜ ((p : Problem) × Ready p (now numbers) (now supports) × MaybePair p a × MaybePair p b × (y < 16)) ⌝ }
     ensures { λ r. ⌜ ((p : Problem) → Ready p (now (numbers .entry)) (now (supports .entry)) → MaybePair p a → MaybePair p b → Sure p a b y (r .bits)) ⌝ }
 {
@@ -77,7 +79,7 @@ fn surely(numbers: &Numbers, supports: &[u16; 8192], a: usize, b: usize, y: usiz
 // The same, where those of variable z are known.
 pub fn surely_after(
     numbers: &Numbers,
-    supports: &[u16; 8192],
+    supports: &Supports,
     a: usize,
     b: usize,
     y: usize,
@@ -97,7 +99,7 @@ pub fn surely_after(
 // Whether some forbidden set lies among three pairs, where values of the third's variable are known that are surely blocked.
 pub fn third_blocked(
     numbers: &Numbers,
-    supports: &[u16; 8192],
+    supports: &Supports,
     a: usize,
     b: usize,
     e: usize,

@@ -6,11 +6,12 @@ ghost use lib.Dec.{T};
 ghost use Rattle.model.specs.Lists.{at};
 ghost use Rattle.model.specs.Problem.{Problem, isPair};
 ghost use Rattle.model.specs.Sheet.{permutesPairs};
+ghost use Rattle.layout.specs.Places.{NUMBERS};
 ghost use Rattle.symmetry.specs.Table.{Framed, TableAt, tableOf};
 ghost use Rattle.symmetry.specs.Forbidden.{Decoded};
-use crate::Numbers;
 use crate::pair_code;
 use layout::INITIAL;
+use layout::Numbers;
 use layout::VALUES;
 use layout::VARIABLES;
 use model::ValueSet;
@@ -24,7 +25,7 @@ pub fn wide(x: u8) -> usize
 }
 
 pub fn number(numbers: &Numbers, i: usize) -> usize
-    requires { ⌜ i < 2432 ⌝ }
+    requires { ⌜ i < NUMBERS ⌝ }
     ensures { λ r. ⌜ r ≡ at (now (numbers .entry)) i ⌝ }
 {
     numbers[i] as usize

@@ -12,11 +12,12 @@ use super::forbidden::blocked;
 use super::forbidden::support;
 use super::moves::place;
 use super::table::number;
-use crate::Numbers;
+use layout::Numbers;
+use layout::Supports;
 use model::ValueSet;
 
 // True only where a constraint on two variables refuses the pairs a and b, of which a has the lower.
-fn refused_two(numbers: &Numbers, supports: &[u16; 8192], a: usize, b: usize) -> bool
+fn refused_two(numbers: &Numbers, supports: &Supports, a: usize, b: usize) -> bool
     requires { ⌜ ((p : Problem) × Triple p (now numbers) (now supports) 255 a b) × (a / 16 < b / 16) ⌝ }
     ensures { λ r. ⌜ (r ≡ true → (p : Problem) → Triple p (now (numbers .entry)) (now (supports .entry)) 255 a b → T (blockedBy p (numberOf p a ∷ numberOf p b ∷ []))) ⌝ }
 {
@@ -32,7 +33,7 @@ fn refused_two(numbers: &Numbers, supports: &[u16; 8192], a: usize, b: usize) ->
 }
 
 // Whether some forbidden set lies among two pairs.
-fn pair_blocked(numbers: &Numbers, supports: &[u16; 8192], a: usize, b: usize) -> bool
+fn pair_blocked(numbers: &Numbers, supports: &Supports, a: usize, b: usize) -> bool
     requires { ⌜ ((p : Problem) × Triple p (now numbers) (now supports) 255 a b) ⌝ }
     ensures { λ r. ⌜ ((p : Problem) → Triple p (now (numbers .entry)) (now (supports .entry)) 255 a b → r ≡ blockedBy p (numberOf p 255 ∷ numberOf p a ∷ numberOf p b ∷ [])) ⌝ }
 {
@@ -52,7 +53,7 @@ fn pair_blocked(numbers: &Numbers, supports: &[u16; 8192], a: usize, b: usize) -
 // Whether the pair b is blocked with the image of (x, v) for each v of a set.
 pub fn pairs_blocked(
     numbers: &Numbers,
-    supports: &[u16; 8192],
+    supports: &Supports,
     codes: &[u8; 256],
     x: usize,
     set: ValueSet,

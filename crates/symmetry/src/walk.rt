@@ -22,15 +22,16 @@ use super::sure::third_blocked;
 use super::table::initial;
 use super::table::number;
 use super::two::pairs_blocked;
-use crate::Numbers;
 use layout::CONSTRAINTS;
+use layout::Numbers;
+use layout::Supports;
 use layout::VARIABLES;
 use model::ValueSet;
 
 // The values to try for the next variable x of constraint k: those of its initial set, less for the last variable those of its rows.
 fn choices(
     numbers: &Numbers,
-    supports: &[u16; 8192],
+    supports: &Supports,
     k: usize,
     ahead: usize,
     key: usize,
@@ -51,7 +52,7 @@ fn choices(
 // `sure` has the values of y, the variable of the last image, that surely are.
 fn all_blocked(
     numbers: &Numbers,
-    supports: &[u16; 8192],
+    supports: &Supports,
     codes: &[u8; 256],
     x: usize,
     set: ValueSet,
@@ -88,7 +89,7 @@ fn all_blocked(
 // The images of the last two pairs chosen are a and b.
 fn walk(
     numbers: &Numbers,
-    supports: &[u16; 8192],
+    supports: &Supports,
     codes: &[u8; 256],
     moves: &[u8; 256],
     k: usize,
@@ -131,7 +132,7 @@ fn walk(
 // Whether the image of each forbidden set of each constraint is blocked.
 pub fn constraints(
     numbers: &Numbers,
-    supports: &[u16; 8192],
+    supports: &Supports,
     codes: &[u8; 256],
     moves: &[u8; 256],
 ) -> bool
@@ -162,7 +163,7 @@ pub fn constraints(
 // Whether the images of any two pairs of variable x are blocked.
 fn doubles(
     numbers: &Numbers,
-    supports: &[u16; 8192],
+    supports: &Supports,
     codes: &[u8; 256],
     moves: &[u8; 256],
     x: usize,
@@ -194,7 +195,7 @@ fn doubles(
 // Whether the images of any two pairs of one variable are blocked.
 pub fn variables(
     numbers: &Numbers,
-    supports: &[u16; 8192],
+    supports: &Supports,
     codes: &[u8; 256],
     moves: &[u8; 256],
 ) -> bool

@@ -3,6 +3,7 @@ use layout::BLOCK;
 use layout::LIMIT;
 use layout::ORDER;
 use layout::ROOM;
+use layout::Work;
 ghost use mathlib.Core.Path.{_≡_};
 ghost use Prim.Native.Nat.{ℕ, _+_, _≤_, _<_};
 ghost use lib.ListN.{length, set};
@@ -50,7 +51,7 @@ pub fn put_block(numbers: &mut [u64], positions: u64)
 }
 
 // The number of plans that there is room for, with n variables: the list's, else one less than are asked for.
-pub fn room_for(work: &[u64; 256], n: usize, size: usize) -> u64
+pub fn room_for(work: &Work, n: usize, size: usize) -> u64
     requires { ⌜ 0 < n ⌝ }
     ensures { λ r. ⌜ r ≡ roomFor (at (now (work .entry)) WANTED) n size ⌝ }
 {

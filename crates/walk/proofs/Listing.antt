@@ -9,7 +9,7 @@ use lib.ListN.{length, set, length-set}
 use Rattle.model.specs.Lists.{at}
 use Rattle.model.proofs.Lists.{at-set, at-set-other}
 use Rattle.order.specs.Reordered.{write}
-use Rattle.layout.specs.Places.{PLANS, ALL, FULL}
+use Rattle.layout.specs.Places.{PLANS, ALL, FULL, WORK}
 use Rattle.walk.specs.Walk.{noted, listed}
 use Rattle.walk.specs.Pair.{prefixOf, ListRoom, Listed}
 use Rattle.walk.proofs.Walk.{listed-full, listed-kept}
@@ -32,7 +32,7 @@ module _ (n room : ℕ) (order work list : List ℕ) (h : ListRoom n room list (
     work-length = refl;
   }
 
-  pub kept-now : (list′ : List ℕ) → length work ≡ 256 → (at work PLANS ≡ room → ⊥) → list′ ≡ noted (at work PLANS * n) (write order (prefixOf work n)) list →
+  pub kept-now : (list′ : List ℕ) → length work ≡ WORK → (at work PLANS ≡ room → ⊥) → list′ ≡ noted (at work PLANS * n) (write order (prefixOf work n)) list →
       Listed n room order work list (set work PLANS (at work PLANS + 1)) list′ ALL
   kept-now list′ w e q = record {
     state = λ tally last.

@@ -2,10 +2,13 @@
 use layout::ALL;
 use layout::FULL;
 use layout::LIMIT;
+use layout::Numbers;
 use layout::ORDER;
 use layout::PLANS;
 use layout::ROOM;
+use layout::Stack;
 use layout::VARIABLES;
+use layout::Work;
 use model::ValueSet;
 ghost use mathlib.Core.Path.{_≡_};
 ghost use Prim.Native.Nat.{ℕ, _+_, _*_, _^_, _≤_, _<_};
@@ -14,7 +17,7 @@ ghost use Rattle.model.specs.Lists.{at};
 ghost use Rattle.model.specs.ValueSets.{withoutMask, lowestOf};
 ghost use Rattle.order.specs.Order.{Ordering};
 ghost use Rattle.order.specs.Reordered.{write};
-ghost use Rattle.layout.specs.Places.{VARIABLES, LIMIT, ROOM, PLANS};
+ghost use Rattle.layout.specs.Places.{VARIABLES, LIMIT, ROOM, PLANS, WORK};
 ghost use Rattle.walk.specs.Walk.{overwritten, noted};
 ghost use Rattle.walk.specs.Pair.{prefixOf, settling, orderIn, Countable, Counted, Cleared, ListRoom, Listed, SameSlice};
 ghost use Rattle.walk.specs.Meaning.{tallyIn};
@@ -59,7 +62,7 @@ pub fn nodes_made(t: &Tally) -> u32
 }
 
 // Writes the first n numbers of `work`, each a byte, over the list from `start` on: a variable's value at the variable's number.
-fn keep(list: &mut [u8], work: &[u64], numbers: &[u64; 2432], n: usize, start: usize)
+fn keep(list: &mut [u8], work: &[u64], numbers: &Numbers, n: usize, start: usize)
     requires { ⌜ (n ≤ 12) × (n ≤ length (now work)) × (start + n ≤ length (now list)) ⌝ }
     requires { ⌜ ((i : ℕ) → i < n → at (now work) i < 256) × Ordering n (orderIn (now numbers) n) ⌝ }
     ensures { λ _. ⌜ now (list .exit) ≡ overwritten start (write (orderIn (now (numbers .entry)) n) (prefixOf (now (work .entry)) n)) (now (list .entry)) ⌝ }
@@ -73,7 +76,7 @@ fn keep(list: &mut [u8], work: &[u64], numbers: &[u64; 2432], n: usize, start: u
 }
 
 // Lists the plan after so many others; a list of no byte stays as it is.
-fn note(list: &mut [u8], work: &[u64], numbers: &[u64; 2432], plans: usize)
+fn note(list: &mut [u8], work: &[u64], numbers: &Numbers, plans: usize)
     requires { ⌜ ListRoom (at (now numbers) VARIABLES) (at (now numbers) ROOM) (now list) plans × (plans ≡ at (now numbers) ROOM → ⊥) ⌝ }
     requires { ⌜ (at (now numbers) VARIABLES ≤ 12) × (at (now numbers) VARIABLES ≤ length (now work)) × ((i : ℕ) → i < at (now numbers) VARIABLES → at (now work) i < 256) × Ordering (at (now numbers) VARIABLES) (orderIn (now numbers) (at (now numbers) VARIABLES)) ⌝ }
     ensures { λ _. ⌜ now (list .exit) ≡ noted (plans * at (now (numbers .entry)) VARIABLES) (write (orderIn (now (numbers .entry)) (at (now (numbers .entry)) VARIABLES)) (prefixOf (now (work .entry)) (at (now (numbers .entry)) VARIABLES))) (now (list .entry)) ⌝ }
@@ -86,9 +89,9 @@ fn note(list: &mut [u8], work: &[u64], numbers: &[u64; 2432], plans: usize)
 }
 
 // A plan was found: FULL where it has no room, else it is counted, and listed in a list that isn't empty.
-pub fn list_plan(work: &mut [u64; 256], numbers: &[u64; 2432], list: &mut &mut [u8]) -> u8
+pub fn list_plan(work: &mut Work, numbers: &Numbers, list: &mut &mut [u8]) -> u8
     requires { ⌜ ListRoom (at (now numbers) VARIABLES) (at (now numbers) ROOM) (now (now list)) (at (now work) PLANS) ⌝ }
-    requires { ⌜ (at (now numbers) VARIABLES ≤ 12) × ((i : ℕ) → i < at (now numbers) VARIABLES → at (now work) i < 256) × (length (now work) ≡ 256) × Ordering (at (now numbers) VARIABLES) (orderIn (now numbers) (at (now numbers) VARIABLES)) ⌝ }
+    requires { ⌜ (at (now numbers) VARIABLES ≤ 12) × ((i : ℕ) → i < at (now numbers) VARIABLES → at (now work) i < 256) × (length (now work) ≡ WORK) × Ordering (at (now numbers) VARIABLES) (orderIn (now numbers) (at (now numbers) VARIABLES)) ⌝ }
     ensures { λ r. ⌜ Listed (at (now (numbers .entry)) VARIABLES) (at (now (numbers .entry)) ROOM) (orderIn (now (numbers .entry)) (at (now (numbers .entry)) VARIABLES)) (now (work .entry)) (now (now (list .entry))) (now (work .exit)) (now (now (list .exit))) r ⌝ }
     ensures { λ _. ⌜ SameSlice (now (list .entry)) (now (list .exit)) ⌝ }
 {
@@ -102,7 +105,7 @@ pub fn list_plan(work: &mut [u64; 256], numbers: &[u64; 2432], list: &mut &mut [
 }
 
 // The values of the set of variable k at depth k.
-pub fn candidates(stack: &[u16; 208], k: usize) -> u16
+pub fn candidates(stack: &Stack, k: usize) -> u16
     requires { ⌜ k < 12 ⌝ }
     ensures { λ r. ⌜ r ≡ at (now (stack .entry)) (17 * k) ⌝ }
 {
@@ -119,7 +122,7 @@ pub fn rest(m: u16) -> u16
 }
 
 // The number of nodes that a run may make.
-pub fn limit(numbers: &[u64; 2432]) -> u32
+pub fn limit(numbers: &Numbers) -> u32
     requires { ⌜ at (now numbers) LIMIT < 2 ^ 32 ⌝ }
     ensures { λ r. ⌜ r ≡ at (now (numbers .entry)) LIMIT ⌝ }
 {
@@ -127,7 +130,7 @@ pub fn limit(numbers: &[u64; 2432]) -> u32
 }
 
 // The variable that is settled at depth k.
-pub fn variable_at(numbers: &[u64; 2432], k: usize) -> usize
+pub fn variable_at(numbers: &Numbers, k: usize) -> usize
     requires { ⌜ k < 12 ⌝ }
     ensures { λ r. ⌜ r ≡ settling (now (numbers .entry)) k ⌝ }
 {

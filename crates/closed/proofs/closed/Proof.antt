@@ -2,6 +2,7 @@
 use mathlib.Core.Path.{refl, ap}
 use borrow.Author.Needs.{needs}
 use Rattle.model.specs.Verdict.{accepted, refused}
+use Rattle.layout.specs.Places.{NUMBERS, SUPPORTS}
 use Rattle.sheet.specs.Meaning.{means}
 use Rattle.sheet.proofs.Whole.{zeros}
 use Rattle.closed.proofs.Testing.{passed-of, told-for}
@@ -9,7 +10,7 @@ use Rattle.closed.proofs.closed.Statement.{statement}
 use Rattle.closed.proofs.closed.Tie as tie
 
 ask-requires : tie.Need-ask-requires
-ask-requires c κs = (zeros 2432, zeros 8192, refl, refl)
+ask-requires c κs = (zeros NUMBERS, zeros SUPPORTS, refl, refl)
 
 enum-known-asked : tie.Need-enum-known-asked
 enum-known-asked c = search needs

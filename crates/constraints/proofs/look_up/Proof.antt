@@ -3,13 +3,13 @@ use Prim.Native.Nat.{_+_, _*_, _/_, _%_, _<_}
 use native.Mathlib.Omega.{arith}
 use borrow.Author.Needs.{needs}
 use Rattle.model.specs.Lists.{at}
-use Rattle.layout.specs.Places.{SCOPES}
+use Rattle.layout.specs.Places.{SCOPES, SUPPORTS}
 use Rattle.constraints.proofs.LookUpLoop.{look-first, look-place, look-made}
 use Rattle.constraints.proofs.look_up.Statement.{statement}
 use Rattle.constraints.proofs.look_up.Tie as tie
 
 -- the third variable, and the place of its values in the table
-place : (c : tie.After-lowest) → let d = c .before .before .before .args in (at (d .numbers .now) (SCOPES + d .k) / 16777216 % 256 < 16) × (256 * d .k + 16 * c .lowest .result + d .v < 8192)
+place : (c : tie.After-lowest) → let d = c .before .before .before .args in (at (d .numbers .now) (SCOPES + d .k) / 16777216 % 256 < 16) × (256 * d .k + 16 * c .lowest .result + d .v < SUPPORTS)
 unfolding at
 place c = let q = c .before .before .before .pre in look-place (q .1 .1) (q .1 .2) (q .0) _ (c .lowest .ensures)
 

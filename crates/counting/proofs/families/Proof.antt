@@ -2,6 +2,7 @@
 use mathlib.Core.Path.{sym, ap, _∙_}
 use borrow.Author.Needs.{needs}
 use Rattle.model.specs.Lists.{at}
+use Rattle.layout.specs.Places.{IMAGES, NUMBERS, SUPPORTS}
 use Rattle.sheet.specs.Meaning.{means}
 use Rattle.sheet.proofs.Whole.{zeros}
 use Rattle.counting.proofs.Images.{asked-so}
@@ -10,7 +11,7 @@ use Rattle.counting.proofs.families.Statement.{statement}
 use Rattle.counting.proofs.families.Tie as tie
 
 ask-requires : tie.Need-ask-requires
-ask-requires c κs = (zeros 2432, zeros 8192, zeros 26112 .sized, zeros 16 .sized)
+ask-requires c κs = (zeros NUMBERS, zeros SUPPORTS, zeros IMAGES .sized, zeros 16 .sized)
 
 enum-told : tie.Need-enum-told
 enum-told c = search needs

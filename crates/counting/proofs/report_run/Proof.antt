@@ -5,7 +5,7 @@ use native.Mathlib.Omega.{arith}
 use lib.Seq.{length-take-le}
 use borrow.Author.Needs.{needs}
 use Rattle.model.specs.Lists.{at}
-use Rattle.layout.specs.Places.{VARIABLES}
+use Rattle.layout.specs.Places.{VARIABLES, IMAGES, NUMBERS, SUPPORTS}
 use Rattle.sheet.specs.Meaning.{means}
 use Rattle.sheet.proofs.Whole.{zeros}
 use Rattle.counting.proofs.ReportRuns.{report-few, report-runs, report-listed, report-stopped, report-told-so, report-refused}
@@ -13,7 +13,7 @@ use Rattle.counting.proofs.report_run.Statement.{statement}
 use Rattle.counting.proofs.report_run.Tie as tie
 
 compile-requires : tie.Need-compile-requires
-compile-requires c κs = (zeros 2432, zeros 8192, zeros 26112 .sized)
+compile-requires c κs = (zeros NUMBERS, zeros SUPPORTS, zeros IMAGES .sized)
 
 enum-told : tie.Need-enum-told
 enum-told c = search needs

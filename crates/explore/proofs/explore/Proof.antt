@@ -41,6 +41,7 @@ use denote.Triple.Table.{entered, cited}
 use denote.Triple.Walked.{says, needs, Stays, stay-ref, stay-slice, stay-dropped, walkOf, Walks, ends-at, walked, goes-dropped, goes-slice, goes-ref, walk-meets}
 use Rattle.model.specs.Lists.{at}
 use Rattle.model.specs.Problem.{Problem}
+use Rattle.layout.specs.Places.{NUMBERS, STACK, SUPPORTS, TABLES, WORK}
 use Rattle.lent.specs.Lent.{problemLent}
 use Rattle.walk.specs.Pair.{Cleared, AtValues, Walked, SameSlice, tried}
 use Rattle.walk.specs.Meaning.{tallyIn}
@@ -88,7 +89,7 @@ abbrev counts : Slot 10
 counts = plain (λ _. T.the-row)
 
 abbrev stayed : Stays (explore.ended .signature .params) (explore.ended .kept)
-stayed = (stay-ref (0 ∷ []) tt (shorts 208), (stay-ref (1 ∷ []) tt (longs 256), (stay-ref (2 ∷ []) tt (shorts 8192), (stay-ref (3 ∷ []) tt (shorts 55296), (stay-ref (4 ∷ []) tt (longs 2432), (stay-dropped (shrSliceOf (5 ∷ []) tt bytes) yes, (stay-dropped (shrSliceOf (6 ∷ []) tt bytes) yes, (stay-dropped (shrSliceOf (7 ∷ []) tt bytes) yes, (stay-dropped (plain (λ _. u32)) yes, (stay-slice (8 ∷ []) tt bytes, (stay-ref (9 ∷ []) tt counts, tt)))))))))))
+stayed = (stay-ref (0 ∷ []) tt (shorts STACK), (stay-ref (1 ∷ []) tt (longs WORK), (stay-ref (2 ∷ []) tt (shorts SUPPORTS), (stay-ref (3 ∷ []) tt (shorts TABLES), (stay-ref (4 ∷ []) tt (longs NUMBERS), (stay-dropped (shrSliceOf (5 ∷ []) tt bytes) yes, (stay-dropped (shrSliceOf (6 ∷ []) tt bytes) yes, (stay-dropped (shrSliceOf (7 ∷ []) tt bytes) yes, (stay-dropped (plain (λ _. u32)) yes, (stay-slice (8 ∷ []) tt bytes, (stay-ref (9 ∷ []) tt counts, tt)))))))))))
 
 -- types as the MIR writes them in a local
 abbrev ref-ty : Lifetime → Ty
@@ -159,19 +160,19 @@ module _ {M : Type 1} (𝓤 : URA M) (H : Heap 𝓤) (A : Atoms 𝓤) (W : Given
 
     -- what the walk holds
     abbrev F₀ : List ℕ → Fml
-    F₀ x = fsep (at-ref (Array u16 208) κ₀ b₀ o₀ γ₀ x) (flft κ₀ q₀)
+    F₀ x = fsep (at-ref (Array u16 STACK) κ₀ b₀ o₀ γ₀ x) (flft κ₀ q₀)
 
     abbrev F₁ : List ℕ → Fml
-    F₁ x = fsep (at-ref (Array u64 256) κ₁ b₁ o₁ γ₁ x) (flft κ₁ q₁)
+    F₁ x = fsep (at-ref (Array u64 WORK) κ₁ b₁ o₁ γ₁ x) (flft κ₁ q₁)
 
     abbrev F₂ : List ℕ → Fml
-    F₂ x = fsep (at-ref (Array u16 8192) κ₂ b₂ o₂ γ₂ x) (flft κ₂ q₂)
+    F₂ x = fsep (at-ref (Array u16 SUPPORTS) κ₂ b₂ o₂ γ₂ x) (flft κ₂ q₂)
 
     abbrev F₃ : List ℕ → Fml
-    F₃ x = fsep (at-ref (Array u16 55296) κ₃ b₃ o₃ γ₃ x) (flft κ₃ q₃)
+    F₃ x = fsep (at-ref (Array u16 TABLES) κ₃ b₃ o₃ γ₃ x) (flft κ₃ q₃)
 
     abbrev F₄ : List ℕ → Fml
-    F₄ x = fsep (at-ref (Array u64 2432) κ₄ b₄ o₄ γ₄ x) (flft κ₄ q₄)
+    F₄ x = fsep (at-ref (Array u64 NUMBERS) κ₄ b₄ o₄ γ₄ x) (flft κ₄ q₄)
 
     abbrev shared : Lft → Share → RefT (List ℕ) → Fml
     shared κ q s = fsep (ShrSlice (named 0) κ u8 .own s (of-shared s ∷ [])) (flft κ q)
@@ -196,31 +197,31 @@ module _ {M : Type 1} (𝓤 : URA M) (H : Heap 𝓤) (A : Atoms 𝓤) (W : Given
 
     -- the links of the chains
     abbrev m₀′ : List ℕ → One 𝓤 H A
-    m₀′ x = loan.mut 𝓤 H A W (Array u16 208) κ₀ q₀ γ₀ b₀ o₀ x
+    m₀′ x = loan.mut 𝓤 H A W (Array u16 STACK) κ₀ q₀ γ₀ b₀ o₀ x
 
     abbrev k₀′ : List ℕ → One 𝓤 H A
-    k₀′ x = loan.look 𝓤 H A W (Array u16 208) κ₀ q₀ γ₀ b₀ o₀ x
+    k₀′ x = loan.look 𝓤 H A W (Array u16 STACK) κ₀ q₀ γ₀ b₀ o₀ x
 
     abbrev m₁′ : List ℕ → One 𝓤 H A
-    m₁′ x = loan.mut 𝓤 H A W (Array u64 256) κ₁ q₁ γ₁ b₁ o₁ x
+    m₁′ x = loan.mut 𝓤 H A W (Array u64 WORK) κ₁ q₁ γ₁ b₁ o₁ x
 
     abbrev m₂′ : List ℕ → One 𝓤 H A
-    m₂′ x = loan.mut 𝓤 H A W (Array u16 8192) κ₂ q₂ γ₂ b₂ o₂ x
+    m₂′ x = loan.mut 𝓤 H A W (Array u16 SUPPORTS) κ₂ q₂ γ₂ b₂ o₂ x
 
     abbrev k₂′ : List ℕ → One 𝓤 H A
-    k₂′ x = loan.look 𝓤 H A W (Array u16 8192) κ₂ q₂ γ₂ b₂ o₂ x
+    k₂′ x = loan.look 𝓤 H A W (Array u16 SUPPORTS) κ₂ q₂ γ₂ b₂ o₂ x
 
     abbrev m₃′ : List ℕ → One 𝓤 H A
-    m₃′ x = loan.mut 𝓤 H A W (Array u16 55296) κ₃ q₃ γ₃ b₃ o₃ x
+    m₃′ x = loan.mut 𝓤 H A W (Array u16 TABLES) κ₃ q₃ γ₃ b₃ o₃ x
 
     abbrev k₃′ : List ℕ → One 𝓤 H A
-    k₃′ x = loan.look 𝓤 H A W (Array u16 55296) κ₃ q₃ γ₃ b₃ o₃ x
+    k₃′ x = loan.look 𝓤 H A W (Array u16 TABLES) κ₃ q₃ γ₃ b₃ o₃ x
 
     abbrev m₄′ : List ℕ → One 𝓤 H A
-    m₄′ x = loan.mut 𝓤 H A W (Array u64 2432) κ₄ q₄ γ₄ b₄ o₄ x
+    m₄′ x = loan.mut 𝓤 H A W (Array u64 NUMBERS) κ₄ q₄ γ₄ b₄ o₄ x
 
     abbrev k₄′ : List ℕ → One 𝓤 H A
-    k₄′ x = loan.look 𝓤 H A W (Array u64 2432) κ₄ q₄ γ₄ b₄ o₄ x
+    k₄′ x = loan.look 𝓤 H A W (Array u64 NUMBERS) κ₄ q₄ γ₄ b₄ o₄ x
 
     abbrev shared′ : Lft → Share → RefT (List ℕ) → One 𝓤 H A
     shared′ κ q s = loan.shr 𝓤 H A W (ShrSlice (named 0) κ u8 .own s (of-shared s ∷ [])) (shr-slice-copy 𝓤 H A W (named 0) κ u8 .twice s (of-shared s ∷ [])) κ q
@@ -247,7 +248,7 @@ module _ {M : Type 1} (𝓤 : URA M) (H : Heap 𝓤) (A : Atoms 𝓤) (W : Given
 
       comes-in : ent 𝓤 Entry (sem 𝓤 H A (Held st wk su tb nu ls ta))
       comes-in =
-          qed W ((‵ (flft κ₀ q₀) ⊛ ‵ (flft κ₁ q₁) ⊛ ‵ (flft κ₂ q₂) ⊛ ‵ (flft κ₃ q₃) ⊛ ‵ (flft κ₄ q₄) ⊛ ‵ (flft κ₅ q₅) ⊛ ‵ (flft κ₆ q₆) ⊛ ‵ (flft κ₇ q₇) ⊛ ‵ (flft κ₈ q₈) ⊛ ‵ (flft κ₉ q₉) ⊛ ‵ ftrue) ∷ ‵ (owns (MutRef (named 0) κ₀ (Array u16 208) ∷ MutRef (named 1) κ₁ (Array u64 256) ∷ MutRef (named 2) κ₂ (Array u16 8192) ∷ MutRef (named 3) κ₃ (Array u16 55296) ∷ MutRef (named 4) κ₄ (Array u64 2432) ∷ ShrSlice (named 5) κ₅ u8 ∷ ShrSlice (named 6) κ₆ u8 ∷ ShrSlice (named 7) κ₇ u8 ∷ u32 ∷ MutSlice (named 8) κ₈ u8 ∷ MutRef (named 9) κ₉ T.the-row ∷ []) (to b₀ o₀ γ₀ st, (to b₁ o₁ γ₁ wk, (to b₂ o₂ γ₂ su, (to b₃ o₃ γ₃ tb, (to b₄ o₄ γ₄ nu, (s₅, (s₆, (s₇, (a, (to lb lo γ₈ ls, (to b₉ o₉ γ₉ ta, tt))))))))))) (vptr b₀ o₀ ∷ [], (vptr b₁ o₁ ∷ [], (vptr b₂ o₂ ∷ [], (vptr b₃ o₃ ∷ [], (vptr b₄ o₄ ∷ [], (v₅ ∷ [], (v₆ ∷ [], (v₇ ∷ [], (vint w32 a ∷ [], (vl ∷ [], (vptr b₉ o₉ ∷ [], tt)))))))))))) ∷ []) ∵
+          qed W ((‵ (flft κ₀ q₀) ⊛ ‵ (flft κ₁ q₁) ⊛ ‵ (flft κ₂ q₂) ⊛ ‵ (flft κ₃ q₃) ⊛ ‵ (flft κ₄ q₄) ⊛ ‵ (flft κ₅ q₅) ⊛ ‵ (flft κ₆ q₆) ⊛ ‵ (flft κ₇ q₇) ⊛ ‵ (flft κ₈ q₈) ⊛ ‵ (flft κ₉ q₉) ⊛ ‵ ftrue) ∷ ‵ (owns (MutRef (named 0) κ₀ (Array u16 STACK) ∷ MutRef (named 1) κ₁ (Array u64 WORK) ∷ MutRef (named 2) κ₂ (Array u16 SUPPORTS) ∷ MutRef (named 3) κ₃ (Array u16 TABLES) ∷ MutRef (named 4) κ₄ (Array u64 NUMBERS) ∷ ShrSlice (named 5) κ₅ u8 ∷ ShrSlice (named 6) κ₆ u8 ∷ ShrSlice (named 7) κ₇ u8 ∷ u32 ∷ MutSlice (named 8) κ₈ u8 ∷ MutRef (named 9) κ₉ T.the-row ∷ []) (to b₀ o₀ γ₀ st, (to b₁ o₁ γ₁ wk, (to b₂ o₂ γ₂ su, (to b₃ o₃ γ₃ tb, (to b₄ o₄ γ₄ nu, (s₅, (s₆, (s₇, (a, (to lb lo γ₈ ls, (to b₉ o₉ γ₉ ta, tt))))))))))) (vptr b₀ o₀ ∷ [], (vptr b₁ o₁ ∷ [], (vptr b₂ o₂ ∷ [], (vptr b₃ o₃ ∷ [], (vptr b₄ o₄ ∷ [], (v₅ ∷ [], (v₆ ∷ [], (v₇ ∷ [], (vint w32 a ∷ [], (vl ∷ [], (vptr b₉ o₉ ∷ [], tt)))))))))))) ∷ []) ∵
           split ! $ move ! (1 ∷ []) $ split ! $ move ! (1 ∷ []) $ split ! $ move ! (1 ∷ []) $ split ! $ move ! (1 ∷ []) $ split ! $ move ! (1 ∷ []) $ split ! $ move ! (1 ∷ []) $ split ! $ move ! (1 ∷ []) $ split ! $ move ! (1 ∷ []) $ split ! $ move ! (1 ∷ []) $ split ! $ move ! (11 ∷ []) $ fsplit ! $ move ! (1 ∷ []) $ fsplit ! $ move ! (1 ∷ []) $ fsplit ! $ move ! (1 ∷ []) $ fsplit ! $ move ! (1 ∷ []) $ fsplit ! $ move ! (1 ∷ []) $ fsplit ! $ move ! (1 ∷ []) $ fsplit ! $ move ! (1 ∷ []) $ fsplit ! $ move ! (1 ∷ []) $ fsplit ! $ move ! (1 ∷ []) $ fsplit ! $ move ! (1 ∷ []) $ fsplit ! $ keep ! (13 ∷ 11 ∷ 22 ∷ 10 ∷ 21 ∷ 9 ∷ 20 ∷ 8 ∷ 19 ∷ 7 ∷ 18 ∷ 6 ∷ 17 ∷ 5 ∷ 16 ∷ 4 ∷ 15 ∷ 2 ∷ 14 ∷ 0 ∷ 12 ∷ []) $ move ! (19 ∷ 20 ∷ []) $ fjoin ! $ fjoin ! $ move ! (17 ∷ 18 ∷ []) $ fjoin ! $ fjoin ! $ move ! (15 ∷ 16 ∷ []) $ fjoin ! $ fjoin ! $ move ! (13 ∷ 14 ∷ []) $ fjoin ! $ fjoin ! $ move ! (11 ∷ 12 ∷ []) $ fjoin ! $ fjoin ! $ move ! (9 ∷ 10 ∷ []) $ fjoin ! $ fjoin ! $ move ! (7 ∷ 8 ∷ []) $ fjoin ! $ fjoin ! $ move ! (5 ∷ 6 ∷ []) $ fjoin ! $ fjoin ! $ move ! (3 ∷ 4 ∷ []) $ fjoin ! $ fjoin ! $ move ! (1 ∷ 2 ∷ []) $ fjoin ! $ fjoin ! $ done !
 
       abbrev at-explore : walkOf 𝓤 H A explore.ended stayed (explore.clauses 𝓤 H A mem run) .Ghost
@@ -263,7 +264,7 @@ module _ {M : Type 1} (𝓤 : URA M) (H : Heap 𝓤) (A : Atoms 𝓤) (W : Given
           owned ! u8 (Is u8) (uint-makes 𝓤 H A W w8) r _ (refl, gr) $ keep ! (1 ∷ 0 ∷ []) $ done !
 
       abbrev En : (l₀ l₁ l₂ l₃ l₄ l₅ l₆ k₁ k₂ l₇ l₈ l₉ m₀ m₁ s₀ m₂ m₃ m₄ m₅ m₆ m₇ m₈ m₉ n₀ n₁ n₂ n₃ n₄ n₅ n₆ n₇ n₈ n₉ p₀ : ℕ) → Env 𝓤 H
-      En l₀ l₁ l₂ l₃ l₄ l₅ l₆ k₁ k₂ l₇ l₈ l₉ m₀ m₁ s₀ m₂ m₃ m₄ m₅ m₆ m₇ m₈ m₉ n₀ n₁ n₂ n₃ n₄ n₅ n₆ n₇ n₈ n₉ p₀ = (tyInt w8, l₀) ∷ (tyRef (named 0) mutable (tyArray (tyInt w16) 208), l₁) ∷ (tyRef (named 1) mutable (tyArray (tyInt w64) 256), l₂) ∷ (tyRef (named 2) mutable (tyArray (tyInt w16) 8192), l₃) ∷ (tyRef (named 3) mutable (tyArray (tyInt w16) 55296), l₄) ∷ (tyRef (named 4) mutable (tyArray (tyInt w64) 2432), l₅) ∷ (sliceTy (tyRef (named 5) imm (tyInt w8)), l₆) ∷ (sliceTy (tyRef (named 6) imm (tyInt w8)), k₁) ∷ (sliceTy (tyRef (named 7) imm (tyInt w8)), k₂) ∷ (tyInt w32, l₇) ∷ (list-ty (named 8), l₈) ∷ (ref-ty (named 9), l₉) ∷ (tyInt w8, m₀) ∷ (tyInt w16, m₁) ∷ (list-ty erased, s₀) ∷ (tyRef erased mutable (tyArray (tyInt w16) 208), m₂) ∷ (tyRef erased mutable (tyArray (tyInt w64) 256), m₃) ∷ (tyRef erased mutable (tyArray (tyInt w16) 8192), m₄) ∷ (tyRef erased mutable (tyArray (tyInt w16) 55296), m₅) ∷ (tyRef erased mutable (tyArray (tyInt w64) 2432), m₆) ∷ (tyInt w64, m₇) ∷ (tyBool, m₈) ∷ (tyUnit, m₉) ∷ (ref-ty erased, n₀) ∷ (tyRef erased imm (tyArray (tyInt w16) 208), n₁) ∷ (byte-ref, n₂) ∷ (list-ty erased, n₃) ∷ (tyRef erased mutable (tyArray (tyInt w16) 208), n₄) ∷ (tyRef erased mutable (tyArray (tyInt w64) 256), n₅) ∷ (tyRef erased imm (tyArray (tyInt w16) 8192), n₆) ∷ (tyRef erased imm (tyArray (tyInt w16) 55296), n₇) ∷ (tyRef erased imm (tyArray (tyInt w64) 2432), n₈) ∷ (tyRef erased mutable (list-ty erased), n₉) ∷ (ref-ty erased, p₀) ∷ []
+      En l₀ l₁ l₂ l₃ l₄ l₅ l₆ k₁ k₂ l₇ l₈ l₉ m₀ m₁ s₀ m₂ m₃ m₄ m₅ m₆ m₇ m₈ m₉ n₀ n₁ n₂ n₃ n₄ n₅ n₆ n₇ n₈ n₉ p₀ = (tyInt w8, l₀) ∷ (tyRef (named 0) mutable (tyArray (tyInt w16) STACK), l₁) ∷ (tyRef (named 1) mutable (tyArray (tyInt w64) WORK), l₂) ∷ (tyRef (named 2) mutable (tyArray (tyInt w16) SUPPORTS), l₃) ∷ (tyRef (named 3) mutable (tyArray (tyInt w16) TABLES), l₄) ∷ (tyRef (named 4) mutable (tyArray (tyInt w64) NUMBERS), l₅) ∷ (sliceTy (tyRef (named 5) imm (tyInt w8)), l₆) ∷ (sliceTy (tyRef (named 6) imm (tyInt w8)), k₁) ∷ (sliceTy (tyRef (named 7) imm (tyInt w8)), k₂) ∷ (tyInt w32, l₇) ∷ (list-ty (named 8), l₈) ∷ (ref-ty (named 9), l₉) ∷ (tyInt w8, m₀) ∷ (tyInt w16, m₁) ∷ (list-ty erased, s₀) ∷ (tyRef erased mutable (tyArray (tyInt w16) STACK), m₂) ∷ (tyRef erased mutable (tyArray (tyInt w64) WORK), m₃) ∷ (tyRef erased mutable (tyArray (tyInt w16) SUPPORTS), m₄) ∷ (tyRef erased mutable (tyArray (tyInt w16) TABLES), m₅) ∷ (tyRef erased mutable (tyArray (tyInt w64) NUMBERS), m₆) ∷ (tyInt w64, m₇) ∷ (tyBool, m₈) ∷ (tyUnit, m₉) ∷ (ref-ty erased, n₀) ∷ (tyRef erased imm (tyArray (tyInt w16) STACK), n₁) ∷ (byte-ref, n₂) ∷ (list-ty erased, n₃) ∷ (tyRef erased mutable (tyArray (tyInt w16) STACK), n₄) ∷ (tyRef erased mutable (tyArray (tyInt w64) WORK), n₅) ∷ (tyRef erased imm (tyArray (tyInt w16) SUPPORTS), n₆) ∷ (tyRef erased imm (tyArray (tyInt w16) TABLES), n₇) ∷ (tyRef erased imm (tyArray (tyInt w64) NUMBERS), n₈) ∷ (tyRef erased mutable (list-ty erased), n₉) ∷ (ref-ty erased, p₀) ∷ []
 
       walk : Blank st wk su tb nu (length ls) → ent 𝓤 Entry (WpFn 𝓤 H C Λ code.function (vptr b₀ o₀ ∷ vptr b₁ o₁ ∷ vptr b₂ o₂ ∷ vptr b₃ o₃ ∷ vptr b₄ o₄ ∷ v₅ ∷ v₆ ∷ v₇ ∷ vint w32 a ∷ vl ∷ vptr b₉ o₉ ∷ []) Post)
       walk ok =
@@ -336,7 +337,7 @@ module _ {M : Type 1} (𝓤 : URA M) (H : Heap 𝓤) (A : Atoms 𝓤) (W : Given
   explore-walks : (C : Calls 𝓤 H) (Λ : Loops 𝓤 H) → FmC 𝓤 H (W .laws) C → Triple 𝓤 (C #explore·prepare) (Prepare 𝓤 H A W mem run) → Triple 𝓤 (C #walk·reset) (Reset 𝓤 H A W mem run) → Triple 𝓤 (C #walk·candidates) (Candidates 𝓤 H A W mem run) → Triple 𝓤 (C #settle·settle) (Settle 𝓤 H A W mem run) → Walks 𝓤 H A explore.ended stayed (WpFn 𝓤 H C Λ code.function) (explore.clauses 𝓤 H A mem run)
   explore-walks C Λ fm p r c s =
       walked 𝓤 H A explore.ended stayed (explore.clauses 𝓤 H A mem run) (WpFn 𝓤 H C Λ code.function) (λ κs. (ptr-vals, (ptr-vals, (ptr-vals, (ptr-vals, (ptr-vals, (slice-vals, (slice-vals, (slice-vals, (uint-vals w32, (slice-vals, (ptr-vals, tt))))))))))))
-      (λ κs. (mut-tells (named 0) (κs .0) (Array u16 208), (mut-tells (named 1) (κs .1 .0) (Array u64 256), (mut-tells (named 2) (κs .1 .1 .0) (Array u16 8192), (mut-tells (named 3) (κs .1 .1 .1 .0) (Array u16 55296), (mut-tells (named 4) (κs .1 .1 .1 .1 .0) (Array u64 2432), (shr-slice-tells (named 5) (κs .1 .1 .1 .1 .1 .0) u8, (shr-slice-tells (named 6) (κs .1 .1 .1 .1 .1 .1 .0) u8, (shr-slice-tells (named 7) (κs .1 .1 .1 .1 .1 .1 .1 .0) u8, (uint-tells w32, (mut-slice-tells (named 8) (κs .1 .1 .1 .1 .1 .1 .1 .1 .0) u8, (mut-tells (named 9) (κs .1 .1 .1 .1 .1 .1 .1 .1 .1 .0) T.the-row, tt))))))))))))
+      (λ κs. (mut-tells (named 0) (κs .0) (Array u16 STACK), (mut-tells (named 1) (κs .1 .0) (Array u64 WORK), (mut-tells (named 2) (κs .1 .1 .0) (Array u16 SUPPORTS), (mut-tells (named 3) (κs .1 .1 .1 .0) (Array u16 TABLES), (mut-tells (named 4) (κs .1 .1 .1 .1 .0) (Array u64 NUMBERS), (shr-slice-tells (named 5) (κs .1 .1 .1 .1 .1 .0) u8, (shr-slice-tells (named 6) (κs .1 .1 .1 .1 .1 .1 .0) u8, (shr-slice-tells (named 7) (κs .1 .1 .1 .1 .1 .1 .1 .0) u8, (uint-tells w32, (mut-slice-tells (named 8) (κs .1 .1 .1 .1 .1 .1 .1 .1 .0) u8, (mut-tells (named 9) (κs .1 .1 .1 .1 .1 .1 .1 .1 .1 .0) T.the-row, tt))))))))))))
       (λ κs qs bounds a _ are. needs 𝓤 (Blank (a .0 .now) (a .1 .0 .now) (a .1 .1 .0 .now) (a .1 .1 .1 .0 .now) (a .1 .1 .1 .1 .0 .now) (length (a .1 .1 .1 .1 .1 .1 .1 .1 .1 .0 .now))) _
       (walk 𝓤 H A W mem run (κs .0) (κs .1 .0) (κs .1 .1 .0) (κs .1 .1 .1 .0) (κs .1 .1 .1 .1 .0) (κs .1 .1 .1 .1 .1 .0) (κs .1 .1 .1 .1 .1 .1 .0) (κs .1 .1 .1 .1 .1 .1 .1 .0) (κs .1 .1 .1 .1 .1 .1 .1 .1 .0) (κs .1 .1 .1 .1 .1 .1 .1 .1 .1 .0) (qs .0) (qs .1 .0) (qs .1 .1 .0) (qs .1 .1 .1 .0) (qs .1 .1 .1 .1 .0) (qs .1 .1 .1 .1 .1 .0) (qs .1 .1 .1 .1 .1 .1 .0) (qs .1 .1 .1 .1 .1 .1 .1 .0) (qs .1 .1 .1 .1 .1 .1 .1 .1 .0) (qs .1 .1 .1 .1 .1 .1 .1 .1 .1 .0) (a .1 .1 .1 .1 .1 .0) (a .1 .1 .1 .1 .1 .1 .0) (a .1 .1 .1 .1 .1 .1 .1 .0) (a .0 .ptr .0) (a .0 .ptr .1) (a .1 .0 .ptr .0) (a .1 .0 .ptr .1) (a .1 .1 .0 .ptr .0) (a .1 .1 .0 .ptr .1) (a .1 .1 .1 .0 .ptr .0) (a .1 .1 .1 .0 .ptr .1) (a .1 .1 .1 .1 .0 .ptr .0) (a .1 .1 .1 .1 .0 .ptr .1) (a .1 .1 .1 .1 .1 .1 .1 .1 .1 .0 .ptr .0) (a .1 .1 .1 .1 .1 .1 .1 .1 .1 .0 .ptr .1) (length (a .1 .1 .1 .1 .1 .1 .1 .1 .1 .0 .now)) (a .1 .1 .1 .1 .1 .1 .1 .1 .1 .1 .0 .ptr .0) (a .1 .1 .1 .1 .1 .1 .1 .1 .1 .1 .0 .ptr .1)
       (a .0 .name) (a .1 .0 .name) (a .1 .1 .0 .name) (a .1 .1 .1 .0 .name) (a .1 .1 .1 .1 .0 .name) (a .1 .1 .1 .1 .1 .1 .1 .1 .1 .0 .name) (a .1 .1 .1 .1 .1 .1 .1 .1 .1 .1 .0 .name) (are .1 .1 .1 .1 .1 .0 .0 .1) (are .1 .1 .1 .1 .1 .1 .0 .0 .1) (are .1 .1 .1 .1 .1 .1 .1 .0 .0 .1) (are .1 .1 .1 .1 .1 .1 .1 .1 .1 .0 .0 .1) C Λ fm p r c s
@@ -344,7 +345,7 @@ module _ {M : Type 1} (𝓤 : URA M) (H : Heap 𝓤) (A : Atoms 𝓤) (W : Given
 
   explore-meets : (𝓣 : Tables 𝓤 H) → Triple 𝓤 (𝓣 .C #explore·prepare) (Prepare 𝓤 H A W mem run) → Triple 𝓤 (𝓣 .C #walk·reset) (Reset 𝓤 H A W mem run) → Triple 𝓤 (𝓣 .C #walk·candidates) (Candidates 𝓤 H A W mem run) → Triple 𝓤 (𝓣 .C #settle·settle) (Settle 𝓤 H A W mem run) → Meets 𝓤 H A explore.signature (WpFn 𝓤 H (𝓣 .C) (𝓣 .Λ) code.function) (explore.spec 𝓤 H A mem run)
   explore-meets 𝓣 p r c s =
-      walk-meets 𝓤 H A explore.ended stayed W (goes-ref 𝓤 H A W 10 0 tt (shorts 208), (goes-ref 𝓤 H A W 10 1 tt (longs 256), (goes-ref 𝓤 H A W 10 2 tt (shorts 8192), (goes-ref 𝓤 H A W 10 3 tt (shorts 55296), (goes-ref 𝓤 H A W 10 4 tt (longs 2432), (goes-dropped 𝓤 H A W 10 (shrSliceOf (5 ∷ []) tt bytes) yes (λ κs x f. refl), (goes-dropped 𝓤 H A W 10 (shrSliceOf (6 ∷ []) tt bytes) yes (λ κs x f. refl), (goes-dropped 𝓤 H A W 10 (shrSliceOf (7 ∷ []) tt bytes) yes (λ κs x f. refl), (goes-dropped 𝓤 H A W 10 (plain (λ _. u32)) yes (λ κs x f. refl), (goes-slice 𝓤 H A W 10 8 tt bytes, (goes-ref 𝓤 H A W 10 9 tt counts, tt))))))))))) (explore.clauses 𝓤 H A mem run)
+      walk-meets 𝓤 H A explore.ended stayed W (goes-ref 𝓤 H A W 10 0 tt (shorts STACK), (goes-ref 𝓤 H A W 10 1 tt (longs WORK), (goes-ref 𝓤 H A W 10 2 tt (shorts SUPPORTS), (goes-ref 𝓤 H A W 10 3 tt (shorts TABLES), (goes-ref 𝓤 H A W 10 4 tt (longs NUMBERS), (goes-dropped 𝓤 H A W 10 (shrSliceOf (5 ∷ []) tt bytes) yes (λ κs x f. refl), (goes-dropped 𝓤 H A W 10 (shrSliceOf (6 ∷ []) tt bytes) yes (λ κs x f. refl), (goes-dropped 𝓤 H A W 10 (shrSliceOf (7 ∷ []) tt bytes) yes (λ κs x f. refl), (goes-dropped 𝓤 H A W 10 (plain (λ _. u32)) yes (λ κs x f. refl), (goes-slice 𝓤 H A W 10 8 tt bytes, (goes-ref 𝓤 H A W 10 9 tt counts, tt))))))))))) (explore.clauses 𝓤 H A mem run)
       (WpFn 𝓤 H (𝓣 .C) (𝓣 .Λ) code.function) (WpFn-mono 𝓤 H (W .laws) 𝓣 code.function) (explore-walks (𝓣 .C) (𝓣 .Λ) (fmOf 𝓤 H (W .laws) 𝓣) p r c s)
 
 pub explore-spec : {M : Type 1} → stated.statement M

@@ -4,6 +4,7 @@ use Prim.Native.Nat.{ℕ, _+_, _-_, _*_, _/_, _%_, _^_, _≤_, _<_}
 use native.Mathlib.Omega.{arith}
 use Rattle.model.specs.Lists.{at}
 use Rattle.model.specs.Problem.{Problem}
+use Rattle.layout.specs.Places.{IMAGES}
 use Rattle.families.specs.Numbered.{Imaging}
 use Rattle.families.proofs.Keys.{digit-small, digit-shifted}
 use Rattle.families.proofs.Rows.{Carrying, sent, imaging-bounds, imaging-value, imaging-index, imaging-variable, carrying-begin, carrying-small, carrying-turn, carrying-end}
@@ -23,7 +24,7 @@ code c = let a = c .before .before .args in sent (a .rows .now) (a .images .now)
 abbrev Facts : tie.In-loop Inv-loop μ-loop → Type 0
 Facts c =
     let a = c .before .before .args in
-    (at (a .rows .now) (a .i * a .variables + c .before .loop .x) < 16) × (192 * a .k + 16 * c .before .loop .x + at (a .rows .now) (a .i * a .variables + c .before .loop .x) < 26112)
+    (at (a .rows .now) (a .i * a .variables + c .before .loop .x) < 16) × (192 * a .k + 16 * c .before .loop .x + at (a .rows .now) (a .i * a .variables + c .before .loop .x) < IMAGES)
     × (code c / 16 < a .variables) × (a .variables ≤ 12) × (c .before .loop .r < 281474976710656)
 
 facts : (c : tie.In-loop Inv-loop μ-loop) → Facts c

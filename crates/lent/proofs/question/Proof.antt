@@ -4,9 +4,10 @@ use borrow.Author.Needs.{needs}
 use Rattle.sheet.proofs.Whole.{zeros}
 use Rattle.lent.proofs.question.Statement.{statement}
 use Rattle.lent.proofs.question.Tie as tie
+use Rattle.layout.specs.Places.{NUMBERS, SUPPORTS}
 
 ask-requires : tie.Need-ask-requires
-ask-requires c κs = (zeros 2432, zeros 8192, refl, refl)
+ask-requires c κs = (zeros NUMBERS, zeros SUPPORTS, refl, refl)
 
 returns : tie.Need-returns
 returns c = search needs

@@ -5,20 +5,21 @@ use native.Mathlib.Omega.{arith}
 use borrow.Author.Needs.{needs}
 use lib.ListN.{length, length-set}
 use Rattle.model.specs.Lists.{at}
+use Rattle.layout.specs.Places.{WORK}
 use Rattle.sheet.proofs.Whole.{zeros}
 use Rattle.range_run.proofs.Ends.{copying}
 use Rattle.range_run.proofs.copied.Statement.{statement}
 use Rattle.range_run.proofs.copied.Tie as tie
 
 abbrev Inv-loop : tie.InvT-loop
-Inv-loop work copy₀ i₀ copy i = (length copy ≡ 256) × ((j : ℕ) → j < i → at copy j ≡ at work j)
+Inv-loop work copy₀ i₀ copy i = (length copy ≡ WORK) × ((j : ℕ) → j < i → at copy j ≡ at work j)
 
 abbrev μ-loop : tie.MeasureT-loop
-μ-loop work copy₀ i₀ copy i = 256 - i
+μ-loop work copy₀ i₀ copy i = WORK - i
 
 -- src/lib.rt:349:5
 loop-holds : tie.Need-loop-holds Inv-loop μ-loop
-loop-holds c = (zeros 256 .sized, λ j l. absurd (omega arith))
+loop-holds c = (zeros WORK .sized, λ j l. absurd (omega arith))
 
 -- src/lib.rt:350:19
 mul-copy : tie.Need-mul-copy Inv-loop μ-loop

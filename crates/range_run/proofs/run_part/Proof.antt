@@ -1,7 +1,7 @@
 -- `range_run::run_part` meets its contract: proofs/Done. Assumes nothing.
 use mathlib.Core.Path.{refl}
 use Rattle.model.specs.Lists.{at}
-use Rattle.layout.specs.Places.{PLANS}
+use Rattle.layout.specs.Places.{PLANS, NUMBERS, STACK, SUPPORTS, TABLES, WORK}
 use Rattle.task.specs.Task.{WANTED}
 use Rattle.sheet.proofs.Whole.{zeros}
 use Rattle.range_run.proofs.Ends.{begun-so}
@@ -13,13 +13,13 @@ use Rattle.range_run.proofs.run_part.Tie as tie
 -- src/lib.rt:397:9
 prepare-requires : tie.Need-prepare-requires
 prepare-requires c κs = record {
-  stack-length = zeros 208 .sized;
-  work-length = zeros 256 .sized;
-  none-listed = zeros 256 .blank PLANS;
-  supports-blank = zeros 8192;
-  tables-length = zeros 55296 .sized;
-  numbers-blank = zeros 2432;
-  unlisted = λ n. absurd (n (zeros 256 .blank WANTED));
+  stack-length = zeros STACK .sized;
+  work-length = zeros WORK .sized;
+  none-listed = zeros WORK .blank PLANS;
+  supports-blank = zeros SUPPORTS;
+  tables-length = zeros TABLES .sized;
+  numbers-blank = zeros NUMBERS;
+  unlisted = λ n. absurd (n (zeros WORK .blank WANTED));
 }
 
 -- src/lib.rt:409:21
@@ -32,11 +32,11 @@ put-path-requires c κs = search needs
 
 -- src/lib.rt:411:9
 walk-part-requires : tie.Need-walk-part-requires
-walk-part-requires c κs = λ e. (_, part-asks _ (c .before .before .before .before .before .before .before .before .before .before .before .before .before .before .before .before .before .before .before .before .before .before .args .sheet .now) (c .before .before .before .before .before .before .before .before .before .before .before .before .before .before .before .before .before .before .before .before .before .before .args .pairs .now) (c .before .before .before .before .before .before .before .before .before .before .before .before .before .before .before .before .before .before .before .before .before .before .args .block .now) (c .before .before .before .before .before .before .before .before .before .before .before .before .before .before .before .before .before .before .before .before .before .before .args .from .now) (c .before .before .before .before .before .before .before .before .before .before .before .before .before .before .before .before .before .before .before .before .before .before .args .upto .now) (c .before .before .before .before .before .before .before .before .before .before .before .before .before .before .before .before .before .before .before .before .before .before .args .limit) (c .before .before .before .before .before .before .before .before .before .before .before .before .before .before .before .before .before .before .before .before .before .before .args .list .now) (zeros 256 .blank WANTED) _ _ _ _ _ _ (c .before .before .before .before .before .before .before .before .before .before .prepare .ensures) _ (begun-so _ _ _ _ (c .before .before .before .before .before .before .before .before .copied .ensures .0) (c .before .before .before .before .before .before .before .before .copied .ensures .1) (c .before .before .before .before .before .before .put-path .ensures)) e)
+walk-part-requires c κs = λ e. (_, part-asks _ (c .before .before .before .before .before .before .before .before .before .before .before .before .before .before .before .before .before .before .before .before .before .before .args .sheet .now) (c .before .before .before .before .before .before .before .before .before .before .before .before .before .before .before .before .before .before .before .before .before .before .args .pairs .now) (c .before .before .before .before .before .before .before .before .before .before .before .before .before .before .before .before .before .before .before .before .before .before .args .block .now) (c .before .before .before .before .before .before .before .before .before .before .before .before .before .before .before .before .before .before .before .before .before .before .args .from .now) (c .before .before .before .before .before .before .before .before .before .before .before .before .before .before .before .before .before .before .before .before .before .before .args .upto .now) (c .before .before .before .before .before .before .before .before .before .before .before .before .before .before .before .before .before .before .before .before .before .before .args .limit) (c .before .before .before .before .before .before .before .before .before .before .before .before .before .before .before .before .before .before .before .before .before .before .args .list .now) (zeros WORK .blank WANTED) _ _ _ _ _ _ (c .before .before .before .before .before .before .before .before .before .before .prepare .ensures) _ (begun-so _ _ _ _ (c .before .before .before .before .before .before .before .before .copied .ensures .0) (c .before .before .before .before .before .before .before .before .copied .ensures .1) (c .before .before .before .before .before .before .put-path .ensures)) e)
 
 -- src/lib.rt:423:9
 answered-requires : tie.Need-answered-requires
-answered-requires c κs = part-stopped _ (c .before .before .before .before .before .before .before .before .before .before .before .before .before .before .before .before .before .before .before .before .before .before .before .before .before .before .before .args .sheet .now) (c .before .before .before .before .before .before .before .before .before .before .before .before .before .before .before .before .before .before .before .before .before .before .before .before .before .before .before .args .pairs .now) (c .before .before .before .before .before .before .before .before .before .before .before .before .before .before .before .before .before .before .before .before .before .before .before .before .before .before .before .args .block .now) (c .before .before .before .before .before .before .before .before .before .before .before .before .before .before .before .before .before .before .before .before .before .before .before .before .before .before .before .args .from .now) (c .before .before .before .before .before .before .before .before .before .before .before .before .before .before .before .before .before .before .before .before .before .before .before .before .before .before .before .args .upto .now) (c .before .before .before .before .before .before .before .before .before .before .before .before .before .before .before .before .before .before .before .before .before .before .before .before .before .before .before .args .limit) (c .before .before .before .before .before .before .before .before .before .before .before .before .before .before .before .before .before .before .before .before .before .before .before .before .before .before .before .args .list .now) (zeros 256 .blank WANTED) _ _ _ _ _ _ (c .before .before .before .before .before .before .before .before .before .before .before .before .before .before .before .prepare .ensures) _ (begun-so _ _ _ _ (c .before .before .before .before .before .before .before .before .before .before .before .before .before .copied .ensures .0) (c .before .before .before .before .before .before .before .before .before .before .before .before .before .copied .ensures .1) (c .before .before .before .before .before .before .before .before .before .before .before .put-path .ensures)) _ _ _ _ _ (c .before .before .before .before .walk-part .ensures)
+answered-requires c κs = part-stopped _ (c .before .before .before .before .before .before .before .before .before .before .before .before .before .before .before .before .before .before .before .before .before .before .before .before .before .before .before .args .sheet .now) (c .before .before .before .before .before .before .before .before .before .before .before .before .before .before .before .before .before .before .before .before .before .before .before .before .before .before .before .args .pairs .now) (c .before .before .before .before .before .before .before .before .before .before .before .before .before .before .before .before .before .before .before .before .before .before .before .before .before .before .before .args .block .now) (c .before .before .before .before .before .before .before .before .before .before .before .before .before .before .before .before .before .before .before .before .before .before .before .before .before .before .before .args .from .now) (c .before .before .before .before .before .before .before .before .before .before .before .before .before .before .before .before .before .before .before .before .before .before .before .before .before .before .before .args .upto .now) (c .before .before .before .before .before .before .before .before .before .before .before .before .before .before .before .before .before .before .before .before .before .before .before .before .before .before .before .args .limit) (c .before .before .before .before .before .before .before .before .before .before .before .before .before .before .before .before .before .before .before .before .before .before .before .before .before .before .before .args .list .now) (zeros WORK .blank WANTED) _ _ _ _ _ _ (c .before .before .before .before .before .before .before .before .before .before .before .before .before .before .before .prepare .ensures) _ (begun-so _ _ _ _ (c .before .before .before .before .before .before .before .before .before .before .before .before .before .copied .ensures .0) (c .before .before .before .before .before .before .before .before .before .before .before .before .before .copied .ensures .1) (c .before .before .before .before .before .before .before .before .before .before .before .put-path .ensures)) _ _ _ _ _ (c .before .before .before .before .walk-part .ensures)
 
 -- src/lib.rt:424:18
 array-read-length : tie.Need-array-read-length
@@ -44,7 +44,7 @@ array-read-length c = search needs
 
 -- src/lib.rt:425:9
 last-values-requires : tie.Need-last-values-requires
-last-values-requires c κs = (part-short _ (c .before .before .before .before .before .before .before .before .before .before .before .before .before .before .before .before .before .before .before .before .before .before .before .before .before .before .before .before .before .args .sheet .now) (c .before .before .before .before .before .before .before .before .before .before .before .before .before .before .before .before .before .before .before .before .before .before .before .before .before .before .before .before .before .args .pairs .now) (c .before .before .before .before .before .before .before .before .before .before .before .before .before .before .before .before .before .before .before .before .before .before .before .before .before .before .before .before .before .args .block .now) (c .before .before .before .before .before .before .before .before .before .before .before .before .before .before .before .before .before .before .before .before .before .before .before .before .before .before .before .before .before .args .from .now) (c .before .before .before .before .before .before .before .before .before .before .before .before .before .before .before .before .before .before .before .before .before .before .before .before .before .before .before .before .before .args .upto .now) (c .before .before .before .before .before .before .before .before .before .before .before .before .before .before .before .before .before .before .before .before .before .before .before .before .before .before .before .before .before .args .limit) (c .before .before .before .before .before .before .before .before .before .before .before .before .before .before .before .before .before .before .before .before .before .before .before .before .before .before .before .before .before .args .list .now) (zeros 256 .blank WANTED) _ _ _ _ _ _ (c .before .before .before .before .before .before .before .before .before .before .before .before .before .before .before .before .before .prepare .ensures) _ (begun-so _ _ _ _ (c .before .before .before .before .before .before .before .before .before .before .before .before .before .before .before .copied .ensures .0) (c .before .before .before .before .before .before .before .before .before .before .before .before .before .before .before .copied .ensures .1) (c .before .before .before .before .before .before .before .before .before .before .before .before .before .put-path .ensures)) _ _ _ _ _ (c .before .before .before .before .before .before .walk-part .ensures), part-bytes _ (c .before .before .before .before .before .before .before .before .before .before .before .before .before .before .before .before .before .before .before .before .before .before .before .before .before .before .before .before .before .args .sheet .now) (c .before .before .before .before .before .before .before .before .before .before .before .before .before .before .before .before .before .before .before .before .before .before .before .before .before .before .before .before .before .args .pairs .now) (c .before .before .before .before .before .before .before .before .before .before .before .before .before .before .before .before .before .before .before .before .before .before .before .before .before .before .before .before .before .args .block .now) (c .before .before .before .before .before .before .before .before .before .before .before .before .before .before .before .before .before .before .before .before .before .before .before .before .before .before .before .before .before .args .from .now) (c .before .before .before .before .before .before .before .before .before .before .before .before .before .before .before .before .before .before .before .before .before .before .before .before .before .before .before .before .before .args .upto .now) (c .before .before .before .before .before .before .before .before .before .before .before .before .before .before .before .before .before .before .before .before .before .before .before .before .before .before .before .before .before .args .limit) (c .before .before .before .before .before .before .before .before .before .before .before .before .before .before .before .before .before .before .before .before .before .before .before .before .before .before .before .before .before .args .list .now) (zeros 256 .blank WANTED) _ _ _ _ _ _ (c .before .before .before .before .before .before .before .before .before .before .before .before .before .before .before .before .before .prepare .ensures) _ (begun-so _ _ _ _ (c .before .before .before .before .before .before .before .before .before .before .before .before .before .before .before .copied .ensures .0) (c .before .before .before .before .before .before .before .before .before .before .before .before .before .before .before .copied .ensures .1) (c .before .before .before .before .before .before .before .before .before .before .before .before .before .put-path .ensures)) _ _ _ _ _ (c .before .before .before .before .before .before .walk-part .ensures))
+last-values-requires c κs = (part-short _ (c .before .before .before .before .before .before .before .before .before .before .before .before .before .before .before .before .before .before .before .before .before .before .before .before .before .before .before .before .before .args .sheet .now) (c .before .before .before .before .before .before .before .before .before .before .before .before .before .before .before .before .before .before .before .before .before .before .before .before .before .before .before .before .before .args .pairs .now) (c .before .before .before .before .before .before .before .before .before .before .before .before .before .before .before .before .before .before .before .before .before .before .before .before .before .before .before .before .before .args .block .now) (c .before .before .before .before .before .before .before .before .before .before .before .before .before .before .before .before .before .before .before .before .before .before .before .before .before .before .before .before .before .args .from .now) (c .before .before .before .before .before .before .before .before .before .before .before .before .before .before .before .before .before .before .before .before .before .before .before .before .before .before .before .before .before .args .upto .now) (c .before .before .before .before .before .before .before .before .before .before .before .before .before .before .before .before .before .before .before .before .before .before .before .before .before .before .before .before .before .args .limit) (c .before .before .before .before .before .before .before .before .before .before .before .before .before .before .before .before .before .before .before .before .before .before .before .before .before .before .before .before .before .args .list .now) (zeros WORK .blank WANTED) _ _ _ _ _ _ (c .before .before .before .before .before .before .before .before .before .before .before .before .before .before .before .before .before .prepare .ensures) _ (begun-so _ _ _ _ (c .before .before .before .before .before .before .before .before .before .before .before .before .before .before .before .copied .ensures .0) (c .before .before .before .before .before .before .before .before .before .before .before .before .before .before .before .copied .ensures .1) (c .before .before .before .before .before .before .before .before .before .before .before .before .before .put-path .ensures)) _ _ _ _ _ (c .before .before .before .before .before .before .walk-part .ensures), part-bytes _ (c .before .before .before .before .before .before .before .before .before .before .before .before .before .before .before .before .before .before .before .before .before .before .before .before .before .before .before .before .before .args .sheet .now) (c .before .before .before .before .before .before .before .before .before .before .before .before .before .before .before .before .before .before .before .before .before .before .before .before .before .before .before .before .before .args .pairs .now) (c .before .before .before .before .before .before .before .before .before .before .before .before .before .before .before .before .before .before .before .before .before .before .before .before .before .before .before .before .before .args .block .now) (c .before .before .before .before .before .before .before .before .before .before .before .before .before .before .before .before .before .before .before .before .before .before .before .before .before .before .before .before .before .args .from .now) (c .before .before .before .before .before .before .before .before .before .before .before .before .before .before .before .before .before .before .before .before .before .before .before .before .before .before .before .before .before .args .upto .now) (c .before .before .before .before .before .before .before .before .before .before .before .before .before .before .before .before .before .before .before .before .before .before .before .before .before .before .before .before .before .args .limit) (c .before .before .before .before .before .before .before .before .before .before .before .before .before .before .before .before .before .before .before .before .before .before .before .before .before .before .before .before .before .args .list .now) (zeros WORK .blank WANTED) _ _ _ _ _ _ (c .before .before .before .before .before .before .before .before .before .before .before .before .before .before .before .before .before .prepare .ensures) _ (begun-so _ _ _ _ (c .before .before .before .before .before .before .before .before .before .before .before .before .before .before .before .copied .ensures .0) (c .before .before .before .before .before .before .before .before .before .before .before .before .before .before .before .copied .ensures .1) (c .before .before .before .before .before .before .before .before .before .before .before .before .before .put-path .ensures)) _ _ _ _ _ (c .before .before .before .before .before .before .walk-part .ensures))
 
 -- src/lib.rt:381:1
 same-length : tie.Need-same-length
@@ -53,7 +53,7 @@ same-length c = search needs
 -- src/lib.rt:381:1
 returns : tie.Need-returns
 unfolding at
-returns c = part-call _ (c .before .before .before .before .before .before .before .before .before .before .before .before .before .before .before .before .before .before .before .before .before .before .before .before .before .before .before .before .before .before .args .sheet .now) (c .before .before .before .before .before .before .before .before .before .before .before .before .before .before .before .before .before .before .before .before .before .before .before .before .before .before .before .before .before .before .args .pairs .now) (c .before .before .before .before .before .before .before .before .before .before .before .before .before .before .before .before .before .before .before .before .before .before .before .before .before .before .before .before .before .before .args .block .now) (c .before .before .before .before .before .before .before .before .before .before .before .before .before .before .before .before .before .before .before .before .before .before .before .before .before .before .before .before .before .before .args .from .now) (c .before .before .before .before .before .before .before .before .before .before .before .before .before .before .before .before .before .before .before .before .before .before .before .before .before .before .before .before .before .before .args .upto .now) (c .before .before .before .before .before .before .before .before .before .before .before .before .before .before .before .before .before .before .before .before .before .before .before .before .before .before .before .before .before .before .args .limit) (c .before .before .before .before .before .before .before .before .before .before .before .before .before .before .before .before .before .before .before .before .before .before .before .before .before .before .before .before .before .before .args .list .now) (zeros 256 .blank WANTED) _ _ _ _ _ _ (c .before .before .before .before .before .before .before .before .before .before .before .before .before .before .before .before .before .before .prepare .ensures) _ (begun-so _ _ _ _ (c .before .before .before .before .before .before .before .before .before .before .before .before .before .before .before .before .copied .ensures .0) (c .before .before .before .before .before .before .before .before .before .before .before .before .before .before .before .before .copied .ensures .1) (c .before .before .before .before .before .before .before .before .before .before .before .before .before .before .put-path .ensures)) _ _ _ _ _ (c .before .before .before .before .before .before .before .walk-part .ensures) _ refl _ (c .before .before .answered .ensures) _ (c .last-values .ensures)
+returns c = part-call _ (c .before .before .before .before .before .before .before .before .before .before .before .before .before .before .before .before .before .before .before .before .before .before .before .before .before .before .before .before .before .before .args .sheet .now) (c .before .before .before .before .before .before .before .before .before .before .before .before .before .before .before .before .before .before .before .before .before .before .before .before .before .before .before .before .before .before .args .pairs .now) (c .before .before .before .before .before .before .before .before .before .before .before .before .before .before .before .before .before .before .before .before .before .before .before .before .before .before .before .before .before .before .args .block .now) (c .before .before .before .before .before .before .before .before .before .before .before .before .before .before .before .before .before .before .before .before .before .before .before .before .before .before .before .before .before .before .args .from .now) (c .before .before .before .before .before .before .before .before .before .before .before .before .before .before .before .before .before .before .before .before .before .before .before .before .before .before .before .before .before .before .args .upto .now) (c .before .before .before .before .before .before .before .before .before .before .before .before .before .before .before .before .before .before .before .before .before .before .before .before .before .before .before .before .before .before .args .limit) (c .before .before .before .before .before .before .before .before .before .before .before .before .before .before .before .before .before .before .before .before .before .before .before .before .before .before .before .before .before .before .args .list .now) (zeros WORK .blank WANTED) _ _ _ _ _ _ (c .before .before .before .before .before .before .before .before .before .before .before .before .before .before .before .before .before .before .prepare .ensures) _ (begun-so _ _ _ _ (c .before .before .before .before .before .before .before .before .before .before .before .before .before .before .before .before .copied .ensures .0) (c .before .before .before .before .before .before .before .before .before .before .before .before .before .before .before .before .copied .ensures .1) (c .before .before .before .before .before .before .before .before .before .before .before .before .before .before .put-path .ensures)) _ _ _ _ _ (c .before .before .before .before .before .before .before .walk-part .ensures) _ refl _ (c .before .before .answered .ensures) _ (c .last-values .ensures)
 
 pub run-part-spec : {M : Type 1} → statement M
 run-part-spec =

@@ -38,7 +38,7 @@ use denote.Triple.Table.{entered, cited}
 use denote.Triple.Walked.{says, Stays, stay-ref, stay-slice, stay-dropped, walkOf, Walks, ends-at, walked, goes-dropped, goes-slice, goes-ref, walk-meets}
 use denote.Memory.{mem as in-memory}
 use denote.Enum.Laws as EL
-use Rattle.layout.specs.Places.{PLANS}
+use Rattle.layout.specs.Places.{PLANS, NUMBERS, STACK, SUPPORTS, TABLES, WORK}
 use Rattle.walk.specs.Meaning.{tallyIn}
 use Rattle.search.specs.Calls.{CallLent}
 use Rattle.task.specs.Task.{WANTED}
@@ -86,15 +86,15 @@ abbrev mach : Answer → Val
 mach r = only (EL.vals O.the-type O′.the-laws r)
 
 -- new arrays
-blank : (size : ℕ) → Blank (replicate 208 0) (replicate 256 0) (replicate 8192 0) (replicate 55296 0) (replicate 2432 0) size
+blank : (size : ℕ) → Blank (replicate STACK 0) (replicate WORK 0) (replicate SUPPORTS 0) (replicate TABLES 0) (replicate NUMBERS 0) size
 blank size = record {
-  stack-length = zeros 208 .sized;
-  work-length = zeros 256 .sized;
-  none-listed = zeros 256 .blank PLANS;
-  supports-blank = zeros 8192;
-  tables-length = zeros 55296 .sized;
-  numbers-blank = zeros 2432;
-  unlisted = λ n. absurd (n (zeros 256 .blank WANTED));
+  stack-length = zeros STACK .sized;
+  work-length = zeros WORK .sized;
+  none-listed = zeros WORK .blank PLANS;
+  supports-blank = zeros SUPPORTS;
+  tables-length = zeros TABLES .sized;
+  numbers-blank = zeros NUMBERS;
+  unlisted = λ n. absurd (n (zeros WORK .blank WANTED));
 }
 
 module _ {M : Type 1} (𝓤 : URA M) (H : Heap 𝓤) (A : Atoms 𝓤) (W : Given 𝓤 H A) (mem : Memory → SProp 𝓤) (run : Routine → Fun 𝓤) where
@@ -181,34 +181,34 @@ module _ {M : Type 1} (𝓤 : URA M) (H : Heap 𝓤) (A : Atoms 𝓤) (W : Given
 
     module _ (l₅ l₆ l₇ l₈ l₉ : ℕ) where
       abbrev A₀ : List ℕ → Fml
-      A₀ x = in-memory (Array u16 208) .lies x l₅ 0
+      A₀ x = in-memory (Array u16 STACK) .lies x l₅ 0
 
       abbrev a₀′ : List ℕ → One 𝓤 H A
-      a₀′ x = loan.local 𝓤 H A W (Array u16 208) l₅ 0 x
+      a₀′ x = loan.local 𝓤 H A W (Array u16 STACK) l₅ 0 x
 
       abbrev A₁ : List ℕ → Fml
-      A₁ x = in-memory (Array u64 256) .lies x l₆ 0
+      A₁ x = in-memory (Array u64 WORK) .lies x l₆ 0
 
       abbrev a₁′ : List ℕ → One 𝓤 H A
-      a₁′ x = loan.local 𝓤 H A W (Array u64 256) l₆ 0 x
+      a₁′ x = loan.local 𝓤 H A W (Array u64 WORK) l₆ 0 x
 
       abbrev A₂ : List ℕ → Fml
-      A₂ x = in-memory (Array u16 8192) .lies x l₇ 0
+      A₂ x = in-memory (Array u16 SUPPORTS) .lies x l₇ 0
 
       abbrev a₂′ : List ℕ → One 𝓤 H A
-      a₂′ x = loan.local 𝓤 H A W (Array u16 8192) l₇ 0 x
+      a₂′ x = loan.local 𝓤 H A W (Array u16 SUPPORTS) l₇ 0 x
 
       abbrev A₃ : List ℕ → Fml
-      A₃ x = in-memory (Array u16 55296) .lies x l₈ 0
+      A₃ x = in-memory (Array u16 TABLES) .lies x l₈ 0
 
       abbrev a₃′ : List ℕ → One 𝓤 H A
-      a₃′ x = loan.local 𝓤 H A W (Array u16 55296) l₈ 0 x
+      a₃′ x = loan.local 𝓤 H A W (Array u16 TABLES) l₈ 0 x
 
       abbrev A₄ : List ℕ → Fml
-      A₄ x = in-memory (Array u64 2432) .lies x l₉ 0
+      A₄ x = in-memory (Array u64 NUMBERS) .lies x l₉ 0
 
       abbrev a₄′ : List ℕ → One 𝓤 H A
-      a₄′ x = loan.local 𝓤 H A W (Array u64 2432) l₉ 0 x
+      a₄′ x = loan.local 𝓤 H A W (Array u64 NUMBERS) l₉ 0 x
 
       abbrev to-explore : List ℕ → List ℕ → List ℕ → List ℕ → List ℕ → (a : ℕ) → a < 2 ^ 32 → (ls : List ℕ) → length ls ≡ n → Tally → Loans 𝓤 H A
       to-explore st wk su tb nu a ga ls e ta = cons (a₀′ st) (cons (a₁′ wk) (cons (a₂′ su) (cons (a₃′ tb) (cons (a₄′ nu) (cons (shared′ κ₀ q₀ s₀) (cons (shared′ κ₁ q₁ s₁) (cons (shared′ κ₂ q₂ s₂) (num-u32 a ga (cons (list′ ls e) (cons (tally′ ta) nil))))))))))
@@ -218,7 +218,7 @@ module _ {M : Type 1} (𝓤 : URA M) (H : Heap 𝓤) (A : Atoms 𝓤) (W : Given
 
       abbrev to-answered : List ℕ → List ℕ → List ℕ → List ℕ → List ℕ → List ℕ → Tally → (t : ℕ) → t < 2 ^ 32 → (r : ℕ) → r < 2 ^ 8 → Loans 𝓤 H A
       to-answered st wk su tb nu ls ta t gt r gr =
-          idle (A₀ st) (cons (loan.view 𝓤 H A W (Array u64 256) l₆ 0 wk) (idle (A₂ su) (idle (A₃ tb) (idle (A₄ nu) (idle F₀ (idle F₁ (idle F₂ (idle (F₃ ls) (idle (F₄ ta) (num-u32 t gt (num-u8 r gr nil)))))))))))
+          idle (A₀ st) (cons (loan.view 𝓤 H A W (Array u64 WORK) l₆ 0 wk) (idle (A₂ su) (idle (A₃ tb) (idle (A₄ nu) (idle F₀ (idle F₁ (idle F₂ (idle (F₃ ls) (idle (F₄ ta) (num-u32 t gt (num-u8 r gr nil)))))))))))
 
     module _ (ls : List ℕ) (e₀ : length ls ≡ n) (ta : Tally) (a : ℕ) (ga : a < 2 ^ 32) where
       abbrev Entry : SProp 𝓤
@@ -248,20 +248,20 @@ module _ {M : Type 1} (𝓤 : URA M) (H : Heap 𝓤) (A : Atoms 𝓤) (W : Given
           pass1 ! (init ! 44 refl (tt, (tt, (record { fits = room₀ .0 }, tt)))) $ pass1 ! (init ! 42 refl (tt, (tt, (record { fits = room₁ .0 }, tt)))) $ pass1 ! (init ! 40 refl (tt, (tt, (record { fits = room₂ .0 }, tt)))) $ pass1 ! (init ! 38 refl (tt, record { fits = ga })) $ pass1 ! (init ! 36 refl (tt, (tt, (record { fits = room .0 }, tt)))) $ pass1 ! (init ! 34 refl (tt, tt)) $ pass0 ! $
           move ! (48 ∷ []) $
           -- the arrays
-          assigns ! (rep ! 208 (lit ! tt)) (from ! (stop !)) (init ! 33 refl (zeros-typed 𝓤 H A W w16 208 (omega arith))) $
-          assigns ! (rep ! 256 (lit ! tt)) (from ! (stop !)) (init ! 31 refl (zeros-typed 𝓤 H A W w64 256 (omega arith))) $
-          assigns ! (rep ! 8192 (lit ! tt)) (from ! (stop !)) (init ! 29 refl (zeros-typed 𝓤 H A W w16 8192 (omega arith))) $
-          assigns ! (rep ! 55296 (lit ! tt)) (from ! (stop !)) (init ! 27 refl (zeros-typed 𝓤 H A W w16 55296 (omega arith))) $
-          assigns ! (rep ! 2432 (lit ! tt)) (from ! (stop !)) (init ! 25 refl (zeros-typed 𝓤 H A W w64 2432 (omega arith))) $
-          move ! (25 ∷ []) $ use1 W (‵ (A₄ l₅ l₆ l₇ l₈ l₉ (replicate 2432 0))) (zeros-in 𝓤 H A W w64 2432 (omega arith) l₉) $
+          assigns ! (rep ! STACK (lit ! tt)) (from ! (stop !)) (init ! 33 refl (zeros-typed 𝓤 H A W w16 STACK (omega arith))) $
+          assigns ! (rep ! 256 (lit ! tt)) (from ! (stop !)) (init ! 31 refl (zeros-typed 𝓤 H A W w64 WORK (omega arith))) $
+          assigns ! (rep ! SUPPORTS (lit ! tt)) (from ! (stop !)) (init ! 29 refl (zeros-typed 𝓤 H A W w16 SUPPORTS (omega arith))) $
+          assigns ! (rep ! TABLES (lit ! tt)) (from ! (stop !)) (init ! 27 refl (zeros-typed 𝓤 H A W w16 TABLES (omega arith))) $
+          assigns ! (rep ! NUMBERS (lit ! tt)) (from ! (stop !)) (init ! 25 refl (zeros-typed 𝓤 H A W w64 NUMBERS (omega arith))) $
+          move ! (25 ∷ []) $ use1 W (‵ (A₄ l₅ l₆ l₇ l₈ l₉ (replicate NUMBERS 0))) (zeros-in 𝓤 H A W w64 NUMBERS (omega arith) l₉) $
           fjoin ! $
-          move ! (26 ∷ []) $ use1 W (‵ (A₃ l₅ l₆ l₇ l₈ l₉ (replicate 55296 0))) (zeros-in 𝓤 H A W w16 55296 (omega arith) l₈) $
+          move ! (26 ∷ []) $ use1 W (‵ (A₃ l₅ l₆ l₇ l₈ l₉ (replicate TABLES 0))) (zeros-in 𝓤 H A W w16 TABLES (omega arith) l₈) $
           fjoin ! $
-          move ! (27 ∷ []) $ use1 W (‵ (A₂ l₅ l₆ l₇ l₈ l₉ (replicate 8192 0))) (zeros-in 𝓤 H A W w16 8192 (omega arith) l₇) $
+          move ! (27 ∷ []) $ use1 W (‵ (A₂ l₅ l₆ l₇ l₈ l₉ (replicate SUPPORTS 0))) (zeros-in 𝓤 H A W w16 SUPPORTS (omega arith) l₇) $
           fjoin ! $
-          move ! (28 ∷ []) $ use1 W (‵ (A₁ l₅ l₆ l₇ l₈ l₉ (replicate 256 0))) (zeros-in 𝓤 H A W w64 256 (omega arith) l₆) $
+          move ! (28 ∷ []) $ use1 W (‵ (A₁ l₅ l₆ l₇ l₈ l₉ (replicate WORK 0))) (zeros-in 𝓤 H A W w64 WORK (omega arith) l₆) $
           fjoin ! $
-          move ! (29 ∷ []) $ use1 W (‵ (A₀ l₅ l₆ l₇ l₈ l₉ (replicate 208 0))) (zeros-in 𝓤 H A W w16 208 (omega arith) l₅) $
+          move ! (29 ∷ []) $ use1 W (‵ (A₀ l₅ l₆ l₇ l₈ l₉ (replicate STACK 0))) (zeros-in 𝓤 H A W w16 STACK (omega arith) l₅) $
           fjoin ! $
           -- explore(&mut stack, .., sheet, pairs, block, limit, list, tally)
           assigns ! (addr ! (from ! (stop !))) (from ! (stop !)) (init ! 21 refl (tt, tt)) $
@@ -272,9 +272,9 @@ module _ {M : Type 1} (𝓤 : URA M) (H : Heap 𝓤) (A : Atoms 𝓤) (W : Given
           assigns ! (addr ! (from ! (fld ! refl (hop ! (look-in ! 32 (sub ! 0 refl (whole !))) (stop !))))) (from ! (stop !)) (init ! 11 refl (tt, tt)) $
           assigns ! (agg ! (and-then ! (load ! (from ! (stop !)) (look ! 11 refl)) (and-then ! (load ! (from ! (fld ! refl (stop !))) (look-in ! 32 (sub ! 1 refl (whole !)))) (no-more !)))) (from ! (stop !)) (init ! 9 refl (tt, (tt, (record { fits = room .0 }, tt)))) $
           assigns ! (addr ! (from ! (hop ! (look ! 30 refl) (stop !)))) (from ! (stop !)) (init ! 7 refl (tt, tt)) $
-          calls-lent ! fm (to-explore l₅ l₆ l₇ l₈ l₉ (replicate 208 0) (replicate 256 0) (replicate 8192 0) (replicate 55296 0) (replicate 2432 0) a ga ls e₀ ta) (vptr l₅ 0 ∷ vptr l₆ 0 ∷ vptr l₇ 0 ∷ vptr l₈ 0 ∷ vptr l₉ 0 ∷ v₀ ∷ v₁ ∷ v₂ ∷ vint w32 a ∷ vl ∷ vptr b o ∷ []) u8 (vint w8) (λ r v is. ap only (is .0))
-          (fact 𝓤 (Blank (replicate 208 0) (replicate 256 0) (replicate 8192 0) (replicate 55296 0) (replicate 2432 0) (length ls))) (asks _ (blank (length ls))) (λ r w. Explored (replicate 256 0) (s₀ .now) (s₁ .now) (s₂ .now) a ls (tallyIn ta) (w .1 .0) (w .1 .1 .1 .1 .1 .1 .1 .1 .1 .0) (tallyIn (w .1 .1 .1 .1 .1 .1 .1 .1 .1 .1 .0)) r)
-          (λ x. known-explore (((x .0 .0 ∷ [], (x .1 .0 .0 ∷ [], (x .1 .1 .0 .0 ∷ [], (x .1 .1 .1 .0 .0 ∷ [], (x .1 .1 .1 .1 .0 .0 ∷ [], (κ₀, (κ₁, (κ₂, (x .1 .1 .1 .1 .1 .1 .1 .1 .0 .0 ∷ [], (x .1 .1 .1 .1 .1 .1 .1 .1 .1 .0 .0 ∷ [], tt)))))))))), (fullShare, (fullShare, (fullShare, (fullShare, (fullShare, (q₀, (q₁, (q₂, (fullShare, (fullShare, tt)))))))))), tt, (to l₅ 0 (x .0 .1) (replicate 208 0), (to l₆ 0 (x .1 .0 .1) (replicate 256 0), (to l₇ 0 (x .1 .1 .0 .1) (replicate 8192 0), (to l₈ 0 (x .1 .1 .1 .0 .1) (replicate 55296 0), (to l₉ 0 (x .1 .1 .1 .1 .0 .1) (replicate 2432 0), (s₀, (s₁, (s₂, (a, (to lb lo (x .1 .1 .1 .1 .1 .1 .1 .1 .0 .1) ls, (to b o (x .1 .1 .1 .1 .1 .1 .1 .1 .1 .0 .1) ta, tt))))))))))), (vptr l₅ 0 ∷ [], (vptr l₆ 0 ∷ [], (vptr l₇ 0 ∷ [], (vptr l₈ 0 ∷ [], (vptr l₉ 0 ∷ [], (v₀ ∷ [], (v₁ ∷ [], (v₂ ∷ [], (vint w32 a ∷ [], (vl ∷ [], (vptr b o ∷ [], tt)))))))))))), tt)) (λ x. (and-then ! (load ! (from ! (stop !)) (look ! 21 refl)) (and-then ! (load ! (from ! (stop !)) (look ! 19 refl)) (and-then ! (load ! (from ! (stop !)) (look ! 17 refl)) (and-then ! (load ! (from ! (stop !)) (look ! 15 refl)) (and-then ! (load ! (from ! (stop !)) (look ! 13 refl)) (and-then ! (load ! (from ! (stop !)) (look ! 40 refl)) (and-then ! (load ! (from ! (stop !)) (look ! 38 refl)) (and-then ! (load ! (from ! (stop !)) (look ! 36 refl)) (and-then ! (load ! (from ! (stop !)) (look ! 34 refl)) (and-then ! (load ! (from ! (stop !)) (look ! 9 refl)) (and-then ! (load ! (from ! (stop !)) (look ! 7 refl)) (no-more !))))))))))))) (λ r₁ w₁ is₁ f₁ said₁.
+          calls-lent ! fm (to-explore l₅ l₆ l₇ l₈ l₉ (replicate STACK 0) (replicate WORK 0) (replicate SUPPORTS 0) (replicate TABLES 0) (replicate NUMBERS 0) a ga ls e₀ ta) (vptr l₅ 0 ∷ vptr l₆ 0 ∷ vptr l₇ 0 ∷ vptr l₈ 0 ∷ vptr l₉ 0 ∷ v₀ ∷ v₁ ∷ v₂ ∷ vint w32 a ∷ vl ∷ vptr b o ∷ []) u8 (vint w8) (λ r v is. ap only (is .0))
+          (fact 𝓤 (Blank (replicate STACK 0) (replicate WORK 0) (replicate SUPPORTS 0) (replicate TABLES 0) (replicate NUMBERS 0) (length ls))) (asks _ (blank (length ls))) (λ r w. Explored (replicate WORK 0) (s₀ .now) (s₁ .now) (s₂ .now) a ls (tallyIn ta) (w .1 .0) (w .1 .1 .1 .1 .1 .1 .1 .1 .1 .0) (tallyIn (w .1 .1 .1 .1 .1 .1 .1 .1 .1 .1 .0)) r)
+          (λ x. known-explore (((x .0 .0 ∷ [], (x .1 .0 .0 ∷ [], (x .1 .1 .0 .0 ∷ [], (x .1 .1 .1 .0 .0 ∷ [], (x .1 .1 .1 .1 .0 .0 ∷ [], (κ₀, (κ₁, (κ₂, (x .1 .1 .1 .1 .1 .1 .1 .1 .0 .0 ∷ [], (x .1 .1 .1 .1 .1 .1 .1 .1 .1 .0 .0 ∷ [], tt)))))))))), (fullShare, (fullShare, (fullShare, (fullShare, (fullShare, (q₀, (q₁, (q₂, (fullShare, (fullShare, tt)))))))))), tt, (to l₅ 0 (x .0 .1) (replicate STACK 0), (to l₆ 0 (x .1 .0 .1) (replicate WORK 0), (to l₇ 0 (x .1 .1 .0 .1) (replicate SUPPORTS 0), (to l₈ 0 (x .1 .1 .1 .0 .1) (replicate TABLES 0), (to l₉ 0 (x .1 .1 .1 .1 .0 .1) (replicate NUMBERS 0), (s₀, (s₁, (s₂, (a, (to lb lo (x .1 .1 .1 .1 .1 .1 .1 .1 .0 .1) ls, (to b o (x .1 .1 .1 .1 .1 .1 .1 .1 .1 .0 .1) ta, tt))))))))))), (vptr l₅ 0 ∷ [], (vptr l₆ 0 ∷ [], (vptr l₇ 0 ∷ [], (vptr l₈ 0 ∷ [], (vptr l₉ 0 ∷ [], (v₀ ∷ [], (v₁ ∷ [], (v₂ ∷ [], (vint w32 a ∷ [], (vl ∷ [], (vptr b o ∷ [], tt)))))))))))), tt)) (λ x. (and-then ! (load ! (from ! (stop !)) (look ! 21 refl)) (and-then ! (load ! (from ! (stop !)) (look ! 19 refl)) (and-then ! (load ! (from ! (stop !)) (look ! 17 refl)) (and-then ! (load ! (from ! (stop !)) (look ! 15 refl)) (and-then ! (load ! (from ! (stop !)) (look ! 13 refl)) (and-then ! (load ! (from ! (stop !)) (look ! 40 refl)) (and-then ! (load ! (from ! (stop !)) (look ! 38 refl)) (and-then ! (load ! (from ! (stop !)) (look ! 36 refl)) (and-then ! (load ! (from ! (stop !)) (look ! 34 refl)) (and-then ! (load ! (from ! (stop !)) (look ! 9 refl)) (and-then ! (load ! (from ! (stop !)) (look ! 7 refl)) (no-more !))))))))))))) (λ r₁ w₁ is₁ f₁ said₁.
           let st₁ : List ℕ = w₁ .0 in let wk₁ : List ℕ = w₁ .1 .0 in let su₁ : List ℕ = w₁ .1 .1 .0 in let tb₁ : List ℕ = w₁ .1 .1 .1 .0 in let nu₁ : List ℕ = w₁ .1 .1 .1 .1 .0 in
           let ls₁ : List ℕ = w₁ .1 .1 .1 .1 .1 .1 .1 .1 .1 .0 in let ta₁ : Tally = w₁ .1 .1 .1 .1 .1 .1 .1 .1 .1 .1 .0 in let l₁′ : length ls₁ ≡ length ls = f₁ .1 .1 .1 .1 .1 .1 .1 .1 .0 in
           land ! (from ! (stop !)) (init ! 23 refl (tt, record { fits = is₁ .1 })) $
@@ -285,19 +285,19 @@ module _ {M : Type 1} (𝓤 : URA M) (H : Heap 𝓤) (A : Atoms 𝓤) (W : Given
           (λ x. known-nodes-made ((((x .0 .0 ∷ [], tt), (fullShare, tt), tt, (to b o (x .0 .1) ta₁, tt), (vptr b o ∷ [], tt))), tt)) (λ x. (and-then ! (load ! (from ! (stop !)) (look ! 1 refl)) (no-more !))) (λ r₂ w₂ is₂ f₂ said₂.
           land ! (from ! (stop !)) (init ! 3 refl (tt, record { fits = is₂ .1 })) $
           calls-lent ! fm (to-answered l₅ l₆ l₇ l₈ l₉ st₁ wk₁ su₁ tb₁ nu₁ ls₁ ta₁ r₂ (is₂ .1) r₁ (is₁ .1)) (vptr l₆ 0 ∷ vint w32 r₂ ∷ vint w8 r₁ ∷ []) O.the-row mach (λ r v is. ap only (EL.tells O.the-type O′.the-laws r _ is))
-          (fact 𝓤 (Stopped wk₁ r₁)) (asks _ (stopped (replicate 256 0) (s₀ .now) (s₁ .now) (s₂ .now) a ls (tallyIn ta) wk₁ ls₁ (tallyIn ta₁) r₁ said₁)) (λ r w. Answered wk₁ r₂ r₁ r)
+          (fact 𝓤 (Stopped wk₁ r₁)) (asks _ (stopped (replicate WORK 0) (s₀ .now) (s₁ .now) (s₂ .now) a ls (tallyIn ta) wk₁ ls₁ (tallyIn ta₁) r₁ said₁)) (λ r w. Answered wk₁ r₂ r₁ r)
           (λ x. known-answered ((((x .0 .0 ∷ [], tt), (fullShare, tt), tt, (to l₆ 0 (x .0 .1) wk₁, (r₂, (r₁, tt))), (vptr l₆ 0 ∷ [], (vint w32 r₂ ∷ [], (vint w8 r₁ ∷ [], tt))))), tt)) (λ x. (and-then ! (load ! (from ! (stop !)) (look ! 5 refl)) (and-then ! (load ! (from ! (stop !)) (look ! 3 refl)) (and-then ! (load ! (from ! (stop !)) (look ! 23 refl)) (no-more !))))) (λ r₃ w₃ is₃ f₃ said₃.
           land ! (from ! (stop !)) (init ! 42 refl (EL.lawful O.the-type O′.the-laws 𝓤 H A W tt .typed r₃ _ is₃ .0)) $
           -- the arrays are freed
-          fsplit ! $ use1 W (some (λ (v : Val). ‵ (fat fullShare (tyArray (tyInt w16) 208) l₅ 0 v))) (array-out 𝓤 H A W w16 208 st₁ l₅) $ pick ! (λ v₀.
-          move ! (1 ∷ []) $ fsplit ! $ use1 W (some (λ (v : Val). ‵ (fat fullShare (tyArray (tyInt w64) 256) l₆ 0 v))) (array-out 𝓤 H A W w64 256 wk₁ l₆) $ pick ! (λ v₁.
-          move ! (1 ∷ []) $ fsplit ! $ use1 W (some (λ (v : Val). ‵ (fat fullShare (tyArray (tyInt w16) 8192) l₇ 0 v))) (array-out 𝓤 H A W w16 8192 su₁ l₇) $ pick ! (λ v₂.
-          move ! (1 ∷ []) $ fsplit ! $ use1 W (some (λ (v : Val). ‵ (fat fullShare (tyArray (tyInt w16) 55296) l₈ 0 v))) (array-out 𝓤 H A W w16 55296 tb₁ l₈) $ pick ! (λ v₃.
-          move ! (1 ∷ []) $ fsplit ! $ use1 W (some (λ (v : Val). ‵ (fat fullShare (tyArray (tyInt w64) 2432) l₉ 0 v))) (array-out 𝓤 H A W w64 2432 nu₁ l₉) $ pick ! (λ v₄.
+          fsplit ! $ use1 W (some (λ (v : Val). ‵ (fat fullShare (tyArray (tyInt w16) STACK) l₅ 0 v))) (array-out 𝓤 H A W w16 STACK st₁ l₅) $ pick ! (λ v₀.
+          move ! (1 ∷ []) $ fsplit ! $ use1 W (some (λ (v : Val). ‵ (fat fullShare (tyArray (tyInt w64) WORK) l₆ 0 v))) (array-out 𝓤 H A W w64 WORK wk₁ l₆) $ pick ! (λ v₁.
+          move ! (1 ∷ []) $ fsplit ! $ use1 W (some (λ (v : Val). ‵ (fat fullShare (tyArray (tyInt w16) SUPPORTS) l₇ 0 v))) (array-out 𝓤 H A W w16 SUPPORTS su₁ l₇) $ pick ! (λ v₂.
+          move ! (1 ∷ []) $ fsplit ! $ use1 W (some (λ (v : Val). ‵ (fat fullShare (tyArray (tyInt w16) TABLES) l₈ 0 v))) (array-out 𝓤 H A W w16 TABLES tb₁ l₈) $ pick ! (λ v₃.
+          move ! (1 ∷ []) $ fsplit ! $ use1 W (some (λ (v : Val). ‵ (fat fullShare (tyArray (tyInt w64) NUMBERS) l₉ 0 v))) (array-out 𝓤 H A W w64 NUMBERS nu₁ l₉) $ pick ! (λ v₄.
           returns ! (look ! 47 refl) $
           forget ! 47 refl $ forget ! 45 refl $ forget ! 43 refl $ forget ! 41 refl $ forget ! 39 refl $ forget ! 37 refl $ forget ! 35 refl $ forget ! 5 refl $ forget ! 4 refl $ forget ! 3 refl $ forget ! 2 refl $ forget ! 0 refl $ forget ! 28 refl $ forget ! 26 refl $ forget ! 24 refl $ forget ! 22 refl $ forget ! 20 refl $ forget ! 18 refl $ forget ! 16 refl $ forget ! 14 refl $ forget ! 12 refl $ forget ! 10 refl $ forget ! 8 refl $ forget ! 6 refl $
           move ! (47 ∷ 48 ∷ []) $ free1 ! $ move ! (45 ∷ 46 ∷ []) $ free1 ! $ move ! (43 ∷ 44 ∷ []) $ free1 ! $ move ! (41 ∷ 42 ∷ []) $ free1 ! $ move ! (39 ∷ 40 ∷ []) $ free1 ! $ move ! (37 ∷ 38 ∷ []) $ free1 ! $ move ! (35 ∷ 36 ∷ []) $ free1 ! $ move ! (5 ∷ 34 ∷ []) $ free1 ! $ move ! (4 ∷ 32 ∷ []) $ free1 ! $ move ! (3 ∷ 30 ∷ []) $ free1 ! $ move ! (2 ∷ 28 ∷ []) $ free1 ! $ move ! (0 ∷ 26 ∷ []) $ free1 ! $ move ! (23 ∷ 24 ∷ []) $ free1 ! $ move ! (21 ∷ 22 ∷ []) $ free1 ! $ move ! (19 ∷ 20 ∷ []) $ free1 ! $ move ! (17 ∷ 18 ∷ []) $ free1 ! $ move ! (15 ∷ 16 ∷ []) $ free1 ! $ move ! (13 ∷ 14 ∷ []) $ free1 ! $ move ! (11 ∷ 12 ∷ []) $ free1 ! $ move ! (9 ∷ 10 ∷ []) $ free1 ! $ move ! (7 ∷ 8 ∷ []) $ free1 ! $ move ! (5 ∷ 6 ∷ []) $ free1 ! $ move ! (3 ∷ 4 ∷ []) $ free1 ! $ move ! (1 ∷ 2 ∷ []) $ free1 ! $ free0 ! $
-          keep ! (0 ∷ []) $ by ! (exits r₃ is₃ ls₁ ta₁ l₁′ (let e = said (replicate 256 0) (s₀ .now) (s₁ .now) (s₂ .now) a ls (tallyIn ta) ls₁ (tallyIn ta₁) r₃ (ran-so (replicate 256 0) (s₀ .now) (s₁ .now) (s₂ .now) a ls (tallyIn ta) wk₁ ls₁ (tallyIn ta₁) r₁ said₁ r₂ said₂ r₃ said₃) (zeros 256 .blank WANTED) in record { answers = e .answer; leaves = e .lists; counts = e .counts }))))))))))))))))))))))))))))))))))
+          keep ! (0 ∷ []) $ by ! (exits r₃ is₃ ls₁ ta₁ l₁′ (let e = said (replicate WORK 0) (s₀ .now) (s₁ .now) (s₂ .now) a ls (tallyIn ta) ls₁ (tallyIn ta₁) r₃ (ran-so (replicate WORK 0) (s₀ .now) (s₁ .now) (s₂ .now) a ls (tallyIn ta) wk₁ ls₁ (tallyIn ta₁) r₁ said₁ r₂ said₂ r₃ said₃) (zeros WORK .blank WANTED) in record { answers = e .answer; leaves = e .lists; counts = e .counts }))))))))))))))))))))))))))))))))))
 
 module _ {M : Type 1} (𝓤 : URA M) (H : Heap 𝓤) (A : Atoms 𝓤) (W : Given 𝓤 H A) (mem : Memory → SProp 𝓤) (run : Routine → Fun 𝓤) where
   run-lent-walks : (C : Calls 𝓤 H) (Λ : Loops 𝓤 H) → FmC 𝓤 H (W .laws) C → Triple 𝓤 (C #explore·explore) (Explore 𝓤 H A W mem run) → Triple 𝓤 (C #walk·nodes-made) (NodesMade 𝓤 H A W mem run) → Triple 𝓤 (C #search·answered) (Answers 𝓤 H A W mem run) → Walks 𝓤 H A run-lent.ended stayed (WpFn 𝓤 H C Λ code.function) (run-lent.clauses 𝓤 H A mem run)

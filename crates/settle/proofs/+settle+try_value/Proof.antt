@@ -43,7 +43,7 @@ use denote.Triple.Cycle.{Stated, Graded, Below, measured, at-on, mutual-elim}
 use Rattle.model.specs.Lists.{at}
 use Rattle.model.specs.ValueSets.{withoutMask, lowestOf}
 use Rattle.model.specs.Problem.{Problem}
-use Rattle.layout.specs.Places.{LIMIT}
+use Rattle.layout.specs.Places.{LIMIT, NUMBERS, STACK, SUPPORTS, TABLES, WORK}
 use Rattle.model.specs.Run as Run
 use Rattle.walk.specs.Pair.{settling, Countable, Counted, AtValues, AtValue, Walked, Entered, tried, lowestTried, SameSlice}
 use Rattle.walk.specs.Meaning.{tallyIn}
@@ -106,10 +106,10 @@ abbrev counts : Slot 8
 counts = plain (λ _. T.the-row)
 
 abbrev settle-stayed : Stays (settle.ended .signature .params) (settle.ended .kept)
-settle-stayed = (stay-ref (0 ∷ []) tt (shorts 208), (stay-ref (1 ∷ []) tt (longs 256), (stay-dropped (shrRefTo (2 ∷ []) tt (shorts 8192)) yes, (stay-dropped (shrRefTo (3 ∷ []) tt (shorts 55296)) yes, (stay-dropped (shrRefTo (4 ∷ []) tt (longs 2432)) yes, (stay-ref (5 ∷ []) tt slice, (stay-ref (7 ∷ []) tt counts, (stay-dropped (plain (λ _. usize)) yes, (stay-dropped (plain (λ _. u16)) yes, tt)))))))))
+settle-stayed = (stay-ref (0 ∷ []) tt (shorts STACK), (stay-ref (1 ∷ []) tt (longs WORK), (stay-dropped (shrRefTo (2 ∷ []) tt (shorts SUPPORTS)) yes, (stay-dropped (shrRefTo (3 ∷ []) tt (shorts TABLES)) yes, (stay-dropped (shrRefTo (4 ∷ []) tt (longs NUMBERS)) yes, (stay-ref (5 ∷ []) tt slice, (stay-ref (7 ∷ []) tt counts, (stay-dropped (plain (λ _. usize)) yes, (stay-dropped (plain (λ _. u16)) yes, tt)))))))))
 
 abbrev try-stayed : Stays (try-value.ended .signature .params) (try-value.ended .kept)
-try-stayed = (stay-ref (0 ∷ []) tt (shorts 208), (stay-ref (1 ∷ []) tt (longs 256), (stay-dropped (shrRefTo (2 ∷ []) tt (shorts 8192)) yes, (stay-dropped (shrRefTo (3 ∷ []) tt (shorts 55296)) yes, (stay-dropped (shrRefTo (4 ∷ []) tt (longs 2432)) yes, (stay-ref (5 ∷ []) tt slice, (stay-ref (7 ∷ []) tt counts, (stay-dropped (plain (λ _. usize)) yes, (stay-dropped (plain (λ _. u16)) yes, tt)))))))))
+try-stayed = (stay-ref (0 ∷ []) tt (shorts STACK), (stay-ref (1 ∷ []) tt (longs WORK), (stay-dropped (shrRefTo (2 ∷ []) tt (shorts SUPPORTS)) yes, (stay-dropped (shrRefTo (3 ∷ []) tt (shorts TABLES)) yes, (stay-dropped (shrRefTo (4 ∷ []) tt (longs NUMBERS)) yes, (stay-ref (5 ∷ []) tt slice, (stay-ref (7 ∷ []) tt counts, (stay-dropped (plain (λ _. usize)) yes, (stay-dropped (plain (λ _. u16)) yes, tt)))))))))
 
 -- types as the MIR writes them in a local
 abbrev ref-ty : Lifetime → Ty
@@ -119,10 +119,10 @@ abbrev list-ty : Lifetime → Lifetime → Ty
 list-ty ℓ ℓ′ = tyRef ℓ mutable (sliceTy (tyRef ℓ′ mutable (tyInt w8)))
 
 abbrev stack-ty : Lifetime → Ty
-stack-ty ℓ = tyRef ℓ mutable (tyArray (tyInt w16) 208)
+stack-ty ℓ = tyRef ℓ mutable (tyArray (tyInt w16) STACK)
 
 abbrev work-ty : Lifetime → Ty
-work-ty ℓ = tyRef ℓ mutable (tyArray (tyInt w64) 256)
+work-ty ℓ = tyRef ℓ mutable (tyArray (tyInt w64) WORK)
 
 module _ {M : Type 1} (𝓤 : URA M) (H : Heap 𝓤) (A : Atoms 𝓤) (W : Given 𝓤 H A) (mem : Memory → SProp 𝓤) (run : Routine → Fun 𝓤) where
   -- the contracts
@@ -243,19 +243,19 @@ module _ {M : Type 1} (𝓤 : URA M) (H : Heap 𝓤) (A : Atoms 𝓤) (W : Given
 
       -- what a walk holds
       abbrev F₀ : List ℕ → Fml
-      F₀ st = fsep (at-ref (Array u16 208) κ₀ b₀ o₀ γ₀ st) (flft κ₀ q₀)
+      F₀ st = fsep (at-ref (Array u16 STACK) κ₀ b₀ o₀ γ₀ st) (flft κ₀ q₀)
 
       abbrev F₁ : List ℕ → Fml
-      F₁ wk = fsep (at-ref (Array u64 256) κ₁ b₁ o₁ γ₁ wk) (flft κ₁ q₁)
+      F₁ wk = fsep (at-ref (Array u64 WORK) κ₁ b₁ o₁ γ₁ wk) (flft κ₁ q₁)
 
       abbrev F₂ : Fml
-      F₂ = fsep (at-shr (Array u16 8192) κ₂ s₂) (flft κ₂ q₂)
+      F₂ = fsep (at-shr (Array u16 SUPPORTS) κ₂ s₂) (flft κ₂ q₂)
 
       abbrev F₃ : Fml
-      F₃ = fsep (at-shr (Array u16 55296) κ₃ s₃) (flft κ₃ q₃)
+      F₃ = fsep (at-shr (Array u16 TABLES) κ₃ s₃) (flft κ₃ q₃)
 
       abbrev F₄ : Fml
-      F₄ = fsep (at-shr (Array u64 2432) κ₄ s₄) (flft κ₄ q₄)
+      F₄ = fsep (at-shr (Array u64 NUMBERS) κ₄ s₄) (flft κ₄ q₄)
 
       -- the reference to the slice with half of the slice's token, and the other half
       abbrev F₅ : Slice → Fml
@@ -272,10 +272,10 @@ module _ {M : Type 1} (𝓤 : URA M) (H : Heap 𝓤) (A : Atoms 𝓤) (W : Given
 
       -- the links of the chains
       abbrev stack′ : List ℕ → One 𝓤 H A
-      stack′ st = loan.mut 𝓤 H A W (Array u16 208) κ₀ q₀ γ₀ b₀ o₀ st
+      stack′ st = loan.mut 𝓤 H A W (Array u16 STACK) κ₀ q₀ γ₀ b₀ o₀ st
 
       abbrev work′ : List ℕ → One 𝓤 H A
-      work′ wk = loan.mut 𝓤 H A W (Array u64 256) κ₁ q₁ γ₁ b₁ o₁ wk
+      work′ wk = loan.mut 𝓤 H A W (Array u64 WORK) κ₁ q₁ γ₁ b₁ o₁ wk
 
       abbrev list′ : Slice → Loans 𝓤 H A → Loans 𝓤 H A
       list′ ls L = cons (thin.sub 𝓤 H A W κ₆ (PosShare·left q₆) the-slice κ₅ q₅ γ₅ b₅ o₅ ls) (thin.token 𝓤 H A W κ₆ (PosShare·right q₆) L)
@@ -290,10 +290,10 @@ module _ {M : Type 1} (𝓤 : URA M) (H : Heap 𝓤) (A : Atoms 𝓤) (W : Given
       read R κ q s = loan.shr 𝓤 H A W (at-shr R κ s) (shr-copy 𝓤 H A W (named 0) κ R .twice s (vptr (s .ptr .0) (s .ptr .1) ∷ [])) κ q
 
       abbrev read₄ : One 𝓤 H A
-      read₄ = read (Array u64 2432) κ₄ q₄ s₄
+      read₄ = read (Array u64 NUMBERS) κ₄ q₄ s₄
 
       abbrev reads : Loans 𝓤 H A → Loans 𝓤 H A
-      reads L = cons (read (Array u16 8192) κ₂ q₂ s₂) (cons (read (Array u16 55296) κ₃ q₃ s₃) (cons read₄ L))
+      reads L = cons (read (Array u16 SUPPORTS) κ₂ q₂ s₂) (cons (read (Array u16 TABLES) κ₃ q₃ s₃) (cons read₄ L))
 
       -- the chain of each callee
       abbrev to-nodes-made : List ℕ → List ℕ → Slice → Tally → Loans 𝓤 H A
@@ -315,7 +315,7 @@ module _ {M : Type 1} (𝓤 : URA M) (H : Heap 𝓤) (A : Atoms 𝓤) (W : Given
       to-enter st wk ls ta k gk m gm = cons (stack′ st) (cons (work′ wk) (reads (list′ ls (idle (F₇ ta) (num-usize k gk (num-u16 m gm nil))))))
 
       abbrev to-candidates : List ℕ → List ℕ → Slice → Tally → (k : ℕ) → k < 2 ^ 64 → Loans 𝓤 H A
-      to-candidates st wk ls ta k gk = cons (loan.look 𝓤 H A W (Array u16 208) κ₀ q₀ γ₀ b₀ o₀ st) (idle (F₁ wk) (idle F₂ (idle F₃ (idle F₄ (no-list ls (idle (F₇ ta) (num-usize k gk nil)))))))
+      to-candidates st wk ls ta k gk = cons (loan.look 𝓤 H A W (Array u16 STACK) κ₀ q₀ γ₀ b₀ o₀ st) (idle (F₁ wk) (idle F₂ (idle F₃ (idle F₄ (no-list ls (idle (F₇ ta) (num-usize k gk nil)))))))
 
       abbrev to-pair : List ℕ → List ℕ → Slice → Tally → (k : ℕ) → k < 2 ^ 64 → (m : ℕ) → m < 2 ^ 16 → Loans 𝓤 H A
       to-pair st wk ls ta k gk m gm = cons (stack′ st) (cons (work′ wk) (reads (list′ ls (cons (tally′ ta) (num-usize k gk (num-u16 m gm nil))))))
@@ -326,7 +326,7 @@ module _ {M : Type 1} (𝓤 : URA M) (H : Heap 𝓤) (A : Atoms 𝓤) (W : Given
 
         comes-in : ent 𝓤 Entry (sem 𝓤 H A (Held st wk ls ta))
         comes-in =
-            qed W ((‵ (flft κ₀ q₀) ⊛ ‵ (flft κ₁ q₁) ⊛ ‵ (flft κ₂ q₂) ⊛ ‵ (flft κ₃ q₃) ⊛ ‵ (flft κ₄ q₄) ⊛ ‵ (flft κ₅ q₅) ⊛ ‵ (flft κ₆ q₆) ⊛ ‵ (flft κ₇ q₇) ⊛ ‵ ftrue) ∷ ‵ (owns (MutRef (named 0) κ₀ (Array u16 208) ∷ MutRef (named 1) κ₁ (Array u64 256) ∷ ShrRef (named 2) κ₂ (Array u16 8192) ∷ ShrRef (named 3) κ₃ (Array u16 55296) ∷ ShrRef (named 4) κ₄ (Array u64 2432) ∷ MutRef (named 5) κ₅ the-slice ∷ MutRef (named 7) κ₇ T.the-row ∷ usize ∷ u16 ∷ []) (to b₀ o₀ γ₀ st, (to b₁ o₁ γ₁ wk, (s₂, (s₃, (s₄, (to b₅ o₅ γ₅ ls, (to b₇ o₇ γ₇ ta, (k, (m, tt))))))))) (vptr b₀ o₀ ∷ [], (vptr b₁ o₁ ∷ [], (v₂ ∷ [], (v₃ ∷ [], (v₄ ∷ [], (vptr b₅ o₅ ∷ [], (vptr b₇ o₇ ∷ [], (vint w64 k ∷ [], (vint w16 m ∷ [], tt)))))))))) ∷ []) ∵
+            qed W ((‵ (flft κ₀ q₀) ⊛ ‵ (flft κ₁ q₁) ⊛ ‵ (flft κ₂ q₂) ⊛ ‵ (flft κ₃ q₃) ⊛ ‵ (flft κ₄ q₄) ⊛ ‵ (flft κ₅ q₅) ⊛ ‵ (flft κ₆ q₆) ⊛ ‵ (flft κ₇ q₇) ⊛ ‵ ftrue) ∷ ‵ (owns (MutRef (named 0) κ₀ (Array u16 STACK) ∷ MutRef (named 1) κ₁ (Array u64 WORK) ∷ ShrRef (named 2) κ₂ (Array u16 SUPPORTS) ∷ ShrRef (named 3) κ₃ (Array u16 TABLES) ∷ ShrRef (named 4) κ₄ (Array u64 NUMBERS) ∷ MutRef (named 5) κ₅ the-slice ∷ MutRef (named 7) κ₇ T.the-row ∷ usize ∷ u16 ∷ []) (to b₀ o₀ γ₀ st, (to b₁ o₁ γ₁ wk, (s₂, (s₃, (s₄, (to b₅ o₅ γ₅ ls, (to b₇ o₇ γ₇ ta, (k, (m, tt))))))))) (vptr b₀ o₀ ∷ [], (vptr b₁ o₁ ∷ [], (v₂ ∷ [], (v₃ ∷ [], (v₄ ∷ [], (vptr b₅ o₅ ∷ [], (vptr b₇ o₇ ∷ [], (vint w64 k ∷ [], (vint w16 m ∷ [], tt)))))))))) ∷ []) ∵
             split ! $ move ! (1 ∷ []) $ split ! $ move ! (1 ∷ []) $ split ! $ move ! (1 ∷ []) $ split ! $ move ! (1 ∷ []) $ split ! $ move ! (1 ∷ []) $ split ! $ move ! (1 ∷ []) $ split ! $ move ! (1 ∷ []) $ split ! $ move ! (9 ∷ []) $ fsplit ! $ move ! (1 ∷ []) $ fsplit ! $ move ! (1 ∷ []) $ fsplit ! $ move ! (1 ∷ []) $ fsplit ! $ move ! (1 ∷ []) $ fsplit ! $ move ! (1 ∷ []) $ fsplit ! $ move ! (1 ∷ []) $ fsplit ! $ move ! (1 ∷ []) $ fsplit ! $ move ! (1 ∷ []) $ fsplit ! $
             keep ! (11 ∷ 9 ∷ 18 ∷ 8 ∷ 17 ∷ 7 ∷ 16 ∷ 6 ∷ 15 ∷ 5 ∷ 14 ∷ 4 ∷ 13 ∷ 12 ∷ 3 ∷ 10 ∷ []) $ move ! (14 ∷ 15 ∷ []) $ fjoin ! $ fjoin ! $
             -- [the tally; the stack; its token; …; the list; its token; the slice's token]
@@ -353,10 +353,10 @@ module _ {M : Type 1} (𝓤 : URA M) (H : Heap 𝓤) (A : Atoms 𝓤) (W : Given
             owned ! u8 (Is u8) (uint-makes 𝓤 H A W w8) r _ (refl, gr) $ keep ! (1 ∷ 0 ∷ []) $ done !
 
         abbrev SEn : (l₀ l₁ l₂ l₃ l₄ l₅ l₆ l₇ l₈ l₉ m₀ m₁ m₂ m₃ m₄ m₅ m₆ m₇ m₈ m₉ n₀ n₁ n₂ n₃ : ℕ) → Env 𝓤 H
-        SEn l₀ l₁ l₂ l₃ l₄ l₅ l₆ l₇ l₈ l₉ m₀ m₁ m₂ m₃ m₄ m₅ m₆ m₇ m₈ m₉ n₀ n₁ n₂ n₃ = (tyInt w8, l₀) ∷ (stack-ty (named 0), l₁) ∷ (work-ty (named 1), l₂) ∷ (tyRef (named 2) imm (tyArray (tyInt w16) 8192), l₃) ∷ (tyRef (named 3) imm (tyArray (tyInt w16) 55296), l₄) ∷ (tyRef (named 4) imm (tyArray (tyInt w64) 2432), l₅) ∷ (list-ty (named 5) (named 6), l₆) ∷ (ref-ty (named 7), l₇) ∷ (tyInt w64, l₈) ∷ (tyInt w16, l₉) ∷ (tyInt w8, m₀) ∷ (tyBool, m₁) ∷ (tyInt w32, m₂) ∷ (tyRef erased imm (pointee (T.the-row .written)), m₃) ∷ (tyInt w32, m₄) ∷ (stack-ty erased, m₅) ∷ (work-ty erased, m₆) ∷ (list-ty erased erased, m₇) ∷ (ref-ty erased, m₈) ∷ (stack-ty erased, m₉) ∷ (work-ty erased, n₀) ∷ (list-ty erased erased, n₁) ∷ (ref-ty erased, n₂) ∷ (tyInt w16, n₃) ∷ []
+        SEn l₀ l₁ l₂ l₃ l₄ l₅ l₆ l₇ l₈ l₉ m₀ m₁ m₂ m₃ m₄ m₅ m₆ m₇ m₈ m₉ n₀ n₁ n₂ n₃ = (tyInt w8, l₀) ∷ (stack-ty (named 0), l₁) ∷ (work-ty (named 1), l₂) ∷ (tyRef (named 2) imm (tyArray (tyInt w16) SUPPORTS), l₃) ∷ (tyRef (named 3) imm (tyArray (tyInt w16) TABLES), l₄) ∷ (tyRef (named 4) imm (tyArray (tyInt w64) NUMBERS), l₅) ∷ (list-ty (named 5) (named 6), l₆) ∷ (ref-ty (named 7), l₇) ∷ (tyInt w64, l₈) ∷ (tyInt w16, l₉) ∷ (tyInt w8, m₀) ∷ (tyBool, m₁) ∷ (tyInt w32, m₂) ∷ (tyRef erased imm (pointee (T.the-row .written)), m₃) ∷ (tyInt w32, m₄) ∷ (stack-ty erased, m₅) ∷ (work-ty erased, m₆) ∷ (list-ty erased erased, m₇) ∷ (ref-ty erased, m₈) ∷ (stack-ty erased, m₉) ∷ (work-ty erased, n₀) ∷ (list-ty erased erased, n₁) ∷ (ref-ty erased, n₂) ∷ (tyInt w16, n₃) ∷ []
 
         abbrev TEn : (l₀ l₁ l₂ l₃ l₄ l₅ l₆ l₇ l₈ l₉ x₀ m₀ m₁ m₂ m₃ m₄ m₅ m₆ m₇ m₈ m₉ n₀ n₁ n₂ n₃ : ℕ) → Env 𝓤 H
-        TEn l₀ l₁ l₂ l₃ l₄ l₅ l₆ l₇ l₈ l₉ x₀ m₀ m₁ m₂ m₃ m₄ m₅ m₆ m₇ m₈ m₉ n₀ n₁ n₂ n₃ = (tyInt w8, l₀) ∷ (stack-ty (named 0), l₁) ∷ (work-ty (named 1), l₂) ∷ (tyRef (named 2) imm (tyArray (tyInt w16) 8192), l₃) ∷ (tyRef (named 3) imm (tyArray (tyInt w16) 55296), l₄) ∷ (tyRef (named 4) imm (tyArray (tyInt w64) 2432), l₅) ∷ (list-ty (named 5) (named 6), l₆) ∷ (ref-ty (named 7), l₇) ∷ (tyInt w64, l₈) ∷ (tyInt w16, l₉) ∷ (tyInt w64, x₀) ∷ (tyInt w8, m₀) ∷ (tyInt w16, m₁) ∷ (tyUnit, m₂) ∷ (ref-ty erased, m₃) ∷ (stack-ty erased, m₄) ∷ (work-ty erased, m₅) ∷ (list-ty erased erased, m₆) ∷ (tyBool, m₇) ∷ (tyRef erased imm (tyArray (tyInt w16) 208), m₈) ∷ (tyInt w64, m₉) ∷ (stack-ty erased, n₀) ∷ (work-ty erased, n₁) ∷ (list-ty erased erased, n₂) ∷ (ref-ty erased, n₃) ∷ []
+        TEn l₀ l₁ l₂ l₃ l₄ l₅ l₆ l₇ l₈ l₉ x₀ m₀ m₁ m₂ m₃ m₄ m₅ m₆ m₇ m₈ m₉ n₀ n₁ n₂ n₃ = (tyInt w8, l₀) ∷ (stack-ty (named 0), l₁) ∷ (work-ty (named 1), l₂) ∷ (tyRef (named 2) imm (tyArray (tyInt w16) SUPPORTS), l₃) ∷ (tyRef (named 3) imm (tyArray (tyInt w16) TABLES), l₄) ∷ (tyRef (named 4) imm (tyArray (tyInt w64) NUMBERS), l₅) ∷ (list-ty (named 5) (named 6), l₆) ∷ (ref-ty (named 7), l₇) ∷ (tyInt w64, l₈) ∷ (tyInt w16, l₉) ∷ (tyInt w64, x₀) ∷ (tyInt w8, m₀) ∷ (tyInt w16, m₁) ∷ (tyUnit, m₂) ∷ (ref-ty erased, m₃) ∷ (stack-ty erased, m₄) ∷ (work-ty erased, m₅) ∷ (list-ty erased erased, m₆) ∷ (tyBool, m₇) ∷ (tyRef erased imm (tyArray (tyInt w16) STACK), m₈) ∷ (tyInt w64, m₉) ∷ (stack-ty erased, n₀) ∷ (work-ty erased, n₁) ∷ (list-ty erased erased, n₂) ∷ (ref-ty erased, n₃) ∷ []
 
         settle-walk : ((p : Problem) × Given-to p st wk ls ta k m) → SettleBelow (μ-settle k m) → TryBelow (μ-settle k m) → ent 𝓤 Entry (WpFn 𝓤 H C Λ code.settle-function (all-vals k m) SPost)
         settle-walk ok below below′ =
@@ -499,17 +499,17 @@ module _ {M : Type 1} (𝓤 : URA M) (H : Heap 𝓤) (A : Atoms 𝓤) (W : Given
   try-grade f = measured 𝓤 H A (try-stated f) (λ y. μ-try (y .0 .3 .1 .1 .1 .1 .1 .1 .1 .0) (y .0 .3 .1 .1 .1 .1 .1 .1 .1 .1 .0))
 
   go-settle : AllGo 𝓤 H A W 8 (settle.signature .params) (settle.ended .kept) settle-stayed
-  go-settle = (goes-ref 𝓤 H A W 8 0 tt (shorts 208), (goes-ref 𝓤 H A W 8 1 tt (longs 256), (goes-dropped 𝓤 H A W 8 (shrRefTo (2 ∷ []) tt (shorts 8192)) yes (λ κs x f. refl), (goes-dropped 𝓤 H A W 8 (shrRefTo (3 ∷ []) tt (shorts 55296)) yes (λ κs x f. refl), (goes-dropped 𝓤 H A W 8 (shrRefTo (4 ∷ []) tt (longs 2432)) yes (λ κs x f. refl), (goes-ref 𝓤 H A W 8 5 tt slice, (goes-ref 𝓤 H A W 8 7 tt counts, (goes-dropped 𝓤 H A W 8 (plain (λ _. usize)) yes (λ κs x f. refl), (goes-dropped 𝓤 H A W 8 (plain (λ _. u16)) yes (λ κs x f. refl), tt)))))))))
+  go-settle = (goes-ref 𝓤 H A W 8 0 tt (shorts STACK), (goes-ref 𝓤 H A W 8 1 tt (longs WORK), (goes-dropped 𝓤 H A W 8 (shrRefTo (2 ∷ []) tt (shorts SUPPORTS)) yes (λ κs x f. refl), (goes-dropped 𝓤 H A W 8 (shrRefTo (3 ∷ []) tt (shorts TABLES)) yes (λ κs x f. refl), (goes-dropped 𝓤 H A W 8 (shrRefTo (4 ∷ []) tt (longs NUMBERS)) yes (λ κs x f. refl), (goes-ref 𝓤 H A W 8 5 tt slice, (goes-ref 𝓤 H A W 8 7 tt counts, (goes-dropped 𝓤 H A W 8 (plain (λ _. usize)) yes (λ κs x f. refl), (goes-dropped 𝓤 H A W 8 (plain (λ _. u16)) yes (λ κs x f. refl), tt)))))))))
 
   go-try : AllGo 𝓤 H A W 8 (try-value.signature .params) (try-value.ended .kept) try-stayed
-  go-try = (goes-ref 𝓤 H A W 8 0 tt (shorts 208), (goes-ref 𝓤 H A W 8 1 tt (longs 256), (goes-dropped 𝓤 H A W 8 (shrRefTo (2 ∷ []) tt (shorts 8192)) yes (λ κs x f. refl), (goes-dropped 𝓤 H A W 8 (shrRefTo (3 ∷ []) tt (shorts 55296)) yes (λ κs x f. refl), (goes-dropped 𝓤 H A W 8 (shrRefTo (4 ∷ []) tt (longs 2432)) yes (λ κs x f. refl), (goes-ref 𝓤 H A W 8 5 tt slice, (goes-ref 𝓤 H A W 8 7 tt counts, (goes-dropped 𝓤 H A W 8 (plain (λ _. usize)) yes (λ κs x f. refl), (goes-dropped 𝓤 H A W 8 (plain (λ _. u16)) yes (λ κs x f. refl), tt)))))))))
+  go-try = (goes-ref 𝓤 H A W 8 0 tt (shorts STACK), (goes-ref 𝓤 H A W 8 1 tt (longs WORK), (goes-dropped 𝓤 H A W 8 (shrRefTo (2 ∷ []) tt (shorts SUPPORTS)) yes (λ κs x f. refl), (goes-dropped 𝓤 H A W 8 (shrRefTo (3 ∷ []) tt (shorts TABLES)) yes (λ κs x f. refl), (goes-dropped 𝓤 H A W 8 (shrRefTo (4 ∷ []) tt (longs NUMBERS)) yes (λ κs x f. refl), (goes-ref 𝓤 H A W 8 5 tt slice, (goes-ref 𝓤 H A W 8 7 tt counts, (goes-dropped 𝓤 H A W 8 (plain (λ _. usize)) yes (λ κs x f. refl), (goes-dropped 𝓤 H A W 8 (plain (λ _. u16)) yes (λ κs x f. refl), tt)))))))))
 
   settle-method : Knows → Closed 𝓤 H (𝓣 .C) (𝓣 .Λ) #settle·settle code.settle-function → (t : ℕ) → Below 𝓤 H A (settle-grade (𝓣 .C #settle·settle)) (λ j. j < t) → Below 𝓤 H A (try-grade (𝓣 .C #settle·try-value)) (λ j. j < t) → settle-grade (𝓣 .C #settle·settle) .At t
   settle-method knows closed t below below′ =
       at-on 𝓤 H A settle.signature (settle.spec 𝓤 H A mem run) (WpFn 𝓤 H (𝓣 .C) (𝓣 .Λ) code.settle-function) (𝓣 .C #settle·settle) closed (λ y. μ-settle (y .0 .3 .1 .1 .1 .1 .1 .1 .1 .0) (y .0 .3 .1 .1 .1 .1 .1 .1 .1 .1 .0)) t (λ y e.
       walk-meets-at 𝓤 H A settle.ended settle-stayed W go-settle (settle.clauses 𝓤 H A mem run) (WpFn 𝓤 H (𝓣 .C) (𝓣 .Λ) code.settle-function) (WpFn-mono 𝓤 H (W .laws) 𝓣 code.settle-function) y
       (walked-at 𝓤 H A settle.ended settle-stayed (settle.clauses 𝓤 H A mem run) (WpFn 𝓤 H (𝓣 .C) (𝓣 .Λ) code.settle-function) y (ptr-vals, (ptr-vals, (ptr-vals, (ptr-vals, (ptr-vals, (ptr-vals, (ptr-vals, (uint-vals w64, (uint-vals w16, tt)))))))))
-      (mut-tells (named 0) (y .0 .0 .0) (Array u16 208), (mut-tells (named 1) (y .0 .0 .1 .0) (Array u64 256), (shr-tells (named 2) (y .0 .0 .1 .1 .0) (Array u16 8192), (shr-tells (named 3) (y .0 .0 .1 .1 .1 .0) (Array u16 55296), (shr-tells (named 4) (y .0 .0 .1 .1 .1 .1 .0) (Array u64 2432), (mut-tells (named 5) (y .0 .0 .1 .1 .1 .1 .1 .0) (MutSlice (named 6) (y .0 .0 .1 .1 .1 .1 .1 .1 .0) u8), (mut-tells (named 7) (y .0 .0 .1 .1 .1 .1 .1 .1 .1 .0) T.the-row, (uint-tells w64, (uint-tells w16, tt)))))))))
+      (mut-tells (named 0) (y .0 .0 .0) (Array u16 STACK), (mut-tells (named 1) (y .0 .0 .1 .0) (Array u64 WORK), (shr-tells (named 2) (y .0 .0 .1 .1 .0) (Array u16 SUPPORTS), (shr-tells (named 3) (y .0 .0 .1 .1 .1 .0) (Array u16 TABLES), (shr-tells (named 4) (y .0 .0 .1 .1 .1 .1 .0) (Array u64 NUMBERS), (mut-tells (named 5) (y .0 .0 .1 .1 .1 .1 .1 .0) (MutSlice (named 6) (y .0 .0 .1 .1 .1 .1 .1 .1 .0) u8), (mut-tells (named 7) (y .0 .0 .1 .1 .1 .1 .1 .1 .1 .0) T.the-row, (uint-tells w64, (uint-tells w16, tt)))))))))
       (λ are. needs 𝓤 ((p : Problem) × AtValues p (y .0 .3 .0 .now) (y .0 .3 .1 .0 .now) (y .0 .3 .1 .1 .0 .now) (y .0 .3 .1 .1 .1 .0 .now) (y .0 .3 .1 .1 .1 .1 .0 .now) (y .0 .3 .1 .1 .1 .1 .1 .0 .now .now) (tallyIn (y .0 .3 .1 .1 .1 .1 .1 .1 .0 .now)) (y .0 .3 .1 .1 .1 .1 .1 .1 .1 .0) (y .0 .3 .1 .1 .1 .1 .1 .1 .1 .1 .0)) _ (λ ok.
       settle-walk 𝓤 H A W mem run (y .0 .0 .1 .1 .0) (y .0 .0 .1 .1 .1 .0) (y .0 .0 .1 .1 .1 .1 .0) (y .0 .0 .1 .1 .1 .1 .1 .1 .0) (y .0 .1 .1 .1 .0) (y .0 .1 .1 .1 .1 .0) (y .0 .1 .1 .1 .1 .1 .0) (y .0 .3 .1 .1 .0) (y .0 .3 .1 .1 .1 .0) (y .0 .3 .1 .1 .1 .1 .0) (y .0 .3 .0 .ptr .0) (y .0 .3 .0 .ptr .1) (y .0 .3 .1 .0 .ptr .0) (y .0 .3 .1 .0 .ptr .1) (y .0 .3 .1 .1 .1 .1 .1 .0 .ptr .0) (y .0 .3 .1 .1 .1 .1 .1 .0 .ptr .1) (y .0 .3 .1 .1 .1 .1 .1 .1 .0 .ptr .0) (y .0 .3 .1 .1 .1 .1 .1 .1 .0 .ptr .1)
       (𝓣 .C) (𝓣 .Λ) (fmOf 𝓤 H (W .laws) 𝓣) (knows .0) (knows .1) (knows .2) (knows .3) (knows .4) (knows .5) (knows .6) (y .0 .0 .0) (y .0 .0 .1 .0) (y .0 .0 .1 .1 .1 .1 .1 .0) (y .0 .0 .1 .1 .1 .1 .1 .1 .1 .0) (y .0 .2 .0) (y .0 .1 .0) (y .0 .1 .1 .0) (y .0 .1 .1 .1 .1 .1 .1 .0) (y .0 .1 .1 .1 .1 .1 .1 .1 .0) (y .0 .1 .1 .1 .1 .1 .1 .1 .1 .0) (y .0 .3 .0 .name) (y .0 .3 .1 .0 .name) (y .0 .3 .1 .1 .1 .1 .1 .0 .name) (y .0 .3 .1 .1 .1 .1 .1 .1 .0 .name)
@@ -520,7 +520,7 @@ module _ {M : Type 1} (𝓤 : URA M) (H : Heap 𝓤) (A : Atoms 𝓤) (W : Given
       at-on 𝓤 H A try-value.signature (try-value.spec 𝓤 H A mem run) (WpFn 𝓤 H (𝓣 .C) (𝓣 .Λ) code.try-value-function) (𝓣 .C #settle·try-value) closed (λ y. μ-try (y .0 .3 .1 .1 .1 .1 .1 .1 .1 .0) (y .0 .3 .1 .1 .1 .1 .1 .1 .1 .1 .0)) t (λ y e.
       walk-meets-at 𝓤 H A try-value.ended try-stayed W go-try (try-value.clauses 𝓤 H A mem run) (WpFn 𝓤 H (𝓣 .C) (𝓣 .Λ) code.try-value-function) (WpFn-mono 𝓤 H (W .laws) 𝓣 code.try-value-function) y
       (walked-at 𝓤 H A try-value.ended try-stayed (try-value.clauses 𝓤 H A mem run) (WpFn 𝓤 H (𝓣 .C) (𝓣 .Λ) code.try-value-function) y (ptr-vals, (ptr-vals, (ptr-vals, (ptr-vals, (ptr-vals, (ptr-vals, (ptr-vals, (uint-vals w64, (uint-vals w16, tt)))))))))
-      (mut-tells (named 0) (y .0 .0 .0) (Array u16 208), (mut-tells (named 1) (y .0 .0 .1 .0) (Array u64 256), (shr-tells (named 2) (y .0 .0 .1 .1 .0) (Array u16 8192), (shr-tells (named 3) (y .0 .0 .1 .1 .1 .0) (Array u16 55296), (shr-tells (named 4) (y .0 .0 .1 .1 .1 .1 .0) (Array u64 2432), (mut-tells (named 5) (y .0 .0 .1 .1 .1 .1 .1 .0) (MutSlice (named 6) (y .0 .0 .1 .1 .1 .1 .1 .1 .0) u8), (mut-tells (named 7) (y .0 .0 .1 .1 .1 .1 .1 .1 .1 .0) T.the-row, (uint-tells w64, (uint-tells w16, tt)))))))))
+      (mut-tells (named 0) (y .0 .0 .0) (Array u16 STACK), (mut-tells (named 1) (y .0 .0 .1 .0) (Array u64 WORK), (shr-tells (named 2) (y .0 .0 .1 .1 .0) (Array u16 SUPPORTS), (shr-tells (named 3) (y .0 .0 .1 .1 .1 .0) (Array u16 TABLES), (shr-tells (named 4) (y .0 .0 .1 .1 .1 .1 .0) (Array u64 NUMBERS), (mut-tells (named 5) (y .0 .0 .1 .1 .1 .1 .1 .0) (MutSlice (named 6) (y .0 .0 .1 .1 .1 .1 .1 .1 .0) u8), (mut-tells (named 7) (y .0 .0 .1 .1 .1 .1 .1 .1 .1 .0) T.the-row, (uint-tells w64, (uint-tells w16, tt)))))))))
       (λ are. needs 𝓤 ((p : Problem) × AtValue p (y .0 .3 .0 .now) (y .0 .3 .1 .0 .now) (y .0 .3 .1 .1 .0 .now) (y .0 .3 .1 .1 .1 .0 .now) (y .0 .3 .1 .1 .1 .1 .0 .now) (y .0 .3 .1 .1 .1 .1 .1 .0 .now .now) (tallyIn (y .0 .3 .1 .1 .1 .1 .1 .1 .0 .now)) (y .0 .3 .1 .1 .1 .1 .1 .1 .1 .0) (y .0 .3 .1 .1 .1 .1 .1 .1 .1 .1 .0)) _ (λ ok.
       try-walk 𝓤 H A W mem run (y .0 .0 .1 .1 .0) (y .0 .0 .1 .1 .1 .0) (y .0 .0 .1 .1 .1 .1 .0) (y .0 .0 .1 .1 .1 .1 .1 .1 .0) (y .0 .1 .1 .1 .0) (y .0 .1 .1 .1 .1 .0) (y .0 .1 .1 .1 .1 .1 .0) (y .0 .3 .1 .1 .0) (y .0 .3 .1 .1 .1 .0) (y .0 .3 .1 .1 .1 .1 .0) (y .0 .3 .0 .ptr .0) (y .0 .3 .0 .ptr .1) (y .0 .3 .1 .0 .ptr .0) (y .0 .3 .1 .0 .ptr .1) (y .0 .3 .1 .1 .1 .1 .1 .0 .ptr .0) (y .0 .3 .1 .1 .1 .1 .1 .0 .ptr .1) (y .0 .3 .1 .1 .1 .1 .1 .1 .0 .ptr .0) (y .0 .3 .1 .1 .1 .1 .1 .1 .0 .ptr .1)
       (𝓣 .C) (𝓣 .Λ) (fmOf 𝓤 H (W .laws) 𝓣) (knows .0) (knows .1) (knows .2) (knows .3) (knows .4) (knows .5) (knows .6) (y .0 .0 .0) (y .0 .0 .1 .0) (y .0 .0 .1 .1 .1 .1 .1 .0) (y .0 .0 .1 .1 .1 .1 .1 .1 .1 .0) (y .0 .2 .0) (y .0 .1 .0) (y .0 .1 .1 .0) (y .0 .1 .1 .1 .1 .1 .1 .0) (y .0 .1 .1 .1 .1 .1 .1 .1 .0) (y .0 .1 .1 .1 .1 .1 .1 .1 .1 .0) (y .0 .3 .0 .name) (y .0 .3 .1 .0 .name) (y .0 .3 .1 .1 .1 .1 .1 .0 .name) (y .0 .3 .1 .1 .1 .1 .1 .1 .0 .name)

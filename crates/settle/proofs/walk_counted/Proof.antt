@@ -41,6 +41,7 @@ use denote.Struct.Steps.{spelt}
 use denote.Struct.Laws as SL
 use Rattle.model.specs.Problem.{Problem}
 use Rattle.model.specs.Run as Run
+use Rattle.layout.specs.Places.{NUMBERS, STACK, SUPPORTS, TABLES, WORK}
 use Rattle.walk.specs.Pair.{AtValues, Walked, SameSlice, tried}
 use Rattle.walk.specs.Meaning.{tallyIn}
 use Rattle.walk.specs.declared.Tally.{Tally}
@@ -72,7 +73,7 @@ abbrev bytes : Slot 6
 bytes = plain (λ _. u8)
 
 abbrev stayed : Stays (walk-counted.ended .signature .params) (walk-counted.ended .kept)
-stayed = (stay-ref (0 ∷ []) tt (shorts 208), (stay-ref (1 ∷ []) tt (longs 256), (stay-dropped (shrRefTo (2 ∷ []) tt (shorts 8192)) yes, (stay-dropped (shrRefTo (3 ∷ []) tt (shorts 55296)) yes, (stay-dropped (shrRefTo (4 ∷ []) tt (longs 2432)) yes, (stay-slice (5 ∷ []) tt bytes, (stay-dropped (plain (λ _. T.the-row)) yes, (stay-dropped (plain (λ _. usize)) yes, (stay-dropped (plain (λ _. u16)) yes, tt)))))))))
+stayed = (stay-ref (0 ∷ []) tt (shorts STACK), (stay-ref (1 ∷ []) tt (longs WORK), (stay-dropped (shrRefTo (2 ∷ []) tt (shorts SUPPORTS)) yes, (stay-dropped (shrRefTo (3 ∷ []) tt (shorts TABLES)) yes, (stay-dropped (shrRefTo (4 ∷ []) tt (longs NUMBERS)) yes, (stay-slice (5 ∷ []) tt bytes, (stay-dropped (plain (λ _. T.the-row)) yes, (stay-dropped (plain (λ _. usize)) yes, (stay-dropped (plain (λ _. u16)) yes, tt)))))))))
 
 -- the machine values of a tally and of a part
 abbrev tally-val : Tally → Val
@@ -134,19 +135,19 @@ module _ {M : Type 1} (𝓤 : URA M) (H : Heap 𝓤) (A : Atoms 𝓤) (W : Given
 
     -- what the walk holds
     abbrev F₀ : List ℕ → Fml
-    F₀ x = fsep (at-ref (Array u16 208) κ₀ b₀ o₀ γ₀ x) (flft κ₀ q₀)
+    F₀ x = fsep (at-ref (Array u16 STACK) κ₀ b₀ o₀ γ₀ x) (flft κ₀ q₀)
 
     abbrev F₁ : List ℕ → Fml
-    F₁ x = fsep (at-ref (Array u64 256) κ₁ b₁ o₁ γ₁ x) (flft κ₁ q₁)
+    F₁ x = fsep (at-ref (Array u64 WORK) κ₁ b₁ o₁ γ₁ x) (flft κ₁ q₁)
 
     abbrev F₂ : Fml
-    F₂ = fsep (at-shr (Array u16 8192) κ₂ s₂) (flft κ₂ q₂)
+    F₂ = fsep (at-shr (Array u16 SUPPORTS) κ₂ s₂) (flft κ₂ q₂)
 
     abbrev F₃ : Fml
-    F₃ = fsep (at-shr (Array u16 55296) κ₃ s₃) (flft κ₃ q₃)
+    F₃ = fsep (at-shr (Array u16 TABLES) κ₃ s₃) (flft κ₃ q₃)
 
     abbrev F₄ : Fml
-    F₄ = fsep (at-shr (Array u64 2432) κ₄ s₄) (flft κ₄ q₄)
+    F₄ = fsep (at-shr (Array u64 NUMBERS) κ₄ s₄) (flft κ₄ q₄)
 
     abbrev F₅ : List ℕ → Fml
     F₅ x = fsep (at-sl u8 κ₅ lb lo n γ₅ x) (flft κ₅ q₅)
@@ -160,8 +161,8 @@ module _ {M : Type 1} (𝓤 : URA M) (H : Heap 𝓤) (A : Atoms 𝓤) (W : Given
     -- the chain of each callee
     abbrev to-settle : List ℕ → List ℕ → List ℕ → ℕ → ℕ → Tally → (k : ℕ) → k < 2 ^ 64 → (m : ℕ) → m < 2 ^ 16 → Loans 𝓤 H A
     to-settle st wk ls s₀ l ta k gk m gm =
-        cons (loan.mut 𝓤 H A W (Array u16 208) κ₀ q₀ γ₀ b₀ o₀ st) (cons (loan.mut 𝓤 H A W (Array u64 256) κ₁ q₁ γ₁ b₁ o₁ wk)
-        (cons (read (Array u16 8192) κ₂ q₂ s₂) (cons (read (Array u16 55296) κ₃ q₃ s₃) (cons (read (Array u64 2432) κ₄ q₄ s₄)
+        cons (loan.mut 𝓤 H A W (Array u16 STACK) κ₀ q₀ γ₀ b₀ o₀ st) (cons (loan.mut 𝓤 H A W (Array u64 WORK) κ₁ q₁ γ₁ b₁ o₁ wk)
+        (cons (read (Array u16 SUPPORTS) κ₂ q₂ s₂) (cons (read (Array u16 TABLES) κ₃ q₃ s₃) (cons (read (Array u64 NUMBERS) κ₄ q₄ s₄)
         (thin-link 𝓤 H A W κ₅ q₅ s₀ (to lb lo γ₅ ls) (cons (loan.local 𝓤 H A W T.the-row l 0 ta) (num-usize k gk (num-u16 m gm nil))))))))
 
     module _ (st wk ls : List ℕ) (e₀ : length ls ≡ n) (ta : Tally) (is₀ : Is T.the-row ta (tally-val ta ∷ [])) (k : ℕ) (gk : k < 2 ^ 64) (m : ℕ) (gm : m < 2 ^ 16) where
@@ -170,7 +171,7 @@ module _ {M : Type 1} (𝓤 : URA M) (H : Heap 𝓤) (A : Atoms 𝓤) (W : Given
 
       comes-in : ent 𝓤 Entry (sem 𝓤 H A (Held st wk ls))
       comes-in =
-          qed W ((‵ (flft κ₀ q₀) ⊛ ‵ (flft κ₁ q₁) ⊛ ‵ (flft κ₂ q₂) ⊛ ‵ (flft κ₃ q₃) ⊛ ‵ (flft κ₄ q₄) ⊛ ‵ (flft κ₅ q₅) ⊛ ‵ ftrue) ∷ ‵ (owns (MutRef (named 0) κ₀ (Array u16 208) ∷ MutRef (named 1) κ₁ (Array u64 256) ∷ ShrRef (named 2) κ₂ (Array u16 8192) ∷ ShrRef (named 3) κ₃ (Array u16 55296) ∷ ShrRef (named 4) κ₄ (Array u64 2432) ∷ MutSlice (named 5) κ₅ u8 ∷ T.the-row ∷ usize ∷ u16 ∷ []) (to b₀ o₀ γ₀ st, (to b₁ o₁ γ₁ wk, (s₂, (s₃, (s₄, (to lb lo γ₅ ls, (ta, (k, (m, tt))))))))) (vptr b₀ o₀ ∷ [], (vptr b₁ o₁ ∷ [], (v₂ ∷ [], (v₃ ∷ [], (v₄ ∷ [], (vl ∷ [], (tally-val ta ∷ [], (vint w64 k ∷ [], (vint w16 m ∷ [], tt)))))))))) ∷ []) ∵
+          qed W ((‵ (flft κ₀ q₀) ⊛ ‵ (flft κ₁ q₁) ⊛ ‵ (flft κ₂ q₂) ⊛ ‵ (flft κ₃ q₃) ⊛ ‵ (flft κ₄ q₄) ⊛ ‵ (flft κ₅ q₅) ⊛ ‵ ftrue) ∷ ‵ (owns (MutRef (named 0) κ₀ (Array u16 STACK) ∷ MutRef (named 1) κ₁ (Array u64 WORK) ∷ ShrRef (named 2) κ₂ (Array u16 SUPPORTS) ∷ ShrRef (named 3) κ₃ (Array u16 TABLES) ∷ ShrRef (named 4) κ₄ (Array u64 NUMBERS) ∷ MutSlice (named 5) κ₅ u8 ∷ T.the-row ∷ usize ∷ u16 ∷ []) (to b₀ o₀ γ₀ st, (to b₁ o₁ γ₁ wk, (s₂, (s₃, (s₄, (to lb lo γ₅ ls, (ta, (k, (m, tt))))))))) (vptr b₀ o₀ ∷ [], (vptr b₁ o₁ ∷ [], (v₂ ∷ [], (v₃ ∷ [], (v₄ ∷ [], (vl ∷ [], (tally-val ta ∷ [], (vint w64 k ∷ [], (vint w16 m ∷ [], tt)))))))))) ∷ []) ∵
           split ! $ move ! (1 ∷ []) $ split ! $ move ! (1 ∷ []) $ split ! $ move ! (1 ∷ []) $ split ! $ move ! (1 ∷ []) $ split ! $ move ! (1 ∷ []) $ split ! $ move ! (7 ∷ []) $ fsplit ! $ move ! (1 ∷ []) $ fsplit ! $ move ! (1 ∷ []) $ fsplit ! $ move ! (1 ∷ []) $ fsplit ! $ move ! (1 ∷ []) $ fsplit ! $ move ! (1 ∷ []) $ fsplit ! $ move ! (1 ∷ []) $ fsplit ! $ move ! (1 ∷ []) $ fsplit ! $ move ! (1 ∷ []) $ fsplit ! $ keep ! (11 ∷ 9 ∷ 16 ∷ 8 ∷ 15 ∷ 7 ∷ 14 ∷ 6 ∷ 13 ∷ 5 ∷ 12 ∷ 4 ∷ 10 ∷ []) $ move ! (11 ∷ 12 ∷ []) $ fjoin ! $ fjoin ! $ move ! (9 ∷ 10 ∷ []) $ fjoin ! $ fjoin ! $ move ! (7 ∷ 8 ∷ []) $ fjoin ! $ fjoin ! $ move ! (5 ∷ 6 ∷ []) $ fjoin ! $ fjoin ! $ move ! (3 ∷ 4 ∷ []) $ fjoin ! $ fjoin ! $ move ! (1 ∷ 2 ∷ []) $ fjoin ! $ fjoin ! $ done !
 
       abbrev at-walk : walkOf 𝓤 H A walk-counted.ended stayed (walk-counted.clauses 𝓤 H A mem run) .Ghost
@@ -237,7 +238,7 @@ module _ {M : Type 1} (𝓤 : URA M) (H : Heap 𝓤) (A : Atoms 𝓤) (W : Given
   walk-counted-walks : (C : Calls 𝓤 H) (Λ : Loops 𝓤 H) → FmC 𝓤 H (W .laws) C → Triple 𝓤 (C #settle·settle) (Settle 𝓤 H A W mem run) → Walks 𝓤 H A walk-counted.ended stayed (WpFn 𝓤 H C Λ code.function) (walk-counted.clauses 𝓤 H A mem run)
   walk-counted-walks C Λ fm z =
       walked 𝓤 H A walk-counted.ended stayed (walk-counted.clauses 𝓤 H A mem run) (WpFn 𝓤 H C Λ code.function) (λ κs. (ptr-vals, (ptr-vals, (ptr-vals, (ptr-vals, (ptr-vals, (slice-vals, (SL.vals T.the-type T′.the-laws, (uint-vals w64, (uint-vals w16, tt))))))))))
-      (λ κs. (mut-tells (named 0) (κs .0) (Array u16 208), (mut-tells (named 1) (κs .1 .0) (Array u64 256), (shr-tells (named 2) (κs .1 .1 .0) (Array u16 8192), (shr-tells (named 3) (κs .1 .1 .1 .0) (Array u16 55296), (shr-tells (named 4) (κs .1 .1 .1 .1 .0) (Array u64 2432), (mut-slice-tells (named 5) (κs .1 .1 .1 .1 .1 .0) u8, (SL.tells T.the-type T′.the-laws, (uint-tells w64, (uint-tells w16, tt))))))))))
+      (λ κs. (mut-tells (named 0) (κs .0) (Array u16 STACK), (mut-tells (named 1) (κs .1 .0) (Array u64 WORK), (shr-tells (named 2) (κs .1 .1 .0) (Array u16 SUPPORTS), (shr-tells (named 3) (κs .1 .1 .1 .0) (Array u16 TABLES), (shr-tells (named 4) (κs .1 .1 .1 .1 .0) (Array u64 NUMBERS), (mut-slice-tells (named 5) (κs .1 .1 .1 .1 .1 .0) u8, (SL.tells T.the-type T′.the-laws, (uint-tells w64, (uint-tells w16, tt))))))))))
       (λ κs qs bounds a _ are. needs 𝓤 ((p : Problem) × AtValues p (a .0 .now) (a .1 .0 .now) (a .1 .1 .0 .now) (a .1 .1 .1 .0 .now) (a .1 .1 .1 .1 .0 .now) (a .1 .1 .1 .1 .1 .0 .now) (tallyIn (a .1 .1 .1 .1 .1 .1 .0)) (a .1 .1 .1 .1 .1 .1 .1 .0) (a .1 .1 .1 .1 .1 .1 .1 .1 .0)) _
       (walk 𝓤 H A W mem run (κs .0) (κs .1 .0) (κs .1 .1 .0) (κs .1 .1 .1 .0) (κs .1 .1 .1 .1 .0) (κs .1 .1 .1 .1 .1 .0) (qs .0) (qs .1 .0) (qs .1 .1 .0) (qs .1 .1 .1 .0) (qs .1 .1 .1 .1 .0) (qs .1 .1 .1 .1 .1 .0) (a .1 .1 .0) (a .1 .1 .1 .0) (a .1 .1 .1 .1 .0) (a .0 .ptr .0) (a .0 .ptr .1) (a .1 .0 .ptr .0) (a .1 .0 .ptr .1) (a .1 .1 .1 .1 .1 .0 .ptr .0) (a .1 .1 .1 .1 .1 .0 .ptr .1) (length (a .1 .1 .1 .1 .1 .0 .now))
       (a .0 .name) (a .1 .0 .name) (a .1 .1 .1 .1 .1 .0 .name) (are .1 .1 .1 .1 .1 .0 .0 .1) C Λ fm z
@@ -245,7 +246,7 @@ module _ {M : Type 1} (𝓤 : URA M) (H : Heap 𝓤) (A : Atoms 𝓤) (W : Given
 
   walk-counted-meets : (𝓣 : Tables 𝓤 H) → Triple 𝓤 (𝓣 .C #settle·settle) (Settle 𝓤 H A W mem run) → Meets 𝓤 H A walk-counted.signature (WpFn 𝓤 H (𝓣 .C) (𝓣 .Λ) code.function) (walk-counted.spec 𝓤 H A mem run)
   walk-counted-meets 𝓣 z =
-      walk-meets 𝓤 H A walk-counted.ended stayed W (goes-ref 𝓤 H A W 6 0 tt (shorts 208), (goes-ref 𝓤 H A W 6 1 tt (longs 256), (goes-dropped 𝓤 H A W 6 (shrRefTo (2 ∷ []) tt (shorts 8192)) yes (λ κs x f. refl), (goes-dropped 𝓤 H A W 6 (shrRefTo (3 ∷ []) tt (shorts 55296)) yes (λ κs x f. refl), (goes-dropped 𝓤 H A W 6 (shrRefTo (4 ∷ []) tt (longs 2432)) yes (λ κs x f. refl), (goes-slice 𝓤 H A W 6 5 tt bytes, (goes-dropped 𝓤 H A W 6 (plain (λ _. T.the-row)) yes (λ κs x f. refl), (goes-dropped 𝓤 H A W 6 (plain (λ _. usize)) yes (λ κs x f. refl), (goes-dropped 𝓤 H A W 6 (plain (λ _. u16)) yes (λ κs x f. refl), tt))))))))) (walk-counted.clauses 𝓤 H A mem run)
+      walk-meets 𝓤 H A walk-counted.ended stayed W (goes-ref 𝓤 H A W 6 0 tt (shorts STACK), (goes-ref 𝓤 H A W 6 1 tt (longs WORK), (goes-dropped 𝓤 H A W 6 (shrRefTo (2 ∷ []) tt (shorts SUPPORTS)) yes (λ κs x f. refl), (goes-dropped 𝓤 H A W 6 (shrRefTo (3 ∷ []) tt (shorts TABLES)) yes (λ κs x f. refl), (goes-dropped 𝓤 H A W 6 (shrRefTo (4 ∷ []) tt (longs NUMBERS)) yes (λ κs x f. refl), (goes-slice 𝓤 H A W 6 5 tt bytes, (goes-dropped 𝓤 H A W 6 (plain (λ _. T.the-row)) yes (λ κs x f. refl), (goes-dropped 𝓤 H A W 6 (plain (λ _. usize)) yes (λ κs x f. refl), (goes-dropped 𝓤 H A W 6 (plain (λ _. u16)) yes (λ κs x f. refl), tt))))))))) (walk-counted.clauses 𝓤 H A mem run)
       (WpFn 𝓤 H (𝓣 .C) (𝓣 .Λ) code.function) (WpFn-mono 𝓤 H (W .laws) 𝓣 code.function) (walk-counted-walks (𝓣 .C) (𝓣 .Λ) (fmOf 𝓤 H (W .laws) 𝓣) z)
 
 pub walk-counted-spec : {M : Type 1} → stated.statement M

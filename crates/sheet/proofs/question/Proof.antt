@@ -7,10 +7,11 @@ use Rattle.sheet.proofs.question.Lts as lts
 use Rattle.sheet.proofs.form.ask.Reads as form-ask-reads
 use Rattle.reader.proofs.read_header.Reads as read-header-reads
 use Rattle.sheet.proofs.tables.ask.Reads as tables-ask-reads
+use Rattle.layout.specs.Places.{NUMBERS, SUPPORTS}
 
 -- src/lib.rt:28:9
 ask-requires : tie.Need-ask-requires
-ask-requires c κs = (zeros 2432, zeros 8192)
+ask-requires c κs = (zeros NUMBERS, zeros SUPPORTS)
 
 enum-told : tie.Need-enum-told
 enum-told c = search needs

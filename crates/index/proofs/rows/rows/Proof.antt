@@ -6,14 +6,14 @@ use lib.ListN.{length}
 use borrow.Author.Needs.{needs}
 use Rattle.model.specs.Problem.{Problem}
 use Rattle.model.specs.Lists.{at}
-use Rattle.layout.specs.Places.{CONSTRAINTS}
+use Rattle.layout.specs.Places.{CONSTRAINTS, TABLES}
 use Rattle.index.specs.Steps.{RowsSource, RowsTo}
 use Rattle.index.proofs.RowTables.{rows-begin, rows-end}
 use Rattle.index.proofs.rows.rows.Statement.{statement}
 use Rattle.index.proofs.rows.rows.Tie as tie
 
 abbrev Inv-loop : tie.InvT-loop
-Inv-loop numbers supports tables₀ c k₀ tables k = (k ≤ c) × (c ≡ at numbers CONSTRAINTS) × (length tables ≡ 55296) × ((p : Problem) → RowsSource p numbers supports → RowsTo p k tables)
+Inv-loop numbers supports tables₀ c k₀ tables k = (k ≤ c) × (c ≡ at numbers CONSTRAINTS) × (length tables ≡ TABLES) × ((p : Problem) → RowsSource p numbers supports → RowsTo p k tables)
 
 abbrev μ-loop : tie.MeasureT-loop
 μ-loop numbers supports tables₀ c k₀ tables k = c - k

@@ -2,6 +2,7 @@
 use Prim.Native.Nat.{ℕ}
 use lib.ListN.{length-replicate}
 use Rattle.model.specs.Lists.{at}
+use Rattle.layout.specs.Places.{NUMBERS, STACK, SUPPORTS, TABLES}
 use Rattle.sheet.proofs.Whole.{zeros}
 use Rattle.serve.proofs.Going.{going, gone}
 use borrow.Author.Needs.{needs}
@@ -71,11 +72,11 @@ part-prepare-again-end c = search needs
 prepare-again-requires : tie.Need-prepare-again-requires
 prepare-again-requires c κs =
     record {
-      stack-length = length-replicate {A = ℕ} 208 0;
+      stack-length = length-replicate {A = ℕ} STACK 0;
       work-length = c .before .before .before .before .before .before .before .before .before .before .before .put-progress .ensures .work-length;
-      supports-blank = zeros 8192;
-      tables-length = length-replicate {A = ℕ} 55296 0;
-      numbers-blank = zeros 2432;
+      supports-blank = zeros SUPPORTS;
+      tables-length = length-replicate {A = ℕ} TABLES 0;
+      numbers-blank = zeros NUMBERS;
     }
 
 add-list : tie.Need-add-list

@@ -6,19 +6,19 @@ use borrow.Author.Tests.{not-true, not-false}
 use Rattle.model.specs.ValueSets.{fullMask}
 use Rattle.model.specs.Sheet.{headerOf}
 use Rattle.model.proofs.Filling.{filled-begin}
-use Rattle.sheet.specs.Parts.{entries}
 use Rattle.sheet.proofs.SetsTurn.{PassedTo, InitialTo, passed-none, passed-more, passed-not, passed-all, set-test, set-stored, sets-refused, sets-accepted, sets-whole}
 use Rattle.sheet.proofs.sets.ask.Statement.{statement}
 use Rattle.sheet.proofs.sets.ask.Tie as tie
 use Rattle.sheet.proofs.sets.ask.Reads as reads
 use Rattle.sheet.proofs.sets.ask.Lts as lts
 use Rattle.model.proofs.ValueSet.full.Reads as full-reads
+use Rattle.layout.specs.Places.{NUMBERS}
 use Rattle.reader.proofs.read_word.Reads as read-word-reads
 use Rattle.sheet.proofs.sets.fill.Reads as fill-reads
 use Rattle.sheet.proofs.sets.is_set.Reads as is-set-reads
 
 abbrev Inv-loop : tie.InvT-loop
-Inv-loop sheet n d numbers₀ full x₀ numbers x = (x ≤ n) × (full .bits ≡ fullMask d) × (length numbers₀ ≡ entries) × PassedTo sheet (headerOf sheet) n x × InitialTo sheet x numbers₀ numbers
+Inv-loop sheet n d numbers₀ full x₀ numbers x = (x ≤ n) × (full .bits ≡ fullMask d) × (length numbers₀ ≡ NUMBERS) × PassedTo sheet (headerOf sheet) n x × InitialTo sheet x numbers₀ numbers
 
 abbrev μ-loop : tie.MeasureT-loop
 μ-loop sheet n d numbers₀ full x₀ numbers x = n - x

@@ -4,16 +4,16 @@ use native.Mathlib.Omega.{arith}
 use lib.ListN.{length}
 use Rattle.model.specs.ValueSets.{maskBelow}
 use Rattle.model.proofs.Filling.{filled-begin}
-use Rattle.sheet.specs.Parts.{entries}
 use Rattle.sheet.proofs.SetsTurn.{ZeroTo, set-stored, zero-sets}
 use Rattle.sheet.proofs.sets.fill.Statement.{statement}
 use Rattle.sheet.proofs.sets.fill.Tie as tie
 use Rattle.sheet.proofs.sets.fill.Reads as reads
 use Rattle.sheet.proofs.sets.fill.Lts as lts
 use Rattle.model.proofs.ValueSet.full.Reads as full-reads
+use Rattle.layout.specs.Places.{NUMBERS}
 
 abbrev Inv-loop : tie.InvT-loop
-Inv-loop numbers₀ first x₀ numbers x = (x ≤ 16) × (first .bits ≡ 1) × (length numbers₀ ≡ entries) × ZeroTo x numbers₀ numbers
+Inv-loop numbers₀ first x₀ numbers x = (x ≤ 16) × (first .bits ≡ 1) × (length numbers₀ ≡ NUMBERS) × ZeroTo x numbers₀ numbers
 
 abbrev μ-loop : tie.MeasureT-loop
 μ-loop numbers₀ first x₀ numbers x = 16 - x

@@ -9,6 +9,7 @@ use lib.ListN.{length}
 use Rattle.model.specs.Lists.{at}
 use Rattle.model.specs.Problem.{Problem}
 use Rattle.layout.specs.Layout.{constraintAt}
+use Rattle.layout.specs.Places.{SUPPORTS}
 use Rattle.symmetry.specs.Forbidden.{MaybePair, Walking, Across}
 use Rattle.symmetry.proofs.Codes.{variable-lt}
 use Rattle.symmetry.proofs.Across.{across-of, carried-key, carried-image, carried-variable, carried-all}
@@ -74,7 +75,7 @@ across c p vs codes z w s =
     across-of p _ _ (s .lent .ready) _ _ _ (image (c .before .before .before .before .before) p vs codes z w s) (goes-1 (c .before .before .before .before .before)) (goes-2 (c .before .before .before .before .before)) _ _
     (ap₂ bitAnd (ap₂ bitAnd (c .before .before .before .before .number .ensures) (c .before .before .before .number2 .ensures)) (c .before .before .number3 .ensures)) (c .pick .ensures)
 
-row : (c : tie.After-pick) → 256 * c .before .before .before .before .before .before .before .before .before .before .before .before .args .k + 16 * c .before .before .before .before .before .before .before .before .before .before .before .before .args .key + 15 < 8192
+row : (c : tie.After-pick) → 256 * c .before .before .before .before .before .before .before .before .before .before .before .before .args .k + 16 * c .before .before .before .before .before .before .before .before .before .before .before .before .args .key + 15 < SUPPORTS
 row c = let h = c .before .before .before .before .before .before .before .before .before .before .before .before .pre in carried-key (h .0) (h .1) _ _ (h .2) _ _ _ _ _ _ _ (h .5) (c .before .before .before .before .before .before .before .before .before .before .before .if1 .left) (three (c .before .before .before .before .before .before .before .before .before) (h .0) (h .1) (h .2) (h .3) (h .4) (h .5))
 
 -- src/carried.rt:89:31

@@ -19,6 +19,7 @@ use Rattle.model.proofs.ValueSet.common.Reads as common-reads
 use Rattle.model.proofs.ValueSet.is_empty.Reads as is-empty-reads
 use Rattle.model.proofs.ValueSet.lowest.Reads as lowest-reads
 use Rattle.model.proofs.ValueSet.without_lowest.Reads as without-lowest-reads
+use Rattle.layout.specs.Places.{SUPPORTS}
 use Rattle.symmetry.proofs.carried.all_from.Reads as all-from-reads
 use Rattle.symmetry.proofs.forbidden.complement.Reads as complement-reads
 use Rattle.symmetry.proofs.forbidden.support.Reads as support-reads
@@ -93,7 +94,7 @@ common-requires c κs = tt
 place-requires : tie.Need-place-requires Inv-loop μ-loop
 place-requires c κs = spot (c .before .before .before)
 
-row : (c : tie.After-place Inv-loop μ-loop) → c .before .before .before .before .before .before .before .before .before .before .before .args .from + c .place .result < 8192
+row : (c : tie.After-place Inv-loop μ-loop) → c .before .before .before .before .before .before .before .before .before .before .before .args .from + c .place .result < SUPPORTS
 row c = let h = c .before .before .before .before .before .before .before .before .before .before .before .pre in omega (arith, h .1, c .place .ensures .0, h .2 (16 * c .before .before .before .before .before .before .before .before .before .before .before .args .y + c .before .before .before .before .before .lowest .result))
 
 -- src/carried.rt:62:56

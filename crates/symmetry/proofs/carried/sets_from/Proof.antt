@@ -21,6 +21,7 @@ use Rattle.model.proofs.ValueSet.common.Reads as common-reads
 use Rattle.model.proofs.ValueSet.is_empty.Reads as is-empty-reads
 use Rattle.model.proofs.ValueSet.lowest.Reads as lowest-reads
 use Rattle.model.proofs.ValueSet.without_lowest.Reads as without-lowest-reads
+use Rattle.layout.specs.Places.{SUPPORTS}
 use Rattle.symmetry.proofs.carried.all_from.Reads as all-from-reads
 use Rattle.symmetry.proofs.forbidden.support.Reads as support-reads
 use Rattle.symmetry.proofs.moves.place.Reads as place-reads
@@ -58,13 +59,13 @@ some c = some-left _ _ (c .before .is-empty .ensures) (c .if1 .taken)
 low : (c : tie.After-lowest Inv-loop μ-loop) → c .lowest .result < 16
 low c = let h = c .before .before .before .before .before .before .pre .0 in swept-small _ _ (c .before .before .before .loop .inv (h .0) (h .1) (h .2) (h .3)) (some (c .before)) _ (c .lowest .ensures)
 
-set-spot : (c : tie.After-without-lowest Inv-loop μ-loop) → c .before .before .before .before .before .before .before .args .base + c .before .before .before .before .before .before .before .args .step * c .before .lowest .result < 8192
+set-spot : (c : tie.After-without-lowest Inv-loop μ-loop) → c .before .before .before .before .before .before .before .args .base + c .before .before .before .before .before .before .before .args .step * c .before .lowest .result < SUPPORTS
 set-spot c = lacking-place _ _ _ (c .before .before .before .before .before .before .before .pre .2) (low (c .before))
 
 spot : (c : tie.After-common Inv-loop μ-loop) → 16 * c .before .before .before .before .before .before .before .before .before .args .y + c .before .before .before .lowest .result < 256
 spot c = let h = c .before .before .before .before .before .before .before .before .before .pre .0 in omega (arith, h .2, h .1 .stated .few, low (c .before .before .before))
 
-row : (c : tie.After-place Inv-loop μ-loop) → c .before .before .before .before .before .before .before .before .before .before .args .from + c .place .result < 8192
+row : (c : tie.After-place Inv-loop μ-loop) → c .before .before .before .before .before .before .before .before .before .before .args .from + c .place .result < SUPPORTS
 row c = let h = c .before .before .before .before .before .before .before .before .before .before .pre in omega (arith, h .1, c .place .ensures .0, h .3 (16 * c .before .before .before .before .before .before .before .before .before .before .args .y + c .before .before .before .before .lowest .result))
 
 -- src/carried.rt:87:17

@@ -6,6 +6,7 @@ use denote.Ref.{now}
 use lib.ListN.{length}
 use Rattle.model.specs.Problem.{Problem}
 use Rattle.layout.specs.Layout.{constraintAt}
+use Rattle.layout.specs.Places.{SUPPORTS}
 use Rattle.symmetry.specs.Table.{Ready}
 use Rattle.symmetry.specs.Forbidden.{LookedUp}
 use Rattle.symmetry.proofs.Codes.{good}
@@ -45,7 +46,7 @@ small c = let h = c .before .before .before .pre in looked-lt _ _ _ _ _ _ (c .be
 over : (c : tie.After-loop Inv-loop μ-loop) (p : Problem) → Ready p (now (c .before .before .before .args .numbers)) (now (c .before .before .before .args .supports)) → c .before .before .before .args .k < length (p .constraints) → length (constraintAt p (c .before .before .before .args .k) .scope) ≤ c .before .loop .i
 over c p r h = omega (arith, c .before .before .arity .ensures p (r .framed) h, c .loop-test .left)
 
-place : (c : tie.After-loop Inv-loop μ-loop) → 256 * c .before .before .before .args .k + c .before .loop .key / 16 < 8192
+place : (c : tie.After-loop Inv-loop μ-loop) → 256 * c .before .before .before .args .k + c .before .loop .key / 16 < SUPPORTS
 place c = let h = c .before .before .before .pre in looked-place (h .0) _ _ (h .1) _ (h .2) _ _ _ _ _ (c .before .loop .inv (h .0) (h .1) (h .2)) (over c (h .0) (h .1) (h .2))
 
 -- src/forbidden.rt:104:35

@@ -17,6 +17,7 @@ use Rattle.model.proofs.ValueSet.contains.Reads as contains-reads
 use Rattle.model.proofs.ValueSet.full.Reads as full-reads
 use Rattle.model.proofs.ValueSet.only.Reads as only-reads
 use Rattle.model.proofs.ValueSet.union.Reads as union-reads
+use Rattle.layout.specs.Places.{SUPPORTS}
 use Rattle.symmetry.proofs.forbidden.support.Reads as support-reads
 
 abbrev Inv-loop : tie.InvT-loop
@@ -29,7 +30,7 @@ abbrev μ-loop : tie.MeasureT-loop
 loop-holds : tie.Need-loop-holds Inv-loop μ-loop
 loop-holds c = (omega arith, omega arith, lacking-none _ _ _ _)
 
-place : (c : tie.In-loop Inv-loop μ-loop) → c .before .before .args .base + c .before .before .args .step * c .before .loop .v < 8192
+place : (c : tie.In-loop Inv-loop μ-loop) → c .before .before .args .base + c .before .before .args .step * c .before .loop .v < SUPPORTS
 place c = lacking-place _ _ _ (c .before .before .pre .0) (c .loop-test .taken)
 
 -- src/sure.rt:23:38

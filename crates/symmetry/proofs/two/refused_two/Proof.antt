@@ -19,6 +19,7 @@ use Rattle.symmetry.proofs.two.refused_two.Tie as tie
 use Rattle.symmetry.proofs.two.refused_two.Reads as reads
 use Rattle.symmetry.proofs.two.refused_two.Lts as lts
 use Rattle.model.proofs.ValueSet.contains.Reads as contains-reads
+use Rattle.layout.specs.Places.{SUPPORTS}
 use Rattle.symmetry.proofs.forbidden.arity.Reads as arity-reads
 use Rattle.symmetry.proofs.forbidden.support.Reads as support-reads
 use Rattle.symmetry.proofs.table.number.Reads as number-reads
@@ -53,7 +54,7 @@ arity-requires c κs = let h = c .before .before .before .pre .0 in (h .0, h .1 
 returns-2 : tie.Need-returns-2
 returns-2 c = λ q. absurd (subst T (sym q) tt)
 
-row : (c : tie.Else2) → 256 * trailingZeros 64 (bitAnd (c .before .before .before .before .number .result) (c .before .before .before .number2 .result)) + c .before .before .before .before .before .args .a % 16 < 8192
+row : (c : tie.Else2) → 256 * trailingZeros 64 (bitAnd (c .before .before .before .before .number .result) (c .before .before .before .number2 .result)) + c .before .before .before .before .before .args .a % 16 < SUPPORTS
 row c = let h = c .before .before .before .before .before .pre .0 in couple-row (h .0) _ _ _ _ (h .1) _ (found (c .before .before .before)) (c .before .before .if1 .left)
 
 -- src/two.rt:31:24

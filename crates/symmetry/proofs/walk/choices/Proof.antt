@@ -11,6 +11,7 @@ use Rattle.symmetry.proofs.walk.choices.Tie as tie
 use Rattle.symmetry.proofs.walk.choices.Reads as reads
 use Rattle.symmetry.proofs.walk.choices.Lts as lts
 use Rattle.model.proofs.ValueSet.common.Reads as common-reads
+use Rattle.layout.specs.Places.{SUPPORTS}
 use Rattle.symmetry.proofs.forbidden.complement.Reads as complement-reads
 use Rattle.symmetry.proofs.forbidden.support.Reads as support-reads
 use Rattle.symmetry.proofs.table.initial.Reads as initial-reads
@@ -19,7 +20,7 @@ use Rattle.symmetry.proofs.table.initial.Reads as initial-reads
 initial-requires : tie.Need-initial-requires
 initial-requires c κs = let h = c .pre in (h .0, h .2 .framed, next-in (h .0) (h .1) [] _ _ _ _ _ _ (h .2) (h .3) (h .4) (h .5))
 
-place : (c : tie.Then1) → 256 * c .before .before .args .k + c .before .before .args .key < 8192
+place : (c : tie.Then1) → 256 * c .before .before .args .k + c .before .before .args .key < SUPPORTS
 place c = let h = c .before .before .pre in row-small (h .0) (h .1) [] _ _ _ _ _ _ (h .2) (h .3) (h .4) (h .5)
 
 -- src/walk.rt:48:49
