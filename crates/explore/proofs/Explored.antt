@@ -17,10 +17,10 @@ use Rattle.model.specs.Run as Run
 use Rattle.model.specs.Sheet.{problemOf}
 use Rattle.lent.specs.Lent.{verdictLent, orderLent, problemLent}
 use Rattle.lent.proofs.Lent.{passed-all, well-sheet, ordering-lent}
-use Rattle.layout.specs.Places.{LIMIT, ROOM, PLANS, LAST, ALL, DEEPER, REFUSED}
+use Rattle.layout.specs.Places.{LIMIT, ROOM, PLANS, LAST, ALL, DEEPER, REFUSED, WANTED}
 use Rattle.walk.specs.Walk.{noNodes, State, walk, stopIn}
 use Rattle.walk.specs.Pair.{prefixOf, orderIn, Cleared, stateOf, ListRoom, AtPrefix, AtValues, Walked, tried}
-use Rattle.task.specs.Task.{WANTED, roomFor}
+use Rattle.task.specs.Task.{roomFor}
 use Rattle.explore.specs.Begun.{Begun, Ended}
 use Rattle.explore.specs.Prepared.{bytesFor, Prepared}
 use Rattle.explore.specs.Explored.{resultFor, RunTo, Explored}

@@ -20,14 +20,14 @@ use Rattle.lent.specs.Lent.{verdictLent, orderLent, problemLent}
 use Rattle.lent.specs.Compile.{WithinLimits, CompiledLent}
 use Rattle.lent.proofs.Lent.{passed-all}
 use Rattle.lent.proofs.Blocked.{own-first, block-walked, block-inside}
-use Rattle.layout.specs.Places.{VARIABLES, LIMIT, ROOM, PLANS, NUMBER, ITEM, REFUSED, NUMBERS, WORK}
+use Rattle.layout.specs.Places.{VARIABLES, LIMIT, ROOM, PLANS, NUMBER, ITEM, REFUSED, NUMBERS, WORK, WANTED}
 use Rattle.layout.specs.Layout.{Compiled}
 use Rattle.sheet.specs.Meaning as S
 use Rattle.sheet.specs.declared.Answer.{Answer as Verdicts}
 use Rattle.sheet.specs.declared.Answer.the-variants.{Accepted}
 use Rattle.prune.specs.Node.{withOrderings}
 use Rattle.walk.specs.Pair.{ListRoom}
-use Rattle.task.specs.Task.{WANTED, roomFor}
+use Rattle.task.specs.Task.{roomFor}
 use Rattle.explore.specs.Begun.{Laid, Begun}
 use Rattle.explore.specs.Prepared.{bytesFor, Prepared}
 use Rattle.explore.proofs.Begun.{numbers-kept}

@@ -11,9 +11,8 @@ use Rattle.model.specs.Run.{ended, plansIn, nodesIn, Result, resultOf, Tally}
 use Rattle.model.specs.Sheet.{problemOf}
 use Rattle.order.specs.Reordered.{write}
 use Rattle.lent.specs.Lent.{verdictLent, orderLent, problemLent}
-use Rattle.layout.specs.Places.{PLANS, DEEPER, REFUSED}
+use Rattle.layout.specs.Places.{PLANS, DEEPER, REFUSED, WANTED}
 use Rattle.walk.specs.Walk.{Summed, kept, stopIn, tallyBy}
-use Rattle.task.specs.Task.{WANTED}
 use Rattle.explore.specs.Prepared.{bytesFor, Refusal}
 
 abbrev pub resultFor : List ℕ → List ℕ → List ℕ → List ℕ → ℕ → ℕ → Result

@@ -10,11 +10,11 @@ use Rattle.model.specs.Search.{isLive}
 use Rattle.model.specs.Verdict.{accepted, refused}
 use Rattle.model.specs.Sheet.{problemOf}
 use Rattle.lent.specs.Lent.{verdictLent, orderLent, problemLent}
-use Rattle.layout.specs.Places.{LIMIT, ROOM, PLANS, NUMBER, ITEM, ALL, DEEPER, REFUSED, NUMBERS, STACK, SUPPORTS, TABLES, WORK}
+use Rattle.layout.specs.Places.{LIMIT, ROOM, PLANS, NUMBER, ITEM, ALL, DEEPER, REFUSED, NUMBERS, STACK, SUPPORTS, TABLES, WORK, WANTED}
 use Rattle.sheet.specs.Form.{Zeros}
 use Rattle.walk.specs.Walk.{noNodes}
 use Rattle.walk.specs.Pair.{orderIn, AtPrefix}
-use Rattle.task.specs.Task.{WANTED, roomFor}
+use Rattle.task.specs.Task.{roomFor}
 
 -- the room for plans of n bytes: the list's, else that for one plan less than are asked for
 abbrev pub bytesFor : ℕ → ℕ → ℕ → ℕ

@@ -98,6 +98,9 @@ LAST = 15
 abbrev pub MARKS : ℕ
 MARKS = 16
 
+abbrev pub WANTED : ℕ
+WANTED = 224
+
 -- ---- marks
 abbrev pub ENTAILED : ℕ
 ENTAILED = 128

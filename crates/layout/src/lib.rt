@@ -94,6 +94,9 @@ pub const LAST: usize = 15;
 // From here on the marks of the symmetries at each depth.
 pub const MARKS: usize = 16;
 
+// Before the run its task: how many plans are asked for, 0 where they are listed.
+pub const WANTED: usize = 224;
+
 // ---- marks
 // A mark from ENTAILED times k on says that every assignment obeys the nogoods at the prefix of k values; its remainder by ENTAILED is the level
 // to resume at. The nogoods of the symmetry are obeyed for good; in place of a mark: no assignment obeys them.

@@ -22,12 +22,12 @@ use Rattle.parts.specs.Parts.{nodesBetween, lastOf}
 use Rattle.parts.proofs.Resume.{dead-below, last-in, taken, node-values}
 use Rattle.lent.specs.Lent.{verdictLent, orderLent, problemLent}
 use Rattle.lent.proofs.Lent.{passed-all, well-sheet, ordering-lent}
-use Rattle.layout.specs.Places.{ROOM, PLANS, NUMBER, ITEM, LAST, ALL, SPENT, DEEPER, REFUSED}
+use Rattle.layout.specs.Places.{ROOM, PLANS, NUMBER, ITEM, LAST, ALL, SPENT, DEEPER, REFUSED, WANTED}
 use Rattle.walk.specs.Walk.{noNodes, State, walk, kept, stopIn, tallyBy}
 use Rattle.walk.specs.Pair.{prefixOf, orderIn, stateOf}
 use Rattle.walk.proofs.Prefix.{prefix-zero, prefix-at, length-prefix}
 use Rattle.walk.proofs.Outcome.{outcome-on, kept-none, kept-over}
-use Rattle.task.specs.Task.{WANTED, roomFor}
+use Rattle.task.specs.Task.{roomFor}
 use Rattle.explore.specs.Prepared.{Prepared}
 use Rattle.explore.proofs.Prepared.{room-fits, room-most}
 use Rattle.search.specs.Meaning.{means}

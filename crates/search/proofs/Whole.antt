@@ -20,11 +20,10 @@ use Rattle.order.specs.Reordered.{write}
 use Rattle.order.specs.RunBy.{resultBy, placeCounts}
 use Rattle.lent.specs.Lent.{verdictLent, orderLent, problemLent, answerLentFor, answerLent, listLentFor, listLent, tallyLentFor, tallyLent}
 use Rattle.lent.proofs.Lent.{passed-all, well-sheet}
-use Rattle.layout.specs.Places.{PLANS, ALL, SPENT, REFUSED, NUMBERS, STACK, SUPPORTS, TABLES, WORK}
+use Rattle.layout.specs.Places.{PLANS, ALL, SPENT, REFUSED, NUMBERS, STACK, SUPPORTS, TABLES, WORK, WANTED}
 use Rattle.sheet.proofs.Whole.{zeros}
 use Rattle.walk.specs.Walk.{kept, stopIn, tallyBy}
 use Rattle.search.specs.Meaning.{means}
-use Rattle.task.specs.Task.{WANTED}
 use Rattle.explore.specs.Prepared.{bytesFor, Blank}
 use Rattle.explore.specs.Explored.{resultFor, Explored}
 use Rattle.search.specs.Whole.{Stopped, Answered, Wanted}

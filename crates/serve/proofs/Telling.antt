@@ -11,11 +11,10 @@ use Rattle.model.specs.Lists.{at}
 use Rattle.model.specs.Bytes.{fourBytes}
 use Rattle.model.specs.Filling.{Filled}
 use Rattle.model.proofs.Lists.{at-ext, at-append, at-skip, at-replicate}
-use Rattle.layout.specs.Places.{PLANS}
+use Rattle.layout.specs.Places.{PLANS, LAST}
 use Rattle.walk.proofs.Prefix.{length-prefix, prefix-at}
 use Rattle.desk.specs.Desk.{Hall}
 use Rattle.desk.specs.Layout.{standingByte, figureBytes, stateBytes}
-use Rattle.layout.specs.Places.{LAST}
 use Rattle.serve.specs.Served.{Shows}
 
 -- as the code begins: the figures, and twelve zeros

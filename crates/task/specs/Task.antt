@@ -11,11 +11,6 @@ unfoldable pub ordered : List ℕ → ℕ → List ℕ → List ℕ
 ordered order zero numbers = numbers
 ordered order (suc k) numbers = set (ordered order k numbers) (ORDER + k) (at order k)
 
--- ---- the task of a run, which stands in `work` before it
--- how many plans are asked for, 0 where they are listed
-abbrev pub WANTED : ℕ
-WANTED = 224
-
 -- how many plans of n bytes there is room for, and that room in bytes: the list's, else one less than are asked for
 abbrev pub roomFor : ℕ → ℕ → ℕ → ℕ
 roomFor wanted n size = choose (eqb wanted 0) (size / n) (wanted - 1)

@@ -3,16 +3,14 @@ use layout::BLOCK;
 use layout::LIMIT;
 use layout::ORDER;
 use layout::ROOM;
+use layout::WANTED;
 use layout::Work;
 ghost use mathlib.Core.Path.{_≡_};
 ghost use Prim.Native.Nat.{ℕ, _+_, _≤_, _<_};
 ghost use lib.ListN.{length, set};
 ghost use Rattle.model.specs.Lists.{at};
-ghost use Rattle.layout.specs.Places.{LIMIT, ROOM, ORDER, BLOCK};
-ghost use Rattle.task.specs.Task.{WANTED, roomFor, ordered};
-
-// The task of a run, in `work` before it: how many plans are asked for, 0 where they are listed.
-pub const WANTED: usize = 224;
+ghost use Rattle.layout.specs.Places.{LIMIT, ROOM, ORDER, BLOCK, WANTED};
+ghost use Rattle.task.specs.Task.{roomFor, ordered};
 
 // Puts the node limit and the number of plans that there is room for among the numbers, which are lent as a slice: that tells their length.
 pub fn put_bounds(numbers: &mut [u64], limit: u64, room: u64)

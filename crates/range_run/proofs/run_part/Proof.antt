@@ -1,8 +1,7 @@
 -- `range_run::run_part` meets its contract: proofs/Done. Assumes nothing.
 use mathlib.Core.Path.{refl}
 use Rattle.model.specs.Lists.{at}
-use Rattle.layout.specs.Places.{PLANS, NUMBERS, STACK, SUPPORTS, TABLES, WORK}
-use Rattle.task.specs.Task.{WANTED}
+use Rattle.layout.specs.Places.{PLANS, NUMBERS, STACK, SUPPORTS, TABLES, WORK, WANTED}
 use Rattle.sheet.proofs.Whole.{zeros}
 use Rattle.range_run.proofs.Ends.{begun-so}
 use Rattle.range_run.proofs.Done.{part-asks, part-stopped, part-short, part-bytes, part-call}

@@ -38,10 +38,9 @@ use denote.Triple.Table.{entered, cited}
 use denote.Triple.Walked.{says, Stays, stay-ref, stay-slice, stay-dropped, walkOf, Walks, ends-at, walked, goes-dropped, goes-slice, goes-ref, walk-meets}
 use denote.Memory.{mem as in-memory}
 use denote.Enum.Laws as EL
-use Rattle.layout.specs.Places.{PLANS, NUMBERS, STACK, SUPPORTS, TABLES, WORK}
+use Rattle.layout.specs.Places.{PLANS, NUMBERS, STACK, SUPPORTS, TABLES, WORK, WANTED}
 use Rattle.walk.specs.Meaning.{tallyIn}
 use Rattle.search.specs.Calls.{CallLent}
-use Rattle.task.specs.Task.{WANTED}
 use Rattle.explore.specs.Prepared.{Blank}
 use Rattle.explore.specs.Explored.{Explored}
 use Rattle.search.specs.Whole.{Stopped, Answered}
