@@ -13,7 +13,8 @@ use Rattle.model.specs.Problem.{Problem}
 use Rattle.model.specs.Run.{Tally}
 use Rattle.layout.specs.Places.{ALL, DEEPER}
 use Rattle.walk.specs.Walk.{withNode}
-use Rattle.walk.specs.Pair.{settling, Countable, Counted, AtValues, AtValue, Walked, Entered, tried, lowestTried, SameSlice}
+use Rattle.walk.specs.Pair.{settling, Countable, Counted, AtValues, AtValue, Walked, Entered, tried, lowestTried}
+use Rattle.loans.specs.Slices.{SameSlice}
 use Rattle.walk.proofs.Written.{settling-inside}
 use Rattle.settle.proofs.Turns.{turn-asks, turn-goes, values-ask, μ-settle, rest-falls}
 

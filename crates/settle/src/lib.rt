@@ -13,7 +13,8 @@ use model::ValueSet;
 use walk::Tally;
 ghost use Rattle.model.specs.Problem.{Problem};
 ghost use Rattle.model.specs.Run as Run;
-ghost use Rattle.walk.specs.Pair.{AtValues, AtValue, Walked, Entered, tried, lowestTried, SameSlice};
+ghost use Rattle.walk.specs.Pair.{AtValues, AtValue, Walked, Entered, tried, lowestTried};
+ghost use Rattle.loans.specs.Slices.{SameSlice};
 ghost use Rattle.walk.specs.Meaning.{tallyIn};
 
 // Makes the node of the lowest of the values m of variable k: ALL where it is dead or its plan was listed, FULL where a plan has no room,

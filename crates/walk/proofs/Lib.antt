@@ -3,4 +3,3 @@ pub mod Outcome
 pub mod Prefix
 pub mod Written
 pub mod Listing
-pub mod Elements

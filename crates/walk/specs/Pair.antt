@@ -3,7 +3,6 @@
 use mathlib.Core.Path.{_≡_}
 use mathlib.Core.List.{List, [], _∷_, _++_}
 use Prim.Native.Nat.{ℕ, suc, _+_, _-_, _*_, _^_, _≤_, _<_}
-use denote.Ref.{RefT, now, at-last}
 use lib.Dec.{T}
 use lib.ListN.{length, take}
 use Rattle.model.specs.Lists.{at, tabulate}
@@ -16,10 +15,6 @@ use Rattle.order.specs.Reordered.{write}
 use Rattle.layout.specs.Places.{SYMMETRIES, LIMIT, ROOM, ORDER, PLANS, LAST, MARKS, ALL, DEEPER}
 use Rattle.prune.specs.Node.{withOrderings, Ready, Holds, Marked}
 use Rattle.walk.specs.Walk.{Summed, withNode, noNodes, State, listed, walk, nodesFor}
-
--- the same slice, at a list as long
-abbrev pub SameSlice : RefT (List ℕ) → RefT (List ℕ) → Type 0
-SameSlice x y = (y ≡ at-last x (now y)) × (length (now y) ≡ length (now x))
 
 -- the prefix: the first k numbers of `work`
 unfoldable pub prefixOf : List ℕ → ℕ → List ℕ

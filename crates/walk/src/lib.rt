@@ -19,7 +19,8 @@ ghost use Rattle.order.specs.Order.{Ordering};
 ghost use Rattle.order.specs.Reordered.{write};
 ghost use Rattle.layout.specs.Places.{VARIABLES, LIMIT, ROOM, PLANS, WORK};
 ghost use Rattle.walk.specs.Walk.{overwritten, noted};
-ghost use Rattle.walk.specs.Pair.{prefixOf, settling, orderIn, Countable, Counted, Cleared, ListRoom, Listed, SameSlice};
+ghost use Rattle.walk.specs.Pair.{prefixOf, settling, orderIn, Countable, Counted, Cleared, ListRoom, Listed};
+ghost use Rattle.loans.specs.Slices.{SameSlice};
 ghost use Rattle.walk.specs.Meaning.{tallyIn};
 
 // What a run counts (the paper's tally): the nodes made (its trials), and of these the nodes that settle each of twelve variables.

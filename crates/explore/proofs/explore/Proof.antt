@@ -43,7 +43,8 @@ use Rattle.model.specs.Lists.{at}
 use Rattle.model.specs.Problem.{Problem}
 use Rattle.layout.specs.Places.{NUMBERS, STACK, SUPPORTS, TABLES, WORK}
 use Rattle.lent.specs.Lent.{problemLent}
-use Rattle.walk.specs.Pair.{Cleared, AtValues, Walked, SameSlice, tried}
+use Rattle.walk.specs.Pair.{Cleared, AtValues, Walked, tried}
+use Rattle.loans.specs.Slices.{SameSlice}
 use Rattle.walk.specs.Meaning.{tallyIn}
 use Rattle.explore.specs.Prepared.{Blank, Prepared}
 use Rattle.explore.specs.Explored.{Explored}
@@ -51,9 +52,9 @@ use Rattle.walk.specs.declared.Tally.{Tally}
 use Rattle.walk.proofs.Tally as T
 use Rattle.explore.proofs.Explored.{explored-refused, explored-dead, start-asks, explored}
 use Rattle.settle.proofs.Facts.{ne-of}
-use Rattle.settle.proofs.Loans as loan
-use Rattle.settle.proofs.Loans.{One, Loans, at-ref, at-sl, calls-lent, calls-lent-two}
-use Rattle.settle.proofs.Sink.{thin-link, goes-in, comes-out}
+use Rattle.loans.proofs.Loans as loan
+use Rattle.loans.proofs.Loans.{One, Loans, at-ref, at-sl, calls-lent, calls-lent-two}
+use Rattle.loans.proofs.Sink.{thin-link, goes-in, comes-out}
 use Rattle.explore.proofs.prepare as prepare
 use Rattle.explore.proofs.prepare.Symbol as prepare-def
 use Rattle.explore.proofs.prepare.Symbol.{name as #explore·prepare}

@@ -53,9 +53,9 @@ use Rattle.search.proofs.Answer as O
 use Rattle.search.proofs.Answer.Laws as O′
 use Rattle.search.proofs.CountedRun as R
 use Rattle.search.proofs.CountedRun.Laws as R′
-use Rattle.settle.proofs.Locals.{lies-in, lies-out}
-use Rattle.settle.proofs.Loans as loan
-use Rattle.settle.proofs.Loans.{One, Loans, at-sl, calls-lent}
+use Rattle.loans.proofs.Locals.{lies-in, lies-out}
+use Rattle.loans.proofs.Loans as loan
+use Rattle.loans.proofs.Loans.{One, Loans, at-sl, calls-lent}
 use Rattle.walk.proofs.no_nodes as no-nodes
 use Rattle.walk.proofs.no_nodes.Symbol as no-nodes-def
 use Rattle.walk.proofs.no_nodes.Symbol.{name as #walk·no-nodes}

@@ -51,9 +51,9 @@ use Rattle.search.proofs.Answer as O
 use Rattle.search.proofs.Answer.Laws as O′
 use Rattle.sheet.proofs.Whole.{zeros}
 use Rattle.search.proofs.Whole.{stopped, ran-so, said}
-use Rattle.settle.proofs.Locals.{zeros-typed, zeros-in, array-out}
-use Rattle.settle.proofs.Loans as loan
-use Rattle.settle.proofs.Loans.{One, Loans, at-ref, at-sl, calls-lent}
+use Rattle.loans.proofs.Locals.{zeros-typed, zeros-in, array-out}
+use Rattle.loans.proofs.Loans as loan
+use Rattle.loans.proofs.Loans.{One, Loans, at-ref, at-sl, calls-lent}
 use Rattle.explore.proofs.explore as explore
 use Rattle.explore.proofs.explore.Symbol as explore-def
 use Rattle.explore.proofs.explore.Symbol.{name as #explore·explore}

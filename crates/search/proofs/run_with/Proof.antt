@@ -44,8 +44,8 @@ use Rattle.search.specs.declared.Answer.{Answer}
 use Rattle.walk.proofs.Tally as T
 use Rattle.search.proofs.Answer as O
 use Rattle.search.proofs.Answer.Laws as O′
-use Rattle.settle.proofs.Loans as loan
-use Rattle.settle.proofs.Loans.{One, Loans, at-ref, at-sl, calls-lent}
+use Rattle.loans.proofs.Loans as loan
+use Rattle.loans.proofs.Loans.{One, Loans, at-ref, at-sl, calls-lent}
 use Rattle.search.proofs.run_lent as run-lent
 use Rattle.search.proofs.run_lent.Symbol as run-lent-def
 use Rattle.search.proofs.run_lent.Symbol.{name as #search·run-lent}

@@ -45,15 +45,16 @@ use Rattle.model.specs.ValueSets.{withoutMask, lowestOf}
 use Rattle.model.specs.Problem.{Problem}
 use Rattle.layout.specs.Places.{LIMIT, NUMBERS, STACK, SUPPORTS, TABLES, WORK}
 use Rattle.model.specs.Run as Run
-use Rattle.walk.specs.Pair.{settling, Countable, Counted, AtValues, AtValue, Walked, Entered, tried, lowestTried, SameSlice}
+use Rattle.walk.specs.Pair.{settling, Countable, Counted, AtValues, AtValue, Walked, Entered, tried, lowestTried}
+use Rattle.loans.specs.Slices.{SameSlice}
 use Rattle.walk.specs.Meaning.{tallyIn}
 use Rattle.walk.specs.declared.Tally.{Tally}
 use Rattle.walk.proofs.Tally as T
 use Rattle.settle.proofs.Turns.{turn-none, turn-spent, turn-stops, μ-settle, μ-try, try-falls, next-falls}
 use Rattle.settle.proofs.Facts.{pos, ne-of, eq-of, rest-asks, rest-goes, others-fall, variable-few, node-counts, entered-stops, next-few, next-asks, next-goes, same-on}
-use Rattle.settle.proofs.Loans as loan
-use Rattle.settle.proofs.Loans.{One, Loans, at-ref, at-shr, calls-lent, calls-lent-two, says-two}
-use Rattle.settle.proofs.Thin as thin
+use Rattle.loans.proofs.Loans as loan
+use Rattle.loans.proofs.Loans.{One, Loans, at-ref, at-shr, calls-lent, calls-lent-two, says-two}
+use Rattle.loans.proofs.Thin as thin
 use Rattle.walk.proofs.nodes_made as nodes-made
 use Rattle.walk.proofs.nodes_made.Symbol as nodes-made-def
 use Rattle.walk.proofs.nodes_made.Symbol.{name as #walk·nodes-made}

@@ -42,7 +42,8 @@ use denote.Struct.Laws as SL
 use Rattle.model.specs.Problem.{Problem}
 use Rattle.model.specs.Run as Run
 use Rattle.layout.specs.Places.{NUMBERS, STACK, SUPPORTS, TABLES, WORK}
-use Rattle.walk.specs.Pair.{AtValues, Walked, SameSlice, tried}
+use Rattle.walk.specs.Pair.{AtValues, Walked, tried}
+use Rattle.loans.specs.Slices.{SameSlice}
 use Rattle.walk.specs.Meaning.{tallyIn}
 use Rattle.walk.specs.declared.Tally.{Tally}
 use Rattle.settle.specs.declared.CountedPart.{CountedPart}
@@ -50,10 +51,10 @@ use Rattle.walk.proofs.Tally as T
 use Rattle.walk.proofs.Tally.Laws as T′
 use Rattle.settle.proofs.CountedPart as R
 use Rattle.settle.proofs.CountedPart.Laws as R′
-use Rattle.settle.proofs.Locals.{lies-in, lies-out}
-use Rattle.settle.proofs.Loans as loan
-use Rattle.settle.proofs.Loans.{One, Loans, at-ref, at-sl, at-shr, calls-lent, calls-lent-two}
-use Rattle.settle.proofs.Sink.{inside, thin-link, goes-in, comes-out}
+use Rattle.loans.proofs.Locals.{lies-in, lies-out}
+use Rattle.loans.proofs.Loans as loan
+use Rattle.loans.proofs.Loans.{One, Loans, at-ref, at-sl, at-shr, calls-lent, calls-lent-two}
+use Rattle.loans.proofs.Sink.{inside, thin-link, goes-in, comes-out}
 use Rattle.settle.proofs.settle as settle
 use Rattle.settle.proofs.settle.Symbol as settle-def
 use Rattle.settle.proofs.settle.Symbol.{name as #settle·settle}

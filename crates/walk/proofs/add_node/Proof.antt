@@ -46,7 +46,7 @@ use Rattle.walk.specs.Pair.{Countable, Counted}
 use Rattle.walk.specs.Meaning.{tallyIn}
 use Rattle.walk.specs.declared.Tally.{Tally}
 use Rattle.walk.proofs.Walk.{summed-more}
-use Rattle.walk.proofs.Elements.{elem}
+use Rattle.loans.proofs.Elements.{elem}
 use Rattle.walk.proofs.Tally as T
 use Rattle.walk.proofs.Tally.Laws as T′
 use Rattle.walk.proofs.add_node.Key.{name as #walk·add-node}

@@ -1,4 +1,4 @@
--- A walk's own locals that are lent: a local's cell as what lies in memory, and back. Nothing here is of the crate: it can be copied as it stands.
+-- A walk's own locals that are lent: a local's cell as what lies in memory, and back.
 --     lies-in, lies-out        what lies in memory is a cell and what its value owns
 --     zeros-typed      the machine value of `[0; n]` is one of its type
 --     zeros-in, array-out      a local array of zeros, and one that is to be freed

@@ -1,5 +1,5 @@
 -- Calls in a walk that holds references and lends them reborrow. What a call is lent is a chain, one link for each reference that the walk holds and
--- each number that the callee takes, in the callee's order. Nothing here is of the crate: it can be copied as it stands, with `Reborrow.antt`.
+-- each number that the callee takes, in the callee's order.
 --     One              what is lent at one lifetime: held before the call, handed to the callee (a token, and what it owns), kept meanwhile, what the
 --                      callee says of the last value, held after the call
 --     mut, slice       a `&mut T`, a `&mut [T]`.        look     a `&mut T`, lent as a `&T`.        shr     a `&T`, copied
@@ -39,7 +39,7 @@ use denote.Lend.{LentAgain, lends-again, comes-back, lends-shr, lends-shr-slice,
 use denote.Steps.{nothing, facts, heard}
 use denote.Triple.Call.{calls-from}
 use denote.Triple.Walked.{says}
-use Rattle.settle.proofs.Reborrow as reborrow
+use Rattle.loans.proofs.Reborrow as reborrow
 
 -- owning the reference at the value x, and the slice at the list ys; n is the count in the slice's machine value
 abbrev pub at-ref : (R : RattleType) → Lft → ℕ → ℕ → GName → R .Denot → Fml

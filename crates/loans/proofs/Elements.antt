@@ -1,4 +1,4 @@
--- An element of an array in a walk, as the kit's `Part` has it for a field of a struct. Nothing here is of the crate: it can be copied as it stands.
+-- An element of an array in a walk, as the kit's `Part` has it for a field of a struct.
 --     elem us k d l n v p      element k of an array's cell that p finds, where us are the array's machine values, n of them, and the element is v
 -- Assumes `Given` (of it `at-elems` and `elems-at`).
 use mathlib.Core.Path.{_≡_, refl, _∙_, ap, subst}

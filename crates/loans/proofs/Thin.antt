@@ -1,5 +1,5 @@
 -- Links of `Loans.antt` for a reference held in a reference, `&κ mut T` where T names κ′: the loan ends no later than κ′, so its lifetime is ν ∷ κ′, with ν
--- new. The callee's signature names κ′ beside it. Nothing here is of the crate: it can be copied as it stands, with `Loans.antt`.
+-- new. The callee's signature names κ′ beside it.
 --     token            a chain that also hands over a token of κ′
 --     sub              a `&κ mut T`, lent again below κ′
 --     local-sub        what lies in memory, lent as a `&mut T` below κ′
@@ -20,7 +20,7 @@ use types.Tokens.{lft-new, lft-end}
 use denote.RattleType.{RattleType}
 use denote.Memory.{mem}
 use denote.Lend.{LentAgain, lends-again, comes-back, lends-ref, ref-back}
-use Rattle.settle.proofs.Loans.{One, Loans, Handed, at-ref}
+use Rattle.loans.proofs.Loans.{One, Loans, Handed, at-ref}
 
 module _ {M : Type 1} (𝓤 : URA M) (H : Heap 𝓤) (A : Atoms 𝓤) (W : Given 𝓤 H A) where
   abbrev ⟦_⟧ : Fml → SProp 𝓤
