@@ -32,10 +32,10 @@ use Rattle.figure.proofs.FamiliesLent.{families-lent}
 use Rattle.figure.proofs.Counting.{bareLent, figure-counted, figure-number, figure-none, figure-dash, figure-few}
 use Rattle.sheet.proofs.Whole.{zeros}
 use Rattle.walk.specs.Walk.{stopIn}
-use Rattle.search.specs.Meaning.{endingOf}
-use Rattle.search.specs.declared.Ending as S
-use Rattle.search.specs.declared.Ending.the-variants.{Finished, Spent, Full}
-use Rattle.search.proofs.Ending.{the-type}
+use Rattle.walk.specs.Meaning.{endingOf}
+use Rattle.walk.specs.declared.Ending as S
+use Rattle.walk.specs.declared.Ending.the-variants.{Finished, Spent, Full}
+use Rattle.walk.proofs.Ending.{the-type}
 use Rattle.counting.specs.Told.{Told, told, toldFor, countedLent}
 use Rattle.counting.specs.Told as T
 use Rattle.counting.specs.Held.{Roomy, Runs, Ran, Put, Whole, Listed}

@@ -3,5 +3,4 @@ pub mod Images
 pub mod Arrays
 pub mod Bare
 pub mod ReportRuns
-pub mod FamilyCalls
 pub mod Tied

@@ -2,5 +2,4 @@ pub mod Tallied
 pub mod Lent
 pub mod Closed
 pub mod AtLeast
-pub mod Exported
 pub mod Tied

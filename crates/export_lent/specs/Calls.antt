@@ -1,5 +1,5 @@
 -- Calls that are lent a sheet, pairs and a block: what comes back, and every lent buffer at the end. Each is the function's contract, that of `planner_..`
--- too; specs/Exported says what a caller may rely on.
+-- too; promises' `ExportedLent` says what a caller may rely on.
 use mathlib.Core.Path.{_≡_}
 use mathlib.Core.List.{List}
 use Prim.Native.Nat.{ℕ}

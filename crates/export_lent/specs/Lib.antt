@@ -5,4 +5,3 @@ pub mod Closed
 pub mod Enough
 pub mod Inner
 pub mod Calls
-pub mod Exported

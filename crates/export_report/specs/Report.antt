@@ -6,7 +6,7 @@ use lib.Dec.{leb}
 use lib.ListN.{length}
 use Rattle.model.specs.Verdict.{Verdict, accepted, ask}
 use Rattle.report.specs.Report.{reportOf}
-use Rattle.export_run.specs.Exported.{fourAt}
+use Rattle.wire.specs.Wire.{fourAt}
 use Rattle.wire.specs.Outcomes.{lentCode, lentRoom, lentAnswer}
 
 -- 22: the buffer holds the report

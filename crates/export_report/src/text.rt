@@ -1,13 +1,13 @@
 // The report on a sheet: each function answers the report's length, and writes it where the buffer holds it.
 use search::Answer;
-use search::Ending;
+use walk::Ending;
 ghost use mathlib.Core.Path.{_≡_};
 ghost use Rattle.model.specs.Sheet.{verdictOf};
 ghost use Rattle.model.specs.Run.{finished};
 ghost use Rattle.figure.specs.Figure.{Figure, dash};
 ghost use Rattle.report.specs.Report.{reportFor};
 ghost use Rattle.report.specs.Text.{endedText, Fitted};
-ghost use Rattle.search.specs.Meaning.{endingOf};
+ghost use Rattle.walk.specs.Meaning.{endingOf};
 ghost use Rattle.counting.specs.Told.{told, means};
 ghost use Rattle.export_report.specs.Inner.{Listed, Dashed};
 

@@ -18,7 +18,7 @@ use Rattle.model.proofs.Runs.{nodes-allowed, counts, Counted as Tree·counted}
 use Rattle.wire.specs.Wire.{wrongLength}
 use Rattle.export_run.specs.Run.{answerCode, answerBytes, runCode, runList, runAnswer}
 use Rattle.export_run.specs.Inner.{Counted}
-use Rattle.export_run.specs.Exported.{CallExported}
+use Rattle.export_run.specs.Calls.{CallExported}
 
 -- ---- refusals
 pub refusal-of : (b : List ℕ) (limit : ℕ) (out : List ℕ) (number item : ℕ) → answerOf b limit out ≡ refusal number item → verdictOf b ≡ refused number item

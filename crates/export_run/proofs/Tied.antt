@@ -11,7 +11,7 @@ use contract.Monad.{Fun, fact}
 use denote.Ref.{now}
 use denote.Triple.Entry.{Args, Res}
 use denote.Triple.Clauses.{AtExit}
-use Rattle.export_run.specs.Exported.{CallCode, CallExported}
+use Rattle.export_run.specs.Calls.{CallCode, CallExported}
 use Rattle.export_run.proofs.runs.question as question
 use Rattle.export_run.proofs.runs.run as run
 

@@ -1,12 +1,12 @@
 // The questions to a sheet, and the run of paper 01.
-use search::Ending;
+use walk::Ending;
 use wire::code;
 use wire::three;
 ghost use mathlib.Core.Path.{_≡_};
 ghost use lib.ListN.{length};
-ghost use Rattle.search.specs.Meaning.{endingOf};
+ghost use Rattle.walk.specs.Meaning.{endingOf};
 ghost use Rattle.export_run.specs.Run.{endingBytes};
-ghost use Rattle.export_run.specs.Exported.{CallCode, CallExported};
+ghost use Rattle.export_run.specs.Calls.{CallCode, CallExported};
 ghost use Rattle.export_run.specs.Inner.{Counted};
 
 // Puts the questions to a sheet: 0 where it is accepted, else the number of the first "no" times 256, plus its item.

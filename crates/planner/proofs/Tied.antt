@@ -12,7 +12,7 @@ use contract.Monad.{Fun, fact}
 use denote.Ref.{now}
 use denote.Triple.Entry.{Args, Res}
 use denote.Triple.Clauses.{AtExit}
-use Rattle.export_run.specs.Exported.{CallExported}
+use Rattle.export_run.specs.Calls.{CallExported}
 use Rattle.export_filter.specs.FilterBytes.{CallBytes}
 use Rattle.export_parts.specs.Parts.{CallPartBytes}
 use Rattle.export_join.specs.Joined.{CallJoinBytes}

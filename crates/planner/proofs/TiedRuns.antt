@@ -12,7 +12,7 @@ use contract.Monad.{Fun, fact}
 use denote.Ref.{now}
 use denote.Triple.Entry.{Args, Res}
 use denote.Triple.Clauses.{AtExit}
-use Rattle.export_run.specs.Exported.{CallCode}
+use Rattle.export_run.specs.Calls.{CallCode}
 use Rattle.export_lent.specs.Calls.{CallQuestionCode, CallRunBytes, CallEnoughBytes, CallClosedBytes}
 use Rattle.planner.proofs.runs.planner_question as question
 use Rattle.planner.proofs.runs.planner_question_lent as question-lent

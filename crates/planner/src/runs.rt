@@ -1,5 +1,5 @@
 // Calls about runs: crates export_run, export_lent and export_families say what they answer and leave.
-ghost use Rattle.export_run.specs.Exported.{CallCode, CallExported};
+ghost use Rattle.export_run.specs.Calls.{CallCode, CallExported};
 ghost use Rattle.export_lent.specs.Calls.{CallQuestionCode, CallRunBytes, CallEnoughBytes, CallClosedBytes};
 ghost use Rattle.export_families.specs.Families.{CallFigured};
 

@@ -4,5 +4,4 @@ pub mod Steps
 pub mod Walks
 pub mod Ends
 pub mod Done
-pub mod Claimed
 pub mod Tied

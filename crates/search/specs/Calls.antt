@@ -1,5 +1,5 @@
 -- A call of `run`, `run_with`, `run_lent`, `run_counted` and `at_least`: what it was lent, what it answered, and what the lent bytes are at the end. Each is the function's contract;
--- `Demands` and its like say what a caller may rely on.
+-- promises' `Demands` and its like say what a caller may rely on.
 use mathlib.Core.Path.{_≡_}
 use mathlib.Core.List.{List}
 use Prim.Native.Nat.{ℕ}
@@ -36,14 +36,9 @@ abbrev pub CallCounted : List ℕ → List ℕ → List ℕ → ℕ → List ℕ
 CallCounted b pairs block limit out r after =
     (means (r .answer) ≡ answerLent b pairs block limit out) × (after ≡ listLent b pairs block limit out) × (tallyIn (r .tally) ≡ tallyLent b pairs block limit out noNodes)
 
--- so all that is said of a call of `run_lent` holds of it: `demands-lent` and its like
+-- a tally of nothing
 abbrev pub noTally : Tally
 noTally = record { nodes = 0; counts = replicate 12 0 }
-
-abbrev pub Counted-calls : Type 0
-Counted-calls =
-    (b pairs block : List ℕ) (limit : ℕ) (out : List ℕ) (r : CountedRun) (after : List ℕ) → CallCounted b pairs block limit out r after →
-    CallLent b pairs block limit out noTally (r .answer) after (r .tally)
 
 -- `at_least`: r comes back
 abbrev pub CallEnough : List ℕ → List ℕ → List ℕ → ℕ → ℕ → Enough → Type 0

@@ -1,20 +1,13 @@
 -- What the answers of `run` mean in the words of model's definitions.
-use Rattle.model.specs.Run.{finished, spent, full, refusal, ended}
+use Rattle.model.specs.Run.{refusal, ended}
 use Rattle.model.specs.Run as Run
-use Rattle.search.specs.declared.Ending.{Ending}
-use Rattle.search.specs.declared.Ending.the-variants.{Finished, Spent, Full}
+use Rattle.walk.specs.Meaning.{endingOf}
 use Rattle.search.specs.declared.Answer.{Answer}
 use Rattle.search.specs.declared.Answer.the-variants.{Refused, Ended}
 use Rattle.search.specs.declared.Enough.{Enough}
 use Rattle.search.specs.declared.Enough.the-variants as E
 use Rattle.enough.specs.AtLeast.{enough, tooFew, unknown}
 use Rattle.enough.specs.Lent as L
-
--- an ending carries the plans listed and the nodes made
-abbrev pub endingOf : Ending → Run.Ending
-endingOf (Finished plans nodes) = finished plans nodes
-endingOf (Spent plans nodes) = spent plans nodes
-endingOf (Full plans nodes) = full plans nodes
 
 abbrev pub means : Answer → Run.Answer
 means (Refused number item) = refusal number item

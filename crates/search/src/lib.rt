@@ -12,19 +12,13 @@ use layout::TABLES;
 use layout::WANTED;
 use layout::WORK;
 use layout::Work;
+use walk::Ending;
 use walk::Tally;
 ghost use mathlib.Core.Path.{_≡_};
 ghost use Rattle.search.specs.Meaning.{means, saidEnough};
 ghost use Rattle.search.specs.Calls.{Call, CallWith, CallLent, CallCounted, CallEnough};
 ghost use Rattle.search.specs.Tasks.{enoughNone, enoughFor};
 ghost use Rattle.search.specs.Whole.{Stopped, Answered, Wanted};
-
-// How a run ends; each ending carries the plans listed and the nodes made.
-pub enum Ending {
-    Finished(usize, usize),
-    Spent(usize, usize),
-    Full(usize, usize),
-}
 
 pub enum Answer {
     Refused { number: u8, item: usize },

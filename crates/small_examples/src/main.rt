@@ -3,7 +3,7 @@
 // solutions and plans are sets of four, printed as four digits, 1 where 00, 01, 10, 11 is one of them. A difference is said at the
 // line's end.
 use libc::STDOUT_FILENO;
-use search::Ending;
+use walk::Ending;
 ghost use Prim.Native.Nat.{_+_, _≤_, _<_};
 
 fn wide(x: u8) -> usize

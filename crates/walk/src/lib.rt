@@ -23,6 +23,13 @@ ghost use Rattle.walk.specs.Pair.{prefixOf, settling, orderIn, Countable
 ghost use Rattle.loans.specs.Slices.{SameSlice};
 ghost use Rattle.walk.specs.Meaning.{tallyIn};
 
+// How a run ends; each ending carries the plans listed and the nodes made.
+pub enum Ending {
+    Finished(usize, usize),
+    Spent(usize, usize),
+    Full(usize, usize),
+}
+
 // What a run counts (the paper's tally): the nodes made (its trials), and of these the nodes that settle each of twelve variables.
 pub struct Tally {
     pub nodes: u32,

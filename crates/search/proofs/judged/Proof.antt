@@ -2,7 +2,7 @@
 use mathlib.Core.Path.{sym, ap, _∙_}
 use Rattle.search.specs.Meaning.{means}
 use Rattle.search.specs.Tasks.{enoughFor}
-use Rattle.search.specs.declared.Ending.{Ending}
+use Rattle.walk.specs.declared.Ending.{Ending}
 use Rattle.search.specs.declared.Answer.{Answer}
 use Rattle.search.specs.declared.Answer.the-variants.{Ended}
 use borrow.Author.Needs.{needs}

@@ -4,8 +4,8 @@ use mathlib.Core.List.{List, _++_}
 use Prim.Native.Nat.{ℕ}
 use Rattle.model.specs.Run.{refusal, ended}
 use Rattle.lent.specs.Lent.{verdictLent}
-use Rattle.walk.specs.Meaning.{tallyIn}
-use Rattle.search.specs.Meaning.{endingOf, means}
+use Rattle.walk.specs.Meaning.{tallyIn, endingOf}
+use Rattle.search.specs.Meaning.{means}
 use Rattle.walk.specs.Walk.{noNodes}
 use Rattle.export_run.specs.Run.{endingBytes}
 use Rattle.export_lent.specs.Tallied.{numbersOf}

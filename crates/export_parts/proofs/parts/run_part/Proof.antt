@@ -2,7 +2,8 @@
 use mathlib.Core.Path.{refl, sym, ap, _∙_}
 use Rattle.model.specs.Run.{Tally, refusal, ended}
 use Rattle.lent.specs.Lent.{verdictLent}
-use Rattle.search.specs.Meaning.{endingOf, means}
+use Rattle.search.specs.Meaning.{means}
+use Rattle.walk.specs.Meaning.{endingOf}
 use Rattle.wire.proofs.Codes.{refused-small}
 use Rattle.export_lent.proofs.Lent.{lent-small}
 use Rattle.export_parts.proofs.Answered.{refusal-of, counted, counts-fit, wrong-answer, right-answer, pieces}

@@ -2,8 +2,8 @@
 use mathlib.Core.Path.{sym, subst}
 use Rattle.figure.specs.Figure.{dash}
 use Rattle.report.specs.Text.{endedText, Fitted}
-use Rattle.search.specs.declared.Ending.{Ending}
-use Rattle.search.specs.Meaning.{endingOf}
+use Rattle.walk.specs.declared.Ending.{Ending}
+use Rattle.walk.specs.Meaning.{endingOf}
 use Rattle.export_report.specs.Inner.{Listed}
 use borrow.Author.Needs.{needs}
 use Rattle.export_report.proofs.text.stop_report.Statement.{statement}

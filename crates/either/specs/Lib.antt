@@ -1,2 +1,0 @@
--- Two runs and the merge of their lists.
-pub mod EitherCalls

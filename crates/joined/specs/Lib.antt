@@ -1,4 +1,0 @@
--- What the holder of all parts of a run has.
-pub mod Heads
-pub mod Claims
-pub mod JoinedExamples

@@ -1,0 +1,98 @@
+-- The examples of parts and their heads hold of the definitions. Assumes nothing.
+use mathlib.Core.Path.{_≡_, refl, sym, ap, _∙_, subst}
+use mathlib.Core.List.{List, [], _∷_, map, List·Memᴰ, List·Memᴰ·head, List·Memᴰ·tail, List·Memᴰ·not-nil}
+use Prim.Native.Nat.{ℕ, _<_}
+use native.Mathlib.Omega.{arith}
+use Rattle.model.specs.Bytes.{fourBytes}
+use Rattle.model.specs.Lists.{at, tabulate, total}
+use Rattle.model.specs.Run.{countsBy, tallyAt}
+use Rattle.model.specs.Examples.{sheetA, Each}
+use Rattle.model.specs.Verdict.{Verdict, accepted}
+use Rattle.model.proofs.Examples.{opened}
+use Rattle.model.proofs.Lists.{at-tabulate}
+use Rattle.order.specs.Order.{pairsIn, forerunners, canFollow, settledFirst, settlingOrder, settlesAll, orderVerdict}
+use Rattle.order.specs.Reordered.{position, read, write, valueOf, scopeIn, rowIn, renamed, symmetryIn}
+use Rattle.block.specs.Block.{tablesLent, blockLent}
+use Rattle.lent.specs.Lent.{verdictLent}
+use Rattle.parts.specs.Parts.{after, nodesBetween, lastOf}
+use Rattle.ranges.specs.Ranges.{resultPart, answerPartFor, answerPart, listPartFor, listPart, tallyPart, lastPart}
+use Rattle.ranges.specs.Claims.{Part, Call, Done}
+use Rattle.wire.specs.Wire.{threeNumbers}
+use Rattle.export_lent.specs.Tallied.{numbersOf}
+use Rattle.export_parts.specs.Head.{digestFrom, digest, nameBytes, pathBytes, headOf}
+use Rattle.join.specs.Join.{pathAt, wholeHeads, pathShaped, headShaped, alike, joinVerdict, countOf, comes, mayTake, bestOf, stepOf, takenFrom, taken, standAfter, nearestOf}
+use Rattle.join.specs.Calls.{answerFor, figureFor, CallJoin}
+use Rattle.join.specs.declared.Answer.the-variants.{Joined}
+use Rattle.join.specs.declared.Joining.{Joining}
+use Rattle.promises.specs.JoinedHeads.{takenParts, partAt}
+use Rattle.promises.specs.JoinedClaims.{JoinedHeld, rangesOf, CutHeld}
+use Rattle.promises.specs.JoinedExamples.{partA, cutA, spentA, cutsA, headsA, joiningA, testsJoined, HeldA}
+use Rattle.promises.proofs.JoinedHeads.{heads-held}
+use Rattle.promises.proofs.JoinedHeld.{joined-held}
+use Rattle.promises.proofs.JoinedCut.{cuts-joined}
+
+-- every definition of parts and heads that computes
+unfoldable pub openedParts : ℕ
+unfolding opened countsBy tallyAt pairsIn forerunners canFollow settledFirst settlingOrder settlesAll orderVerdict position read write valueOf scopeIn rowIn renamed symmetryIn tablesLent blockLent verdictLent after nodesBetween lastOf resultPart answerPartFor answerPart listPartFor listPart tallyPart lastPart threeNumbers numbersOf fourBytes digestFrom digest nameBytes pathBytes headOf pathAt wholeHeads pathShaped headShaped alike joinVerdict comes mayTake bestOf stepOf takenFrom taken standAfter nearestOf answerFor total
+openedParts = 0
+
+pub examples-joined : Each testsJoined
+unfolding openedParts
+examples-joined = (refl, (refl, (refl, (refl, (refl, (refl, (refl, (refl, (refl, (refl, (refl, (refl, (refl, (refl, (refl, (refl, (refl, (refl, (refl, (refl, (refl, (refl, (refl, (refl, (refl, (refl, (refl, (refl, (refl, (refl, (refl, (refl, (refl, tt)))))))))))))))))))))))))))))))))
+
+-- ---- what is supposed of joined heads is met
+own : (from upto : List ℕ) (limit room : ℕ) → Call sheetA [] [] (partA from upto limit room)
+own from upto limit room = record { answers = refl; leaves = refl; counts = refl; stands = refl }
+
+own-all : (cs : List Part) → Each (map (λ c. Call sheetA [] [] c) cs) → (c : Part) → List·Memᴰ c cs → Call sheetA [] [] c
+own-all [] h c m = absurd (List·Memᴰ·not-nil m)
+own-all (d ∷ cs) h c (List·Memᴰ·head e) = subst (Call sheetA [] []) (sym e) (h .0)
+own-all (d ∷ cs) h c (List·Memᴰ·tail m) = own-all cs (h .1) c m
+
+counted : (l : List ℕ) → joinVerdict l ≡ accepted → (x : ℕ) → x < 12 → at (tabulate 12 (countOf l)) x ≡ figureFor (joinVerdict l) (countOf l x)
+counted l v x h = at-tabulate 12 (countOf l) x h ∙ sym (ap (λ (w : Verdict). figureFor w (countOf l x)) v)
+
+pub cut-held : HeldA cutA
+unfolding openedParts
+cut-held = (
+  record { lent = refl; calls = own-all cutA (own (0 ∷ 2 ∷ []) (255 ∷ []) 1000000 18, (own [] (0 ∷ 2 ∷ []) 1000000 18, (own (0 ∷ 2 ∷ []) (255 ∷ []) 1000000 18, tt))); bytes = refl },
+  record { answers = refl; inside = λ s n q. absurd (let z : _≡_ {A = ℕ} 0 1 = cc in omega arith); plans = refl; nodes = refl; counts = λ x h. counted (headsA cutA) refl x h },
+)
+
+pub spent-held : HeldA spentA
+unfolding openedParts
+spent-held = (
+  record { lent = refl; calls = own-all spentA (own (0 ∷ 1 ∷ []) (255 ∷ []) 1000000 18, (own [] (255 ∷ []) 2 18, tt)); bytes = refl },
+  record { answers = refl; inside = λ s n q. absurd (let z : _≡_ {A = ℕ} 0 1 = cc in omega arith); plans = refl; nodes = refl; counts = λ x h. counted (headsA spentA) refl x h },
+)
+
+-- so the holder of these heads has the run
+pub cut-joined : JoinedHeld sheetA [] [] (takenParts (headsA cutA) (partAt sheetA [] [] cutA)) (joiningA cutA)
+cut-joined = joined-held sheetA [] [] (headsA cutA) (partAt sheetA [] [] cutA) (heads-held sheetA [] [] cutA (headsA cutA) (cut-held .0) .0) (joiningA cutA) (cut-held .1) refl
+
+-- and so do those of the cuts, by Cuts-joined
+cut-all : CutHeld cutsA cutA
+unfolding openedParts
+cut-all = record { each = each; all = every }
+  where
+    first : Part
+    first = partA [] (0 ∷ 2 ∷ []) 1000000 18
+
+    second : Part
+    second = partA (0 ∷ 2 ∷ []) (255 ∷ []) 1000000 18
+
+    each : (c : Part) → List·Memᴰ c cutA → Done (c .answer) × List·Memᴰ (c .from, c .upto) (rangesOf [] cutsA)
+    each c (List·Memᴰ·head e) = subst (λ (c : Part). Done (c .answer) × List·Memᴰ (c .from, c .upto) (rangesOf [] cutsA)) (sym e) (tt, List·Memᴰ·tail (List·Memᴰ·head refl))
+    each c (List·Memᴰ·tail (List·Memᴰ·head e)) = subst (λ (c : Part). Done (c .answer) × List·Memᴰ (c .from, c .upto) (rangesOf [] cutsA)) (sym e) (tt, List·Memᴰ·head refl)
+    each c (List·Memᴰ·tail (List·Memᴰ·tail (List·Memᴰ·head e))) =
+        subst (λ (c : Part). Done (c .answer) × List·Memᴰ (c .from, c .upto) (rangesOf [] cutsA)) (sym e) (tt, List·Memᴰ·tail (List·Memᴰ·head refl))
+    each c (List·Memᴰ·tail (List·Memᴰ·tail (List·Memᴰ·tail m))) = absurd (List·Memᴰ·not-nil m)
+
+    every : (from upto : List ℕ) → List·Memᴰ (from, upto) (rangesOf [] cutsA) → (c : Part) × List·Memᴰ c cutA × (c .from ≡ from) × (c .upto ≡ upto)
+    every from upto (List·Memᴰ·head e) = (first, List·Memᴰ·tail (List·Memᴰ·head refl), sym (ap (λ (x : List ℕ × List ℕ). x .0) e), sym (ap (λ (x : List ℕ × List ℕ). x .1) e))
+    every from upto (List·Memᴰ·tail (List·Memᴰ·head e)) = (second, List·Memᴰ·head refl, sym (ap (λ (x : List ℕ × List ℕ). x .0) e), sym (ap (λ (x : List ℕ × List ℕ). x .1) e))
+    every from upto (List·Memᴰ·tail (List·Memᴰ·tail m)) = absurd (List·Memᴰ·not-nil m)
+
+pub cut-answers : (r : Joining) → CallJoin (headsA cutA) r → r .answer ≡ Joined
+unfolding after lastOf
+cut-answers = cuts-joined sheetA [] [] cutsA cutA (headsA cutA) (cut-held .0) (omega arith) (λ t. t, (λ t. t, tt)) refl cut-all

@@ -1,0 +1,78 @@
+-- Twelve values of a path are enough: a call is a call with its paths cut to twelve values. Assumes nothing.
+use mathlib.Core.Path.{_≡_, refl, sym, ap, ap₂, _∙_}
+use mathlib.Core.Bool.{Bool, not}
+use mathlib.Core.List.{List, [], map}
+use Prim.Native.Nat.{ℕ, _≤_}
+use native.Mathlib.Omega.{arith}
+use lib.ListN.{length, take, length-take}
+use lib.Seq.{take-all}
+use Rattle.model.specs.Lists.{both, at}
+use Rattle.model.specs.Problem.{Problem}
+use Rattle.model.specs.Search.{nodes}
+use Rattle.model.specs.Verdict.{Verdict, accepted, refused}
+use Rattle.model.specs.Sheet.{problemOf}
+use Rattle.model.specs.Run.{search, Answer, ended, written, Tally, settledBy, countsBy}
+use Rattle.model.proofs.Lists.{keep-ext}
+use Rattle.order.specs.Reordered.{write}
+use Rattle.parts.specs.Parts.{nodesBetween, lastOf}
+use Rattle.lent.specs.Lent.{verdictLent, orderLent, problemLent}
+use Rattle.lent.proofs.Lent.{passed-all, well-lent}
+use Rattle.ranges.specs.Ranges.{partNodes, resultPart, answerPartFor, answerPart, listPartFor, listPart, nodesSaid, tallyPart, lastPart}
+use Rattle.ranges.specs.Claims.{Part, Call}
+use Rattle.parts.proofs.Resume.{node-values}
+use Rattle.ranges.proofs.Between.{between, after-short}
+use Rattle.promises.specs.JoinedHeads.{cutTwelve}
+
+pub twelve-again : (l : List ℕ) → take 12 (take 12 l) ≡ take 12 l
+twelve-again l = take-all 12 (take 12 l) (let n = length-take 12 l in omega arith)
+
+pub twelve-between : (p : Problem) (from upto : List ℕ) → p .variables ≤ 12 → nodesBetween p from upto ≡ nodesBetween p (take 12 from) (take 12 upto)
+unfolding nodesBetween
+twelve-between p from upto h = keep-ext (between from upto) (between (take 12 from) (take 12 upto)) (nodes p) (λ t m.
+    let n = node-values p t m .1 in
+    sym (ap₂ (λ (x y : Bool). both x (not y)) (after-short 12 from t (omega arith)) (after-short 12 upto t (omega arith))))
+
+-- the definitions of a part, by its nodes
+module _ (b pairs block from upto from′ upto′ : List ℕ) (limit : ℕ) (out : List ℕ) (q : partNodes b pairs block from upto ≡ partNodes b pairs block from′ upto′) where
+  same-answer : answerPart b pairs block from upto limit out ≡ answerPart b pairs block from′ upto′ limit out
+  unfolding answerPart answerPartFor resultPart
+  same-answer = go (verdictLent b pairs block)
+    where
+      go : (v : Verdict) → answerPartFor v b pairs block from upto limit (length out) ≡ answerPartFor v b pairs block from′ upto′ limit (length out)
+      go accepted = ap (λ (ts : List (List ℕ)). ended (search (problemLent b pairs block) limit (length out) ts 0 [] .ending)) q
+      go (refused number item) = refl
+
+  same-list : listPart b pairs block from upto limit out ≡ listPart b pairs block from′ upto′ limit out
+  unfolding listPart listPartFor resultPart
+  same-list = go (verdictLent b pairs block)
+    where
+      go : (v : Verdict) → listPartFor v b pairs block from upto limit out ≡ listPartFor v b pairs block from′ upto′ limit out
+      go accepted = ap (λ (ts : List (List ℕ)). written (map (write (orderLent b pairs)) (search (problemLent b pairs block) limit (length out) ts 0 [] .rows)) out) q
+      go (refused number item) = refl
+
+  same-tally : tallyPart b pairs block from upto limit out ≡ tallyPart b pairs block from′ upto′ limit out
+  unfolding tallyPart
+  same-tally =
+      let place : List ℕ → ℕ = λ t. at (orderLent b pairs) (settledBy t) in
+      ap₂ (λ (a : Answer) (ts : List (List ℕ)). let t : Tally = record { nodes = nodesSaid a; counts = countsBy place (take (nodesSaid a) ts) } in t) same-answer q
+
+  same-last : take 12 from ≡ take 12 from′ → lastPart b pairs block from upto limit out ≡ lastPart b pairs block from′ upto′ limit out
+  unfolding lastPart
+  same-last e =
+      ap₂ (λ (a : Answer) (ts : List (List ℕ)). lastOf (take 12 from) (take (nodesSaid a) ts)) same-answer q
+      ∙ ap (λ (l : List ℕ). lastOf l (take (nodesSaid (answerPart b pairs block from′ upto′ limit out)) (partNodes b pairs block from′ upto′))) e
+
+pub small-lent : (b pairs block : List ℕ) → verdictLent b pairs block ≡ accepted → problemOf b .variables ≤ 12
+small-lent b pairs block so = well-lent b pairs block (passed-all (verdictLent b pairs block) so) .few
+
+pub call-twelve : (b pairs block : List ℕ) (c : Part) → verdictLent b pairs block ≡ accepted → Call b pairs block c → Call b pairs block (cutTwelve c)
+call-twelve b pairs block c so h =
+    let q = twelve-between (problemLent b pairs block) (c .from) (c .upto) (small-lent b pairs block so) in
+    let from = take 12 (c .from) in
+    let upto = take 12 (c .upto) in
+    record {
+      answers = h .answers ∙ same-answer b pairs block (c .from) (c .upto) from upto (c .limit) (c .out) q;
+      leaves = h .leaves ∙ same-list b pairs block (c .from) (c .upto) from upto (c .limit) (c .out) q;
+      counts = h .counts ∙ same-tally b pairs block (c .from) (c .upto) from upto (c .limit) (c .out) q;
+      stands = h .stands ∙ same-last b pairs block (c .from) (c .upto) from upto (c .limit) (c .out) q (sym (twelve-again (c .from)));
+    }

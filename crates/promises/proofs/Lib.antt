@@ -1,0 +1,23 @@
+-- The proofs of what callers hold.
+pub mod Demands
+pub mod DemandsLent
+pub mod RetypedCalls
+pub mod EnoughCalls
+pub mod Moments
+pub mod Refusals
+pub mod CountedCalls
+pub mod FamilyCalls
+pub mod Exported
+pub mod ExportedLent
+pub mod PartsCalls
+pub mod EitherCalls
+pub mod Reported
+pub mod JoinedHeads
+pub mod JoinedExamples
+pub mod JoinedTwelve
+pub mod JoinedCut
+pub mod JoinedLays
+pub mod JoinedSpent
+pub mod JoinedTaken
+pub mod JoinedStuck
+pub mod JoinedHeld

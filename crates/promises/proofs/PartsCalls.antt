@@ -1,0 +1,32 @@
+-- Parts of a run, of what callers hold (specs/PartsCalls). Assumes nothing.
+use mathlib.Core.Path.{_≡_, sym, ap, _∙_, subst}
+use mathlib.Core.List.{List}
+use Prim.Native.Nat.{ℕ}
+use lib.ListN.{length, replicate}
+use Rattle.model.specs.Verdict.{Verdict}
+use Rattle.model.specs.Sheet.{problemOf}
+use Rattle.model.specs.Run.{Answer}
+use Rattle.model.specs.Run as Run
+use Rattle.lent.specs.Lent.{answerLentFor, answerLent, listLent, tallyLentFor, tallyLent}
+use Rattle.walk.specs.Meaning.{tallyIn}
+use Rattle.ranges.specs.Claims.{Together}
+use Rattle.ranges.proofs.Joined.{joined-run, whole-run}
+use Rattle.promises.specs.PartsCalls.{Parts-calls, Whole-calls}
+
+pub parts-calls : Parts-calls
+parts-calls b pairs block cs so chain limit out tally r after tally′ c l m =
+    subst (λ (a : Answer). Together (problemOf b .variables) cs out a after (tallyIn tally′)) (sym (c .answers))
+    (subst (λ (list : List ℕ). Together (problemOf b .variables) cs out (answerLent b pairs block limit out) list (tallyIn tally′)) (sym (c .leaves))
+    (subst (λ (t : Run.Tally). Together (problemOf b .variables) cs out (answerLent b pairs block limit out) (listLent b pairs block limit out) t) (sym (c .counts))
+    (joined-run b pairs block cs so chain limit out (tallyIn tally) l m)))
+
+pub whole-calls : Whole-calls
+unfolding tallyLent answerLent answerLentFor
+whole-calls b pairs block limit out r after c tally r′ after′ tally′ d so =
+    let w = whole-run b pairs block limit out in
+    (c .answers ∙ w .answer ∙ sym (d .answers), c .leaves ∙ w .list ∙ sym (d .leaves), c .counts ∙ w .tally ∙ same record { nodes = 0; counts = replicate 12 0 } (tallyIn tally) ∙ sym (d .counts))
+  where
+    same : (t u : Run.Tally) → tallyLent b pairs block limit out t ≡ tallyLent b pairs block limit out u
+    same t u =
+        ap (λ (v : Verdict). tallyLentFor (answerLentFor v b pairs block limit (length out)) b pairs block t) so
+        ∙ sym (ap (λ (v : Verdict). tallyLentFor (answerLentFor v b pairs block limit (length out)) b pairs block u) so)

@@ -1,0 +1,52 @@
+-- Families (paper 02, #104) and one plan of each (#112), of what callers hold: of `families`, and of `run_lent` with the same sheet, pairs and block.
+-- proofs/FamilyCalls has the theorems.
+use mathlib.Core.Path.{_≡_}
+use mathlib.Core.Logic.{_↔_}
+use mathlib.Core.List.{List, []}
+use Prim.Native.Nat.{ℕ, _*_}
+use lib.ListN.{length}
+use Rattle.counting.specs.Calls.{CallFamilies}
+use Rattle.model.specs.Verdict.{accepted, refused}
+use Rattle.model.specs.Sheet.{headerOf, problemOf}
+use Rattle.lent.specs.Lent.{verdictLent, problemWith}
+use Rattle.families.specs.Families.{Closed, FamilyCount, familiesOf}
+use Rattle.figure.specs.Figure.{bareSheet}
+use Rattle.figure.specs.FigureClaims.{OneListedEach}
+use Rattle.promises.specs.Demands.{plansFrom}
+use Rattle.search.specs.Calls.{CallLent}
+use Rattle.walk.specs.declared.Tally.{Tally}
+use Rattle.walk.specs.declared.Ending.the-variants.{Finished as Done}
+use Rattle.search.specs.declared.Answer as SA
+use Rattle.search.specs.declared.Answer.the-variants.{Ended}
+use Rattle.counting.specs.Told.{countedLent, means}
+use Rattle.counting.specs.declared.Answer.{Answer}
+use Rattle.counting.specs.declared.Answer.the-variants.{Number, Dash, Refused}
+
+-- ---- families
+pub record FamiliesHeld (b pairs block : List ℕ) (limit : ℕ) (r : Answer) : Type 0 where
+  -- the refusal of the run
+  pub refuses : (n i : ℕ) → verdictLent b pairs block ≡ refused n i → r ≡ Refused n i
+  -- a number is that of the families
+  pub counts : (k : ℕ) → r ≡ Number k → (k ≡ familiesOf (problemWith b block)) × FamilyCount (problemWith b block)
+  -- beside a run of the sheet without exchanges, with the same pairs, this limit and room for 4,096 plans: a number is told where it is finished, and the
+  -- dash exactly where it isn't
+  pub numbered : verdictLent b pairs block ≡ accepted → (out : List ℕ) (tally : Tally) (a : SA.Answer) (after : List ℕ) (tally′ : Tally) → CallLent (bareSheet b) pairs [] limit out tally a after tally′ →
+      length out ≡ 4096 * problemOf b .variables → (plans nodes : ℕ) → a ≡ Ended (Done plans nodes) → r ≡ Number (familiesOf (problemWith b block))
+  pub dashed : verdictLent b pairs block ≡ accepted → (out : List ℕ) (tally : Tally) (a : SA.Answer) (after : List ℕ) (tally′ : Tally) → CallLent (bareSheet b) pairs [] limit out tally a after tally′ →
+      length out ≡ 4096 * problemOf b .variables → (r ≡ Dash) ↔ ((plans nodes : ℕ) → a ≡ Ended (Done plans nodes) → ⊥)
+
+abbrev pub Families-calls : Type 0
+Families-calls = (b pairs block : List ℕ) (limit : ℕ) (r : Answer) → CallFamilies b pairs block limit r → FamiliesHeld b pairs block limit r
+
+-- ---- one of each family
+-- a finished run under closed exchanges: the plans in the caller's list are exactly one of each family, the one that reads earliest in the order of the run
+abbrev pub One-of-each-calls : Type 0
+One-of-each-calls =
+    (b pairs block : List ℕ) (limit : ℕ) (out : List ℕ) (tally : Tally) (r : SA.Answer) (after : List ℕ) (tally′ : Tally) → CallLent b pairs block limit out tally r after tally′ →
+    (plans nodes : ℕ) → r ≡ Ended (Done plans nodes) → Closed (problemWith b block) → OneListedEach b pairs block plans (plansFrom b plans after)
+
+-- closed they are where `closed` says so (crate closed's `Closed-calls`), and where a block is used with no exchanges of the sheet
+abbrev pub Block-calls : Type 0
+Block-calls =
+    (b pairs block : List ℕ) (limit : ℕ) (out : List ℕ) (tally : Tally) (r : SA.Answer) (after : List ℕ) (tally′ : Tally) → CallLent b pairs block limit out tally r after tally′ →
+    (plans nodes : ℕ) → r ≡ Ended (Done plans nodes) → headerOf b .symmetries ≡ 0 → OneListedEach b pairs block plans (plansFrom b plans after)
