@@ -8,14 +8,13 @@ use native.Mathlib.Omega.{arith}
 use lib.Dec.{T}
 use lib.ListN.{length, getD}
 use Rattle.model.specs.Lists.{at}
-use Rattle.model.specs.Problem.{Problem, pair, isPair}
+use Rattle.model.specs.Problem.{Problem, pair, isPair, withSymmetries}
 use Rattle.model.specs.Verdict.{Verdict, accepted, refused, isAccepted}
 use Rattle.model.specs.WellFormed.{WellFormed}
 use Rattle.order.specs.Order.{Ordering}
 use Rattle.order.specs.Reordered.{symmetryIn, reordered}
 use Rattle.block.specs.Block.{variableTable, inBlock, orderingTable, blockTables, blockVerdict, tablesLent, blockLent, inLent}
 use Rattle.block.specs.BlockSets.{Reorders, BlockIn}
-use Rattle.model.proofs.More.{withSymmetries}
 use Rattle.block.proofs.Tables.{Passes}
 use Rattle.block.proofs.Block.{row-passes}
 use Rattle.block.proofs.BlockReordered.{accepted-reordered}

@@ -7,7 +7,7 @@ use Prim.Native.Nat.{ℕ, _*_, _≤_, _<_}
 use lib.Dec.{T}
 use Rattle.model.specs.Lists.{at}
 use Rattle.model.specs.ValueSets.{has, anyEmpty}
-use Rattle.model.specs.Problem.{Problem, pair}
+use Rattle.model.specs.Problem.{Problem, pair, withSymmetries}
 use Rattle.model.specs.Verdict.{accepted}
 use Rattle.model.specs.Search.{isPlan}
 use Rattle.model.specs.Claims.{Consistent}
@@ -18,7 +18,6 @@ use Rattle.order.specs.Order.{Ordering}
 use Rattle.order.specs.Reordered.{position, read, renamed, symmetryIn, reordered}
 use Rattle.model.proofs.Lists.{at-below}
 use Rattle.model.proofs.Pairs as P
-use Rattle.model.proofs.More.{withSymmetries}
 use Rattle.order.proofs.Reordered as R
 use Rattle.block.proofs.BlockSets as S
 use Rattle.block.proofs.BlockOrderings.{accepted-block}

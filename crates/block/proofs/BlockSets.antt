@@ -12,7 +12,7 @@ use lib.ListN.{length, getD, set, length-append}
 use lib.Seq.{getD-set-same, getD-set-other}
 use Rattle.model.specs.Lists.{both, at}
 use Rattle.model.specs.ValueSets.{has, maskOf, members, anyEmpty}
-use Rattle.model.specs.Problem.{Problem, pair, assignments}
+use Rattle.model.specs.Problem.{Problem, pair, assignments, withSymmetries}
 use Rattle.model.specs.Nogood.{Entry, obeys, filtered}
 use Rattle.model.specs.Search.{nogoodsOf, pruned, narrowed, setsAt, isLive, isPlan}
 use Rattle.model.specs.Claims.{Consistent, Drawn}
@@ -31,7 +31,6 @@ use Rattle.model.proofs.Prune.{Kept, fixed-i, fixed-e, narrowed-e, Sized, large
 use Rattle.model.proofs.Consistent.{consistent-e, consistent-inside, live-consistent, dead-empty}
 use Rattle.model.proofs.Tree.{well-sized}
 use Rattle.model.proofs.Child.{child-start}
-use Rattle.model.proofs.More.{withSymmetries}
 use Rattle.model.proofs.More as M
 
 -- ---- along a permutation of variables that ascend, the first difference is not downwards

@@ -9,7 +9,7 @@ use lib.Dec.{T, eqb, eqb-refl}
 use lib.ListN.{length}
 use Rattle.model.specs.Lists.{all, any, below, at}
 use Rattle.model.specs.ValueSets.{has}
-use Rattle.model.specs.Problem.{Problem, Constraint, pair, isPair, pairsAt, within, doubled, excluded, forbidden, respects}
+use Rattle.model.specs.Problem.{Problem, Constraint, pair, isPair, pairsAt, within, doubled, excluded, forbidden, respects, withSymmetries}
 use Rattle.model.specs.Sheet.{distinct, permutesPairs}
 use Rattle.model.specs.Claims.{Drawn}
 use Rattle.block.specs.Block.{andThen, variableTable}
@@ -18,7 +18,6 @@ use Rattle.model.proofs.Lists.{both-i, T-dec, of-T, not-of, all-i, any-i, below
 use Rattle.model.proofs.Assignments.{drawn-e}
 use Rattle.model.proofs.Pairs as P
 use Rattle.model.proofs.Symmetry as S
-use Rattle.model.proofs.More.{withSymmetries}
 use Rattle.model.proofs.Asked.{good-other, respects-other}
 use Rattle.order.proofs.Reordered.{apart-distinct}
 use Rattle.block.proofs.Orderings.{at-andThen, length-andThen}

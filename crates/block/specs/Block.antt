@@ -6,7 +6,7 @@ use lib.ListN.{length, getD, replicate}
 use lib.Dec.{T, leb, ltb}
 use Rattle.model.specs.Lists.{keep, below, at, both}
 use Rattle.model.specs.ValueSets.{fullMask}
-use Rattle.model.specs.Problem.{Problem, pair, isPair, assignments, respects}
+use Rattle.model.specs.Problem.{Problem, pair, isPair, assignments, respects, withSymmetries}
 use Rattle.model.specs.Verdict.{Verdict, accepted, refused, ask}
 use Rattle.model.specs.Sheet.{distinct, permutesPairs, symmetriesVerdict}
 
@@ -51,14 +51,7 @@ blockTables p first m = map (orderingTable p first m) (below (factorial m))
 
 -- the problem with the block's symmetries after its own
 abbrev pub withBlock : ℕ → ℕ → Problem → Problem
-withBlock first m p =
-    record {
-      variables = p .variables;
-      values = p .values;
-      initial = p .initial;
-      constraints = p .constraints;
-      symmetries = p .symmetries ++ blockTables p first m;
-    }
+withBlock first m p = withSymmetries p (p .symmetries ++ blockTables p first m)
 
 -- ---- the questions
 -- the block is 2 to 5 neighbouring variables of the problem
@@ -94,3 +87,7 @@ inLent [] x = false
 inLent (first ∷ []) x = false
 inLent (first ∷ m ∷ []) x = inBlock first m x
 inLent (first ∷ m ∷ y ∷ more) x = false
+
+-- the problem with the symmetries of a block as it is lent after its own
+abbrev pub withLent : List ℕ → Problem → Problem
+withLent block p = withSymmetries p (p .symmetries ++ tablesLent p block)

@@ -17,11 +17,11 @@ use Rattle.model.proofs.Accepted.{constraints-are, symmetries-are}
 use Rattle.sheet.specs.Meaning as sheet
 use Rattle.sheet.specs.declared.Answer.{Answer}
 use Rattle.sheet.specs.declared.Answer.the-variants.{Accepted}
-use Rattle.block.specs.Block.{factorial, orderingTable, blockTables, tablesLent, blockLent}
+use Rattle.block.specs.Block.{factorial, orderingTable, blockTables, tablesLent, blockLent, withLent}
 use Rattle.block.proofs.Orderings.{factorial-le}
 use Rattle.block.proofs.Block.{block-e}
 use Rattle.block.proofs.BlockLent.{is-accepted}
-use Rattle.orderings.specs.Asked.{Imaged, PutOn, withLent}
+use Rattle.orderings.specs.Asked.{Imaged, PutOn}
 use Rattle.lent.specs.Lent.{verdictLent, problemWith}
 use Rattle.lent.specs.Compile.{AskedLent}
 use Rattle.lent.proofs.Lent.{passed-all, lent-passed, well-sheet, well-lent}

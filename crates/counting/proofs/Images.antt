@@ -7,11 +7,10 @@ use lib.Dec.{T, eqb}
 use lib.ListN.{length, set, length-map, length-set}
 use Rattle.model.specs.Lists.{any, at}
 use Rattle.model.specs.ValueSets.{has}
-use Rattle.model.specs.Problem.{Problem}
+use Rattle.model.specs.Problem.{Problem, withSymmetries}
 use Rattle.model.specs.Verdict.{accepted, isAccepted}
 use Rattle.model.specs.Sheet.{problemOf}
 use Rattle.model.proofs.Lists.{at-set, at-set-other}
-use Rattle.model.proofs.More.{withSymmetries}
 use Rattle.model.proofs.Accepted.{constraints-are}
 use Rattle.layout.specs.Places.{INITIAL, SCOPES, VARIABLES, VALUES, CONSTRAINTS, SYMMETRIES, NUMBERS}
 use Rattle.layout.specs.Layout.{constraintAt, Numbers, Compiled}

@@ -12,7 +12,7 @@ use lib.ListN.{length, set, take, length-set}
 use lib.Seq.{length-take-le, take-all}
 use Rattle.model.specs.Lists.{at, below}
 use Rattle.model.specs.ValueSets.{has}
-use Rattle.model.specs.Problem.{Problem}
+use Rattle.model.specs.Problem.{Problem, withSymmetries}
 use Rattle.model.specs.Search.{isLive, setsAt}
 use Rattle.model.proofs.Lists.{T-of, of-not, at-set, at-set-other, at-ext, at-take}
 use Rattle.model.proofs.Sets.{has-none}
@@ -24,7 +24,7 @@ use Rattle.layout.specs.Places.{SCOPES, VARIABLES, VALUES, CONSTRAINTS, SYMMETR
 use Rattle.layout.specs.Layout.{Numbers, Compiled}
 use Rattle.layout.specs.Tables.{Linked, UnionOf, Words, Indexed}
 use Rattle.index.specs.Index.{Compact, Made}
-use Rattle.prune.specs.Node.{withOrderings, Ready, Holds, Marked, Reached}
+use Rattle.prune.specs.Node.{Ready, Holds, Marked, Reached}
 use Rattle.walk.specs.Walk.{noNodes}
 use Rattle.walk.specs.Pair.{prefixOf, orderIn, ownIn, ListRoom, AtPrefix}
 use Rattle.walk.proofs.Prefix.{prefix-zero}
@@ -98,7 +98,7 @@ laid-alone p numbers supports images bytes c f long placed = record {
   bytes-length = placed .0;
   order-is = below-taken (p .variables) bytes (let w = f .wellFormed .few in omega (arith, placed .0)) (λ k l. placed .1 k (let w = f .wellFormed .few in omega arith));
   ordering = ordering-below (p .variables);
-  own-is = ap (withOrderings p) (take-all (length (p .symmetries)) (p .symmetries) (omega arith));
+  own-is = ap (withSymmetries p) (take-all (length (p .symmetries)) (p .symmetries) (omega arith));
   block = record {
     equal = λ x y l m t u. absurd (none x t);
     own = λ g m. m;
@@ -159,7 +159,7 @@ module _ (p own : Problem) (order numbers supports images bytes : List ℕ) (pos
 
     -- the arrays hold the first of the tree's symmetries
     own-in : ownIn p numbers′ ≡ own
-    own-in = ap (λ (n : ℕ). withOrderings p (take n (p .symmetries))) (first SYMMETRIES (omega arith) ∙ h .compiled .numbered .symmetries) ∙ h .own-is
+    own-in = ap (λ (n : ℕ). withSymmetries p (take n (p .symmetries))) (first SYMMETRIES (omega arith) ∙ h .compiled .numbered .symmetries) ∙ h .own-is
 
     pub ready : (stack work : List ℕ) → length stack ≡ STACK → length work ≡ WORK → Ready (ownIn p numbers′) (p .symmetries) stack work supports tables′ numbers′
     ready stack work ls lw = subst (λ (r : Problem). Ready r (p .symmetries) stack work supports tables′ numbers′) (sym own-in) record {

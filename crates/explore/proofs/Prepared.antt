@@ -9,7 +9,7 @@ use lib.Dec.{T, eqb}
 use borrow.Author.Tests.{eqb-false}
 use lib.ListN.{length, set, length-set}
 use Rattle.model.specs.Lists.{at, choose}
-use Rattle.model.specs.Problem.{Problem}
+use Rattle.model.specs.Problem.{Problem, withSymmetries}
 use Rattle.model.specs.Verdict.{accepted, refused, isAccepted}
 use Rattle.model.specs.Filling.{Gathered}
 use Rattle.model.specs.Sheet.{problemOf}
@@ -25,7 +25,6 @@ use Rattle.layout.specs.Layout.{Compiled}
 use Rattle.sheet.specs.Meaning as S
 use Rattle.sheet.specs.declared.Answer.{Answer as Verdicts}
 use Rattle.sheet.specs.declared.Answer.the-variants.{Accepted}
-use Rattle.prune.specs.Node.{withOrderings}
 use Rattle.walk.specs.Pair.{ListRoom}
 use Rattle.task.specs.Task.{roomFor}
 use Rattle.explore.specs.Begun.{Laid, Begun}
@@ -82,7 +81,7 @@ module _ (b pairs block : List ℕ) (numbers supports images bytes : List ℕ) (
           bytes-length = left .order-length;
           order-is = left .order-is is;
           ordering = left .ordering is;
-          own-is = ap (withOrderings sheets) (own-first b pairs block);
+          own-is = ap (withSymmetries sheets) (own-first b pairs block);
           block = block-walked b pairs block good bytes (left .order-is is) positions g;
           block-few = block-inside b pairs block good bytes (left .order-is is) positions g;
         }

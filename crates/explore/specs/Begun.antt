@@ -7,7 +7,7 @@ use lib.Dec.{T}
 use lib.ListN.{length, take}
 use Rattle.model.specs.Lists.{at}
 use Rattle.model.specs.ValueSets.{has}
-use Rattle.model.specs.Problem.{Problem}
+use Rattle.model.specs.Problem.{Problem, withSymmetries}
 use Rattle.model.specs.Search.{isLive}
 use Rattle.model.specs.Run.{Tally}
 use Rattle.order.specs.Order.{Ordering}
@@ -15,7 +15,6 @@ use Rattle.block.specs.BlockSets.{BlockIn}
 use Rattle.lent.specs.Compile.{WithinLimits}
 use Rattle.layout.specs.Places.{LIMIT, ROOM, PLANS, LINKED, ALL, DEEPER, NUMBERS, STACK, TABLES, WORK}
 use Rattle.layout.specs.Layout.{Compiled}
-use Rattle.prune.specs.Node.{withOrderings}
 use Rattle.walk.specs.Walk.{noNodes}
 use Rattle.walk.specs.Pair.{orderIn, ListRoom, AtPrefix, Walked, tried}
 
@@ -28,7 +27,7 @@ pub record Laid (p own : Problem) (order numbers supports images bytes : List �
   pub bytes-length : length bytes ≡ 16
   pub order-is : take (p .variables) bytes ≡ order
   pub ordering : Ordering (p .variables) order
-  pub own-is : withOrderings p (take (length (own .symmetries)) (p .symmetries)) ≡ own
+  pub own-is : withSymmetries p (take (length (own .symmetries)) (p .symmetries)) ≡ own
   pub block : BlockIn own (has positions) (p .symmetries)
   pub block-few : (x : ℕ) → T (has positions x) → x < own .variables
 

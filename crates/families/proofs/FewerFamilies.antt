@@ -8,7 +8,7 @@ use native.Mathlib.Omega.{arith}
 use lib.Dec.{T}
 use lib.ListN.{length}
 use Rattle.model.specs.Lists.{both, any, keep, earlier}
-use Rattle.model.specs.Problem.{Problem, pair, isPair, pairsOf, takes, isSolution, assignments}
+use Rattle.model.specs.Problem.{Problem, pair, isPair, pairsOf, takes, isSolution, assignments, withSymmetries}
 use Rattle.model.specs.Verdict.{isAccepted, accepted, Verdict}
 use Rattle.model.specs.Sheet.{problemOf, verdictOf, permutesPairs}
 use Rattle.model.specs.Claims.{isLeader, leaders, OneMore}
@@ -16,7 +16,6 @@ use Rattle.families.specs.Families.{Joined, alone, further, solutionsOf,
 use Rattle.model.specs.WellFormed.{WellFormed, Respected, GoodSymmetry}
 use Rattle.model.proofs.Lists.{earlier-asym, keep-all, keep-ext}
 use Rattle.model.proofs.Members.{both-yes}
-use Rattle.model.proofs.More.{withSymmetries}
 use Rattle.model.proofs.OneMore.{one-more}
 use Rattle.model.proofs.Demands.{of-accepted}
 use Rattle.families.proofs.Joined.{joined-to, joined-trans, joined-one}

@@ -8,14 +8,13 @@ use native.Mathlib.Omega.{arith}
 use lib.Dec.{T}
 use lib.ListN.{length, drop}
 use Rattle.model.specs.Lists.{flat}
-use Rattle.model.specs.Problem.{Problem}
+use Rattle.model.specs.Problem.{Problem, withSymmetries}
 use Rattle.model.specs.Verdict.{accepted, isAccepted}
 use Rattle.model.specs.Sheet.{problemOf}
 use Rattle.model.specs.WellFormed.{WellFormed, Respected}
 use Rattle.model.specs.Run.{Ending, finished, spent, full, resultOf, written}
 use Rattle.model.proofs.Tree.{plans-of-tree}
 use Rattle.model.proofs.Runs.{finished-rows, finished-fits}
-use Rattle.model.proofs.More.{withSymmetries}
 use Rattle.model.proofs.Demands.{same-test}
 use Rattle.layout.specs.Layout.{Images}
 use Rattle.order.specs.Order.{Ordering}

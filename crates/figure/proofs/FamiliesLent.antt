@@ -5,13 +5,12 @@ use mathlib.Core.List.{List, [], _∷_, _++_, map, append-nil, List·Memᴰ, Lis
 use Prim.Native.Nat.{ℕ}
 use lib.Dec.{T}
 use lib.ListN.{length}
-use Rattle.model.specs.Problem.{Problem, isSolution}
+use Rattle.model.specs.Problem.{Problem, isSolution, withSymmetries}
 use Rattle.model.specs.Verdict.{Verdict, accepted, isAccepted}
 use Rattle.model.specs.Lists.{upFrom, below}
 use Rattle.model.specs.Sheet.{headerOf, problemOf, tableAt}
 use Rattle.model.specs.WellFormed.{WellFormed, Respected}
 use Rattle.model.specs.Run.{Ending, finished, spent, full, plansIn, ended, written}
-use Rattle.model.proofs.More.{withSymmetries}
 use Rattle.order.specs.Order.{Ordering, settlingOrder, orderVerdict}
 use Rattle.order.specs.Reordered.{LeaderBy}
 use Rattle.order.specs.RunBy.{resultBy, leadersBy}

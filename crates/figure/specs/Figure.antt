@@ -4,7 +4,7 @@ use mathlib.Core.List.{List, [], _++_}
 use Prim.Native.Nat.{ℕ, _-_, _*_}
 use lib.ListN.{take, drop}
 use Rattle.model.specs.Bytes.{twoBytes}
-use Rattle.model.specs.Problem.{Problem}
+use Rattle.model.specs.Problem.{Problem, withSymmetries}
 use Rattle.model.specs.Sheet.{headerOf, problemOf}
 use Rattle.model.specs.Run.{Ending, finished, spent, full}
 use Rattle.order.specs.RunBy.{resultBy}
@@ -14,14 +14,7 @@ use Rattle.families.specs.Families.{familiesOf}
 -- ---- the sheet without exchanges
 -- its problem: no symmetries, neither the sheet's nor a block's
 abbrev pub problemBare : List ℕ → Problem
-problemBare b =
-    record {
-      variables = problemOf b .variables;
-      values = problemOf b .values;
-      initial = problemOf b .initial;
-      constraints = problemOf b .constraints;
-      symmetries = [];
-    }
+problemBare b = withSymmetries (problemOf b) []
 
 -- the sheet that states it: no exchanges, the length to fit, the other bytes as they are
 unfoldable pub bareSheet : List ℕ → List ℕ

@@ -8,7 +8,7 @@ use lib.ListN.{length, take}
 use lib.Seq.{take-at}
 use Rattle.model.specs.Lists.{at}
 use Rattle.model.specs.ValueSets.{has}
-use Rattle.model.specs.Problem.{pair}
+use Rattle.model.specs.Problem.{pair, withSymmetries}
 use Rattle.model.specs.Verdict.{isAccepted}
 use Rattle.model.specs.Sheet.{problemOf}
 use Rattle.model.specs.Filling.{Gathered}
@@ -18,7 +18,6 @@ use Rattle.block.specs.BlockSets.{BlockIn}
 use Rattle.lent.specs.Lent.{verdictLent, orderLent, problemLent}
 use Rattle.model.proofs.Lists.{at-take, map-append}
 use Rattle.model.proofs.Filling.{gathered-is, gathered-lt}
-use Rattle.model.proofs.More.{withSymmetries}
 use Rattle.block.proofs.BlockLent.{block-same, lent-reordered}
 use Rattle.lent.proofs.Lent.{lent-passed, well-sheet, ordering-lent}
 

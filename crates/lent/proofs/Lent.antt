@@ -7,7 +7,7 @@ use native.Mathlib.Omega.{arith}
 use lib.Dec.{T}
 use lib.ListN.{length, take, drop}
 use Rattle.model.specs.Lists.{flat}
-use Rattle.model.specs.Problem.{Problem, respects, isSolution}
+use Rattle.model.specs.Problem.{Problem, respects, isSolution, withSymmetries}
 use Rattle.model.specs.Verdict.{Verdict, accepted, refused, isAccepted}
 use Rattle.model.specs.Sheet.{verdictOf, problemOf}
 use Rattle.model.specs.WellFormed.{WellFormed, GoodSymmetry, Respected}
@@ -15,7 +15,7 @@ use Rattle.model.specs.Run.{Ending, finished, plansIn, resultOf, ended, written
 use Rattle.model.specs.Claims.{OneMore}
 use Rattle.model.proofs.Accepted.{Passed, passed}
 use Rattle.model.proofs.OneMore.{one-more}
-use Rattle.model.proofs.More.{FewerIn, withSymmetries}
+use Rattle.model.proofs.More.{FewerIn}
 use Rattle.model.proofs.Demands.{listed-back}
 use Rattle.order.specs.Order.{Ordering, settlingOrder, orderVerdict}
 use Rattle.order.specs.Reordered.{write, reordered, ChainBy}

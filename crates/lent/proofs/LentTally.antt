@@ -5,7 +5,7 @@ use Prim.Native.Nat.{ℕ, _≤_}
 use lib.ListN.{length}
 use lib.Seq.{length-take-le}
 use Rattle.model.specs.Lists.{at, below, total}
-use Rattle.model.specs.Problem.{Problem}
+use Rattle.model.specs.Problem.{Problem, withSymmetries}
 use Rattle.model.specs.Verdict.{Verdict, accepted, refused}
 use Rattle.model.specs.Sheet.{verdictOf, problemOf}
 use Rattle.model.specs.WellFormed.{WellFormed}
@@ -13,7 +13,6 @@ use Rattle.model.specs.Search.{nodes}
 use Rattle.model.specs.Run.{Ending, nodesIn, Result, Answer, refusal, ended, answerFor, answerOf, written, listFor, listOf, Tally, tallyAt, tallyFor, tallyOf}
 use Rattle.model.proofs.Accepted.{well-formed}
 use Rattle.model.proofs.Tally.{made-inside}
-use Rattle.model.proofs.More.{withSymmetries}
 use Rattle.order.specs.Order.{Ordering}
 use Rattle.order.specs.Reordered.{reordered}
 use Rattle.order.specs.RunBy.{resultBy, placeCounts}

@@ -10,7 +10,7 @@ use Rattle.model.specs.Run.{Ending, plansIn, nodesIn, Answer, refusal, ended, w
 use Rattle.order.specs.Order.{settlingOrder, orderVerdict}
 use Rattle.order.specs.Reordered.{reordered}
 use Rattle.order.specs.RunBy.{resultBy, placeCounts}
-use Rattle.block.specs.Block.{tablesLent, blockLent}
+use Rattle.block.specs.Block.{tablesLent, blockLent, withLent}
 use Rattle.sheet.specs.Meaning.{andThen}
 
 -- ---- the questions: the sheet's, then 28 to 30, then the block's
@@ -20,14 +20,7 @@ verdictLent b pairs block = andThen (verdictOf b) (orderVerdict (problemOf b .va
 -- ---- the problem
 -- that of the sheet with the block's symmetries after its own
 abbrev pub problemWith : List ℕ → List ℕ → Problem
-problemWith b block =
-    record {
-      variables = problemOf b .variables;
-      values = problemOf b .values;
-      initial = problemOf b .initial;
-      constraints = problemOf b .constraints;
-      symmetries = problemOf b .symmetries ++ tablesLent (problemOf b) block;
-    }
+problemWith b block = withLent block (problemOf b)
 
 -- the order in which the run settles the places
 abbrev pub orderLent : List ℕ → List ℕ → List ℕ

@@ -8,13 +8,12 @@ use lib.Dec.{T, leb, ltb, eqb, leb→le, not-T, eqb→eq}
 use lib.ListN.{length}
 use borrow.Author.Tests.{eq-eqb, le-leb, lt-ltb}
 use Rattle.model.specs.Lists.{all, any, both, at, keep, flat, below, same, ascending, rowsAscend}
-use Rattle.model.specs.Problem.{Problem, Constraint, pair, isPair, pairsAt, within, assignments, doubled, excluded, forbidden, respects}
+use Rattle.model.specs.Problem.{Problem, Constraint, pair, isPair, pairsAt, within, assignments, doubled, excluded, forbidden, respects, withSymmetries}
 use Rattle.model.specs.Verdict.{Verdict, accepted, ask, isAccepted}
 use Rattle.model.specs.Sheet.{Header, word, headerVerdict, scopeAt, rowsAt, afterAt, setsVerdict, constraintVerdict, constraintsVerdict, permutesPairs, symmetriesVerdict}
 use Rattle.model.specs.WellFormed.{GoodSymmetry}
 use Rattle.model.proofs.Lists.{of-T, map-ext}
 use Rattle.model.proofs.Accepted.{HeaderPassed, asked}
-use Rattle.model.proofs.More.{withSymmetries}
 use Rattle.model.proofs.OneMore.{after-low, arity, count, after-agree, scope-agree, rows-agree, Agree}
 
 -- ---- questions that are passed say what is asked after them

@@ -7,7 +7,7 @@ use lib.Dec.{T, eqb}
 use lib.ListN.{length}
 use Rattle.model.specs.Lists.{keep, at}
 use Rattle.model.specs.ValueSets.{has}
-use Rattle.model.specs.Problem.{Problem, pair}
+use Rattle.model.specs.Problem.{Problem, pair, withSymmetries}
 use Rattle.model.specs.Nogood.{Entry, filtered}
 use Rattle.model.specs.Search.{entriesAt, nogoodsOf, pruned, setsAt, isLive, nodesBelow, nodes, isPlan}
 use Rattle.model.specs.Run.{finished, resultOf}
@@ -16,10 +16,6 @@ use Rattle.model.proofs.Sets.{inside-antisym, members-sub}
 use Rattle.model.specs.Pruning.{Inside, closed}
 use Rattle.model.proofs.Prune.{Kept, pruned-i, pruned-e, pruned-inside, pruned-sets, Sized, largest, setsAt-mono, live-mono}
 use Rattle.model.proofs.Runs.{finished-rows, finished-fits, finishes}
-
--- the problem with other symmetries
-abbrev pub withSymmetries : Problem → List (List ℕ) → Problem
-withSymmetries p gs = record { variables = p .variables; values = p .values; initial = p .initial; constraints = p .constraints; symmetries = gs }
 
 module _ (p : Problem) (gs : List (List ℕ)) (s : Sized p) (h : (g : List ℕ) → List·Memᴰ g (p .symmetries) → List·Memᴰ g gs) where
   pub nogoods-same : (g prefix : List ℕ) → nogoodsOf (withSymmetries p gs) g prefix ≡ nogoodsOf p g prefix

@@ -9,14 +9,13 @@ use lib.Dec.{T}
 use lib.ListN.{length, take, drop, length-append, length-take, length-drop}
 use lib.Seq.{getD-take, getD-drop}
 use Rattle.model.specs.Lists.{below, upFrom, at}
-use Rattle.model.specs.Problem.{Constraint}
+use Rattle.model.specs.Problem.{Constraint, withSymmetries}
 use Rattle.model.specs.Verdict.{Verdict, isAccepted}
 use Rattle.model.specs.Sheet.{Header, word, words, headerOf, scopeAt, rowsAt, afterAt, constraintsVerdict, constraintsFrom, tableAt, problemOf, verdictOf}
 use Rattle.model.specs.Claims.{sizeWith, OneMore, exchangeIn}
 use Rattle.model.specs.Bytes.{twoBytes}
 use Rattle.model.proofs.Lists.{map-shift, at-skip, at-append, below-e, upFrom-e, upFrom-add, map-append, map-ext, length-below}
 use Rattle.model.proofs.Accepted.{Passed, passed, constraint-asked}
-use Rattle.model.proofs.More.{withSymmetries}
 
 -- ---- elements of joined lists
 pub at-left : (xs ys : List ℕ) (n i : ℕ) → length xs ≡ n → i < n → at (xs ++ ys) i ≡ at xs i

@@ -8,13 +8,12 @@ use lib.Dec.{T, leb, leb→le}
 use lib.ListN.{length}
 use borrow.Author.Tests.{eq-eqb, le-leb}
 use Rattle.model.specs.Lists.{below}
-use Rattle.model.specs.Problem.{Problem, respects}
+use Rattle.model.specs.Problem.{Problem, respects, withSymmetries}
 use Rattle.model.specs.Verdict.{Verdict, accepted, ask, isAccepted}
 use Rattle.model.specs.Sheet.{Header, word, headerOf, headerVerdict, problemOf, setsVerdict, constraintsVerdict, tablesFit, formVerdict, permutesPairs, symmetriesVerdict, verdictOf}
 use Rattle.model.specs.Claims.{sizeWith, OneMore, exchangeIn, One-more-answer, One-more-accepted}
 use Rattle.model.proofs.Lists.{of-T, below-e}
 use Rattle.model.proofs.Accepted.{HeaderPassed, Passed, passed, asked, at-words}
-use Rattle.model.proofs.More.{withSymmetries}
 use Rattle.model.proofs.OneMore.{word-agree, header-more, length-more, below-third, before, after, added, length-before, added-is, longer, old}
 use Rattle.model.proofs.Asked.{tablesHeader, header-but-five, sets-pass, constraints-pass, symmetries-i, symmetries-first, permutes-same, respects-same}
 

@@ -20,6 +20,10 @@ pub record Problem : Type 0 where
   pub constraints : List Constraint
   pub symmetries : List (List ℕ)
 
+-- the problem with other symmetries
+abbrev pub withSymmetries : Problem → List (List ℕ) → Problem
+withSymmetries p gs = record { variables = p .variables; values = p .values; initial = p .initial; constraints = p .constraints; symmetries = gs }
+
 -- ---- solutions
 -- the values that an assignment gives to a scope
 unfoldable pub valuesAt : List ℕ → List ℕ → List ℕ

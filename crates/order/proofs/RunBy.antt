@@ -8,7 +8,7 @@ use native.Mathlib.Omega.{arith}
 use lib.Dec.{T, T-not, not-T, T-prop}
 use lib.ListN.{length, take, length-map}
 use Rattle.model.specs.Lists.{both, any, keep, below, at, earlier, rowsAscend, total}
-use Rattle.model.specs.Problem.{Problem, pair, isSolution, assignments, takes}
+use Rattle.model.specs.Problem.{Problem, pair, isSolution, assignments, takes, withSymmetries}
 use Rattle.model.specs.Search.{nodes}
 use Rattle.model.specs.Run.{Ending, finished, spent, full, plansIn, nodesIn, resultOf, settledBy, countsBy}
 use Rattle.model.specs.Claims.{isLeader, leaders}
@@ -20,7 +20,7 @@ use Rattle.model.proofs.Lists.{both-i, both-l, both-r, T-ext, any-i, any-e, kee
 use Rattle.model.proofs.Assignments.{assignments-sorted, assign-e}
 use Rattle.model.proofs.Tree.{solution-e, plans-of-tree, well-sized}
 use Rattle.model.proofs.Leaders.{sol-drawn, leader-e, leader-i}
-use Rattle.model.proofs.More.{FewerIn, withSymmetries}
+use Rattle.model.proofs.More.{FewerIn}
 use Rattle.model.proofs.Demands.{same-test}
 use Rattle.model.proofs.Tally.{length-counts, counts-total, counts-none, counts-ext, settled-few}
 use Rattle.order.proofs.Reordered as O

@@ -10,16 +10,15 @@ use lib.Dec.{T}
 use lib.ListN.{length, getD, set, length-append, List·getD-append}
 use lib.Seq.{getD-append-add}
 use Rattle.model.specs.Lists.{at, flat}
-use Rattle.model.specs.Problem.{Problem, pair, isPair}
+use Rattle.model.specs.Problem.{Problem, pair, isPair, withSymmetries}
 use Rattle.model.specs.Filling.{Filled}
 use Rattle.model.specs.Verdict.{accepted}
 use Rattle.layout.specs.Layout.{symmetryAt, pairCode, imageCode}
 use Rattle.layout.specs.Places.{IMAGES}
-use Rattle.block.specs.Block.{orderings, ordering, factorial, variableTable, imageOf, orderingTable, blockTables, withBlock, isBlock, tablesLent, blockLent}
-use Rattle.orderings.specs.Asked.{BlockRow, RowPut, Imaged, PutOn, withLent}
+use Rattle.block.specs.Block.{orderings, ordering, factorial, variableTable, imageOf, orderingTable, blockTables, withBlock, isBlock, tablesLent, blockLent, withLent}
+use Rattle.orderings.specs.Asked.{BlockRow, RowPut, Imaged, PutOn}
 use Rattle.model.proofs.Lists.{T-of, of-not, length-below}
 use Rattle.model.proofs.Pairs as P
-use Rattle.model.proofs.More.{withSymmetries}
 use Rattle.model.proofs.Filling.{filled-turn}
 use Rattle.symmetry.proofs.Codes.{code-inj}
 use Rattle.sheet.proofs.Any.{getD-below}

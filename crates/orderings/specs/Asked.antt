@@ -67,14 +67,3 @@ pub record Put (p : Problem) (images : List ℕ) (n : ℕ) : Type 0 where
 pub record PutOn (p : Problem) (old images : List ℕ) (n : ℕ) : Type 0 where
   pub put : Put p images n
   pub others : (j : ℕ) → ((e x v : ℕ) → e < n → x < p .variables → v < p .values → 192 * e + 16 * x + v ≡ j → ⊥) → at images j ≡ at old j
-
--- the problem with the symmetries of a block as it is lent after its own
-abbrev pub withLent : List ℕ → Problem → Problem
-withLent block p =
-    record {
-      variables = p .variables;
-      values = p .values;
-      initial = p .initial;
-      constraints = p .constraints;
-      symmetries = p .symmetries ++ tablesLent p block;
-    }

@@ -11,7 +11,7 @@ use lib.ListN.{length, take}
 use borrow.Author.Tests.{eq-eqb}
 use Rattle.model.specs.Lists.{either, at}
 use Rattle.model.specs.ValueSets.{has}
-use Rattle.model.specs.Problem.{Problem}
+use Rattle.model.specs.Problem.{Problem, withSymmetries}
 use Rattle.model.specs.Pruning.{Sets, Inside, Way}
 use Rattle.model.proofs.Lists.{T-of, T-ext, of-not, not-of, both-l, either-l, either-r, either-e}
 use Rattle.model.proofs.Sets.{empty-i, mask-ext}
@@ -24,7 +24,7 @@ use Rattle.constraints.specs.Steps.{Touched}
 use Rattle.levels.proofs.Marks.{mark-mono}
 use Rattle.block.specs.BlockSets.{Ascends, cutAfter}
 use Rattle.block.proofs.BlockSets.{cut-sets, cut-e, cut-i}
-use Rattle.prune.specs.Node.{blockOf, withOrderings}
+use Rattle.prune.specs.Node.{blockOf}
 use Rattle.prune.specs.Steps.{ArraysHold, Blocked, LiveSets, Startable, BeforeFixpoint, LastSettled, AfterFixpoint, CutOr}
 use Rattle.prune.proofs.Pending.{take-less, still-fixed, touched-known, still-arc}
 use Rattle.prune.proofs.FilterLoop.{kept-none}
@@ -46,12 +46,12 @@ module _ {p : Problem} {gs : List (List ℕ)} {supports tables numbers : List �
   whole-is = after-take (at numbers BLOCK) k v ds (b .live .sixteen) (p .variables) n-16
 
   -- a set is empty: the prefix is dead
-  pub cut-dead : changed ≡ DEAD → Way (withOrderings p gs) (take j work) (setsOf p whole) → (sets : List ℕ) → AfterFixpoint p gs j work work sets true
+  pub cut-dead : changed ≡ DEAD → Way (withSymmetries p gs) (take j work) (setsOf p whole) → (sets : List ℕ) → AfterFixpoint p gs j work work sets true
   cut-dead e w sets =
       let d = c .dead e in
       let h = bl .few (d .0) (d .1 .0) in
       dead p gs j work work sets (kept-none work j)
-      (not-live (withOrderings p gs) (take j work) (setsOf p whole) w (well-sized p (st .wellFormed))
+      (not-live (withSymmetries p gs) (take j work) (setsOf p whole) w (well-sized p (st .wellFormed))
       (empty-i (setsOf p whole) (d .0) (subst (λ (n : ℕ). d .0 < n) (sym (take-length (p .variables) whole whole-16 n-16)) h) (take-at (p .variables) whole whole-16 n-16 (d .0) h ∙ d .1 .1)))
 
   module _ (alive : changed ≡ DEAD → ⊥) where
@@ -146,5 +146,5 @@ module _ {p : Problem} {gs : List (List ℕ)} {supports tables numbers : List �
             (either-e (has dirty y) (has (bitAnd changed (at numbers LINKED)) y) (subst T (has-dirty y) q)));
       }
 
-      pub cut-before : Way (withOrderings p gs) (take j work) (setsOf p cut) × Ascends (blockOf numbers) (take j work) (setsOf p cut) → BeforeFixpoint p gs work numbers cut j todo′ dirty′
+      pub cut-before : Way (withSymmetries p gs) (take j work) (setsOf p cut) × Ascends (blockOf numbers) (take j work) (setsOf p cut) → BeforeFixpoint p gs work numbers cut j todo′ dirty′
       cut-before w = record { startable = cut-startable; way = w .0; ascends = w .1 }

@@ -13,7 +13,7 @@ use lib.Seq.{length-take-le}
 use borrow.Author.Tests.{ltb-true, ltb-false, eqb-true, eq-eqb}
 use Rattle.model.specs.Lists.{at, ascending}
 use Rattle.model.specs.ValueSets.{has, anyEmpty}
-use Rattle.model.specs.Problem.{Problem, Constraint}
+use Rattle.model.specs.Problem.{Problem, Constraint, withSymmetries}
 use Rattle.model.specs.Search.{pruned, setsAt, isLive, supported}
 use Rattle.model.proofs.Lists.{T-of, of-T, not-of, of-not, at-ext, at-take, both-l, place-of, list-3, ascending-sorted}
 use Rattle.model.proofs.Sets.{has-none, mask-ext, member, empty-inside, inside-antisym, size, size-inside, size-strict}
@@ -36,7 +36,7 @@ use Rattle.constraints.proofs.Touching.{touchedOf, touched-of, touched-parts}
 use Rattle.levels.proofs.Marks.{mark-mono}
 use Rattle.block.specs.BlockSets.{Ascends}
 use Rattle.block.proofs.BlockSets.{ascends-less, way-prunes-own, fixed-whole}
-use Rattle.prune.specs.Node.{MarksRight, blockOf, withOrderings}
+use Rattle.prune.specs.Node.{MarksRight, blockOf}
 use Rattle.prune.specs.Steps.{ArraysHold, Blocked, Pending, PrunedSoFar, AllConstrained, LiveSets, AllFiltered, EndedAt, OnlyMarks, Startable, BeforeFixpoint, LastSettled, AfterFixpoint, Differ}
 use Rattle.prune.proofs.Pending.{pruned-none, pruned-more, nothing-due, take-less, still-fixed, touched-known, still-arc, constraints-pending, looked-few, looks-turn, arcs-pruned, arcs-turn}
 use Rattle.prune.proofs.FilterLoop.{same-take, kept-none, kept-trans, filtered-begin, filtered-end}
@@ -46,7 +46,7 @@ pub not-live : (p : Problem) (prefix es : List ℕ) → Way p prefix es → Size
 not-live p prefix es w s t =
     live-is p prefix ∙ ap not (of-T (anyEmpty (closed p prefix)) (empty-inside (p .variables) (closed p prefix) es (largest p prefix s .sets) (w .sets) (w .over) t))
 
-pub dead : (p : Problem) (gs : List (List ℕ)) (k : ℕ) (work work′ sets : List ℕ) → OnlyMarks work work′ k → isLive (withOrderings p gs) (take k work) ≡ false → AfterFixpoint p gs k work work′ sets true
+pub dead : (p : Problem) (gs : List (List ℕ)) (k : ℕ) (work work′ sets : List ℕ) → OnlyMarks work work′ k → isLive (withSymmetries p gs) (take k work) ≡ false → AfterFixpoint p gs k work work′ sets true
 dead p gs k work work′ sets r e = record { answers = sym (ap not e); sets-are = λ q. absurd (subst T q tt); live = λ q. absurd (subst T q tt); marking = λ q. absurd (subst T q tt); kept = r }
 
 -- ---- which sets differ
@@ -79,8 +79,8 @@ module _ {p : Problem} {supports tables numbers : List ℕ} (st : ArraysHold p s
 
   pub after-from : {gs : List (List ℕ)} {work′ sets : List ℕ} {b : Bool} → AfterFixpoint p gs k work work′ sets b → AfterFixpoint p gs k work₀ work′ sets b
   after-from {gs = gs} {work′ = work′} {sets = sets} a = record {
-    answers = a .answers ∙ ap (λ (z : List ℕ). not (isLive (withOrderings p gs) z)) same-prefix;
-    sets-are = λ q. a .sets-are q ∙ ap (setsAt (withOrderings p gs)) same-prefix;
+    answers = a .answers ∙ ap (λ (z : List ℕ). not (isLive (withSymmetries p gs) z)) same-prefix;
+    sets-are = λ q. a .sets-are q ∙ ap (setsAt (withSymmetries p gs)) same-prefix;
     live = a .live;
     marking = λ q. subst (λ (z : List ℕ). MarksRight p (setsOf p sets) z work′ k) same-prefix (a .marking q);
     kept = kept-trans work₀ work work′ k r (a .kept);
@@ -92,11 +92,11 @@ module _ {p : Problem} {gs : List (List ℕ)} {supports tables numbers : List �
   n-few = omega (arith, st .wellFormed .few)
 
   -- the sets that pruning by p leaves of sets on the way to the tree's are on it too
-  stays : (es fs : List ℕ) → Prunes p (take k work) es fs → Way (withOrderings p gs) (take k work) es → Way (withOrderings p gs) (take k work) fs
+  stays : (es fs : List ℕ) → Prunes p (take k work) es fs → Way (withSymmetries p gs) (take k work) es → Way (withSymmetries p gs) (take k work) fs
   stays es fs r w = way-prunes-own p (st .wellFormed) (blockOf numbers) gs (bl .block) (take k work) es fs r w
 
-  ends : (es : List ℕ) → Way (withOrderings p gs) (take k work) es → T (anyEmpty es) → isLive (withOrderings p gs) (take k work) ≡ false
-  ends es w t = not-live (withOrderings p gs) (take k work) es w (well-sized p (st .wellFormed)) t
+  ends : (es : List ℕ) → Way (withSymmetries p gs) (take k work) es → T (anyEmpty es) → isLive (withSymmetries p gs) (take k work) ≡ false
+  ends es w t = not-live (withSymmetries p gs) (take k work) es w (well-sized p (st .wellFormed)) t
 
   pub constrained-dead : (es : List ℕ) → Ended p ds → AfterFixpoint p gs k work work es true
   constrained-dead es e = dead p gs k work work es (kept-none work k) (ends (e .0) (stays (setsOf p ds) (e .0) (e .1 .0 (take k work)) (n .way)) (e .1 .1))
@@ -114,7 +114,7 @@ module _ {p : Problem} {gs : List (List ℕ)} {supports tables numbers : List �
         mark-mono p (setsOf p ds) (setsOf p es) (take k work) e (at work (16 * k + MARKS + e)) (take-sets (p .variables) es (g .sixteen) n-few .0 ∙ sym (take-sets (p .variables) ds (n .startable .live .sixteen) n-few .0))
         inside-1 (n .startable .marking e l)
 
-    way-1 : Way (withOrderings p gs) (take k work) (setsOf p es)
+    way-1 : Way (withSymmetries p gs) (take k work) (setsOf p es)
     way-1 = stays (setsOf p ds) (setsOf p es) (r .ways (take k work)) (n .way)
 
     ascends-1 : Ascends (blockOf numbers) (take k work) (setsOf p es)
@@ -180,7 +180,7 @@ module _ {p : Problem} {gs : List (List ℕ)} {supports tables numbers : List �
   filters-dead work′ fs r e = dead p gs k work work′ fs r (ends st bl n (e .0) (stays st bl n (setsOf p es) (e .0) (e .1 .0) (n .way)) (e .1 .1))
 
   module _ {work′ fs : List ℕ} (s : AllFiltered p (take k work) es fs) (m : MarksRight p (setsOf p fs) (take k work) work′ k) (r : OnlyMarks work work′ k) {changed : ℕ} (d : Differ es fs changed) where
-    way-2 : Way (withOrderings p gs) (take k work) (setsOf p fs)
+    way-2 : Way (withSymmetries p gs) (take k work) (setsOf p fs)
     way-2 = stays st bl n (setsOf p es) (setsOf p fs) (s .way) (n .way)
 
     ascends-2 : Ascends (blockOf numbers) (take k work) (setsOf p fs)
@@ -189,7 +189,7 @@ module _ {p : Problem} {gs : List (List ℕ)} {supports tables numbers : List �
     -- nothing moved: no constraint and no filter takes anything
     pub fixpoint-end : changed ≡ 0 → AfterFixpoint p gs k work work′ fs false
     fixpoint-end e = record {
-      answers = sym (ap not (of-T (isLive (withOrderings p gs) (take k work)) live));
+      answers = sym (ap not (of-T (isLive (withSymmetries p gs) (take k work)) live));
       sets-are = λ q. sym sets;
       live = λ q. s .live;
       marking = λ q. m;
@@ -209,16 +209,16 @@ module _ {p : Problem} {gs : List (List ℕ)} {supports tables numbers : List �
         fixed-own : pruned p (take k work) (setsOf p fs) ≡ setsOf p fs
         fixed-own = subst (λ (z : List ℕ). pruned p (take k work) (setsOf p z) ≡ setsOf p z) (sym same) (fixed-i p (take k work) (setsOf p es) (take-sets (p .variables) es (at-rest .given .sixteen) (n-few st bl n)) kept)
 
-        fixed : pruned (withOrderings p gs) (take k work) (setsOf p fs) ≡ setsOf p fs
+        fixed : pruned (withSymmetries p gs) (take k work) (setsOf p fs) ≡ setsOf p fs
         fixed = fixed-whole p (st .wellFormed) (blockOf numbers) gs (bl .block) (take k work) (setsOf p fs) (way-2 .sets) (way-2 .inside) ascends-2 (s .live .full) fixed-own
 
-        sets : setsAt (withOrderings p gs) (take k work) ≡ setsOf p fs
-        sets = way-live (withOrderings p gs) (take k work) (well-sized p (st .wellFormed)) (setsOf p fs) way-2 fixed (s .live .full)
+        sets : setsAt (withSymmetries p gs) (take k work) ≡ setsOf p fs
+        sets = way-live (withSymmetries p gs) (take k work) (well-sized p (st .wellFormed)) (setsOf p fs) way-2 fixed (s .live .full)
 
-        live : T (isLive (withOrderings p gs) (take k work))
+        live : T (isLive (withSymmetries p gs) (take k work))
         live =
-            T-of (isLive (withOrderings p gs) (take k work))
-            (live-is (withOrderings p gs) (take k work) ∙ ap not (ap anyEmpty (sym (way-end (withOrderings p gs) (take k work) (well-sized p (st .wellFormed)) (setsOf p fs) way-2 fixed)) ∙ s .live .full))
+            T-of (isLive (withSymmetries p gs) (take k work))
+            (live-is (withSymmetries p gs) (take k work) ∙ ap not (ap anyEmpty (sym (way-end (withSymmetries p gs) (take k work) (well-sized p (st .wellFormed)) (setsOf p fs) way-2 fixed)) ∙ s .live .full))
 
     -- something moved: the constraints of the changed variables are due
     module _ {left moved : ℕ} (u : Touched numbers changed left) (q : moved ≡ bitAnd changed (at numbers LINKED)) where
@@ -263,7 +263,7 @@ module _ {p : Problem} {gs : List (List ℕ)} {supports tables numbers : List �
       pub fixpoint-turn : BeforeFixpoint p gs work′ numbers fs k left moved
       fixpoint-turn = record {
         startable = startable;
-        way = subst (λ (z : List ℕ). Way (withOrderings p gs) z (setsOf p fs)) (sym prefix-is) way-2;
+        way = subst (λ (z : List ℕ). Way (withSymmetries p gs) z (setsOf p fs)) (sym prefix-is) way-2;
         ascends = subst (λ (z : List ℕ). Ascends (blockOf numbers) z (setsOf p fs)) (sym prefix-is) ascends-2;
       }
 

@@ -15,7 +15,7 @@ use lib.Seq.{take-suc, take-set-lt, length-take-le, set-getD}
 use borrow.Author.Tests.{ltb-true, ltb-false, eqb-true}
 use Rattle.model.specs.Lists.{both, any, at}
 use Rattle.model.specs.ValueSets.{has, onlyMask, anyEmpty}
-use Rattle.model.specs.Problem.{Problem}
+use Rattle.model.specs.Problem.{Problem, withSymmetries}
 use Rattle.model.specs.Search.{narrowed, setsAt, isLive}
 use Rattle.model.proofs.Lists.{T-of, of-T, not-of, of-not, at-ext, at-out, both-i, both-l, both-r, among-i, mem-at, at-set, at-set-other, at-take}
 use Rattle.model.proofs.Sets.{has-none, has-lt, member, empty-i, inside-refl, set-sets}
@@ -37,7 +37,7 @@ use Rattle.levels.specs.Levels.{Mark}
 use Rattle.levels.proofs.Marks.{mark-start, mark-mono, mark-longer}
 use Rattle.block.specs.BlockSets.{Ascends, cutAfter}
 use Rattle.block.proofs.BlockSets.{root-ascends, child-way, child-ascends}
-use Rattle.prune.specs.Node.{Ready, MarksRight, AtNode, Reached, longer, blockOf, withOrderings}
+use Rattle.prune.specs.Node.{Ready, MarksRight, AtNode, Reached, longer, blockOf}
 use Rattle.prune.specs.Steps.{ArraysHold, Blocked, Startable, BeforeFixpoint, AfterFixpoint, Loaded, Stored, MarksCopied}
 use Rattle.prune.proofs.Arcs.{arc-kept, arc-free}
 use Rattle.prune.proofs.Pending.{touched-known}
@@ -62,7 +62,7 @@ module _ (n : ℕ) (ds es : List ℕ) (l : length es ≡ 16) (s : Sets n ds) (h 
 module _ (p : Problem) (gs : List (List ℕ)) (few : p .variables ≤ 16) (prefix sets : List ℕ) (k : ℕ) (stack work middle work′ : List ℕ) (is : take k middle ≡ prefix) (size : length middle ≡ length work) (early : (j : ℕ) → j < 16 * k + MARKS → at middle j ≡ at work j) (late : (j : ℕ) → 16 * k + MARKS + 16 ≤ j → at middle j ≡ at work j) where
   pub reached-dead : AfterFixpoint p gs k middle work′ sets true → Reached p gs prefix k stack work stack work′ true
   reached-dead a = record {
-    answers = a .answers ∙ ap (λ (z : List ℕ). not (isLive (withOrderings p gs) z)) is;
+    answers = a .answers ∙ ap (λ (z : List ℕ). not (isLive (withSymmetries p gs) z)) is;
     holds = λ q. absurd (subst T q tt);
     before = λ i l. refl;
     after = λ i l. refl;
@@ -75,7 +75,7 @@ module _ (p : Problem) (gs : List (List ℕ)) (few : p .variables ≤ 16) (prefi
 
   pub reached-live : (stack′ : List ℕ) → AfterFixpoint p gs k middle work′ sets false → Stored stack k (at sets) stack′ → Reached p gs prefix k stack work stack′ work′ false
   reached-live stack′ a s = record {
-    answers = a .answers ∙ ap (λ (z : List ℕ). not (isLive (withOrderings p gs) z)) is;
+    answers = a .answers ∙ ap (λ (z : List ℕ). not (isLive (withSymmetries p gs) z)) is;
     holds = λ q. record {
       sets = λ x l. s .here x (omega arith) ∙ sym (take-at (p .variables) sets (a .live refl .sixteen) few x l) ∙ ap (λ (z : List ℕ). at z x) sets-are;
       unused = λ x l h. s .here x h ∙ a .live refl .unused x l h;
@@ -89,8 +89,8 @@ module _ (p : Problem) (gs : List (List ℕ)) (few : p .variables ≤ 16) (prefi
     work-length = a .kept .size ∙ size;
   }
     where
-      sets-are : setsOf p sets ≡ setsAt (withOrderings p gs) prefix
-      sets-are = a .sets-are refl ∙ ap (setsAt (withOrderings p gs)) is
+      sets-are : setsOf p sets ≡ setsAt (withSymmetries p gs) prefix
+      sets-are = a .sets-are refl ∙ ap (setsAt (withSymmetries p gs)) is
 
 pub arrays-hold : {p : Problem} {gs : List (List ℕ)} {stack work supports tables numbers : List ℕ} → Ready p gs stack work supports tables numbers → ArraysHold p supports tables numbers
 arrays-hold r = record { indexed = r .indexed; wellFormed = r .wellFormed; constraints = r .constraints; symmetries = r .symmetries }
@@ -130,9 +130,9 @@ module _ {p : Problem} {gs : List (List ℕ)} {stack work supports tables number
   is-full : anyEmpty (setsOf p sets) ≡ false
   is-full = take-full (p .variables) sets sets-16 n-16 (λ x h q. let z = sym (at-initial x h) ∙ q in omega (arith, r .wellFormed .nonempty x h, z))
 
-  root-way : Way (withOrderings p gs) [] (setsOf p sets)
+  root-way : Way (withSymmetries p gs) [] (setsOf p sets)
   unfolding narrowed
-  root-way = subst (Way (withOrderings p gs) []) (sym are-initial) (way-start (withOrderings p gs) [] (well-sized p (r .wellFormed)))
+  root-way = subst (Way (withSymmetries p gs) []) (sym are-initial) (way-start (withSymmetries p gs) [] (well-sized p (r .wellFormed)))
 
   -- the set of all variables
   all-of : (n : ℕ) → n < 64 → 1 * 2 ^ n % 2 ^ 64 - 1 ≡ (2 ^ n - 1) - 0
@@ -203,7 +203,7 @@ module _ {p : Problem} {gs : List (List ℕ)} {stack work supports tables number
 -- ---- the child
 module _ {p : Problem} {gs : List (List ℕ)} {stack work supports tables numbers : List ℕ} {k : ℕ} (a : AtNode p gs stack work supports tables numbers k) where
   abbrev tree : Problem
-  tree = withOrderings p gs
+  tree = withSymmetries p gs
 
   wf-sized : Sets (p .variables) (p .initial)
   wf-sized = well-sized p (a .ready .wellFormed)

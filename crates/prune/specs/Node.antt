@@ -10,7 +10,7 @@ use lib.Dec.{T}
 use lib.ListN.{length, take}
 use Rattle.model.specs.Lists.{at}
 use Rattle.model.specs.ValueSets.{has}
-use Rattle.model.specs.Problem.{Problem}
+use Rattle.model.specs.Problem.{Problem, withSymmetries}
 use Rattle.model.specs.Search.{setsAt, isLive}
 use Rattle.model.specs.WellFormed.{WellFormed}
 use Rattle.layout.specs.Places.{BLOCK, MARKS, STACK, WORK}
@@ -27,10 +27,7 @@ pub record Holds (p : Problem) (stack : List ℕ) (k : ℕ) (ds : List ℕ) : Ty
 abbrev pub blockOf : List ℕ → ℕ → Bool
 blockOf numbers x = has (at numbers BLOCK) x
 
--- the problem whose prefixes these are: p, which the arrays hold, with the symmetries gs, p's own and the orderings of the block
-abbrev pub withOrderings : Problem → List (List ℕ) → Problem
-withOrderings p gs = record { variables = p .variables; values = p .values; initial = p .initial; constraints = p .constraints; symmetries = gs }
-
+-- The prefixes are those of p, which the arrays hold, with the symmetries gs: p's own and the orderings of the block.
 -- the arrays hold p, which has no more constraints and symmetries than they have room for, and the block, whose orderings are among gs;
 -- what is lent to write on has its length (a reference to an array tells its length to no proof)
 pub record Ready (p : Problem) (gs : List (List ℕ)) (stack work supports tables numbers : List ℕ) : Type 0 where
@@ -49,16 +46,16 @@ MarksRight p ds prefix work k = (e : ℕ) → e < length (p .symmetries) → Mar
 
 -- and for those at the prefix
 abbrev pub Marked : Problem → List (List ℕ) → List ℕ → List ℕ → ℕ → Type 0
-Marked p gs work prefix k = MarksRight p (setsAt (withOrderings p gs) prefix) prefix work k
+Marked p gs work prefix k = MarksRight p (setsAt (withSymmetries p gs) prefix) prefix work k
 
 -- the prefix of k values that work holds is live, its sets and marks are at depth k, and the next value in work is one of variable k's
 pub record AtNode (p : Problem) (gs : List (List ℕ)) (stack work supports tables numbers : List ℕ) (k : ℕ) : Type 0 where
   pub ready : Ready p gs stack work supports tables numbers
   pub room : k < p .variables
-  pub live : T (isLive (withOrderings p gs) (take k work))
-  pub held : Holds p stack k (setsAt (withOrderings p gs) (take k work))
+  pub live : T (isLive (withSymmetries p gs) (take k work))
+  pub held : Holds p stack k (setsAt (withSymmetries p gs) (take k work))
   pub marked : Marked p gs work (take k work) k
-  pub member : T (has (at (setsAt (withOrderings p gs) (take k work)) k) (at work k))
+  pub member : T (has (at (setsAt (withSymmetries p gs) (take k work)) k) (at work k))
 
 -- the prefix with one value more
 abbrev pub longer : List ℕ → ℕ → List ℕ
@@ -67,8 +64,8 @@ longer work k = take k work ++ (at work k ∷ [])
 -- the answer is whether the prefix is dead; its sets and marks are at depth k where it is live. What a dead prefix leaves in the sets and marks of depth k
 -- is open; no other set, no value of the prefix and no other mark is changed
 pub record Reached (p : Problem) (gs : List (List ℕ)) (prefix : List ℕ) (k : ℕ) (stack work stack′ work′ : List ℕ) (dead : Bool) : Type 0 where
-  pub answers : dead ≡ not (isLive (withOrderings p gs) prefix)
-  pub holds : dead ≡ false → Holds p stack′ k (setsAt (withOrderings p gs) prefix)
+  pub answers : dead ≡ not (isLive (withSymmetries p gs) prefix)
+  pub holds : dead ≡ false → Holds p stack′ k (setsAt (withSymmetries p gs) prefix)
   pub before : (i : ℕ) → i < 16 * k → at stack′ i ≡ at stack i
   pub after : (i : ℕ) → 16 * k + 16 ≤ i → at stack′ i ≡ at stack i
   pub marked : dead ≡ false → Marked p gs work′ prefix k

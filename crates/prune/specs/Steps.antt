@@ -8,7 +8,7 @@ use lib.Dec.{T, eqb, ltb}
 use lib.ListN.{length, take}
 use Rattle.model.specs.Lists.{both, at, tabulate}
 use Rattle.model.specs.ValueSets.{has, maskOf, anyEmpty}
-use Rattle.model.specs.Problem.{Problem}
+use Rattle.model.specs.Problem.{Problem, withSymmetries}
 use Rattle.model.specs.Nogood.{filtered}
 use Rattle.model.specs.Search.{nogoodsOf, setsAt, isLive}
 use Rattle.model.specs.Pruning.{Sets, Inside, Way, Prunes}
@@ -18,7 +18,7 @@ use Rattle.layout.specs.Layout.{constraintAt}
 use Rattle.layout.specs.Tables.{Indexed, byRows}
 use Rattle.layout.specs.Pruning.{Given, Ended, Fixed, Arc, setsOf}
 use Rattle.block.specs.BlockSets.{BlockIn, Ascends}
-use Rattle.prune.specs.Node.{MarksRight, blockOf, withOrderings}
+use Rattle.prune.specs.Node.{MarksRight, blockOf}
 
 -- the arrays hold p
 pub record ArraysHold (p : Problem) (supports tables numbers : List ℕ) : Type 0 where
@@ -105,7 +105,7 @@ pub record Startable (p : Problem) (work numbers sets : List ℕ) (k todo dirty 
 -- and they are on the way to the sets at the prefix, with nothing left to do for the block
 pub record BeforeFixpoint (p : Problem) (gs : List (List ℕ)) (work numbers sets : List ℕ) (k todo dirty : ℕ) : Type 0 where
   pub startable : Startable p work numbers sets k todo dirty
-  pub way : Way (withOrderings p gs) (take k work) (setsOf p sets)
+  pub way : Way (withSymmetries p gs) (take k work) (setsOf p sets)
   pub ascends : Ascends (blockOf numbers) (take k work) (setsOf p sets)
 
 -- of the first k variables the last is settled now, to v: those before it were settled at earlier depths, and none of them is dirty
@@ -116,8 +116,8 @@ pub record LastSettled (work : List ℕ) (k v dirty : ℕ) : Type 0 where
 
 -- there: the answer is whether the prefix is dead, and where it is live, the sets are those at the prefix, and the marks are right for them
 pub record AfterFixpoint (p : Problem) (gs : List (List ℕ)) (k : ℕ) (work work′ sets : List ℕ) (dead : Bool) : Type 0 where
-  pub answers : dead ≡ not (isLive (withOrderings p gs) (take k work))
-  pub sets-are : dead ≡ false → setsOf p sets ≡ setsAt (withOrderings p gs) (take k work)
+  pub answers : dead ≡ not (isLive (withSymmetries p gs) (take k work))
+  pub sets-are : dead ≡ false → setsOf p sets ≡ setsAt (withSymmetries p gs) (take k work)
   pub live : dead ≡ false → LiveSets p sets
   pub marking : dead ≡ false → MarksRight p (setsOf p sets) (take k work) work′ k
   pub kept : OnlyMarks work work′ k

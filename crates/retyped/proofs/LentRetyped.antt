@@ -10,13 +10,12 @@ use Rattle.model.specs.Lists.{keep, at}
 use Rattle.model.specs.ValueSets.{least}
 use Rattle.model.specs.Search.{isPlan}
 use Rattle.model.specs.Run.{countsBy, settledBy}
-use Rattle.model.specs.Problem.{Problem, pair, isPair}
+use Rattle.model.specs.Problem.{Problem, pair, isPair, withSymmetries}
 use Rattle.model.specs.Verdict.{Verdict, accepted, isAccepted}
 use Rattle.model.specs.Sheet.{problemOf, verdictOf}
 use Rattle.model.specs.WellFormed.{WellFormed, Respected}
 use Rattle.model.specs.Run.{Answer, refusal, ended, Result, nodesIn, written, Tally}
 use Rattle.model.proofs.Accepted.{Passed}
-use Rattle.model.proofs.More.{withSymmetries}
 use Rattle.order.specs.Order.{settlingOrder, orderVerdict}
 use Rattle.order.specs.Reordered.{write, renamed, symmetryIn, reordered}
 use Rattle.order.specs.RunBy.{resultBy, placeCounts}

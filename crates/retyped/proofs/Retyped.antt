@@ -8,7 +8,7 @@ use lib.Dec.{T, leb, ltb, eqb, leb→le}
 use lib.ListN.{length, take, drop}
 use lib.Seq.{getD-drop}
 use Rattle.model.specs.Lists.{all, both, at, below, ascending, rowsAscend}
-use Rattle.model.specs.Problem.{Problem, respects}
+use Rattle.model.specs.Problem.{Problem, respects, withSymmetries}
 use Rattle.model.specs.Verdict.{Verdict, accepted, ask, isAccepted}
 use Rattle.model.specs.Sheet.{Header, word, words, headerOf, scopeAt, rowsAt, afterAt, constraintsFrom, tableAt, problemOf, setsVerdict, constraintVerdict, constraintsVerdict, headerVerdict, formVerdict, permutesPairs, symmetriesVerdict, verdictOf}
 use Rattle.retyped.specs.Retyped.{SameSymmetries, blockSize, blocks, SameButOrder, Retyped-accepted, Retyped-back}
@@ -16,7 +16,6 @@ use Rattle.model.proofs.Lists.{at-take, below-e, map-ext}
 use Rattle.model.proofs.Accepted.{Passed, passed, asked}
 use Rattle.model.specs.WellFormed.{WellFormed, Respected}
 use Rattle.model.proofs.OneMore.{after-low, arity, count, after-agree, scope-agree, rows-agree, Agree, word-same, words-same, word-agree, words-agree, constraints-agree}
-use Rattle.model.proofs.More.{withSymmetries}
 use Rattle.model.proofs.Asked.{symmetries-i, good-other, respects-other}
 
 -- ---- a member of a list is one of any order of it

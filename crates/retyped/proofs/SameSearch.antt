@@ -8,7 +8,7 @@ use lib.Dec.{T, eqb, leb}
 use lib.ListN.{length}
 use Rattle.model.specs.Lists.{at, same, both, flat}
 use Rattle.model.specs.ValueSets.{has, members, anyEmpty}
-use Rattle.model.specs.Problem.{Problem, pair}
+use Rattle.model.specs.Problem.{Problem, pair, withSymmetries}
 use Rattle.model.specs.Nogood.{Entry, filtered}
 use Rattle.model.specs.Search.{entriesAt, nogoodsOf, pruned, narrowed, rounds, setsAt, isLive, nodesBelow, nodes, isPlan}
 use Rattle.model.specs.Run.{Result, spent, full, search, resultOf}
@@ -16,7 +16,6 @@ use Rattle.retyped.specs.Retyped.{SameSearch, Same-search}
 use Rattle.model.proofs.Lists.{map-ext}
 use Rattle.model.proofs.Sets.{inside-antisym}
 use Rattle.model.proofs.Prune.{Kept, pruned-i, pruned-e, pruned-sets}
-use Rattle.model.proofs.More.{withSymmetries}
 
 -- ---- one round
 nogoods-same : (p : Problem) (gs : List (List ℕ)) (g prefix : List ℕ) → nogoodsOf (withSymmetries p gs) g prefix ≡ nogoodsOf p g prefix

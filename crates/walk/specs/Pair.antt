@@ -7,13 +7,13 @@ use lib.Dec.{T}
 use lib.ListN.{length, take}
 use Rattle.model.specs.Lists.{at, tabulate}
 use Rattle.model.specs.ValueSets.{has, lowestOf}
-use Rattle.model.specs.Problem.{Problem}
+use Rattle.model.specs.Problem.{Problem, withSymmetries}
 use Rattle.model.specs.Search.{setsAt, isLive, nodesBelow}
 use Rattle.model.specs.Run.{Tally}
 use Rattle.order.specs.Order.{Ordering}
 use Rattle.order.specs.Reordered.{write}
 use Rattle.layout.specs.Places.{SYMMETRIES, LIMIT, ROOM, ORDER, PLANS, LAST, MARKS, ALL, DEEPER}
-use Rattle.prune.specs.Node.{withOrderings, Ready, Holds, Marked}
+use Rattle.prune.specs.Node.{Ready, Holds, Marked}
 use Rattle.walk.specs.Walk.{Summed, withNode, noNodes, State, listed, walk, nodesFor}
 
 -- the prefix: the first k numbers of `work`
@@ -64,7 +64,7 @@ pub record Listed (n room : ℕ) (order work list work′ list′ : List ℕ) (s
 
 -- the problem that the arrays hold: p with the symmetries that are in them, which are the first of p's; the others are orderings of the block
 abbrev pub ownIn : Problem → List ℕ → Problem
-ownIn p numbers = withOrderings p (take (at numbers SYMMETRIES) (p .symmetries))
+ownIn p numbers = withSymmetries p (take (at numbers SYMMETRIES) (p .symmetries))
 
 -- the prefix of k values in `work` is live, its sets and marks stand at depth k, and a run goes on that may make as many nodes as the numbers say,
 -- whose counts add up, and go by an order of the variables
