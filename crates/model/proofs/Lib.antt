@@ -34,3 +34,4 @@ pub mod OneMoreAccepted
 pub mod Demands
 pub mod Examples
 pub mod Examples02
+pub mod Least

@@ -8,23 +8,15 @@ use lib.Dec.{T, T-not, eqb, ltb}
 use lib.Bits.{bitOr, and-le-l}
 use lib.Pow.{pow-lt}
 use borrow.Author.Tests.{eqb-true, eqb-false, eq-eqb, ltb-true, ltb-false, not-true, not-false}
-use Rattle.model.specs.ValueSets.{has, fullMask, withoutMask, onlyMask, unionMask, least, leastStep, lowestOf, members}
+use Rattle.model.specs.ValueSets.{has, fullMask, withoutMask, onlyMask, unionMask, lowestOf, members}
+use Rattle.model.proofs.Least.{first-most}
 use Rattle.model.proofs.Lists.{T-of, of-not, both-i, both-l, both-r, sorted-ext}
 use Rattle.model.proofs.Sets.{has-lt, mask-i, mask-e, members-i, members-e, members-sorted}
 use Rattle.model.proofs.Masks.{least-below, lowest-op, union-op, without-op}
 use Rattle.model.proofs.Members.{low-has, one-op}
 
-least-le : (k : ℕ) (f : ℕ → Bool) → least k f ≤ k
-unfolding least
-least-le zero f = omega arith
-least-le (suc k) f = go (least-le k (λ v. f (suc v))) (f 0)
-  where
-    go : least k (λ v. f (suc v)) ≤ k → (b : Bool) → leastStep b (least k (λ v. f (suc v))) ≤ suc k
-    go h true = omega arith
-    go h false = omega arith
-
 pub lowest-le : (s : ℕ) → lowestOf s ≤ 16
-lowest-le s = least-le 16 (has s)
+lowest-le s = first-most (has s) 16
 
 pub lowest-in : (s : ℕ) → s < 2 ^ 16 → (s ≡ 0 → ⊥) → T (has s (lowestOf s))
 lowest-in s h n = subst (λ (v : ℕ). T (has s v)) (lowest-op 16 s) (low-has 16 s (omega arith) h .0)

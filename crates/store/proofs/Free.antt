@@ -7,12 +7,13 @@ use native.Mathlib.Omega.{arith}
 use lib.Dec.{T, ltb, eqb}
 use lib.ListN.{length, length-map}
 use borrow.Author.Tests.{ltb-true, ltb-false, lt-ltb, le-ltb, ne-eqb, eqb-false}
+use Rattle.model.specs.ValueSets.{least}
 use Rattle.model.specs.Lists.{either, keep, below, upFrom, at}
 use Rattle.model.proofs.Lists.{T-of, of-T, keep-i, keep-e, below-i, below-e, length-below}
 use Rattle.model.proofs.Counting.{distinct-below, no-more}
 use Rattle.store.specs.Store.{isTable, keysOf}
-use Rattle.store.specs.Layout.{slotAt, firstOf, slotWith, storeOf, isFree, slotFor}
-use Rattle.store.proofs.First.{first-no, first-yes}
+use Rattle.store.specs.Layout.{slotAt, slotWith, storeOf, isFree, slotFor}
+use Rattle.model.proofs.Least.{first-no, first-yes}
 use Rattle.store.proofs.Store.{keys-distinct}
 use Rattle.store.proofs.Slots.{holds-e, holds-i, with-holds, with-before, entry-there, entry-none, for-held, for-free, free-no}
 
@@ -43,7 +44,7 @@ module _ (b : List ℕ) (o : ℕ) (own : o < 4) where
 
   module _ (bytes : (i : ℕ) → at b i < 256) where
     -- no slot is free: the four keys are held
-    none-free : 4 ≤ firstOf (isFree b o) 4 → 4 ≤ length (keysOf (storeOf b o))
+    none-free : 4 ≤ least 4 (isFree b o) → 4 ≤ length (keysOf (storeOf b o))
     unfolding keysOf keyAt
     none-free h =
         let n = length-below keyAt 4 in
@@ -73,7 +74,7 @@ module _ (b : List ℕ) (o : ℕ) (own : o < 4) where
   three (suc (suc (suc zero))) h = refl
   three (suc (suc (suc (suc i)))) h = absurd (omega arith)
 
-  some-free : firstOf (isFree b o) 4 < 4 → length (keysOf (storeOf b o)) < 4
+  some-free : least 4 (isFree b o) < 4 → length (keysOf (storeOf b o)) < 4
   unfolding keysOf keyAt others
   some-free h =
       let n = three i h in
@@ -82,27 +83,27 @@ module _ (b : List ℕ) (o : ℕ) (own : o < 4) where
       omega arith
     where
       i : ℕ
-      i = firstOf (isFree b o) 4
+      i = least 4 (isFree b o)
 
-      slot : (k : ℕ) → List·Memᴰ k (keysOf (storeOf b o)) → List·Memᴰ k (map keyAt (others (firstOf (isFree b o) 4)))
+      slot : (k : ℕ) → List·Memᴰ k (keysOf (storeOf b o)) → List·Memᴰ k (map keyAt (others (least 4 (isFree b o))))
       slot k m =
           let t = keep-e (λ key. isTable (storeOf b o key)) (below 256) k m .1 in
           let w : slotWith b o k < 4 = ltb-true (slotWith b o k) 4 (sym (held-with k) ∙ of-T _ t) in
           let e = holds-e b k (slotAt o (slotWith b o k)) (with-holds b o k w) .1 in
-          let n : (slotWith b o k ≡ firstOf (isFree b o) 4 → ⊥) = free-no b o (firstOf (isFree b o) 4) k h (first-yes (isFree b o) 4 h) in
-          subst (λ (z : ℕ). List·Memᴰ z (map keyAt (others (firstOf (isFree b o) 4)))) e
-          (Memᴰ·map keyAt (keep-i (λ j. not (eqb j (firstOf (isFree b o) 4))) (below 4) (slotWith b o k) (below-i 4 (slotWith b o k) w) (T-of _ (ap not (ne-eqb (slotWith b o k) (firstOf (isFree b o) 4) n)))))
+          let n : (slotWith b o k ≡ least 4 (isFree b o) → ⊥) = free-no b o (least 4 (isFree b o)) k h (first-yes (isFree b o) 4 h) in
+          subst (λ (z : ℕ). List·Memᴰ z (map keyAt (others (least 4 (isFree b o))))) e
+          (Memᴰ·map keyAt (keep-i (λ j. not (eqb j (least 4 (isFree b o)))) (below 4) (slotWith b o k) (below-i 4 (slotWith b o k) w) (T-of _ (ap not (ne-eqb (slotWith b o k) (least 4 (isFree b o)) n)))))
 
   -- question 32
   pub room-left : ((i : ℕ) → at b i < 256) → (key : ℕ) → either (isTable (storeOf b o key)) (ltb (length (keysOf (storeOf b o))) 4) ≡ ltb (slotFor b o key) 4
   room-left bytes key = ap (λ (t : Bool). either t (ltb (length (keysOf (storeOf b o))) 4)) (held-with key) ∙ go (ltb (slotWith b o key) 4) refl
     where
-      free : ltb (length (keysOf (storeOf b o))) 4 ≡ ltb (firstOf (isFree b o) 4) 4
-      free = step (ltb (firstOf (isFree b o) 4) 4) refl
+      free : ltb (length (keysOf (storeOf b o))) 4 ≡ ltb (least 4 (isFree b o)) 4
+      free = step (ltb (least 4 (isFree b o)) 4) refl
         where
-          step : (t : Bool) → ltb (firstOf (isFree b o) 4) 4 ≡ t → ltb (length (keysOf (storeOf b o))) 4 ≡ t
-          step true e = lt-ltb (length (keysOf (storeOf b o))) 4 (some-free (ltb-true (firstOf (isFree b o) 4) 4 e))
-          step false e = le-ltb (length (keysOf (storeOf b o))) 4 (none-free bytes (ltb-false (firstOf (isFree b o) 4) 4 e))
+          step : (t : Bool) → ltb (least 4 (isFree b o)) 4 ≡ t → ltb (length (keysOf (storeOf b o))) 4 ≡ t
+          step true e = lt-ltb (length (keysOf (storeOf b o))) 4 (some-free (ltb-true (least 4 (isFree b o)) 4 e))
+          step false e = le-ltb (length (keysOf (storeOf b o))) 4 (none-free bytes (ltb-false (least 4 (isFree b o)) 4 e))
 
       go : (t : Bool) → ltb (slotWith b o key) 4 ≡ t → either t (ltb (length (keysOf (storeOf b o))) 4) ≡ ltb (slotFor b o key) 4
       go true e = sym (ap (λ (i : ℕ). ltb i 4) (for-held b o key (ltb-true (slotWith b o key) 4 e)) ∙ e)

@@ -1,5 +1,4 @@
 -- The laws, in the order of the argument.
-pub mod First
 pub mod Store
 pub mod Slots
 pub mod Free

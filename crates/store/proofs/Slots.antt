@@ -10,6 +10,7 @@ use lib.Dec.{T-not, ltb, eqb, eqb→eq}
 use lib.ListN.{length, take, drop, set, length-take, length-drop, length-set}
 use lib.Seq.{getD-drop, length-take-le, take-append-seam, drop-at}
 use borrow.Author.Tests.{ltb-true, ltb-false, lt-ltb, le-ltb, eq-eqb, ne-eqb, eqb-true, eqb-false}
+use Rattle.model.specs.ValueSets.{least}
 use Rattle.model.specs.Lists.{both, either, choose, at}
 use Rattle.model.specs.Sheet.{«word»}
 use Rattle.model.specs.Bytes.{twoBytes}
@@ -17,8 +18,8 @@ use Rattle.model.specs.Written.{placed}
 use Rattle.model.proofs.Lists.{T-of, of-T, not-of, both-l, both-r, either-e, at-take, at-ext, at-set, at-set-other}
 use Rattle.model.proofs.Written.{length-placed, placed-then, placed-before, placed-in, placed-after}
 use Rattle.store.specs.Store.{Entry, none, table}
-use Rattle.store.specs.Layout.{size, slotAt, holds, tableAt, firstOf, slotWith, storeOf, isFree, slotFor, slotBytes, freed}
-use Rattle.store.proofs.First.{first-is, first-most, first-no, first-yes, first-before, first-same}
+use Rattle.store.specs.Layout.{size, slotAt, holds, tableAt, slotWith, storeOf, isFree, slotFor, slotBytes, freed}
+use Rattle.model.proofs.Least.{first-is, first-most, first-no, first-yes, first-before, first-same}
 
 -- a text put at the front is read back
 pub read-back : (b t c : List ℕ) → c ≡ placed b 0 t → take (length t) c ≡ t
@@ -145,11 +146,11 @@ owner-same b c o e s key = go (ltb o 4) refl
 module _ (b : List ℕ) (o key : ℕ) where
   pub for-held : slotWith b o key < 4 → slotFor b o key ≡ slotWith b o key
   unfolding slotFor
-  for-held h = ap (λ (t : Bool). choose t (slotWith b o key) (firstOf (isFree b o) 4)) (lt-ltb (slotWith b o key) 4 h)
+  for-held h = ap (λ (t : Bool). choose t (slotWith b o key) (least 4 (isFree b o))) (lt-ltb (slotWith b o key) 4 h)
 
-  pub for-free : 4 ≤ slotWith b o key → slotFor b o key ≡ firstOf (isFree b o) 4
+  pub for-free : 4 ≤ slotWith b o key → slotFor b o key ≡ least 4 (isFree b o)
   unfolding slotFor
-  for-free h = ap (λ (t : Bool). choose t (slotWith b o key) (firstOf (isFree b o) 4)) (le-ltb (slotWith b o key) 4 h)
+  for-free h = ap (λ (t : Bool). choose t (slotWith b o key) (least 4 (isFree b o))) (le-ltb (slotWith b o key) 4 h)
 
   -- no slot before it has the key
   pub for-before : slotFor b o key ≤ slotWith b o key
@@ -193,7 +194,7 @@ for-no b o key k h n e = go (ltb (slotWith b o key) 4) refl
         n (sym (holds-e b key _ (with-holds b o key l) .1) ∙ ap (λ (i : ℕ). at b (slotAt o i + 1)) (sym f) ∙ holds-e b k _ (with-holds b o k (omega arith)) .1)
     go false q =
         let f = for-free b o key (ltb-false (slotWith b o key) 4 q) in
-        free-no b o (firstOf (isFree b o) 4) k (omega arith) (first-yes (isFree b o) 4 (omega arith)) (e ∙ f)
+        free-no b o (least 4 (isFree b o)) k (omega arith) (first-yes (isFree b o) 4 (omega arith)) (e ∙ f)
 
 -- ---- a table put into the slot where it goes
 module _ (b : List ℕ) (whole : length b ≡ size) (o key : ℕ) (t : List ℕ) (own : o < 4) (short : length t ≤ 2048) (room : slotFor b o key < 4) where

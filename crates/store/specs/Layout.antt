@@ -5,6 +5,7 @@ use mathlib.Core.List.{List, _∷_, _++_}
 use Prim.Native.Nat.{ℕ, zero, suc, _+_, _*_, min}
 use lib.ListN.{length, take, drop, set}
 use lib.Dec.{ltb, eqb}
+use Rattle.model.specs.ValueSets.{least}
 use Rattle.model.specs.Lists.{both, either, choose, at}
 use Rattle.model.specs.Verdict.{Verdict, ask, isAccepted}
 use Rattle.model.specs.Sheet.{«word»}
@@ -28,14 +29,9 @@ holds b key p = both (not (eqb (at b p) 0)) (eqb (at b (p + 1)) key)
 unfoldable pub tableAt : List ℕ → ℕ → List ℕ
 tableAt b p = take (min 2048 («word» b (p + 2))) (drop (p + 4) b)
 
--- the first number below n that passes a test, n where none does
-unfoldable pub firstOf : (ℕ → Bool) → ℕ → ℕ
-firstOf p zero = 0
-firstOf p (suc n) = choose (p 0) 0 (suc (firstOf (λ i. p (suc i)) n))
-
 -- an owner's slot for a key: of two slots with one key the first counts; 4 where none has it
 unfoldable pub slotWith : List ℕ → ℕ → ℕ → ℕ
-slotWith b owner key = firstOf (λ i. holds b key (slotAt owner i)) 4
+slotWith b owner key = least 4 (λ i. holds b key (slotAt owner i))
 
 unfoldable pub storeOf : List ℕ → Store
 storeOf b owner key =
@@ -48,7 +44,7 @@ isFree b owner i = either (eqb (at b (slotAt owner i)) 0) (ltb (slotWith b owner
 
 -- a table goes to the slot of its key, else to the first free one
 unfoldable pub slotFor : List ℕ → ℕ → ℕ → ℕ
-slotFor b owner key = choose (ltb (slotWith b owner key) 4) (slotWith b owner key) (firstOf (isFree b owner) 4)
+slotFor b owner key = choose (ltb (slotWith b owner key) 4) (slotWith b owner key) (least 4 (isFree b owner))
 
 unfoldable pub slotBytes : ℕ → List ℕ → List ℕ
 slotBytes key t = (1 ∷ key ∷ twoBytes (length t)) ++ t

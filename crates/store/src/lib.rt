@@ -3,9 +3,10 @@
 ghost use mathlib.Core.Path.{_≡_};
 ghost use Prim.Native.Nat.{_+_, _≤_, _<_, min};
 ghost use lib.ListN.{length};
+ghost use Rattle.model.specs.ValueSets.{least};
 ghost use Rattle.model.specs.Sheet.{«word»};
 ghost use Rattle.model.specs.Written.{placed};
-ghost use Rattle.store.specs.Layout.{size, slotAt, holds, slotWith, isFree, firstOf, slotFor, slotBytes, freed};
+ghost use Rattle.store.specs.Layout.{size, slotAt, holds, slotWith, isFree, slotFor, slotBytes, freed};
 ghost use Rattle.store.specs.Calls.{CallPut, CallFetch, CallRemove};
 
 // The store's size in bytes.
@@ -90,7 +91,7 @@ fn is_free(store: &[u8], owner: usize, i: usize) -> bool
 // An owner's first free slot, or 4.
 fn free_slot(store: &[u8], owner: usize) -> usize
     requires { ⌜ (length (now store) ≡ size) × (owner < 4) ⌝ }
-    ensures { λ r. ⌜ r ≡ firstOf (isFree (now (store .entry)) owner) 4 ⌝ }
+    ensures { λ r. ⌜ r ≡ least 4 (isFree (now (store .entry)) owner) ⌝ }
 {
     let mut i = 0;
     while i < 4 {

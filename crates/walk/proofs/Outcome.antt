@@ -13,6 +13,7 @@ use lib.Dec.{eqb, leb}
 use lib.ListN.{length, take, drop, length-append, length-drop}
 use lib.Seq.{take-at, drop-append-add, drop-drop}
 use borrow.Author.Tests.{leb-true, leb-false, eqb-true, eqb-false, eq-eqb, ne-eqb}
+use Rattle.model.specs.Written.{placed}
 use Rattle.model.specs.Lists.{flat, keep, choose, tabulate, at}
 use Rattle.model.specs.Problem.{Problem}
 use Rattle.model.specs.Search.{isPlan, nodes}
@@ -23,7 +24,7 @@ use Rattle.model.proofs.Tally.{counts-snoc}
 use Rattle.order.specs.Reordered.{write}
 use Rattle.parts.specs.Parts.{lastOf}
 use Rattle.layout.specs.Places.{ALL, SPENT, FULL}
-use Rattle.walk.specs.Walk.{withNode, noNodes, State, overwritten, noted, kept, listed, counted, visit, walk, stopIn, tallyBy}
+use Rattle.walk.specs.Walk.{withNode, noNodes, State, noted, kept, listed, counted, visit, walk, stopIn, tallyBy}
 use Rattle.walk.proofs.Walk.{listed-full, listed-kept, noted-none, noted-over, visit-spent, visit-other, visit-plan, walk-stopped, length-write}
 
 -- rows of n bytes
@@ -36,8 +37,8 @@ flat-snoc rows t = flat-append rows (t ∷ []) ∙ ap (λ (l : List ℕ). flat r
 
 -- one row more at the front of the list
 written-snoc : (rows : List (List ℕ)) (t out : List ℕ) (n : ℕ) → length (flat rows) ≡ n →
-    overwritten n t (written rows out) ≡ written (rows ++ (t ∷ [])) out
-unfolding overwritten written
+    placed (written rows out) n t ≡ written (rows ++ (t ∷ [])) out
+unfolding placed written
 written-snoc rows t out n e =
     ap₂ (λ (a b : List ℕ). a ++ t ++ b) (take-at (flat rows) (drop (length (flat rows)) out) n e)
     (ap (λ (k : ℕ). drop (k + length t) (flat rows ++ drop (length (flat rows)) out)) (sym e)

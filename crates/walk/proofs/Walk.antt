@@ -8,6 +8,8 @@ use native.Mathlib.Omega.{arith}
 use lib.Dec.{eqb, leb}
 use lib.ListN.{length, length-append, length-take, length-drop, length-set, length-replicate}
 use borrow.Author.Tests.{leb-true, leb-false, eqb-true, eqb-false, eq-eqb, ne-eqb, le-leb, lt-leb}
+use Rattle.model.proofs.Written.{length-placed}
+use Rattle.model.specs.Written.{placed}
 use Rattle.model.specs.Lists.{at, total}
 use Rattle.model.specs.Problem.{Problem}
 use Rattle.model.specs.Search.{isPlan}
@@ -16,11 +18,7 @@ use Rattle.model.proofs.Lists.{length-below}
 use Rattle.model.proofs.Tally.{total-set}
 use Rattle.order.specs.Reordered.{position, write}
 use Rattle.layout.specs.Places.{ALL, FULL}
-use Rattle.walk.specs.Walk.{withNode, noNodes, Summed, State, overwritten, noted, listed, counted, exhausted, visit, walk}
-
-pub length-overwritten : (i : ℕ) (row list : List ℕ) → i + length row ≤ length list → length (overwritten i row list) ≡ length list
-unfolding overwritten
-length-overwritten i row list h = simp (length-append, length-take, length-drop) (omega arith)
+use Rattle.walk.specs.Walk.{withNode, noNodes, Summed, State, noted, listed, counted, exhausted, visit, walk}
 
 pub length-write : (order r : List ℕ) → length (write order r) ≡ length order
 unfolding write
@@ -40,7 +38,7 @@ pub noted-none : (i : ℕ) (row list : List ℕ) → length list ≡ 0 → noted
 unfolding noted
 noted-none i row list e = rw (eq-eqb (length list) 0 e)
 
-pub noted-over : (i : ℕ) (row list : List ℕ) → (length list ≡ 0 → ⊥) → noted i row list ≡ overwritten i row list
+pub noted-over : (i : ℕ) (row list : List ℕ) → (length list ≡ 0 → ⊥) → noted i row list ≡ placed list i row
 unfolding noted
 noted-over i row list n = rw (ne-eqb (length list) 0 n)
 
@@ -49,7 +47,7 @@ length-noted i row list h = go (eqb (length list) 0) refl
   where
     go : (b : Bool) → eqb (length list) 0 ≡ b → length (noted i row list) ≡ length list
     go true e = ap length (noted-none i row list (eqb-true (length list) 0 e))
-    go false e = let n = eqb-false (length list) 0 e in ap length (noted-over i row list n) ∙ length-overwritten i row list (h n)
+    go false e = let n = eqb-false (length list) 0 e in ap length (noted-over i row list n) ∙ length-placed list i row (h n)
 
 module _ (p : Problem) (order : List ℕ) (limit room : ℕ) where
   -- ---- one node

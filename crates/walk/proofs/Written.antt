@@ -7,14 +7,15 @@ use native.Mathlib.Decide.{decLt, ℕ-discrete}
 use native.Mathlib.Omega.{arith}
 use lib.ListN.{length, take, drop, set, length-set, length-append}
 use lib.Seq.{length-take-le, getD-drop}
+use Rattle.model.proofs.Written.{length-placed, placed-before, placed-in, placed-after}
+use Rattle.model.specs.Written.{placed}
 use Rattle.model.specs.Lists.{at}
 use Rattle.model.proofs.Lists.{mem-at, at-set, at-set-other, at-ext, at-append, at-skip, at-take, at-tabulate, at-below, length-tabulate}
 use Rattle.order.specs.Order.{Ordering}
 use Rattle.order.specs.Reordered.{position, write}
 use Rattle.order.proofs.Reordered.{position-e}
-use Rattle.walk.specs.Walk.{overwritten}
 use Rattle.walk.specs.Pair.{prefixOf, settling, orderIn}
-use Rattle.walk.proofs.Walk.{length-write, length-overwritten}
+use Rattle.walk.proofs.Walk.{length-write}
 use Rattle.walk.proofs.Prefix.{prefix-at}
 
 -- ---- the order among the numbers
@@ -33,32 +34,6 @@ order-taken numbers order n l h =
 
 pub settling-inside : (numbers : List ℕ) (n k : ℕ) → Ordering n (orderIn numbers n) → k < n → settling numbers k < n
 settling-inside numbers n k o l = subst (λ (x : ℕ). x < n) (order-at numbers n k l) (o .inside (at (orderIn numbers n) k) (mem-at (orderIn numbers n) k (omega (arith, o .sized))))
-
--- ---- the bytes of a list with a row over them
-module _ (start : ℕ) (row list : List ℕ) (fits : start + length row ≤ length list) where
-  front : length (take start list) ≡ start
-  front = length-take-le start list (omega arith)
-
-  middle : length (take start list ++ row) ≡ start + length row
-  middle = length-append (take start list) row ∙ ap (λ (k : ℕ). k + length row) front
-
-  over-before : (j : ℕ) → j < start → at (overwritten start row list) j ≡ at list j
-  unfolding overwritten
-  over-before j l =
-      at-append (take start list ++ row) (drop (start + length row) list) j (omega (arith, middle)) ∙ at-append (take start list) row j (omega (arith, front)) ∙ at-take start list j l
-
-  over-at : (x : ℕ) → x < length row → at (overwritten start row list) (start + x) ≡ at row x
-  unfolding overwritten
-  over-at x l =
-      at-append (take start list ++ row) (drop (start + length row) list) (start + x) (omega (arith, middle)) ∙ at-skip (take start list) row start (start + x) front (omega arith)
-      ∙ ap (at row) (let e : start + x - start ≡ x = omega arith in e)
-
-  over-after : (j : ℕ) → start + length row ≤ j → at (overwritten start row list) j ≡ at list j
-  unfolding overwritten at
-  over-after j l =
-      at-skip (take start list ++ row) (drop (start + length row) list) (start + length row) j middle l
-      ∙ getD-drop (start + length row) list (j - (start + length row)) 0
-      ∙ ap (at list) (let e : start + length row + (j - (start + length row)) ≡ j = omega arith in e)
 
 -- ---- the values of `work` put by the order
 pub record Put (start : ℕ) (order work list : List ℕ) (k : ℕ) (list′ : List ℕ) : Type 0 where
@@ -97,8 +72,8 @@ module _ (start n : ℕ) (order work list : List ℕ) (o : Ordering n order) (fi
       at-below (λ y. at (prefixOf work n) (position order y)) (length order) x (omega (arith, o .sized))
       ∙ prefix-at work n (position order x) (omega (arith, position-e order x (o .each x l) .0, o .sized))
 
-  pub put-all : (list′ : List ℕ) → Put start order work list n list′ → list′ ≡ overwritten start row list
-  put-all list′ h = at-ext list′ (overwritten start row list) (h .sized ∙ sym (length-overwritten start row list (omega (arith, row-length)))) (λ j l. go j (decLt j start) (decLt j (start + n)))
+  pub put-all : (list′ : List ℕ) → Put start order work list n list′ → list′ ≡ placed list start row
+  put-all list′ h = at-ext list′ (placed list start row) (h .sized ∙ sym (length-placed list start row (omega (arith, row-length)))) (λ j l. go j (decLt j start) (decLt j (start + n)))
     where
       over : start + length row ≤ length list
       over = omega (arith, row-length)
@@ -106,13 +81,13 @@ module _ (start n : ℕ) (order work list : List ℕ) (o : Ordering n order) (fi
       far : (j : ℕ) → (j < start → ⊥) → (j < start + n → ⊥) → at list′ j ≡ at list j
       far j a b = h .others j (λ i l e. omega (arith, o .inside (at order i) (mem-at order i (omega (arith, o .sized)))))
 
-      go : (j : ℕ) → Dec (j < start) → Dec (j < start + n) → at list′ j ≡ at (overwritten start row list) j
-      go j (yes a) b = h .others j (λ i l e. omega arith) ∙ sym (over-before start row list over j a)
-      go j (no a) (no b) = far j a b ∙ sym (over-after start row list over j (omega (arith, row-length)))
+      go : (j : ℕ) → Dec (j < start) → Dec (j < start + n) → at list′ j ≡ at (placed list start row) j
+      go j (yes a) b = h .others j (λ i l e. omega arith) ∙ sym (placed-before list start row over j a)
+      go j (no a) (no b) = far j a b ∙ sym (placed-after list start row over j (omega (arith, row-length)))
       go j (no a) (yes b) =
           let x = j - start in
           let l : x < n = omega arith in
           let s : j ≡ start + x = omega arith in
           let q = position-e order x (o .each x l) in
           ap (at list′) (s ∙ ap (λ (y : ℕ). start + y) (sym (q .1))) ∙ h .put (position order x) (omega (arith, q .0, o .sized))
-          ∙ sym (ap (at (overwritten start row list)) s ∙ over-at start row list over x (omega (arith, row-length)) ∙ row-at x l)
+          ∙ sym (ap (at (placed list start row)) s ∙ placed-in list start row over x (omega (arith, row-length)) ∙ row-at x l)

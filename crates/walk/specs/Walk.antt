@@ -6,6 +6,7 @@ use mathlib.Core.List.{List, [], _∷_, _++_, map}
 use Prim.Native.Nat.{ℕ, suc, _+_, _*_}
 use lib.ListN.{length, take, drop, set, replicate}
 use lib.Dec.{leb, eqb}
+use Rattle.model.specs.Written.{placed}
 use Rattle.model.specs.Lists.{flat, choose, at, total}
 use Rattle.model.specs.ValueSets.{members}
 use Rattle.model.specs.Problem.{Problem}
@@ -35,13 +36,9 @@ pub record State : Type 0 where
   pub list : List ℕ
   pub last : List ℕ
 
--- the list with a row written over its bytes from i on
-unfoldable pub overwritten : ℕ → List ℕ → List ℕ → List ℕ
-overwritten i row list = take i list ++ row ++ drop (i + length row) list
-
--- the same, but a list of no byte stays as it is: its run counts plans alone
+-- the list with a row written over its bytes from i on; a list of no byte stays as it is: its run counts plans alone
 unfoldable pub noted : ℕ → List ℕ → List ℕ → List ℕ
-noted i row list = choose (eqb (length list) 0) list (overwritten i row list)
+noted i row list = choose (eqb (length list) 0) list (placed list i row)
 
 -- and so of all rows at its front
 unfoldable pub kept : List (List ℕ) → List ℕ → List ℕ

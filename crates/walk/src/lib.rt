@@ -13,12 +13,13 @@ use model::ValueSet;
 ghost use mathlib.Core.Path.{_≡_};
 ghost use Prim.Native.Nat.{ℕ, _+_, _*_, _^_, _≤_, _<_};
 ghost use lib.ListN.{length};
+ghost use Rattle.model.specs.Written.{placed};
 ghost use Rattle.model.specs.Lists.{at};
 ghost use Rattle.model.specs.ValueSets.{withoutMask, lowestOf};
 ghost use Rattle.order.specs.Order.{Ordering};
 ghost use Rattle.order.specs.Reordered.{write};
 ghost use Rattle.layout.specs.Places.{VARIABLES, LIMIT, ROOM, PLANS, WORK};
-ghost use Rattle.walk.specs.Walk.{overwritten, noted};
+ghost use Rattle.walk.specs.Walk.{noted};
 ghost use Rattle.walk.specs.Pair.{prefixOf, settling, orderIn, Countable, Counted, Cleared, ListRoom, Listed};
 ghost use Rattle.loans.specs.Slices.{SameSlice};
 ghost use Rattle.walk.specs.Meaning.{tallyIn};
@@ -73,7 +74,7 @@ pub fn nodes_made(t: &Tally) -> u32
 fn keep(list: &mut [u8], work: &[u64], numbers: &Numbers, n: usize, start: usize)
     requires { ⌜ (n ≤ 12) × (n ≤ length (now work)) × (start + n ≤ length (now list)) ⌝ }
     requires { ⌜ ((i : ℕ) → i < n → at (now work) i < 256) × Ordering n (orderIn (now numbers) n) ⌝ }
-    ensures { λ _. ⌜ now (list .exit) ≡ overwritten start (write (orderIn (now (numbers .entry)) n) (prefixOf (now (work .entry)) n)) (now (list .entry)) ⌝ }
+    ensures { λ _. ⌜ now (list .exit) ≡ placed (now (list .entry)) start (write (orderIn (now (numbers .entry)) n) (prefixOf (now (work .entry)) n)) ⌝ }
 {
     let mut i = 0;
     while i < n {

@@ -5,7 +5,7 @@ use Prim.Native.Nat.{ℕ, _≤_, _<_, _-_}
 use native.Mathlib.Omega.{arith}
 use borrow.Author.Count.{below-more}
 use Rattle.store.specs.Layout.{isFree}
-use Rattle.store.proofs.First.{first-is}
+use Rattle.model.proofs.Least.{first-is}
 use borrow.Author.Needs.{needs}
 use Rattle.store.proofs.free_slot.Statement.{statement}
 use Rattle.store.proofs.free_slot.Tie as tie
