@@ -1,4 +1,5 @@
 // The desk of eight seats (paper 02, #113) in lent bytes. specs/Layout.antt says what any bytes mean; zeros are the empty desk.
+use wire::place;
 ghost use mathlib.Core.Path.{_≡_};
 ghost use mathlib.Core.List.{[]};
 ghost use Prim.Native.Nat.{_+_, _*_, _≤_, _<_, min};
@@ -73,18 +74,6 @@ pub enum Answer {
 pub struct Status {
     pub answer: Answer,
     pub counts: [u32; 12],
-}
-
-// Copies bytes to a place, one by one.
-pub fn place(from: &[u8], to: &mut [u8], at: usize)
-    requires { ⌜ at + length (now from) ≤ length (now to) ⌝ }
-    ensures { λ _. ⌜ now (to .exit) ≡ placed (now (to .entry)) at (now (from .entry)) ⌝ }
-{
-    let mut i = 0;
-    while i < from.len() {
-        to[at + i] = from[i];
-        i += 1;
-    }
 }
 
 // The lowest free seat, or 8.

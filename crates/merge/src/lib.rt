@@ -1,4 +1,5 @@
 // One list from two (paper 02, #106). `means` in specs/Meaning.antt says what the answers mean.
+use wire::put;
 ghost use mathlib.Core.Path.{_≡_};
 ghost use mathlib.Core.Bool.{true};
 ghost use mathlib.Core.List.{List·Memᴰ};
@@ -223,18 +224,6 @@ fn put_four(out: &mut [u8], to: usize, row: &[u8], from: usize)
     out[to + 3] = d;
 }
 
-fn put_bytes(out: &mut [u8], at: usize, row: &[u8]) -> usize
-    requires { ⌜ at + length (now row) ≤ length (now out) ⌝ }
-    ensures { λ r. ⌜ Written (now (out .entry)) at (now (row .entry)) (now (out .exit)) r ⌝ }
-{
-    let mut i = 0;
-    while i < row.len() {
-        out[at + i] = row[i];
-        i += 1;
-    }
-    at + i
-}
-
 // Writes a row, four bytes at a time: of a row of 8 to 12, the first four, the next four and the last four.
 fn put_row(out: &mut [u8], at: usize, row: &[u8]) -> usize
     requires { ⌜ (at + length (now row) ≤ length (now out)) × (length (now row) ≤ 12) ⌝ }
@@ -242,7 +231,7 @@ fn put_row(out: &mut [u8], at: usize, row: &[u8]) -> usize
 {
     let n = row.len();
     if n < 8 {
-        return put_bytes(out, at, row);
+        return put(out, at, row);
     }
     put_four(out, at, row, 0);
     put_four(out, at + 4, row, 4);

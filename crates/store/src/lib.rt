@@ -1,5 +1,6 @@
 // The symmetry store (paper 02, #110) in lent bytes: tables under an owner (the paper's course) and a key (its hall). specs/Layout.antt says
 // what any bytes mean; zeros are the empty store.
+use wire::place;
 ghost use mathlib.Core.Path.{_≡_};
 ghost use Prim.Native.Nat.{_+_, _≤_, _<_, min};
 ghost use lib.ListN.{length};
@@ -17,18 +18,6 @@ pub enum Answer {
     Done { bytes: usize },
     // 255 where the store has not STORE_BYTES bytes.
     Refused { number: u8, item: usize },
-}
-
-// Copies bytes to a place, one by one.
-fn place(from: &[u8], to: &mut [u8], at: usize)
-    requires { ⌜ at + length (now from) ≤ length (now to) ⌝ }
-    ensures { λ _. ⌜ now (to .exit) ≡ placed (now (to .entry)) at (now (from .entry)) ⌝ }
-{
-    let mut i = 0;
-    while i < from.len() {
-        to[at + i] = from[i];
-        i += 1;
-    }
 }
 
 // Copies at most 2,048 bytes, by way of a buffer that nothing else reaches: the compiler then knows that the two loops are one block copy.

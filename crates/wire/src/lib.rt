@@ -1,9 +1,9 @@
-// Numbers in lent bytes, low byte first, and a refusal as one number: what the exported functions answer with.
+// Bytes and numbers, low byte first, put into lent bytes, and a refusal as one number: what the exported functions answer with.
 ghost use mathlib.Core.Path.{_≡_};
 ghost use Prim.Native.Nat.{_+_, _*_, _^_, _≤_, _<_};
 ghost use lib.ListN.{length};
 ghost use Rattle.model.specs.Bytes.{fourBytes};
-ghost use Rattle.model.specs.Written.{Written};
+ghost use Rattle.model.specs.Written.{Written, placed};
 ghost use Rattle.wire.specs.Wire.{threeNumbers};
 
 // A refusal as one number.
@@ -37,4 +37,25 @@ pub fn three(out: &mut [u8], kind: usize, a: usize, b: usize)
     let first = four(out, 0, kind);
     let second = four(out, first, a);
     four(out, second, b);
+}
+
+// Puts bytes at a place; answers the place after them.
+pub fn put(out: &mut [u8], at: usize, bytes: &[u8]) -> usize
+    requires { ⌜ at + length (now bytes) ≤ length (now out) ⌝ }
+    ensures { λ r. ⌜ Written (now (out .entry)) at (now (bytes .entry)) (now (out .exit)) r ⌝ }
+{
+    let mut i = 0;
+    while i < bytes.len() {
+        out[at + i] = bytes[i];
+        i += 1;
+    }
+    at + i
+}
+
+// Copies bytes to a place.
+pub fn place(from: &[u8], to: &mut [u8], at: usize)
+    requires { ⌜ at + length (now from) ≤ length (now to) ⌝ }
+    ensures { λ _. ⌜ now (to .exit) ≡ placed (now (to .entry)) at (now (from .entry)) ⌝ }
+{
+    put(to, at, from);
 }

@@ -7,8 +7,8 @@ use borrow.Author.Needs.{needs}
 use Rattle.merge.proofs.put_row.Statement.{statement}
 use Rattle.merge.proofs.put_row.Tie as tie
 
-put-bytes-requires : tie.Need-put-bytes-requires
-put-bytes-requires c κs = search needs
+put-requires : tie.Need-put-requires
+put-requires c κs = search needs
 
 same-length : tie.Need-same-length
 same-length c = search needs
@@ -53,7 +53,7 @@ pub put-row-spec : {M : Type 1} → statement M
 put-row-spec =
     tie.close
     (tie.spec
-    put-bytes-requires
+    put-requires
     same-length
     returns
     put-four-requires

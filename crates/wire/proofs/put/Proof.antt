@@ -1,4 +1,4 @@
--- `put`: after i turns the buffer has the text's first i bytes at the place. Assumes nothing.
+-- `put`: after i turns the buffer has the first i bytes at the place. Assumes nothing.
 use mathlib.Core.Path.{_≡_, refl, sym, ap, _∙_}
 use mathlib.Core.List.{List}
 use Prim.Native.Nat.{ℕ, _+_, _-_, _≤_, _<_}
@@ -10,14 +10,14 @@ use lib.ListN.{length, getD, set, length-set}
 use lib.Seq.{paste, paste-zero, paste-suc}
 use Rattle.model.specs.Written.{Written}
 use Rattle.model.proofs.Written.{written-paste}
-use Rattle.report.proofs.put.Statement.{statement}
-use Rattle.report.proofs.put.Tie as tie
+use Rattle.wire.proofs.put.Statement.{statement}
+use Rattle.wire.proofs.put.Tie as tie
 
 abbrev Inv-loop : tie.InvT-loop
-Inv-loop out₀ at text i₀ out i = (i ≤ length text) × (out ≡ paste out₀ at text i) × (length out ≡ length out₀)
+Inv-loop out₀ at bytes i₀ out i = (i ≤ length bytes) × (out ≡ paste out₀ at bytes i) × (length out ≡ length out₀)
 
 abbrev μ-loop : tie.MeasureT-loop
-μ-loop out₀ at text i₀ out i = length text - i
+μ-loop out₀ at bytes i₀ out i = length bytes - i
 
 -- a turn stores one byte more
 turn : (d : List ℕ) (at : ℕ) (t : List ℕ) (i : ℕ) (o : List ℕ) → at + i < length d → i < length t → o ≡ paste d at t i → set o (at + i) (getD t i 0) ≡ paste d at t (i + 1)
@@ -27,7 +27,7 @@ whole : (d : List ℕ) (at : ℕ) (t : List ℕ) (i : ℕ) (o : List ℕ) → i 
 whole d at t i o e p = rw p (written-paste d at t i e)
 
 loop-holds : tie.Need-loop-holds Inv-loop μ-loop
-loop-holds c = (search needs, paste-zero (c .args .out .now) (c .args .at) (c .args .text .now), refl)
+loop-holds c = (search needs, paste-zero (c .args .out .now) (c .args .at) (c .args .bytes .now), refl)
 
 shared-slice-read-out : tie.Need-shared-slice-read-out Inv-loop μ-loop
 shared-slice-read-out c = search needs
@@ -48,7 +48,7 @@ loop-again : tie.Need-loop-again Inv-loop μ-loop
 loop-again c =
     let l = c .before .before in
     let a = l .before .args in
-    (search needs, turn (a .out .now) (a .at) (a .text .now) (l .loop .i) (l .loop .out) (omega arith) (omega arith) (l .loop .inv .1), simp length-set (l .loop .inv .2))
+    (search needs, turn (a .out .now) (a .at) (a .bytes .now) (l .loop .i) (l .loop .out) (omega arith) (omega arith) (l .loop .inv .1), simp length-set (l .loop .inv .2))
 
 add-result : tie.Need-add-result Inv-loop μ-loop
 add-result c = search needs
@@ -60,7 +60,7 @@ returns : tie.Need-returns Inv-loop μ-loop
 returns c =
     let l = c .before in
     let a = l .before .args in
-    whole (a .out .now) (a .at) (a .text .now) (l .loop .i) (l .loop .out) (le-antisymm (l .loop .inv .0) (c .loop-test .left)) (l .loop .inv .1)
+    whole (a .out .now) (a .at) (a .bytes .now) (l .loop .i) (l .loop .out) (le-antisymm (l .loop .inv .0) (c .loop-test .left)) (l .loop .inv .1)
 
 pub put-spec : {M : Type 1} → statement M
 put-spec =
