@@ -199,7 +199,7 @@ module _ {A : Type 0} (yes other : A) (answer : List ℕ) (n : ℕ) where
   full h = sym (ap (λ (t : Bool). choose t yes other) (eq-eqb (length answer) n h))
 
 module _ (b : List ℕ) (x : DeskCall) (answer : List ℕ) where
-  pub unanswered : (length answer ≡ answerLength x → ⊥) → CallDesk b x answer 65280 b answer
+  pub unanswered : (length answer ≡ answerLength x → ⊥) → CallDesk b x answer wrongLength b answer
   unfolding deskCode deskBytes deskAnswer
   unanswered h = record {
     code = short (replyCode (replyOn b x)) wrongLength answer (answerLength x) h;
@@ -217,7 +217,7 @@ module _ (b : List ℕ) (x : DeskCall) (answer : List ℕ) where
 
 -- a look changes nothing
 module _ (b : List ℕ) (k : ℕ) (answer : List ℕ) where
-  pub unlooked : (length answer ≡ 64 → ⊥) → CallLook b k answer 65280 answer
+  pub unlooked : (length answer ≡ 64 → ⊥) → CallLook b k answer wrongLength answer
   unfolding lookCode lookAnswer
   unlooked h = record { code = short (replyCode (lookOn b k)) wrongLength answer 64 h; told = short (lookBytes (lookOn b k) (countsOn b k) answer) answer answer 64 h }
 
@@ -230,7 +230,7 @@ module _ (b : List ℕ) (k : ℕ) (answer : List ℕ) where
 
 -- a hall that leaves may change its room too
 module _ (b : List ℕ) (k : ℕ) (room answer : List ℕ) where
-  pub unleft : (length answer ≡ 12 → ⊥) → CallLeave b k room answer 65280 b room answer
+  pub unleft : (length answer ≡ 12 → ⊥) → CallLeave b k room answer wrongLength b room answer
   unfolding leaveRoom
   unleft h =
       let u = unanswered b (leave k room) answer h in
@@ -253,7 +253,7 @@ refused-item b r number item e = go (eqb (length b) size) e
     go false f = let z : item ≡ 0 = cc in omega arith
 
 module _ (b : List ℕ) (r : ℕ) (answer : List ℕ) where
-  pub unrounded : (length answer ≡ 12 → ⊥) → CallRounds b r answer 65280 b answer
+  pub unrounded : (length answer ≡ 12 → ⊥) → CallRounds b r answer wrongLength b answer
   unfolding roundsCode roundsDesk roundsAnswer
   unrounded h = record {
     code = short (roundsReplyCode (roundsOn b r)) wrongLength answer 12 h;

@@ -4,6 +4,7 @@
 use desk::Answer;
 use export_lent::counts;
 use serve::Reply;
+use wire::WRONG_LENGTH;
 use wire::code;
 use wire::four;
 use wire::three;
@@ -103,7 +104,7 @@ pub fn sit(desk: &mut [u8], sheet: &[u8], limit: u32, answer: &mut [u8]) -> u32
     ensures { λ r. ⌜ CallDesk (now (desk .entry)) (sit (now (sheet .entry)) limit) (now (answer .entry)) r (now (desk .exit)) (now (answer .exit)) ⌝ }
 {
     if answer.len() != 12 {
-        return 65280;
+        return WRONG_LENGTH;
     }
     let r = desk::sit(desk, sheet, limit);
     told(answer, r)
@@ -115,7 +116,7 @@ pub fn turn(desk: &mut [u8], answer: &mut [u8]) -> u32
     ensures { λ r. ⌜ CallDesk (now (desk .entry)) turn (now (answer .entry)) r (now (desk .exit)) (now (answer .exit)) ⌝ }
 {
     if answer.len() != 16 {
-        return 65280;
+        return WRONG_LENGTH;
     }
     let r = serve::turn(desk);
     told(answer, r)
@@ -127,7 +128,7 @@ pub fn rounds(desk: &mut [u8], turns: u32, answer: &mut [u8]) -> u32
     ensures { λ r. ⌜ CallRounds (now (desk .entry)) turns (now (answer .entry)) r (now (desk .exit)) (now (answer .exit)) ⌝ }
 {
     if answer.len() != 12 {
-        return 65280;
+        return WRONG_LENGTH;
     }
     let r = serve::rounds(desk, turns);
     match r {
@@ -144,7 +145,7 @@ pub fn look(desk: &[u8], seat: u32, answer: &mut [u8]) -> u32
     ensures { λ r. ⌜ CallLook (now (desk .entry)) seat (now (answer .entry)) r (now (answer .exit)) ⌝ }
 {
     if answer.len() != 64 {
-        return 65280;
+        return WRONG_LENGTH;
     }
     let s = desk::look(desk, seat);
     let counts = s.counts;
@@ -157,7 +158,7 @@ pub fn leave(desk: &mut [u8], seat: u32, room: &mut [u8], answer: &mut [u8]) -> 
     ensures { λ r. ⌜ CallLeave (now (desk .entry)) seat (now (room .entry)) (now (answer .entry)) r (now (desk .exit)) (now (room .exit)) (now (answer .exit)) ⌝ }
 {
     if answer.len() != 12 {
-        return 65280;
+        return WRONG_LENGTH;
     }
     let r = desk::leave(desk, seat, room);
     told(answer, r)

@@ -1,5 +1,6 @@
 // The number of families of a run (paper 02, #104).
 use counting::Answer;
+use wire::WRONG_LENGTH;
 use wire::code;
 use wire::three;
 ghost use Rattle.export_families.specs.Families.{CallFigured};
@@ -11,7 +12,7 @@ pub fn families(sheet: &[u8], pairs: &[u8], block: &[u8], limit: u32, answer: &m
     ensures { λ r. ⌜ CallFigured (now (sheet .entry)) (now (pairs .entry)) (now (block .entry)) limit (now (answer .entry)) r (now (answer .exit)) ⌝ }
 {
     if answer.len() != 12 {
-        return 65280;
+        return WRONG_LENGTH;
     }
     let r = counting::families(sheet, pairs, block, limit);
     match r {

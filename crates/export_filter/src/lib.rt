@@ -1,6 +1,7 @@
 // The filter for callers: sets and lists in bytes.
 mod sets;
 
+use wire::WRONG_LENGTH;
 use wire::code;
 ghost use mathlib.Core.Path.{_≡_};
 ghost use Prim.Native.Nat.{_*_};
@@ -41,17 +42,20 @@ fn filter_words(
     filter_code(answer)
 }
 
+// More than twelve sets: refusal 17.
+const TOO_MANY: u32 = 17 * 256;
+
 // Filters sets of values, each two bytes, low byte first: 0 where it ended consistent, 1 entailed, 2 failed (paper 02, #102), else the
-// refusal as above and the sets as they came. An odd number of bytes is 255 times 256.
+// refusal, number * 256 + item, and the sets as they came. An odd number of bytes is 255 times 256.
 pub fn filter(sets: &mut [u8], index: &[u8], equal: &[u8], not_equal: &[u8]) -> u32
     ensures { λ r. ⌜ CallBytes (now (sets .entry)) (now (index .entry)) (now (equal .entry)) (now («not_equal» .entry)) r (now (sets .exit)) ⌝ }
 {
     if sets.len() % 2 != 0 {
-        return 65280;
+        return WRONG_LENGTH;
     }
     let n = sets.len() / 2;
     if 12 < n {
-        return 4352;
+        return TOO_MANY;
     }
     let mut words = [0u16; 12];
     filter_words(sets, &mut words[..n], index, equal, not_equal)

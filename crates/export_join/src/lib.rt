@@ -5,6 +5,7 @@ use crate::pieces::put_none;
 use crate::pieces::put_range;
 use crate::pieces::put_sums;
 use crate::pieces::put_zeros;
+use wire::WRONG_LENGTH;
 ghost use Rattle.export_join.specs.Joined.{CallJoinBytes};
 
 // Joins heads of 115 bytes each. The answer has 152 bytes: 1 joined or 2 missing, the sums in 64 bits, the missing range. Returns 0, or the number of the refusal
@@ -13,7 +14,7 @@ pub fn join_heads(heads: &[u8], answer: &mut [u8]) -> u32
     ensures { λ r. ⌜ CallJoinBytes (now (heads .entry)) (now (answer .entry)) r (now (answer .exit)) ⌝ }
 {
     if answer.len() != 152 {
-        return 65280;
+        return WRONG_LENGTH;
     }
     let r = join::join(heads);
     let said = r.answer;

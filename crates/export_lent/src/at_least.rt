@@ -1,5 +1,6 @@
 // At least m plans (paper 02, #101)?
 use search::Enough;
+use wire::WRONG_LENGTH;
 use wire::code;
 use wire::three;
 ghost use mathlib.Core.Path.{_≡_};
@@ -44,7 +45,7 @@ pub fn at_least(
     ensures { λ r. ⌜ CallEnoughBytes (now (sheet .entry)) (now (pairs .entry)) (now (block .entry)) plans limit (now (answer .entry)) r (now (answer .exit)) ⌝ }
 {
     if answer.len() != 12 {
-        return 65280;
+        return WRONG_LENGTH;
     }
     let r = search::at_least(sheet, pairs, block, plans as usize, limit);
     said(answer, r)

@@ -1,5 +1,6 @@
 // Whether the exchanges of a run are closed (paper 02, #112).
 use closed::Answer;
+use wire::WRONG_LENGTH;
 use wire::code;
 use wire::three;
 ghost use Rattle.export_lent.specs.Calls.{CallClosedBytes};
@@ -11,7 +12,7 @@ pub fn closed(sheet: &[u8], pairs: &[u8], block: &[u8], answer: &mut [u8]) -> u3
     ensures { λ r. ⌜ CallClosedBytes (now (sheet .entry)) (now (pairs .entry)) (now (block .entry)) (now (answer .entry)) r (now (answer .exit)) ⌝ }
 {
     if answer.len() != 12 {
-        return 65280;
+        return WRONG_LENGTH;
     }
     let r = closed::closed(sheet, pairs, block);
     match r {

@@ -1,5 +1,6 @@
 // Calls that are lent a sheet, pairs and a block (paper 02, #108 and #111). Pairs: two bytes each, "this place before that place".
 use crate::counts::ending;
+use wire::WRONG_LENGTH;
 use wire::code;
 ghost use Rattle.export_lent.specs.Calls.{CallQuestionCode, CallRunBytes};
 
@@ -27,7 +28,7 @@ pub fn run_lent(
     ensures { λ r. ⌜ CallRunBytes (now (sheet .entry)) (now (pairs .entry)) (now (block .entry)) limit (now (list .entry)) (now (answer .entry)) r (now (list .exit)) (now (answer .exit)) ⌝ }
 {
     if answer.len() != 60 {
-        return 65280;
+        return WRONG_LENGTH;
     }
     let r = search::run_counted(sheet, pairs, block, limit, list);
     let tally = r.tally;

@@ -68,7 +68,7 @@ module _ (b : List ℕ) (x : Call) (answer : List ℕ) where
   abbrev pub Answered : ℕ → List ℕ → List ℕ → Type 0
   Answered n c d = (n ≡ storedCode b x answer) × ((c ≡ storedBytes b x answer) × (d ≡ storedAnswer b x answer))
 
-  pub unanswered : (length answer ≡ 12 → ⊥) → Answered 65280 b answer
+  pub unanswered : (length answer ≡ 12 → ⊥) → Answered wrongLength b answer
   unfolding storedCode storedBytes storedAnswer
   unanswered h = (short (outcomeCode (replyOn b x .outcome)) wrongLength answer h, (short (bytesAfter b x) b answer h, short (outcomeAnswer (replyOn b x .outcome) answer) answer answer h))
 
@@ -91,7 +91,7 @@ module _ (b : List ℕ) (o key : ℕ) (room answer : List ℕ) where
   abbrev pub Fetched : ℕ → List ℕ → List ℕ → Type 0
   Fetched n c d = (n ≡ storedCode b (call o key (fetch room)) answer) × ((c ≡ storedRoom b o key room answer) × (d ≡ storedAnswer b (call o key (fetch room)) answer))
 
-  pub unfetched : (length answer ≡ 12 → ⊥) → Fetched 65280 room answer
+  pub unfetched : (length answer ≡ 12 → ⊥) → Fetched wrongLength room answer
   unfolding storedRoom
   unfetched h = let r = unanswered b (call o key (fetch room)) answer h in (r .0, (short (replyOn b (call o key (fetch room)) .room) room answer h, r .1 .1))
 

@@ -1,6 +1,7 @@
 // One list from two (paper 02, #106). The answer has 12 bytes, three numbers of four bytes, low byte first: 1, then the number of bytes
 // written, its low half and its high half.
 use merge::Answer;
+use wire::WRONG_LENGTH;
 use wire::code;
 use wire::three;
 ghost use Rattle.export_lists.specs.Merged.{CallMerged};
@@ -18,7 +19,7 @@ pub fn merge<'a>(
     ensures { λ r. ⌜ CallMerged variables (now (pairs .entry)) (now (first .entry)) (now (second .entry)) (now (out .entry)) (now (answer .entry)) r (now (out .exit)) (now (answer .exit)) ⌝ }
 {
     if answer.len() != 12 {
-        return 65280;
+        return WRONG_LENGTH;
     }
     let r = merge::merge(variables as usize, pairs, first, second, out);
     match r {

@@ -1,5 +1,6 @@
 // Every small sheet (paper 02, #114).
 use small::Answer;
+use wire::WRONG_LENGTH;
 use wire::code;
 use wire::three;
 ghost use Rattle.export_lists.specs.Calls.{CallSmallBytes};
@@ -11,7 +12,7 @@ pub fn small_sheet(k: u32, out: &mut [u8], answer: &mut [u8]) -> u32
     ensures { λ r. ⌜ CallSmallBytes k (now (out .entry)) (now (answer .entry)) r (now (out .exit)) (now (answer .exit)) ⌝ }
 {
     if answer.len() != 12 {
-        return 65280;
+        return WRONG_LENGTH;
     }
     let r = small::small_sheet(k as usize, out);
     match r {

@@ -2,6 +2,7 @@
 // low byte first: 1, the number of bytes written to the room, 0. Each function answers 0; or a refusal, and then every buffer is as it
 // came; or, asked first, 255 times 256 where the answer has not 12 bytes or the store not STORE_BYTES.
 use store::Answer;
+use wire::WRONG_LENGTH;
 use wire::code;
 use wire::three;
 ghost use mathlib.Core.Path.{_≡_};
@@ -31,7 +32,7 @@ pub fn store_put(store: &mut [u8], owner: u32, key: u8, table: &[u8], answer: &m
     ensures { λ r. ⌜ CallPutBytes (now (store .entry)) owner key (now (table .entry)) (now (answer .entry)) r (now (store .exit)) (now (answer .exit)) ⌝ }
 {
     if answer.len() != 12 {
-        return 65280;
+        return WRONG_LENGTH;
     }
     let r = store::put(store, owner, key, table);
     told(answer, r)
@@ -42,7 +43,7 @@ pub fn store_fetch(store: &[u8], owner: u32, key: u8, room: &mut [u8], answer: &
     ensures { λ r. ⌜ CallFetchBytes (now (store .entry)) owner key (now (room .entry)) (now (answer .entry)) r (now (room .exit)) (now (answer .exit)) ⌝ }
 {
     if answer.len() != 12 {
-        return 65280;
+        return WRONG_LENGTH;
     }
     let r = store::fetch(store, owner, key, room);
     told(answer, r)
@@ -53,7 +54,7 @@ pub fn store_drop(store: &mut [u8], owner: u32, key: u8, answer: &mut [u8]) -> u
     ensures { λ r. ⌜ CallDropBytes (now (store .entry)) owner key (now (answer .entry)) r (now (store .exit)) (now (answer .exit)) ⌝ }
 {
     if answer.len() != 12 {
-        return 65280;
+        return WRONG_LENGTH;
     }
     let r = store::remove(store, owner, key);
     told(answer, r)

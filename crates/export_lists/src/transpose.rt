@@ -2,6 +2,7 @@
 // 1, the number of bytes written, 0. Answers 0; or a refusal, and then every buffer is as it came; or, asked first, 255 times 256 where the
 // answer has not 12 bytes.
 use columns::Answer;
+use wire::WRONG_LENGTH;
 use wire::code;
 use wire::three;
 ghost use Rattle.export_lists.specs.Calls.{CallColumnsBytes, CallRowsBytes};
@@ -11,7 +12,7 @@ pub fn columns(variables: u32, rows: &[u8], out: &mut [u8], answer: &mut [u8]) -
     ensures { λ r. ⌜ CallColumnsBytes variables (now (rows .entry)) (now (out .entry)) (now (answer .entry)) r (now (out .exit)) (now (answer .exit)) ⌝ }
 {
     if answer.len() != 12 {
-        return 65280;
+        return WRONG_LENGTH;
     }
     let r = columns::to_columns(variables as usize, rows, out);
     match r {
@@ -28,7 +29,7 @@ pub fn rows(store: &[u8], out: &mut [u8], answer: &mut [u8]) -> u32
     ensures { λ r. ⌜ CallRowsBytes (now (store .entry)) (now (out .entry)) (now (answer .entry)) r (now (out .exit)) (now (answer .exit)) ⌝ }
 {
     if answer.len() != 12 {
-        return 65280;
+        return WRONG_LENGTH;
     }
     let r = columns::to_rows(store, out);
     match r {

@@ -2,6 +2,7 @@
 use crate::heads::put_ending;
 use crate::heads::put_name;
 use crate::heads::put_paths;
+use wire::WRONG_LENGTH;
 use wire::code;
 ghost use Rattle.export_parts.specs.Parts.{CallPartBytes};
 
@@ -20,7 +21,7 @@ pub fn run_part(
     ensures { λ r. ⌜ CallPartBytes (now (sheet .entry)) (now (pairs .entry)) (now (block .entry)) (now (from .entry)) (now (upto .entry)) limit (now (list .entry)) (now (answer .entry)) r (now (list .exit)) (now (answer .exit)) ⌝ }
 {
     if answer.len() != 115 {
-        return 65280;
+        return WRONG_LENGTH;
     }
     let r = range_run::run_part(sheet, pairs, block, from, upto, limit, list);
     let tally = r.tally;

@@ -100,11 +100,11 @@ module _ (input out answer : List ℕ) where
     outcome o code bytes so c l w =
         let r = lent.right-answer (reportVerdict input out) (reportOf input) out answer o code after bytes right so c l w in record { returns = r .0; leaves = r .1 .0; tells = r .1 .1 }
 
-    pub too-short : length out < r → CallReport input out answer 5632 after answer
+    pub too-short : length out < r → CallReport input out answer (22 * 256) after answer
     unfolding reportVerdict
     too-short h =
         let e : reportVerdict input out ≡ refused 22 0 = ap {B = Verdict} (λ (b : Bool). ask b 22 0 accepted) (lt-leb (length (reportOf input)) (length out) (omega (arith, f .count))) in
-        outcome (refusal 22 0) 5632 answer (sym (ap (λ (v : Verdict). outcomeOf v (reportOf input)) e)) refl (f .short (omega (arith, f .count)) ∙ sym (ap (λ (v : Verdict). roomAfter v (reportOf input) out) e)) refl
+        outcome (refusal 22 0) (22 * 256) answer (sym (ap (λ (v : Verdict). outcomeOf v (reportOf input)) e)) refl (f .short (omega (arith, f .count)) ∙ sym (ap (λ (v : Verdict). roomAfter v (reportOf input) out) e)) refl
 
     pub reported : r ≤ length out → (bytes : List ℕ) → bytes ≡ threeNumbers 1 r 0 → CallReport input out answer 0 after bytes
     unfolding reportVerdict

@@ -1,6 +1,7 @@
 // The report on a sheet for callers. The answer has 12 bytes, three numbers of four bytes, low byte first: 1, the report's length, 0.
 mod text;
 
+use wire::WRONG_LENGTH;
 use wire::three;
 ghost use lib.ListN.{take};
 ghost use Rattle.model.specs.Sheet.{verdictOf};
@@ -18,17 +19,20 @@ fn input_report(input: &[u8], out: &mut [u8]) -> usize
     text::sheet_report(&input[..65536], out)
 }
 
+// The text is longer than the lent buffer: refusal 22.
+const NO_ROOM: u32 = 22 * 256;
+
 // Writes the report on an input to the front of the buffer. Returns 0; or 22 times 256 where the buffer is shorter than the report, and then every
 // buffer is as it came; or, asked first, 255 times 256 where the answer has not 12 bytes.
 pub fn write_report(input: &[u8], out: &mut [u8], answer: &mut [u8]) -> u32
     ensures { λ r. ⌜ CallReport (now (input .entry)) (now (out .entry)) (now (answer .entry)) r (now (out .exit)) (now (answer .exit)) ⌝ }
 {
     if answer.len() != 12 {
-        return 65280;
+        return WRONG_LENGTH;
     }
     let length = input_report(input, out);
     if out.len() < length {
-        return 5632;
+        return NO_ROOM;
     }
     three(answer, 1, length, 0);
     0

@@ -1,5 +1,6 @@
 // The questions to a sheet, and the run of paper 01.
 use walk::Ending;
+use wire::WRONG_LENGTH;
 use wire::code;
 use wire::three;
 ghost use mathlib.Core.Path.{_≡_};
@@ -39,7 +40,7 @@ pub fn run(sheet: &[u8], limit: u32, list: &mut [u8], answer: &mut [u8]) -> u32
     ensures { λ r. ⌜ CallExported (now (sheet .entry)) limit (now (list .entry)) (now (answer .entry)) r (now (list .exit)) (now (answer .exit)) ⌝ }
 {
     if answer.len() != 12 {
-        return 65280;
+        return WRONG_LENGTH;
     }
     let r = search::run(sheet, limit, list);
     match r {

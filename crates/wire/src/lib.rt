@@ -6,6 +6,9 @@ ghost use Rattle.model.specs.Bytes.{fourBytes};
 ghost use Rattle.model.specs.Written.{Written, placed};
 ghost use Rattle.wire.specs.Wire.{threeNumbers};
 
+// What is answered where a lent buffer has another length than the call asks for: refusal 255.
+pub const WRONG_LENGTH: u32 = 255 * 256;
+
 // A refusal as one number.
 pub fn code(number: u8, item: usize) -> u32
     requires { ⌜ item < 256 ⌝ }
