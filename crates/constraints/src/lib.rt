@@ -224,21 +224,12 @@ fn revise_two(sets: &mut [u16; 16], supports: &Supports, k: usize, x: usize, y: 
 }
 
 // Prunes by constraint number k, whose first set has one value: both ways along the lanes by the second variable.
-fn along(
-    sets: &mut [u16; 16],
-    numbers: &Numbers,
-    supports: &Supports,
-    k: usize,
-    x: usize,
-    y: usize,
-    z: usize,
-) -> u64
+fn along(sets: &mut [u16; 16], numbers: &Numbers, k: usize, x: usize, y: usize, z: usize) -> u64
     requires { ⌜ Sets 16 (now sets) ⌝ }
-    requires { ⌜ Words (now numbers) (now supports) × (at (now numbers) (SCOPES + k) % 256 ≡ 3) ⌝ }
+    requires { ⌜ ((supports : List ℕ) × Words (now numbers) supports × (at (now numbers) (SCOPES + k) % 256 ≡ 3) × (c : Constraint) × Scoped c supports k (x ∷ y ∷ z ∷ [])) ⌝ }
     requires { ⌜ OneValue (at (now sets) x) ⌝ }
     requires { ⌜ (at (now sets) x < 256) × (at (now sets) y < 256) × (at (now sets) z < 256) ⌝ }
-    requires { ⌜ ((c : Constraint) × Scoped c (now supports) k (x ∷ y ∷ z ∷ [])) ⌝ }
-    ensures { λ r. ⌜ ((c : Constraint) → Scoped c (now (supports .entry)) k (x ∷ y ∷ z ∷ []) → Revision c (now (sets .entry)) (now (sets .exit)) r) ⌝ }
+    ensures { λ r. ⌜ ((c : Constraint) (supports : List ℕ) → Words (now (numbers .entry)) supports → Scoped c supports k (x ∷ y ∷ z ∷ []) → Revision c (now (sets .entry)) (now (sets .exit)) r) ⌝ }
 {
     let a = ValueSet { bits: sets[x] };
     let b = ValueSet { bits: sets[y] };
@@ -303,21 +294,12 @@ fn leave(sets: &mut [u16; 16], x: usize, y: usize, z: usize, t: Three) -> u64
 }
 
 // Prunes by constraint number k: the first set along the lanes by its variable, the others along those by the second.
-fn across(
-    sets: &mut [u16; 16],
-    numbers: &Numbers,
-    supports: &Supports,
-    k: usize,
-    x: usize,
-    y: usize,
-    z: usize,
-) -> u64
+fn across(sets: &mut [u16; 16], numbers: &Numbers, k: usize, x: usize, y: usize, z: usize) -> u64
     requires { ⌜ Sets 16 (now sets) ⌝ }
-    requires { ⌜ Words (now numbers) (now supports) × (at (now numbers) (SCOPES + k) % 256 ≡ 3) ⌝ }
+    requires { ⌜ ((supports : List ℕ) × Words (now numbers) supports × (at (now numbers) (SCOPES + k) % 256 ≡ 3) × (c : Constraint) × Scoped c supports k (x ∷ y ∷ z ∷ [])) ⌝ }
     requires { ⌜ (at (now sets) z ≡ 0 → ⊥) ⌝ }
     requires { ⌜ (at (now sets) x < 256) × (at (now sets) y < 256) × (at (now sets) z < 256) ⌝ }
-    requires { ⌜ ((c : Constraint) × Scoped c (now supports) k (x ∷ y ∷ z ∷ [])) ⌝ }
-    ensures { λ r. ⌜ ((c : Constraint) → Scoped c (now (supports .entry)) k (x ∷ y ∷ z ∷ []) → Revision c (now (sets .entry)) (now (sets .exit)) r) ⌝ }
+    ensures { λ r. ⌜ ((c : Constraint) (supports : List ℕ) → Words (now (numbers .entry)) supports → Scoped c supports k (x ∷ y ∷ z ∷ []) → Revision c (now (sets .entry)) (now (sets .exit)) r) ⌝ }
 {
     let a = ValueSet { bits: sets[x] };
     let b = ValueSet { bits: sets[y] };
@@ -403,9 +385,9 @@ fn revise8(sets: &mut [u16; 16], numbers: &Numbers, supports: &Supports, k: usiz
         if b.without_lowest().is_empty() {
             return revise_last(sets, supports, k, x, y, z);
         }
-        return along(sets, numbers, supports, k, x, y, z);
+        return along(sets, numbers, k, x, y, z);
     }
-    across(sets, numbers, supports, k, x, y, z)
+    across(sets, numbers, k, x, y, z)
 }
 
 // The constraints, but those pruned by variable, that have one of the changed variables in their scope.

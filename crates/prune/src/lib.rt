@@ -68,13 +68,12 @@ fn constrain(
 fn filters(
     sets: &mut [u16; 16],
     work: &mut Work,
-    supports: &Supports,
     tables: &Tables,
     numbers: &Numbers,
     k: usize,
 ) -> bool
-    requires { ⌜ ((p : Problem) × ArraysHold p (now supports) (now tables) (now numbers) × PrefixHeld p (now work) k × LiveSets p (now sets) × MarksRight p (setsOf p (now sets)) (take k (now work)) (now work) k) ⌝ }
-    ensures { λ r. ⌜ ((p : Problem) → ArraysHold p (now (supports .entry)) (now (tables .entry)) (now (numbers .entry)) → PrefixHeld p (now (work .entry)) k → LiveSets p (now (sets .entry)) → MarksRight p (setsOf p (now (sets .entry))) (take k (now (work .entry))) (now (work .entry)) k → AllFilteredOr p k (now (work .entry)) (now (sets .entry)) (now (work .exit)) (now (sets .exit)) r) ⌝ }
+    requires { ⌜ ((p : Problem) × (supports : List ℕ) × ArraysHold p supports (now tables) (now numbers) × PrefixHeld p (now work) k × LiveSets p (now sets) × MarksRight p (setsOf p (now sets)) (take k (now work)) (now work) k) ⌝ }
+    ensures { λ r. ⌜ ((p : Problem) (supports : List ℕ) → ArraysHold p supports (now (tables .entry)) (now (numbers .entry)) → PrefixHeld p (now (work .entry)) k → LiveSets p (now (sets .entry)) → MarksRight p (setsOf p (now (sets .entry))) (take k (now (work .entry))) (now (work .entry)) k → AllFilteredOr p k (now (work .entry)) (now (sets .entry)) (now (work .exit)) (now (sets .exit)) r) ⌝ }
 {
     let g = numbers[SYMMETRIES] as usize;
     let mut e = 0;
@@ -120,7 +119,7 @@ fn alternate(
     let settled = (1u64 << k) - 1;
     loop {
         let old = *sets;
-        if filters(sets, work, supports, tables, numbers, k) {
+        if filters(sets, work, tables, numbers, k) {
             return true;
         }
         let changed = difference(&old, sets);

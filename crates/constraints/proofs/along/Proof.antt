@@ -1,9 +1,11 @@
 -- Both ways along the lanes by the second variable. Assumes nothing.
 use mathlib.Core.Path.{refl}
-use Prim.Native.Nat.{_<_}
+use mathlib.Core.List.{List}
+use Prim.Native.Nat.{ℕ, _<_}
 use native.Mathlib.Omega.{arith}
 use borrow.Author.Needs.{needs}
 use Rattle.model.specs.Lists.{at}
+use Rattle.layout.specs.Tables.{Words}
 use Rattle.constraints.specs.Lanes.{InLanes}
 use Rattle.constraints.proofs.Scopes.{of-three}
 use Rattle.constraints.proofs.Unions.{of-first}
@@ -12,30 +14,30 @@ use Rattle.constraints.proofs.along.Statement.{statement}
 use Rattle.constraints.proofs.along.Tie as tie
 
 inside : (c : tie.Start) → (c .args .x < 16) × (c .args .y < 16) × (c .args .z < 16)
-inside c = of-three refl (c .pre .1 .1 .1 .1 .1 .inside)
+inside c = of-three refl (c .pre .1 .0 .4 .inside)
 
 -- the lanes
-lanes : (c : tie.After-in-lanes) → let d = c .before .before .before .before .args in InLanes (at (d .sets .now) (d .x)) (at (d .sets .now) (d .y)) (at (d .sets .now) (d .z)) (of-first (d .supports .now) (d .k)) (c .in-lanes .result)
+lanes : (c : tie.After-in-lanes) → let d = c .before .before .before .before .args in (su : List ℕ) → Words (d .numbers .now) su → InLanes (at (d .sets .now) (d .x)) (at (d .sets .now) (d .y)) (at (d .sets .now) (d .z)) (of-first su (d .k)) (c .in-lanes .result)
 unfolding at
-lanes c = let d = c .before .before .before .before in c .in-lanes .ensures (of-first (d .args .supports .now) (d .args .k)) (λ h m. d .pre .1 .0 .0 .by-first (d .args .k) h m (d .pre .1 .1 .1 .1 .1 .room) (d .pre .1 .0 .1))
+lanes c su w = let d = c .before .before .before .before in c .in-lanes .ensures (of-first su (d .args .k)) (λ h m. w .by-first (d .args .k) h m (d .pre .1 .0 .4 .room) (d .pre .1 .0 .2))
 
-mul-t14 : tie.Need-mul-t14
-mul-t14 c = omega (arith, inside c)
+mul-t13 : tie.Need-mul-t13
+mul-t13 c = omega (arith, inside c)
 
-element-copy-out-t17 : tie.Need-element-copy-out-t17
-element-copy-out-t17 c = inside c .0
+element-copy-out-t16 : tie.Need-element-copy-out-t16
+element-copy-out-t16 c = inside c .0
 
-mul-t14-2 : tie.Need-mul-t14-2
-mul-t14-2 c = omega (arith, inside (c .before))
+mul-t13-2 : tie.Need-mul-t13-2
+mul-t13-2 c = omega (arith, inside (c .before))
 
-element-copy-out-t17-2 : tie.Need-element-copy-out-t17-2
-element-copy-out-t17-2 c = inside (c .before) .1
+element-copy-out-t16-2 : tie.Need-element-copy-out-t16-2
+element-copy-out-t16-2 c = inside (c .before) .1
 
-mul-t14-3 : tie.Need-mul-t14-3
-mul-t14-3 c = omega (arith, inside (c .before .before))
+mul-t13-3 : tie.Need-mul-t13-3
+mul-t13-3 c = omega (arith, inside (c .before .before))
 
-element-copy-out-t17-3 : tie.Need-element-copy-out-t17-3
-element-copy-out-t17-3 c = inside (c .before .before) .2
+element-copy-out-t16-3 : tie.Need-element-copy-out-t16-3
+element-copy-out-t16-3 c = inside (c .before .before) .2
 
 mul-in-lanes : tie.Need-mul-in-lanes
 mul-in-lanes c = search needs
@@ -45,25 +47,25 @@ add-in-lanes c = search needs
 
 in-lanes-requires : tie.Need-in-lanes-requires
 unfolding at
-in-lanes-requires c κs = let d = c .before .before .before in (omega (arith, d .pre .1 .1 .1 .1 .1 .room), (d .pre .1 .1 .1 .0, (_, d .pre .1 .0 .0)))
+in-lanes-requires c κs = let d = c .before .before .before in (omega (arith, d .pre .1 .0 .4 .room), (d .pre .1 .1 .1, (_, d .pre .1 .0 .1)))
 
 returns : tie.Need-returns
 unfolding at
-returns c = let d = c .before .before .before .before .before in λ e q. along-dead q (d .args .sets .now) (d .pre .0) (d .pre .1 .1 .0) (d .pre .1 .1 .1 .0) (lanes (c .before)) (c .if1 .taken)
+returns c = let d = c .before .before .before .before .before in λ e su w q. along-dead q (d .args .sets .now) (d .pre .0) (d .pre .1 .1 .0) (d .pre .1 .1 .1) (lanes (c .before) su w) (c .if1 .taken)
 
 union-of-requires : tie.Need-union-of-requires
 union-of-requires c κs = search needs
 
 fills-requires : tie.Need-fills-requires
 unfolding at
-fills-requires c κs = let d = c .before .before .before .before .before .before .before .before .before in (d .pre .1 .1 .1 .0 .1, (_, d .pre .1 .0 .0))
+fills-requires c κs = let d = c .before .before .before .before .before .before .before .before .before in (d .pre .1 .1 .1 .1, (_, d .pre .1 .0 .1))
 
 returns-2 : tie.Need-returns-2
 unfolding at
 returns-2 c =
     let i = c .before .before .before .before .before in
-    let d = i .before .before .before .before .before .before in λ e q.
-    along-same q (d .args .sets .now) (d .pre .0) (d .pre .1 .1 .0) (d .pre .1 .1 .1 .0) (lanes (i .before .before)) (search needs) (i .before .if1 .left) (i .union-of .ensures) (c .before .before .if2 .taken) (c .before .fills .ensures (c .if3 .taken))
+    let d = i .before .before .before .before .before .before in λ e su w q.
+    along-same q (d .args .sets .now) (d .pre .0) (d .pre .1 .1 .0) (d .pre .1 .1 .1) (lanes (i .before .before) su w) (search needs) (i .before .if1 .left) (i .union-of .ensures) (c .before .before .if2 .taken) (c .before .fills .ensures (c .if3 .taken))
 
 full-lanes-requires : tie.Need-full-lanes-requires
 full-lanes-requires c κs = search needs
@@ -90,19 +92,19 @@ returns-3 : tie.Need-returns-3
 unfolding at
 returns-3 c =
     let i = c .before .before .before .before .before .before in
-    let d = i .before .before .before .before .before .before in λ e q.
-    along-cut q (d .args .sets .now) (d .pre .0) (d .pre .1 .1 .0) (d .pre .1 .1 .1 .0) (lanes (i .before .before)) (search needs) (i .before .if1 .left) (i .union-of .ensures) _ _ _ (search needs) (search needs) (c .before .before .full-lanes .ensures) (c .before .moved .ensures) (c .moved2 .ensures)
+    let d = i .before .before .before .before .before .before in λ e su w q.
+    along-cut q (d .args .sets .now) (d .pre .0) (d .pre .1 .1 .0) (d .pre .1 .1 .1) (lanes (i .before .before) su w) (search needs) (i .before .if1 .left) (i .union-of .ensures) _ _ _ (search needs) (search needs) (c .before .before .full-lanes .ensures) (c .before .moved .ensures) (c .moved2 .ensures)
 
 pub along-spec : {M : Type 1} → statement M
 along-spec =
     tie.close
     (tie.spec
-    mul-t14
-    element-copy-out-t17
-    mul-t14-2
-    element-copy-out-t17-2
-    mul-t14-3
-    element-copy-out-t17-3
+    mul-t13
+    element-copy-out-t16
+    mul-t13-2
+    element-copy-out-t16-2
+    mul-t13-3
+    element-copy-out-t16-3
     mul-in-lanes
     add-in-lanes
     in-lanes-requires

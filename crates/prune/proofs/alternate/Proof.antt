@@ -28,7 +28,7 @@ abbrev μ-loop : tie.MeasureT-loop
 -- what the filters left, where no set is empty
 all-filtered : (c : tie.Else1 Inv-loop μ-loop) → let d = c .before .before .before .before .before .before .args in (p : Problem) (gs : List (List ℕ)) → ArraysHold p (d .supports .now) (d .tables .now) (d .numbers .now) → Blocked p gs (d .numbers .now) → BeforeFixpoint p gs (c .before .before .before .before .before .loop .work) (d .numbers .now) (c .before .before .before .before .before .loop .sets) (d .k) 0 0 →
     AllFilteredOr p (d .k) (c .before .before .before .before .before .loop .work) (c .before .before .before .before .before .loop .sets) (c .before .filters .last .1 .0) (c .before .filters .last .0) false
-all-filtered c p gs s b n = subst (AllFilteredOr p _ _ _ _ _) (c .if1 .left) (c .before .filters .ensures p s (n .startable .prefix-held) (n .startable .live) (n .startable .marking))
+all-filtered c p gs s b n = subst (AllFilteredOr p _ _ _ _ _) (c .if1 .left) (c .before .filters .ensures p _ s (n .startable .prefix-held) (n .startable .live) (n .startable .marking))
 
 -- what is due then
 turned : (c : tie.After-touched Inv-loop μ-loop) → let d = c .before .before .before .before .before .before .before .before .before .before .before .args in (p : Problem) (gs : List (List ℕ)) → ArraysHold p (d .supports .now) (d .tables .now) (d .numbers .now) → Blocked p gs (d .numbers .now) → BeforeFixpoint p gs (c .before .before .before .before .before .before .before .before .before .before .loop .work) (d .numbers .now) (c .before .before .before .before .before .before .before .before .before .before .loop .sets) (d .k) 0 0 →
@@ -51,12 +51,12 @@ filters-requires : tie.Need-filters-requires Inv-loop μ-loop
 filters-requires c κs =
     let q = c .before .before .before .before .pre in
     let n = c .before .before .before .loop .inv (q .0) (q .1) (q .2) (q .3) (q .4) .0 in
-    (q .0, q .2, n .startable .prefix-held, n .startable .live, n .startable .marking)
+    (q .0, _, q .2, n .startable .prefix-held, n .startable .live, n .startable .marking)
 
 returns : tie.Need-returns Inv-loop μ-loop
 returns c = λ p gs s b n₀.
     let i = c .before .before .before .before .before .loop .inv p gs s b n₀ in
-    let f = c .before .filters .ensures p s (i .0 .startable .prefix-held) (i .0 .startable .live) (i .0 .startable .marking) in
+    let f = c .before .filters .ensures p _ s (i .0 .startable .prefix-held) (i .0 .startable .live) (i .0 .startable .marking) in
     after-from s (n₀ .startable .prefix-held .work-length) (n₀ .startable .prefix-held .depth) (i .1) (filters-dead s b (i .0) _ _ (f .kept) (f .ended (c .if1 .taken)))
 
 difference-requires : tie.Need-difference-requires Inv-loop μ-loop
