@@ -25,21 +25,11 @@ use Rattle.parts.proofs.Resume.{stands, from-start, from-cut, in-parts, last-mo
 use Rattle.parts.proofs.Anywhere.{no-fewer, counts-move}
 
 -- ---- the first that passes a test
-number : Found → ℕ
-number none-found = 0
-number (seat k) = k
-
-isSeat : Found → Bool
-isSeat none-found = false
-isSeat (seat k) = true
-
 seat-is : (j k : ℕ) → seat j ≡ seat k → j ≡ k
-unfolding number
-seat-is j k e = ap number e
+seat-is j k e = cc
 
 none-not : (k : ℕ) → none-found ≡ seat k → ⊥
-unfolding isSeat
-none-not k e = subst T (sym (ap isSeat e)) tt
+none-not k e = let z : _≡_ {A = ℕ} 0 1 = cc in omega arith
 
 pub first-in : (q : ℕ → Bool) (ks : List ℕ) (k : ℕ) → firstOf q ks ≡ seat k → T (q k) × List·Memᴰ k ks
 unfolding firstOf
@@ -96,11 +86,7 @@ first-round q f a (suc n) i l m t = go (q (f a)) refl (eqb a i) refl (first-roun
 
 -- ---- seats
 taken-is : (g h : Hall) → taken g ≡ taken h → g ≡ h
-taken-is g h e = ap hall e
-  where
-    hall : Seat → Hall
-    hall free = g
-    hall (taken k) = k
+taken-is g h e = cc
 
 not-free : (s : Seat) (h : Hall) → s ≡ taken h → isFree s ≡ false
 not-free s h e = ap isFree e
@@ -392,7 +378,7 @@ at-least p limit room ts made k (spent plans total) q = omega (arith, q .1)
 at-least p limit room ts made k (full plans total) q = omega (arith, q .0)
 
 over-not : (e : Ending) → over e ≡ running → ⊥
-over-not e q = subst (λ (s : Standing). T (goesOn s)) (sym q) tt
+over-not e q = let z : _≡_ {A = ℕ} 0 1 = cc in omega arith
 
 goes-on : (p : Problem) (allowance limit room : ℕ) (ts : List (List ℕ)) (made k : ℕ) (e : Ending) → Ended p limit room ts made k e → standingAfter allowance e ≡ running → (nodesIn e ≡ limit) × (nodesIn e < allowance)
 goes-on p allowance limit room ts made k (finished plans total) q s = absurd (over-not (finished plans total) s)
@@ -494,30 +480,9 @@ keeps-seat d xs k h q r =
     (turned m h, by-own-turns d xs k h q r, t .0, t .1)
 
 sits : (f : Found) (v : Verdict) (k : ℕ) → sitReply f v ≡ seated k → (f ≡ seat k) × (v ≡ accepted)
-sits none-found v k e = absurd (subst (λ (r : DeskReply). T (isSeated r)) (sym e) tt)
-  where
-    isSeated : DeskReply → Bool
-    isSeated (denied number item) = false
-    isSeated (seated j) = true
-    isSeated idle = false
-    isSeated (served j s plans made) = false
-    isSeated (left count room) = false
-sits (seat j) (refused number item) k e = absurd (subst (λ (r : DeskReply). T (isSeated r)) (sym e) tt)
-  where
-    isSeated : DeskReply → Bool
-    isSeated (denied number item) = false
-    isSeated (seated j) = true
-    isSeated idle = false
-    isSeated (served j s plans made) = false
-    isSeated (left count room) = false
-sits (seat j) accepted k e = (ap seat (ap at-seat e), refl)
-  where
-    at-seat : DeskReply → ℕ
-    at-seat (denied number item) = 0
-    at-seat (seated j) = j
-    at-seat idle = 0
-    at-seat (served j s plans made) = 0
-    at-seat (left count room) = 0
+sits none-found v k e = let q : denied 37 0 ≡ seated k = e in let z : _≡_ {A = ℕ} 0 1 = cc in absurd (omega arith)
+sits (seat j) (refused number item) k e = let q : denied number item ≡ seated k = e in let z : _≡_ {A = ℕ} 0 1 = cc in absurd (omega arith)
+sits (seat j) accepted k e = let q : seated j ≡ seated k = e in let x : j ≡ k = cc in (ap seat x, refl)
 
 pub lowest-seat : Lowest-seat
 unfolding below
@@ -589,37 +554,13 @@ verdict-range b =
     (ask-range (eqb (h .size) (h .third + 2 * (h .symmetries * (n * d)))) 14 0 _ (omega arith) (omega arith)
     (symmetries-range (problemOf b) 0 (problemOf b .symmetries)))))))))))
 
-deniedBy : DeskReply → ℕ
-deniedBy (denied number item) = number
-deniedBy (seated j) = 0
-deniedBy idle = 0
-deniedBy (served j s plans made) = 0
-deniedBy (left count room) = 0
-
-deniedAt : DeskReply → ℕ
-deniedAt (denied number item) = item
-deniedAt (seated j) = 0
-deniedAt idle = 0
-deniedAt (served j s plans made) = 0
-deniedAt (left count room) = 0
-
 sit-refused : (f : Found) (v : Verdict) (number item : ℕ) → Range v → sitReply f v ≡ denied number item → ((number ≡ 37) × (f ≡ none-found)) ⊎ ((1 ≤ number) × (number ≤ 16) × (v ≡ refused number item))
-unfolding deniedBy deniedAt
-sit-refused none-found v number item r e = inl (sym (ap deniedBy e), refl)
-sit-refused (seat k) accepted number item r e = absurd (seated-not k number item e)
-  where
-    seated-not : (k number item : ℕ) → seated k ≡ denied number item → ⊥
-    seated-not k number item e = subst (λ (x : DeskReply). T (not (refusedReply x))) e tt
-      where
-        refusedReply : DeskReply → Bool
-        refusedReply (denied number item) = true
-        refusedReply (seated j) = false
-        refusedReply idle = false
-        refusedReply (served j s plans made) = false
-        refusedReply (left count room) = false
+sit-refused none-found v number item r e = let q : denied 37 0 ≡ denied number item = e in let n : number ≡ 37 = cc in inl (n, refl)
+sit-refused (seat k) accepted number item r e = let q : seated k ≡ denied number item = e in let z : _≡_ {A = ℕ} 0 1 = cc in absurd (omega arith)
 sit-refused (seat k) (refused a b) number item r e =
-    let x : a ≡ number = ap deniedBy e in
-    let y : b ≡ item = ap deniedAt e in
+    let q : denied a b ≡ denied number item = e in
+    let x : a ≡ number = cc in
+    let y : b ≡ item = cc in
     let w = r .within number item (ap₂ refused x y) in
     inr (w .0, w .1, ap₂ refused x y)
 

@@ -47,19 +47,11 @@ pub ended-same : (e x : Run.Ending) → plansIn e ≡ plansIn x → nodesIn e �
 ended-same e x p n s = sym (ending-by e) ∙ ap₂ (λ (i j : ℕ). endingBy i j (stopIn e)) p n ∙ ap (endingBy (plansIn x) (nodesIn x)) s ∙ ending-by x
 
 -- a verdict is one
-abbrev numberIn : Verdict → ℕ
-numberIn accepted = 0
-numberIn (refused number item) = suc number
-
-abbrev itemIn : Verdict → ℕ
-itemIn accepted = 0
-itemIn (refused number item) = item
-
 refused-not : {number item : ℕ} → refused number item ≡ accepted → ⊥
-refused-not e = let z = ap numberIn e in omega arith
+refused-not e = let z : _≡_ {A = ℕ} 0 1 = cc in omega arith
 
 refused-same : {number item number′ item′ : ℕ} → refused number item ≡ refused number′ item′ → (number ≡ number′) × (item ≡ item′)
-refused-same e = (let z = ap numberIn e in omega arith, ap itemIn e)
+refused-same e = (cc, cc)
 
 -- what is known of a run that carried out a task
 pub record Ran (task b pairs block : List ℕ) (limit : ℕ) (list : List ℕ) (tally : Tally) (list′ : List ℕ) (tally′ : Tally) (r : Answer) : Type 0 where
