@@ -1,13 +1,13 @@
 -- A block of a problem whose variables are settled in another order: the reordered problem has a block too, of the positions of the block's variables. Assumes nothing.
-use mathlib.Core.Path.{_≡_, refl, sym, ap, ap₂, _∙_, subst}
+use mathlib.Core.Path.{_≡_, sym, ap, ap₂, _∙_, subst}
 use mathlib.Core.Bool.{Bool, false}
-use mathlib.Core.List.{List, [], _++_, map, List·Memᴰ, Memᴰ·map, Memᴰ·of-map}
+use mathlib.Core.List.{List, _++_, map, List·Memᴰ, Memᴰ·map, Memᴰ·of-map}
 use mathlib.Core.Logic.{_⊎_, inl, inr, _↔_}
 use Prim.Native.Nat.{ℕ, _*_, _≤_, _<_}
 use lib.Dec.{T}
 use Rattle.model.specs.Lists.{at}
 use Rattle.model.specs.ValueSets.{has, anyEmpty}
-use Rattle.model.specs.Problem.{Problem, pair, withSymmetries}
+use Rattle.model.specs.Problem.{Problem, pair}
 use Rattle.model.specs.Verdict.{accepted}
 use Rattle.model.specs.Search.{isPlan}
 use Rattle.model.specs.Claims.{Consistent}
@@ -91,10 +91,6 @@ module _ (p : Problem) (w : WellFormed p) (order : List ℕ) (o : Ordering (p .v
   -- an accepted block of p, in the order
   pub accepted-reordered : (first m : ℕ) → blockVerdict p first m ≡ accepted → BlockIn (reordered order p) (λ i. inBlock first m (at order i)) (map (symmetryIn order p) (p .symmetries ++ blockTables p first m))
   accepted-reordered first m e = block-reordered (inBlock first m) (p .symmetries ++ blockTables p first m) (accepted-block p w first m e)
-
-  pub withBlock-reordered : (first m : ℕ) → reordered order (withBlock first m p) ≡ withSymmetries (reordered order p) (map (symmetryIn order p) (p .symmetries ++ blockTables p first m))
-  unfolding symmetryIn renamed pair
-  withBlock-reordered first m = refl
 
   -- the sets of a run with an accepted block, its variables settled in the order: variable i is place order[i]
   pub reordered-consistent : (first m : ℕ) → blockVerdict p first m ≡ accepted → (prefix ds : List ℕ) → anyEmpty ds ≡ false →

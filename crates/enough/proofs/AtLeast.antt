@@ -10,7 +10,7 @@ use lib.ListN.{length, take}
 use lib.Seq.{take-all}
 use borrow.Author.Tests.{leb-true, leb-false, ltb-true, ltb-false, le-leb, lt-leb}
 use Rattle.model.specs.Lists.{keep}
-use Rattle.model.specs.ValueSets.{least, leastStep}
+use Rattle.model.specs.ValueSets.{least}
 use Rattle.model.specs.Problem.{Problem}
 use Rattle.model.specs.Search.{nodes, isPlan}
 use Rattle.model.specs.Run.{Ending, finished, spent, full, plansIn, nodesIn, resultOf}
@@ -54,15 +54,6 @@ module _ {A : Type 0} (q : A → Bool) where
       go true = omega arith
       go false = omega arith
   keep-step (x ∷ l) (suc k) = count-more x (take (suc k) l) (take k l) (keep-step l k)
-
-least-le : (k : ℕ) (f : ℕ → Bool) → least k f ≤ k
-unfolding least
-least-le zero f = omega arith
-least-le (suc k) f = go (f 0) (least-le k (λ v. f (suc v)))
-  where
-    go : (b : Bool) → least k (λ v. f (suc v)) ≤ k → leastStep b (least k (λ v. f (suc v))) ≤ suc k
-    go true h = omega arith
-    go false h = omega arith
 
 module _ (p : Problem) where
   abbrev N : ℕ

@@ -1,14 +1,14 @@
 -- The questions to the heads. Assumes nothing.
-use mathlib.Core.Path.{_≡_, refl, sym, ap, ap₂, _∙_}
+use mathlib.Core.Path.{_≡_, sym, ap, ap₂, _∙_}
 use mathlib.Core.Bool.{Bool, true, false}
 use mathlib.Core.List.{List}
-use Prim.Native.Nat.{ℕ, _+_, _*_, _/_, _%_, _≤_, _<_}
+use Prim.Native.Nat.{ℕ, _+_, _*_, _%_, _≤_, _<_}
 use native.Mathlib.Omega.{arith}
 use lib.Dec.{eqb, leb}
 use lib.ListN.{length}
 use borrow.Author.Tests.{eq-eqb, ne-eqb, le-leb, lt-leb}
 use Rattle.model.specs.Lists.{all, at, below, both, choose}
-use Rattle.model.specs.Verdict.{Verdict, accepted, refused, ask}
+use Rattle.model.specs.Verdict.{Verdict, ask}
 use Rattle.join.specs.Join.{kindAt, reachPlace, pathShaped, headShaped, alike, headsIn, wholeHeads}
 use Rattle.join.specs.Inner.{numberIn}
 use Rattle.join.proofs.Orders.{all-below, some-below, both-yes, both-no}
@@ -23,9 +23,6 @@ module _ (l : List ℕ) (k : ℕ) where
   alike-no i h d = sym (some-below (λ j. eqb (at l (115 * k + 60 + j)) (at l (60 + j))) 16 i h (ne-eqb (at l (115 * k + 60 + i)) (at l (60 + i)) d))
 
   -- a head's shape, question by question
-  abbrev kindIs : Bool
-  kindIs = both (leb 1 (kindAt l k)) (leb (kindAt l k) 3)
-
   abbrev pathsAre : Bool
   pathsAre = both (pathShaped l (115 * k + 76)) (both (pathShaped l (115 * k + 89)) (pathShaped l (115 * k + 102)))
 

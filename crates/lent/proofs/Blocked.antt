@@ -8,7 +8,7 @@ use lib.ListN.{length, take}
 use lib.Seq.{take-at}
 use Rattle.model.specs.Lists.{at}
 use Rattle.model.specs.ValueSets.{has}
-use Rattle.model.specs.Problem.{pair, withSymmetries}
+use Rattle.model.specs.Problem.{pair}
 use Rattle.model.specs.Verdict.{isAccepted}
 use Rattle.model.specs.Sheet.{problemOf}
 use Rattle.model.specs.Filling.{Gathered}
@@ -20,10 +20,6 @@ use Rattle.model.proofs.Lists.{at-take, map-append}
 use Rattle.model.proofs.Filling.{gathered-is, gathered-lt}
 use Rattle.block.proofs.BlockLent.{block-same, lent-reordered}
 use Rattle.lent.proofs.Lent.{lent-passed, well-sheet, ordering-lent}
-
--- the run's problem is the compiled one with the run's exchanges
-pub problem-walked : (b pairs block : List ℕ) → problemLent b pairs block ≡ withSymmetries (reordered (orderLent b pairs) (problemOf b)) (problemLent b pairs block .symmetries)
-problem-walked b pairs block = refl
 
 module _ (b pairs block : List ℕ) (good : T (isAccepted (verdictLent b pairs block))) (order : List ℕ) (settled : take (problemOf b .variables) order ≡ orderLent b pairs)
     (set : ℕ) (g : Gathered (λ i. inLent block (at order i)) (problemOf b .variables) set) where

@@ -6,9 +6,7 @@ use Prim.Native.Nat.{ℕ, zero, suc, _*_, _^_, _≤_, _<_}
 use native.Mathlib.Nat.{not-suc-le-zero, le-of-suc-le-suc}
 use native.Mathlib.Omega.{arith}
 use lib.Dec.{T, eqb, ltb, eqb→eq, eqb-refl, T-not}
-use native.Mathlib.Decide.{ℕ-discrete}
-use lib.ListN.{length, set, replicate, length-set}
-use lib.Seq.{getD-set-same, getD-set-other}
+use lib.ListN.{length, replicate}
 use borrow.Author.Tests.{ltb-true, ltb-false}
 use Rattle.model.specs.Lists.{both, all, any, at, same}
 use Rattle.model.specs.ValueSets.{has, maskOf, anyEmpty}
@@ -223,11 +221,6 @@ largest p prefix s = record {
     enough : size start ≤ roundsEnough p
     enough = let l : size start ≤ p .variables * 16 = subst (λ (n : ℕ). size start ≤ n * 16) (start-sets p prefix s .0) (size-le start) in omega (arith, l)
 
--- and there is only one such list of sets
-pub largest-unique : (p : Problem) (prefix ds es : List ℕ) → Largest p prefix ds → Largest p prefix es → ds ≡ es
-largest-unique p prefix ds es a b =
-    inside-antisym (p .variables) ds es (a .sets) (b .sets) (b .above ds (a .sets .0) (a .inside) (a .fixed)) (a .above es (b .sets .0) (b .inside) (b .fixed))
-
 -- ---- any order of removals
 -- es comes from ds by taking away values that a round would take away too
 pub record Removal (p : Problem) (prefix ds es : List ℕ) : Type 0 where
@@ -235,44 +228,7 @@ pub record Removal (p : Problem) (prefix ds es : List ℕ) : Type 0 where
   pub less : Inside es ds
   pub spared : (x v : ℕ) → T (has (at ds x) v) → Kept p prefix ds x v → T (has (at es x) v)
 
-pub data Removals (p : Problem) (prefix ds : List ℕ) : List ℕ → Type 0 where
-  none : Removals p prefix ds ds
-  more : {es fs : List ℕ} → Removals p prefix ds es → Removal p prefix es fs → Removals p prefix ds fs
-
--- the steps of a program: one set made smaller, and the filter of one symmetry
-pub removal-at : (p : Problem) (prefix ds : List ℕ) → Sets (p .variables) ds → (x : ℕ) → x < p .variables → (f : ℕ → Bool) → ((v : ℕ) → Kept p prefix ds x v → T (f v)) →
-    Removal p prefix ds (set ds x (maskOf (λ v. both (has (at ds x) v) (f v))))
-unfolding at
-removal-at p prefix ds s x l f h = record { sets = (length-set ds x _ ∙ s .0, λ y. pick y (ℕ-discrete y x)); less = λ y v t. less y v (ℕ-discrete y x) t; spared = λ y v t k. spared y v (ℕ-discrete y x) t k }
-  where
-    l′ : x < length ds
-    l′ = subst (λ (n : ℕ). x < n) (sym (s .0)) l
-
-    m : ℕ
-    m = maskOf (λ v. both (has (at ds x) v) (f v))
-
-    here : (y : ℕ) → y ≡ x → at (set ds x m) y ≡ m
-    here y e = ap (at (set ds x m)) e ∙ getD-set-same ds x m 0 l′
-
-    there : (y : ℕ) → (y ≡ x → ⊥) → at (set ds x m) y ≡ at ds y
-    there y n = getD-set-other ds x y m 0 n
-
-    pick : (y : ℕ) → Dec (y ≡ x) → at (set ds x m) y < 2 ^ 16
-    pick y (yes e) = subst (λ (z : ℕ). z < 2 ^ 16) (sym (here y e)) (mask-lt 16 _)
-    pick y (no n) = subst (λ (z : ℕ). z < 2 ^ 16) (sym (there y n)) (s .1 y)
-
-    less : (y v : ℕ) → Dec (y ≡ x) → T (has (at (set ds x m) y) v) → T (has (at ds y) v)
-    less y v (yes e) t =
-        let q = mask-e (λ w. both (has (at ds x) w) (f w)) v (subst (λ (z : ℕ). T (has z v)) (here y e) t) in
-        subst (λ (z : ℕ). T (has (at ds z) v)) (sym e) (both-l (has (at ds x) v) (f v) (q .1))
-    less y v (no n) t = subst (λ (z : ℕ). T (has z v)) (there y n) t
-
-    spared : (y v : ℕ) → Dec (y ≡ x) → T (has (at ds y) v) → Kept p prefix ds y v → T (has (at (set ds x m) y) v)
-    spared y v (yes e) t k =
-        let t′ : T (has (at ds x) v) = subst (λ (z : ℕ). T (has (at ds z) v)) e t in
-        subst (λ (z : ℕ). T (has z v)) (sym (here y e)) (mask-i (λ w. both (has (at ds x) w) (f w)) v (has-lt 16 (at ds x) v (s .1 x) t′) (both-i (has (at ds x) v) (f v) t′ (h v (subst (λ (z : ℕ). Kept p prefix ds z v) e k))))
-    spared y v (no n) t k = subst (λ (z : ℕ). T (has z v)) (sym (there y n)) t
-
+-- a step of a program: the filter of one symmetry
 pub filter-removal : (p : Problem) (prefix ds : List ℕ) → Sets (p .variables) ds → (g : List ℕ) → List·Memᴰ g (p .symmetries) → Removal p prefix ds (filtered ds (nogoodsOf p g prefix))
 filter-removal p prefix ds s g m = record {
   sets = subst (λ (n : ℕ). Sets n (filtered ds (nogoodsOf p g prefix))) (s .0) (filtered-sets ds (nogoodsOf p g prefix));
@@ -293,18 +249,11 @@ way-removal p prefix s es fs w q =
       over = λ x v t. q .spared x v (w .over x v t) (kept-mono p prefix (closed p prefix) es (l .sets .0 ∙ sym (w .sets .0)) (w .over) x v (fixed-e p prefix (closed p prefix) (l .fixed) x v t));
     }
 
-pub way : (p : Problem) (prefix : List ℕ) → Sized p → {es : List ℕ} → Removals p prefix (narrowed prefix (p .initial)) es → Way p prefix es
-way p prefix s none = way-start p prefix s
-way p prefix s (more {es = es} {fs = fs} r q) = way-removal p prefix s es fs (way p prefix s r) q
-
 -- a program that stops where a round takes nothing away has the largest sets
 pub way-end : (p : Problem) (prefix : List ℕ) → Sized p → (es : List ℕ) → Way p prefix es → pruned p prefix es ≡ es → es ≡ closed p prefix
 way-end p prefix s es w e =
     let l = largest p prefix s in
     inside-antisym (p .variables) es (closed p prefix) (w .sets) (l .sets) (l .above es (w .sets .0) (w .inside) e) (w .over)
-
-pub removals-end : (p : Problem) (prefix : List ℕ) → Sized p → (es : List ℕ) → Removals p prefix (narrowed prefix (p .initial)) es → pruned p prefix es ≡ es → es ≡ closed p prefix
-removals-end p prefix s es r e = way-end p prefix s es (way p prefix s r) e
 
 -- ---- the sets at a prefix
 pub setsAt-live : (p : Problem) (prefix : List ℕ) → anyEmpty (closed p prefix) ≡ false → setsAt p prefix ≡ closed p prefix
@@ -373,11 +322,3 @@ module _ (p q : Problem) (a b : List ℕ) (s : Sized p) (t : Sized q) (e : p .va
 -- a program that stops where a round takes nothing away has the sets at the prefix, if none is empty
 pub way-live : (p : Problem) (prefix : List ℕ) → Sized p → (es : List ℕ) → Way p prefix es → pruned p prefix es ≡ es → anyEmpty es ≡ false → setsAt p prefix ≡ es
 way-live p prefix s es w e n = let q = way-end p prefix s es w e in setsAt-live p prefix (ap anyEmpty (sym q) ∙ n) ∙ sym q
-
--- it may stop as soon as a set is empty: the prefix is dead
-pub way-dead : (p : Problem) (prefix : List ℕ) → Sized p → (es : List ℕ) → Way p prefix es → T (anyEmpty es) → setsAt p prefix ≡ replicate (p .variables) 0
-way-dead p prefix s es w t =
-    setsAt-none p prefix s (of-T (anyEmpty (closed p prefix)) (empty-inside (p .variables) (closed p prefix) es (largest p prefix s .sets) (w .sets) (w .over) t))
-
-pub removals-dead : (p : Problem) (prefix : List ℕ) → Sized p → (es : List ℕ) → Removals p prefix (narrowed prefix (p .initial)) es → T (anyEmpty es) → setsAt p prefix ≡ replicate (p .variables) 0
-removals-dead p prefix s es r t = way-dead p prefix s es (way p prefix s r) t

@@ -1,12 +1,10 @@
 -- Steps of pruning: they compose, and sets on the way stay on it. Assumes nothing.
-use mathlib.Core.Path.{_≡_, sym, _∙_}
+use mathlib.Core.Path.{sym, _∙_}
 use mathlib.Core.List.{List}
 use Prim.Native.Nat.{ℕ}
-use lib.ListN.{length}
 use Rattle.model.specs.Problem.{Problem}
-use Rattle.model.specs.Search.{pruned}
-use Rattle.model.specs.Pruning.{Sets, Inside, Prunes, closed, Way}
-use Rattle.model.proofs.Prune.{kept-mono, fixed-e, Sized, largest, Removal}
+use Rattle.model.specs.Pruning.{Prunes}
+use Rattle.model.proofs.Prune.{kept-mono, fixed-e, Removal}
 
 module _ (p : Problem) (prefix : List ℕ) where
   pub prunes-none : (ds : List ℕ) → Prunes p prefix ds ds
@@ -25,9 +23,3 @@ module _ (p : Problem) (prefix : List ℕ) where
     less = r .less;
     keeps = λ s cs l e i x v t. r .spared x v (i x v t) (kept-mono p prefix cs ds (l ∙ sym (s .0)) i x v (fixed-e p prefix cs e x v t));
   }
-
-  -- what is on the way stays on it
-  pub way-prunes : Sized p → (ds es : List ℕ) → Prunes p prefix ds es → Way p prefix ds → Way p prefix es
-  way-prunes s ds es r y =
-      let l = largest p prefix s in
-      record { sets = r .sets (y .sets); inside = λ x v t. y .inside x v (r .less x v t); over = r .keeps (y .sets) (closed p prefix) (l .sets .0) (l .fixed) (y .over) }

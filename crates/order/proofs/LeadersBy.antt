@@ -68,11 +68,6 @@ module _ (p : Problem) (order : List ℕ) (o : Ordering (p .variables) order) (w
   chain-end a c s here = s
   chain-end a c s (step b e g ch m t sol l) = sol
 
-  pub chain-read : (a c : List ℕ) → T (isSolution p a) → ChainBy order p a c → Chain (reordered order p) (read order a) (read order c)
-  chain-read a c s here = C.here
-  chain-read a c s (step b e g ch m t sol l) =
-      C.step (read order b) (read order e) (symmetryIn order p g) (chain-read a b s ch) (Memᴰ·map (symmetryIn order p) m) (subst T (took g b e m (chain-end a b s ch) sol) t) (to e sol) l
-
   end-of : (a c : List ℕ) → T (isSolution p2 a) → Chain p2 a c → T (isSolution p2 c)
   end-of a c s C.here = s
   end-of a c s (C.step b e g ch m t sol l) = sol
@@ -88,12 +83,6 @@ module _ (p : Problem) (order : List ℕ) (o : Ordering (p .variables) order) (w
       (subst T (sym (took (r .0) (write order b) (write order e) (r .1) (fro b sb) (fro e sol)))
       (subst₂ (λ (y z : List ℕ). T (takes p2 (symmetryIn order p (r .0)) y z)) (sym qb) (sym qe) (subst (λ (k : List ℕ). T (takes p2 k b e)) (sym (r .2)) t)))
       (fro e sol) (subst₂ (λ (y z : List ℕ). T (earlier y z)) (sym qb) (sym qe) l)
-
-  pub chain-is : (a c : List ℕ) → T (isSolution p a) → length c ≡ p .variables → ChainBy order p a c ↔ Chain (reordered order p) (read order a) (read order c)
-  chain-is a c s n = (
-    chain-read a c s,
-    λ ch. subst₂ (λ (y z : List ℕ). ChainBy order p y z) (R.write-read p order o a (solution-e p a s .sized)) (R.write-read p order o c n) (chain-write (read order a) (read order c) (to a s) ch),
-  )
 
 -- ---- the order 0, 1, .. n - 1
 map-same : {A : Type 0} (f : A → A) (l : List A) → ((x : A) → List·Memᴰ x l → f x ≡ x) → map f l ≡ l

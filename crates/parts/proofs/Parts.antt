@@ -3,7 +3,7 @@
 use mathlib.Core.Path.{_≡_, refl, sym, ap, ap₂, _∙_, subst}
 use mathlib.Core.Bool.{Bool, true, false, not}
 use mathlib.Core.Logic.{_⊎_, inl, inr}
-use mathlib.Core.List.{List, [], _∷_, _++_, map, List·Memᴰ, List·Memᴰ·head, List·Memᴰ·tail, List·Memᴰ·not-nil, Memᴰ·append-right, Memᴰ·of-map, append-nil}
+use mathlib.Core.List.{List, [], _∷_, _++_, map, List·Memᴰ, List·Memᴰ·head, List·Memᴰ·tail, List·Memᴰ·not-nil, Memᴰ·of-map, append-nil}
 use Prim.Native.Nat.{ℕ, zero, suc, _<_}
 use native.Mathlib.Omega.{arith}
 use lib.Dec.{T, eqb, ltb, eqb-refl, ltb→lt, lt→ltb}
@@ -16,7 +16,7 @@ use Rattle.model.specs.Problem.{Problem}
 use Rattle.model.specs.Search.{setsAt, nodesBelow, nodes}
 use Rattle.parts.specs.Parts.{after, nodesAfter, nodesBetween, ranges, Cuts, candidatesAt}
 use Rattle.parts.specs.Claims.{Ranges-whole}
-use Rattle.model.proofs.Lists.{T-of, of-T, not-of, of-not, both-r, keep-yes, keep-no, keep-all, keep-none, keep-append, flat-e, Sorted, sorted-keep, sorted-flat-map, sorted-below}
+use Rattle.model.proofs.Lists.{T-of, of-T, of-not, both-r, keep-yes, keep-no, keep-all, keep-none, flat-e, Sorted, sorted-keep, sorted-flat-map, sorted-below}
 
 -- ---- the order of the search
 pub after-eq : (x : ℕ) (l m : List ℕ) → after (x ∷ l) (x ∷ m) ≡ after l m
@@ -117,23 +117,6 @@ after-later a b c h t = go (after-total a b)
 abbrev pub Later : List ℕ → List ℕ → Type 0
 Later a b = T (after a b)
 
-module _ {A : Type 0} where
-  pub sorted-parts : (R : A → A → Type 0) (xs : List A) (t : A) (ys : List A) → Sorted R (xs ++ (t ∷ ys)) → ((x : A) → List·Memᴰ x xs → R x t) × ((y : A) → List·Memᴰ y ys → R t y)
-  sorted-parts R [] t ys s = (λ x m. absurd (List·Memᴰ·not-nil m), s .0)
-  sorted-parts R (x ∷ xs) t ys s = let r = sorted-parts R xs t ys (s .1) in (each (r .0), r .1)
-    where
-      each : ((y : A) → List·Memᴰ y xs → R y t) → (y : A) → List·Memᴰ y (x ∷ xs) → R y t
-      each f y (List·Memᴰ·head e) = subst (λ (z : A). R z t) (sym e) (s .0 t (Memᴰ·append-right xs (List·Memᴰ·head refl)))
-      each f y (List·Memᴰ·tail m) = f y m
-
--- after an element come the elements behind it
-pub rest-after : (xs : List (List ℕ)) (t : List ℕ) (ys : List (List ℕ)) → Sorted Later (xs ++ (t ∷ ys)) → keep (after t) (xs ++ (t ∷ ys)) ≡ ys
-rest-after xs t ys s =
-    let r = sorted-parts Later xs t ys s in
-    keep-append (after t) xs (t ∷ ys)
-    ∙ ap₂ (λ (l m : List (List ℕ)). l ++ m) (keep-none (after t) xs (λ x m u. after-asym x t (r .0 x m) u))
-    (keep-no (after t) t ys (not-of (after t t) (after-not t)) ∙ keep-all (after t) ys (r .1))
-
 -- a cut: what comes after a, up to b, then what comes after b
 pub cut-after : (a b : List ℕ) → (T (after b a) → ⊥) → (l : List (List ℕ)) → Sorted Later l → keep (after a) l ≡ keep (λ t. both (after a t) (not (after b t))) l ++ keep (after b) l
 unfolding keep
@@ -225,11 +208,6 @@ module _ (p : Problem) where
   pub nodes-start : nodesAfter p [] ≡ nodes p
   unfolding nodesAfter nodes
   nodes-start = keep-all (after []) (nodesBelow p (p .variables) []) (below-after (p .variables) [])
-
-  -- the nodes after a node are those behind it in the list
-  pub nodesAfter-rest : (xs : List (List ℕ)) (t : List ℕ) (ys : List (List ℕ)) → nodes p ≡ xs ++ (t ∷ ys) → nodesAfter p t ≡ ys
-  unfolding nodesAfter
-  nodesAfter-rest xs t ys e = ap (keep (after t)) e ∙ rest-after xs t ys (subst (Sorted Later) e nodes-ascend)
 
   -- ---- ranges
   pub cut : (a b : List ℕ) → (T (after b a) → ⊥) → nodesAfter p a ≡ nodesBetween p a b ++ nodesAfter p b

@@ -2,7 +2,7 @@
 use mathlib.Core.Path.{_≡_, refl, sym, ap, ap₂, _∙_, subst}
 use mathlib.Core.Bool.{Bool, true, false, not}
 use mathlib.Core.List.{List, [], _∷_, _++_}
-use Prim.Native.Nat.{ℕ, suc, _+_, _-_, _*_, _^_, _≤_, _<_}
+use Prim.Native.Nat.{ℕ, suc, _+_, _-_, _*_, _≤_, _<_}
 use native.Mathlib.Numerals.{add-one}
 use native.Mathlib.Omega.{arith}
 use lib.Dec.{T}
@@ -137,9 +137,6 @@ module _ (p : Problem) (stack work supports tables numbers list : List ℕ) (tal
     pub onto-there : (r : ℕ) (c : Bool) → r ≡ v → c ≡ has (at stack (17 * k)) r → not c ≡ false → T (has (at stack (17 * k)) v)
     onto-there r c e q n = subst (λ (u : ℕ). T (has (at stack (17 * k)) u)) e (T-of (has (at stack (17 * k)) r) (sym q ∙ not-false c n))
 
-    pub onto-limit : at numbers LIMIT < 2 ^ 32
-    onto-limit = h .prefix .limited
-
     module _ (t : T (has (at stack (17 * k)) v)) where
       pub onto-spent : tally .nodes ≡ at numbers LIMIT → Out (ontoNodes p left pre v upto) stack work list tally SPENT
       onto-spent e = along (is-in t) (st.walked-spent p stack work supports tables numbers list tally k (h .prefix) node (within p left node [] upto) e)
@@ -177,9 +174,6 @@ module _ (p : Problem) (stack work supports tables numbers list : List ℕ) (tal
   module _ (low : ℕ) (upto : List ℕ) (h : AtUpTo p low upto stack work supports tables numbers list tally k) where
     abbrev b : ℕ
     b = at upto 0
-
-    pub up-few : k < 12
-    up-few = st.shallow p stack work supports tables numbers list tally k (h .prefix)
 
     module _ (high m : ℕ) (is : m ≡ rangeMask (at stack (17 * k)) low high) where
       pub up-values : AtValues p stack work supports tables numbers list tally k m

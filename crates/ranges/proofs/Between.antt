@@ -142,13 +142,6 @@ module _ (p : Problem) where
   whole-between = rest-between [] ∙ nodes-start p
 
   -- ---- the first k of a part are the part up to the last of them
-  pub short-between : (k : ℕ) (a b : List ℕ) → p .variables ≤ k → nodesBetween p (take k a) b ≡ nodesBetween p a b
-  unfolding nodesBetween
-  short-between k a b h = keep-ext (between (take k a) b) (between a b) (nodes p)
-      (λ t m. ap (λ (c : Bool). both c (not (after b t))) (after-short k a t (let n = node-values p t m .1 in omega arith)))
-
-  pub short-before : (k : ℕ) (a b : List ℕ) → p .variables ≤ k → Before a b → Before (take k a) b
-  short-before k a b h f t m u = subst T (sym (after-short k a t (let n = node-values p t m .1 in omega arith))) (f t m u)
 
   -- where a part stands that has made k of its nodes
   pub record Stop (a b : List ℕ) (k : ℕ) (l : List ℕ) : Type 0 where

@@ -36,10 +36,6 @@ module _ (es fs : List Entry) where
   once-inside : (ds : List ℕ) → Inside (once ds) ds
   once-inside ds = inside-trans (once ds) (filtered ds es) ds (filtered-inside (filtered ds es) fs) (filtered-inside ds es)
 
-  -- sets that both filters leave alone are left alone by both
-  once-fixed : (ds : List ℕ) → filtered ds es ≡ ds → filtered ds fs ≡ ds → once ds ≡ ds
-  once-fixed ds e f = ap (λ (l : List ℕ). filtered l fs) e ∙ f
-
   -- and the other way: what both together leave alone, each leaves alone
   fixed-once : (ds : List ℕ) → once ds ≡ ds → (filtered ds es ≡ ds) × (filtered ds fs ≡ ds)
   fixed-once ds e = (e₁, ap (λ (l : List ℕ). filtered l fs) (sym e₁) ∙ e)
