@@ -7,7 +7,7 @@ use Rattle.model.proofs.Examples.{opened}
 use Rattle.order.specs.Order.{pairsIn, forerunners, canFollow, settledFirst, settlingOrder, settlesAll, orderVerdict}
 use Rattle.block.specs.Block.{orderings, ordering, factorial, variableTable, inBlock, imageOf, orderingTable, blockTables, isBlock, blockVerdict, tablesLent, blockLent}
 use Rattle.lent.specs.Lent.{verdictLent, problemWith}
-use Rattle.families.specs.Families.{Closed, makes, movesNothing}
+use Rattle.families.specs.Families.{makes, movesNothing}
 use Rattle.closed.specs.Open.{none, made, firstMissing, firstOpen}
 use Rattle.closed.specs.Lent.{closedLent}
 use Rattle.closed.specs.ClosedExamples.{testsClosed}

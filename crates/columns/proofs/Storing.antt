@@ -7,7 +7,7 @@ use native.Mathlib.Nat.{mul-comm, zero-add}
 use native.Mathlib.Omega.{arith}
 use lib.ListN.{length, take, drop, length-append, length-drop}
 use lib.Seq.{take-all}
-use Rattle.model.specs.Verdict.{Verdict, accepted, refused}
+use Rattle.model.specs.Verdict.{accepted, refused}
 use Rattle.model.specs.Room.{rowsIn, wrote, refusal, outcomeOf, roomAfter, numbered}
 use Rattle.model.proofs.Lists.{T-of}
 use Rattle.model.proofs.Room.{refused-out, wrote-out}

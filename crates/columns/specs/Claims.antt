@@ -1,7 +1,7 @@
 -- The claims of paper 02, #103: rows to columns to rows gives the rows; an accepted store to rows and back gives the store; 23 is given
 -- exactly to what is no store.
 use mathlib.Core.Path.{_≡_}
-use mathlib.Core.Bool.{true, false}
+use mathlib.Core.Bool.{true}
 use mathlib.Core.List.{List}
 use Prim.Native.Nat.{ℕ, _+_, _*_, _≤_}
 use lib.ListN.{length}

@@ -27,7 +27,7 @@ use Rattle.lent.proofs.Lent.{passed-all, lent-passed, well-lent, ordering-lent}
 use Rattle.lent.proofs.LentTally.{nothing-lent}
 use Rattle.families.specs.Families.{familiesOf}
 use Rattle.families.specs.Numbered.{Counted}
-use Rattle.figure.specs.Figure.{Figure, number, dash, familiesLent, reportFigure}
+use Rattle.figure.specs.Figure.{number, dash, familiesLent, reportFigure}
 use Rattle.figure.proofs.FamiliesLent.{families-lent}
 use Rattle.figure.proofs.Counting.{bareLent, figure-counted, figure-number, figure-none, figure-dash, figure-few}
 use Rattle.sheet.proofs.Whole.{zeros}

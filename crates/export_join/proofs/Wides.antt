@@ -2,11 +2,11 @@
 use mathlib.Core.Path.{_≡_, refl, sym, ap, ap₂, _∙_, subst}
 use mathlib.Core.Bool.{Bool, true, false}
 use mathlib.Core.List.{List, [], _∷_, _++_}
-use Prim.Native.Nat.{ℕ, zero, suc, _+_, _-_, _*_, _/_, _%_, _^_, _≤_, _<_}
+use Prim.Native.Nat.{ℕ, zero, suc, _+_, _-_, _*_, _/_, _%_, _≤_, _<_}
 use native.Mathlib.Numerals.{add-one}
 use native.Mathlib.Omega.{arith}
 use lib.Dec.{eqb}
-use lib.ListN.{length, set, replicate, length-append, length-set}
+use lib.ListN.{length, set, replicate, length-set}
 use borrow.Author.Tests.{eq-eqb, ne-eqb}
 use Rattle.model.specs.Bytes.{fourBytes}
 use Rattle.model.specs.Lists.{at, choose, tabulate}
@@ -16,7 +16,7 @@ use Rattle.wire.specs.Wire.{wrongLength}
 use Rattle.wire.proofs.Numbers.{whole}
 use Rattle.join.proofs.Orders.{tabulate-same}
 use Rattle.join.proofs.Turns.{startBytes, endBytes}
-use Rattle.join.specs.Join.{joinVerdict, kindAt, headsIn, reachPlace, plansOf, nodesOf, countOf}
+use Rattle.join.specs.Join.{joinVerdict, kindAt, reachPlace, plansOf, nodesOf, countOf}
 use Rattle.model.specs.Verdict.{Verdict, accepted, refused}
 use Rattle.join.specs.Calls.{answerFor, figureFor, CallJoin}
 use Rattle.join.specs.declared.Joining.{Joining}

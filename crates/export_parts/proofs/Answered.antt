@@ -1,17 +1,17 @@
 -- What `run_part` answers, by what it called: the figures fit, and the pieces fill the head. Assumes nothing.
 use mathlib.Core.Path.{_≡_, refl, sym, ap, ap₂, _∙_, subst}
 use mathlib.Core.Bool.{Bool, true, false}
-use mathlib.Core.List.{List, [], _∷_, _++_}
+use mathlib.Core.List.{List, [], _++_}
 use Prim.Native.Nat.{ℕ, _^_, _≤_, _<_}
 use native.Mathlib.Omega.{arith}
 use lib.Dec.{eqb, ltb}
-use lib.ListN.{length, take, getD, length-append, length-take}
+use lib.ListN.{length, take, length-take}
 use borrow.Author.Tests.{eq-eqb, ne-eqb, ltb-true, ltb-false}
 use Rattle.model.specs.Lists.{at, choose, keep}
 use Rattle.model.specs.Problem.{Problem}
 use Rattle.model.specs.Verdict.{Verdict, accepted, refused}
 use Rattle.model.specs.Search.{isPlan}
-use Rattle.model.specs.Run.{Ending, finished, spent, full, plansIn, nodesIn, search, Answer, refusal, ended, Tally, settledBy, countsBy}
+use Rattle.model.specs.Run.{Ending, finished, spent, full, plansIn, nodesIn, search, Answer, refusal, ended, settledBy, countsBy}
 use Rattle.model.specs.Written.{Written}
 use Rattle.model.proofs.Runs.{Ended, walk}
 use Rattle.model.proofs.Tally.{length-counts, at-counts}
@@ -22,7 +22,6 @@ use Rattle.lent.specs.Lent.{verdictLent, problemLent, orderLent}
 use Rattle.wire.specs.Wire.{wrongLength}
 use Rattle.wire.proofs.Numbers.{whole}
 use Rattle.ranges.specs.Ranges.{partNodes, resultPart, answerPartFor, answerPart, listPart, madeBy, tallyPart, lastPart}
-use Rattle.ranges.specs.Claims.{Part, Call}
 use Rattle.export_run.specs.Run.{endingBytes, answerCode}
 use Rattle.export_run.specs.Inner.{Counted}
 use Rattle.export_lent.specs.Tallied.{numbersOf}

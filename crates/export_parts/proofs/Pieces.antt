@@ -1,11 +1,11 @@
 -- The pieces of a head as they are made: a digest byte by byte, a path value by value, texts one behind the other. Assumes nothing.
 use mathlib.Core.Path.{_≡_, refl, sym, ap, ap₂, _∙_, subst}
-use mathlib.Core.List.{List, [], _∷_, _++_, append-assoc, append-nil}
+use mathlib.Core.List.{List, [], _∷_, _++_}
 use Prim.Native.Nat.{ℕ, zero, suc, _+_, _*_, _%_, _≤_, _<_, min}
 use native.Mathlib.Numerals.{add-one}
 use native.Mathlib.Omega.{arith}
-use lib.ListN.{length, take, getD, set, length-append, length-take, length-set}
-use lib.Seq.{take-suc, take-all, take-length, getD-take}
+use lib.ListN.{length, take, getD, set, length-take}
+use lib.Seq.{take-suc, take-all, getD-take}
 use Rattle.model.specs.Lists.{at, tabulate}
 use Rattle.model.specs.Bytes.{fourBytes}
 use Rattle.model.specs.Written.{Written}

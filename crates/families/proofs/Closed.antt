@@ -1,19 +1,18 @@
 -- Closed symmetries: what is joined is joined by one of them, so the leaders are the earliest of their families (specs/Families). Assumes nothing.
 use mathlib.Core.Path.{_≡_, refl, sym, ap, _∙_, subst}
-use mathlib.Core.Bool.{Bool}
-use mathlib.Core.Logic.{_↔_, _⊎_, inl, inr, ⊎-elim}
+use mathlib.Core.Logic.{_⊎_, inl, inr, ⊎-elim}
 use mathlib.Core.List.{List, map, List·Memᴰ, Memᴰ·cast, Memᴰ·map, Memᴰ·of-map}
 use Prim.Native.Nat.{ℕ, _*_, _<_}
 use lib.Dec.{T, eqb, eqb→eq}
 use lib.ListN.{length}
 use borrow.Author.Tests.{eq-eqb}
-use Rattle.model.specs.Lists.{both, either, all, any, below, at, earlier}
+use Rattle.model.specs.Lists.{both, below, at, earlier}
 use Rattle.model.specs.Problem.{Problem, pair, pairsOf, within, takes, isSolution, assignments}
 use Rattle.model.specs.Claims.{Leader, isLeader, leaders}
 use Rattle.families.specs.Families.{Joined, alone, further, solutionsOf, isEarliest, earliestOf, familiesOf, Makes, MovesNothing, Closed, makes, movesNothing, OneLeaderEach}
 use Rattle.families.specs.FamilyClaims.{One-leader-each}
 use Rattle.model.specs.WellFormed.{WellFormed, Respected}
-use Rattle.model.proofs.Lists.{earlier-asym, T-of, T-ext, both-i, both-l, both-r, either-l, either-r, either-e, all-i, all-e, any-i, any-e, keep-ext, below-i, below-e, at-ext}
+use Rattle.model.proofs.Lists.{earlier-asym, T-of, T-ext, both-i, both-l, both-r, all-i, all-e, keep-ext, below-i, below-e, at-ext}
 use Rattle.model.proofs.Tree.{solution-e}
 use Rattle.model.proofs.Leaders.{takes-in, takes-on, leader-i, leader-e}
 use Rattle.model.proofs.Pairs as P

@@ -1,11 +1,11 @@
 -- Paths in bytes: the order of two paths by the first byte in which they differ, else by their lengths. Assumes nothing.
 use mathlib.Core.Path.{_≡_, refl, sym, ap, ap₂, _∙_, subst}
 use mathlib.Core.Bool.{Bool, true, false}
-use mathlib.Core.List.{List, [], _∷_}
+use mathlib.Core.List.{List, _∷_}
 use Prim.Native.Nat.{ℕ, zero, suc, _+_, _≤_, _<_}
 use native.Mathlib.Omega.{arith}
 use lib.Dec.{T, eqb, ltb, leb}
-use lib.ListN.{length, getD}
+use lib.ListN.{length}
 use borrow.Author.Tests.{eq-eqb, ne-eqb, eqb-true, eqb-false, lt-ltb, le-ltb, ltb-true, ltb-false, le-leb, lt-leb, leb-true}
 use Rattle.model.specs.Lists.{all, at, below, both, either, choose, same, tabulate}
 use Rattle.model.proofs.Lists.{T-of, of-T, not-of, of-not, all-i, all-e, below-i, below-e, length-tabulate, at-tabulate, same-eq, same-refl}

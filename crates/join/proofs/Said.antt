@@ -2,14 +2,14 @@
 use mathlib.Core.Path.{_≡_, refl, sym, ap, ap₂, _∙_}
 use mathlib.Core.Bool.{Bool, true, false}
 use mathlib.Core.List.{List}
-use Prim.Native.Nat.{ℕ, zero, suc, _≤_, _<_}
+use Prim.Native.Nat.{ℕ, zero, suc, _≤_}
 use native.Mathlib.Omega.{arith}
 use lib.ListN.{replicate}
-use Rattle.model.specs.Lists.{at, both, choose}
+use Rattle.model.specs.Lists.{both, choose}
 use Rattle.parts.specs.Parts.{after}
 use Rattle.model.specs.Verdict.{Verdict, accepted, refused}
 use Rattle.model.proofs.Lists.{at-replicate}
-use Rattle.join.specs.Join.{joinVerdict, headsIn, fromAt, joined, standPath, nearer, nearestOf, stands, plansOf, nodesOf, countOf}
+use Rattle.join.specs.Join.{joinVerdict, headsIn, fromAt, joined, standPath, nearer, nearestOf, plansOf, nodesOf, countOf}
 use Rattle.join.specs.Inner.{Said, Summed, numberIn}
 use Rattle.join.specs.Calls.{answerFor, figureFor, CallJoin}
 use Rattle.join.specs.declared.Answer.{Answer}

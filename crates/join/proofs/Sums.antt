@@ -7,11 +7,11 @@ use native.Mathlib.Omega.{arith}
 use lib.Dec.{eqb, ltb, leb}
 use lib.ListN.{length, set, replicate, length-set}
 use borrow.Author.Tests.{ltb-true, ltb-false, leb-true}
-use Rattle.model.specs.Lists.{all, at, below, both, choose, total}
-use Rattle.model.specs.Verdict.{Verdict, accepted, refused, ask}
+use Rattle.model.specs.Lists.{all, at, below, total}
+use Rattle.model.specs.Verdict.{Verdict, accepted, ask}
 use Rattle.model.proofs.Lists.{at-set, at-set-other, at-replicate}
 use Rattle.join.specs.Join.{fourAt, kindAt, headShaped, alike, headsIn, wholeHeads, joinVerdict, stepOf, takenFrom, taken, standAfter, stands, plansOf, nodesOf, countOf}
-use Rattle.join.specs.Inner.{Heads, AddedCounts, AddedHead, Summed, numberIn}
+use Rattle.join.specs.Inner.{Heads, AddedHead, Summed, numberIn}
 use Rattle.join.proofs.Orders.{each-below, both-second}
 
 -- ---- twelve counts

@@ -9,11 +9,11 @@ use lib.Dec.{T, eqb, leb}
 use lib.ListN.{length}
 use borrow.Author.Tests.{eq-eqb, ne-eqb, eqb-true, eqb-false}
 use Rattle.model.specs.Lists.{all, at, below, upFrom, both, choose, same, tabulate}
-use Rattle.model.proofs.Lists.{T-of, of-T, not-of, of-not, same-eq}
+use Rattle.model.proofs.Lists.{T-of, not-of, same-eq}
 use Rattle.parts.specs.Parts.{after}
 use Rattle.parts.proofs.Parts.{after-not}
 use Rattle.join.specs.Join.{pathAt, kindAt, pathShaped, headShaped, fromAt, reachPlace, reachAt, reachOr, mayTake, bestOf, headsIn, standPath, stepOf, nearer, nearestOf}
-use Rattle.join.specs.Inner.{Path, Heads, AtHead, orderOf}
+use Rattle.join.specs.Inner.{Path, Heads, orderOf}
 use Rattle.join.proofs.Orders.{both-first, both-second}
 
 -- ---- the paths of a head

@@ -13,7 +13,6 @@ use crate::walks::walk;
 use crate::ways::find_ways;
 ghost use mathlib.Core.Path.{_≡_};
 ghost use Prim.Native.Nat.{_≤_};
-ghost use Rattle.model.specs.Lists.{choose, same};
 ghost use Rattle.join.specs.Join.{headsIn};
 ghost use Rattle.join.specs.Inner.{Heads, Said};
 ghost use Rattle.join.specs.Calls.{CallJoin};

@@ -2,7 +2,6 @@
 ghost use mathlib.Core.Path.{_≡_};
 ghost use Prim.Native.Nat.{_+_, _*_, _^_, _≤_, _<_};
 ghost use lib.ListN.{length};
-ghost use Rattle.model.specs.Lists.{at, same};
 ghost use Rattle.join.specs.Join.{fourAt, pathAt, pathShaped};
 ghost use Rattle.join.specs.Inner.{Path, orderOf};
 

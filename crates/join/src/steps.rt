@@ -4,11 +4,11 @@ use crate::paths::four_at;
 use crate::paths::order;
 ghost use mathlib.Core.Path.{_≡_};
 ghost use mathlib.Core.List.{[], _∷_};
-ghost use Prim.Native.Nat.{ℕ, suc, _+_, _*_, _^_, _≤_, _<_};
+ghost use Prim.Native.Nat.{ℕ, suc, _+_, _*_, _≤_, _<_};
 ghost use lib.ListN.{length};
-ghost use Rattle.model.specs.Lists.{at, both, choose, same};
+ghost use Rattle.model.specs.Lists.{both, choose, same};
 ghost use Rattle.parts.specs.Parts.{after};
-ghost use Rattle.join.specs.Join.{fourAt, pathAt, fromAt, reachPlace, reachAt, reachOr, bestOf, headsIn, mayTake, stepOf, standPath, nearer, nearestOf};
+ghost use Rattle.join.specs.Join.{pathAt, fromAt, reachPlace, reachAt, reachOr, bestOf, headsIn, mayTake, stepOf, standPath, nearer, nearestOf};
 ghost use Rattle.join.specs.Inner.{Path, Heads, AtHead, marked};
 
 // Where the path stands to which head k reaches.

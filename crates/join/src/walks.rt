@@ -5,7 +5,7 @@ ghost use mathlib.Core.Path.{_≡_};
 ghost use Prim.Native.Nat.{ℕ, _+_, _*_, _^_, _≤_, _<_};
 ghost use lib.ListN.{length};
 ghost use Rattle.model.specs.Lists.{at};
-ghost use Rattle.join.specs.Join.{fourAt, headsIn, mayTake};
+ghost use Rattle.join.specs.Join.{headsIn, mayTake};
 ghost use Rattle.join.specs.Inner.{Heads, marked, Room, AddedCounts, AddedHead, Summed};
 
 // Where one stands (0: at the empty path; k + 1: where head k reaches), and the sums of the heads taken.

@@ -1,9 +1,9 @@
 -- What the parts of pruning say of sixteen sets at hand, of which the first are those of p's variables.
 -- No reader has to believe this: it stands between proved functions.
 use mathlib.Core.Path.{_≡_}
-use mathlib.Core.Bool.{Bool, true, false}
+use mathlib.Core.Bool.{false}
 use mathlib.Core.List.{List}
-use Prim.Native.Nat.{ℕ, _≤_, _<_}
+use Prim.Native.Nat.{ℕ, _<_}
 use lib.Dec.{T}
 use lib.ListN.{take}
 use Rattle.model.specs.Lists.{at}

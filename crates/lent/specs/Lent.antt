@@ -1,6 +1,6 @@
 -- A run that is lent a sheet, pairs and a block (paper 02, #107, #108 and #111): its questions, its problem, its answer, its list and its tally.
 -- Pairs: two bytes each, "this place before that place". Block: no bytes for none, else two, its first place and how many.
-use mathlib.Core.List.{List, _++_}
+use mathlib.Core.List.{List}
 use Prim.Native.Nat.{ℕ}
 use lib.ListN.{length}
 use Rattle.model.specs.Problem.{Problem}
@@ -10,7 +10,7 @@ use Rattle.model.specs.Run.{Ending, plansIn, nodesIn, Answer, refusal, ended, w
 use Rattle.order.specs.Order.{settlingOrder, orderVerdict}
 use Rattle.order.specs.Reordered.{reordered}
 use Rattle.order.specs.RunBy.{resultBy, placeCounts}
-use Rattle.block.specs.Block.{tablesLent, blockLent, withLent}
+use Rattle.block.specs.Block.{blockLent, withLent}
 use Rattle.sheet.specs.Meaning.{andThen}
 
 -- ---- the questions: the sheet's, then 28 to 30, then the block's

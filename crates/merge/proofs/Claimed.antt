@@ -5,7 +5,6 @@ use mathlib.Core.List.{List, [], _∷_, map, List·Memᴰ, List·Memᴰ·head, L
 use Prim.Native.Nat.{ℕ, _≤_}
 use native.Mathlib.Omega.{arith}
 use lib.Dec.{T}
-use lib.ListN.{length}
 use Rattle.model.specs.Lists.{flat, below, rowsAscend}
 use Rattle.model.specs.Room.{rowsIn}
 use Rattle.model.specs.Verdict.{Verdict, accepted, isAccepted}

@@ -6,7 +6,7 @@ use mathlib.Core.List.{List, [], _∷_, List·Memᴰ, List·Memᴰ·head, List·
 use Prim.Native.Nat.{ℕ}
 use lib.Dec.{T}
 use lib.ListN.{length}
-use Rattle.model.specs.Lists.{same, earlier}
+use Rattle.model.specs.Lists.{same}
 use Rattle.model.proofs.Lists.{T-of, of-not, same-eq, same-refl, earlier-asym, earlier-trans, Sorted, sorted-ext}
 use Rattle.model.proofs.Room.{Wide, wide-tail}
 use Rattle.merge.specs.Merge.{insert, union}

@@ -1,6 +1,6 @@
 -- The sets at a prefix in paper 01's words: the largest in which every value has its rows and no filter takes anything away. Assumes nothing.
-use mathlib.Core.Path.{_≡_, refl, sym, ap, _∙_, subst}
-use mathlib.Core.Bool.{false, not}
+use mathlib.Core.Path.{_≡_, refl, sym, _∙_, subst}
+use mathlib.Core.Bool.{false}
 use mathlib.Core.List.{List}
 use Prim.Native.Nat.{ℕ}
 use lib.Dec.{T}
@@ -12,7 +12,7 @@ use Rattle.model.specs.Problem.{Problem}
 use Rattle.model.specs.Nogood.{Entry, filtered}
 use Rattle.model.specs.Search.{nogoodsOf, pruned, narrowed, setsAt, isLive}
 use Rattle.model.specs.Claims.{Consistent}
-use Rattle.model.proofs.Lists.{T-of, not-of, of-not}
+use Rattle.model.proofs.Lists.{T-of}
 use Rattle.model.proofs.Sets.{has-lt, inside-antisym, empty-inside}
 use Rattle.model.specs.Pruning.{Sets, Inside, closed}
 use Rattle.model.proofs.Filter.{filtered-sets, filtered-inside}

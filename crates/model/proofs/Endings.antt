@@ -11,7 +11,7 @@ use Rattle.model.specs.Lists.{at}
 use Rattle.model.specs.ValueSets.{has, anyEmpty}
 use Rattle.model.specs.Problem.{assignments}
 use Rattle.model.specs.Pruning.{Inside}
-use Rattle.model.specs.Nogood.{Entry, obeysFrom, obeys, obeying, used, filtered, FilterEnding, failed, entailed, consistent, endingBy, someObeys, everyObeys, filterEnding, Entails, Fails, Failed-exactly, Entailed-exactly, Consistent-exactly}
+use Rattle.model.specs.Nogood.{Entry, obeysFrom, obeys, obeying, used, filtered, failed, entailed, consistent, endingBy, someObeys, everyObeys, filterEnding, Entails, Fails, Failed-exactly, Entailed-exactly, Consistent-exactly}
 use Rattle.model.proofs.Lists.{T-of, of-T, not-of, of-not, T-ext, all-i, all-e, any-i, any-e, keep-ext}
 use Rattle.model.proofs.Sets.{inside-antisym, has-at-lt}
 use Rattle.model.proofs.Assignments.{assign-mono}

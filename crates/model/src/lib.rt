@@ -1,7 +1,7 @@
 // Sets of values (paper 01, "Words"): value v is a member where bit v is 1.
 ghost use mathlib.Core.Path.{_≡_};
-ghost use Prim.Native.Nat.{ℕ, _<_};
-ghost use lib.Dec.{eqb, ltb};
+ghost use Prim.Native.Nat.{_<_};
+ghost use lib.Dec.{eqb};
 ghost use Rattle.model.specs.ValueSets.{has, fullMask, withoutMask, onlyMask, unionMask, commonMask, lowestOf};
 
 pub struct ValueSet {

@@ -2,7 +2,7 @@
 pub mod entry; // entry.rt: one entry at a time, for whoever feeds them
 
 ghost use mathlib.Core.Path.{_≡_};
-ghost use Prim.Native.Nat.{ℕ, suc, _≤_, _<_, _^_};
+ghost use Prim.Native.Nat.{ℕ, _≤_, _<_, _^_};
 ghost use lib.ListN.{length, take, drop};
 ghost use Rattle.model.specs.Lists.{at};
 ghost use Rattle.model.specs.Nogood.{kindOf, entries, entryOf, entryOk, firstWrong, filterVerdict};

@@ -6,7 +6,6 @@ use Prim.Native.Nat.{ℕ, _%_, _≤_, _<_}
 use lib.ListN.{length}
 use lib.Dec.{T}
 use Rattle.model.specs.Verdict.{Verdict, accepted, refused, isAccepted}
-use Rattle.model.specs.Examples.{Each}
 use Rattle.order.specs.Order.{Before, Circle, settlingOrder, orderVerdict, Settling}
 
 -- pairs that pass 28 to 30: at most 64 and no half one, of places below n, in no circle; the order is the paper's

@@ -1,6 +1,6 @@
 -- What the functions of this crate are lent. No reader has to believe this: it stands between proved functions.
 use mathlib.Core.Path.{_≡_}
-use mathlib.Core.List.{List, _++_}
+use mathlib.Core.List.{List}
 use Prim.Native.Nat.{ℕ, _+_, _*_, _≤_, _<_}
 use Rattle.model.specs.Lists.{at, flat}
 use Rattle.model.specs.Problem.{Problem, respects}
@@ -10,7 +10,7 @@ use Rattle.model.specs.WellFormed.{WellFormed}
 use Rattle.symmetry.specs.Table.{Framed, Ready, answerOf}
 use Rattle.layout.specs.Layout.{Images, pairCode}
 use Rattle.layout.specs.Places.{IMAGES}
-use Rattle.block.specs.Block.{orderings, factorial, orderingTable, tablesLent}
+use Rattle.block.specs.Block.{orderings, factorial, orderingTable}
 use lib.ListN.{length}
 
 -- both arrays hold a well-formed problem of at most sixteen symmetries

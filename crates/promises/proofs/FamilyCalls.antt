@@ -21,7 +21,7 @@ use Rattle.walk.specs.declared.Ending.the-variants.{Finished as Done}
 use Rattle.search.specs.declared.Answer as SA
 use Rattle.search.specs.declared.Answer.the-variants.{Ended}
 use Rattle.promises.proofs.Demands.{is-ended, is-finished}
-use Rattle.counting.specs.Told.{Told, refusal, told, toldFor, countedLent, means}
+use Rattle.counting.specs.Told.{refusal, told, toldFor, countedLent, means}
 use Rattle.counting.specs.declared.Answer.{Answer}
 use Rattle.counting.specs.declared.Answer.the-variants.{Number, Dash, Refused}
 use Rattle.promises.specs.FamilyCalls.{Families-calls, One-of-each-calls, Block-calls}

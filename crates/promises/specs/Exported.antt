@@ -6,7 +6,6 @@ use mathlib.Core.List.{List}
 use Prim.Native.Nat.{ℕ, _+_, _*_}
 use lib.ListN.{length}
 use Rattle.export_run.specs.Calls.{CallCode, CallExported}
-use Rattle.model.specs.Lists.{at}
 use Rattle.model.specs.Verdict.{accepted, refused}
 use Rattle.model.specs.Sheet.{verdictOf}
 use Rattle.search.specs.Calls.{Call}
@@ -15,7 +14,6 @@ use Rattle.walk.specs.declared.Ending.{Ending}
 use Rattle.walk.specs.declared.Ending.the-variants.{Finished, Spent, Full}
 use Rattle.search.specs.declared.Answer.the-variants.{Ended}
 use Rattle.wire.specs.Wire.{wrongLength, fourAt}
-use Rattle.export_run.specs.Run.{questionCode, runCode, runList, runAnswer}
 
 -- 0 exactly for an accepted sheet, else the number and item of the first "no"
 pub record CodeHeld (b : List ℕ) (code : ℕ) : Type 0 where

@@ -18,7 +18,6 @@ use Rattle.walk.specs.declared.Tally.{Tally}
 use Rattle.walk.specs.declared.Ending.the-variants.{Finished as Done}
 use Rattle.search.specs.declared.Answer as SA
 use Rattle.search.specs.declared.Answer.the-variants.{Ended}
-use Rattle.counting.specs.Told.{countedLent, means}
 use Rattle.counting.specs.declared.Answer.{Answer}
 use Rattle.counting.specs.declared.Answer.the-variants.{Number, Dash, Refused}
 

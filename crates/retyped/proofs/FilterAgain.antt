@@ -1,7 +1,7 @@
 -- What callers of the filter hold of a second call and of calls by turns (specs/FilterAgain). Assumes nothing.
 use mathlib.Core.Path.{_≡_, refl, sym, ap, _∙_, subst}
 use mathlib.Core.List.{List}
-use Prim.Native.Nat.{ℕ, suc, _*_}
+use Prim.Native.Nat.{ℕ}
 use lib.Dec.{eqb, leb}
 use lib.ListN.{length}
 use Rattle.model.specs.Lists.{both}
@@ -13,7 +13,7 @@ use Rattle.nogood.specs.FilterCalls.{CallFilter, ListsRight}
 use Rattle.nogood.specs.declared.Answer.{Answer}
 use Rattle.nogood.specs.declared.Answer.the-variants.{Failed, Entailed, Consistent, Refused}
 use Rattle.nogood.proofs.FilterCalls.{right-accepted}
-use Rattle.retyped.specs.Retyped.{Within, turns, byTurns, Applied}
+use Rattle.retyped.specs.Retyped.{Within, byTurns, Applied}
 use Rattle.retyped.specs.Retyped as A
 use Rattle.retyped.specs.FilterAgain.{Twice-calls, Within-calls, Turned, none, first, second, Still, TurnsHeld, Turns-calls}
 use Rattle.retyped.proofs.Turns.{filter-twice, filter-within, turns-largest, turns-any, turns-applied}

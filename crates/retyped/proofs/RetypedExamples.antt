@@ -1,7 +1,6 @@
 -- The examples of specs/RetypedExamples, and worked cases of two lists by turns and of a sheet's exchanges as bytes, by computation. Assumes nothing.
 use mathlib.Core.Path.{_≡_, refl}
 use mathlib.Core.List.{List, [], _∷_, List·Permᴰ·swap}
-use Prim.Native.Nat.{ℕ}
 use Rattle.model.specs.Sheet.{headerOf}
 use Rattle.model.specs.Nogood.{Entry, equality, disequality}
 use Rattle.model.specs.Examples.{Each, sheetA, placesTraded}

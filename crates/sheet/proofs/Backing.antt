@@ -11,13 +11,13 @@ use borrow.Author.Tests.{eqb-true, eqb-false}
 use Rattle.model.specs.Lists.{at, all, either, any, below, same}
 use Rattle.model.specs.ValueSets.{has, maskOf}
 use Rattle.model.specs.Sheet.{word, words, rowsAt}
-use Rattle.model.proofs.Lists.{all-cons, all-i, both-i, both-l, both-r, at-mem, T-of}
+use Rattle.model.proofs.Lists.{all-cons, all-i, both-i, both-l, both-r, at-mem}
 use Rattle.model.proofs.Sets.{has-none}
 use Rattle.model.proofs.Masks.{is-mask}
 use Rattle.model.proofs.Accepted.{length-words}
 use Rattle.layout.specs.Layout.{place}
 use Rattle.layout.specs.Places.{SUPPORTS}
-use Rattle.sheet.specs.Fill.{rowKey, rowFits, supportsWith, withRows}
+use Rattle.sheet.specs.Fill.{rowKey, withRows}
 use Rattle.sheet.specs.Steps.{offsetAt, supportsTo}
 use Rattle.sheet.proofs.Any.{any-same}
 use Rattle.sheet.proofs.Keys.{keyFrom, Digits, key-same, key-snoc, key-place, key-words, key-bound}

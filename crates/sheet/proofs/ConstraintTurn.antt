@@ -1,18 +1,18 @@
 -- The answer for one constraint, from what was found on the way. Assumes nothing.
-use mathlib.Core.Path.{_≡_, refl, sym, ap, ap₂, _∙_, subst, subst₂, subst₃}
+use mathlib.Core.Path.{_≡_, refl, sym, ap, ap₂, _∙_, subst₂, subst₃}
 use mathlib.Core.Bool.{Bool, true, false}
-use mathlib.Core.Logic.{_⊎_, inl, inr, ⊎-elim}
+use mathlib.Core.Logic.{_⊎_, ⊎-elim}
 use mathlib.Core.List.{List}
-use Prim.Native.Nat.{ℕ, zero, suc, _+_, _*_, _≤_, _<_}
+use Prim.Native.Nat.{ℕ, _+_, _*_, _≤_, _<_}
 use native.Mathlib.Omega.{arith}
 use native.Mathlib.Nat.{mul-le-mul-right}
 use lib.Dec.{T, leb, ltb, eqb}
 use borrow.Author.Tests.{le-leb, lt-leb, leb-true, eqb-true, eqb-false}
-use Rattle.model.specs.Lists.{both, all, ascending, rowsAscend}
+use Rattle.model.specs.Lists.{both, all, ascending}
 use Rattle.model.specs.Verdict.{Verdict, refused}
-use Rattle.model.specs.Sheet.{Header, headerOf, word, scopeAt, rowsAt, afterAt, constraintVerdict}
+use Rattle.model.specs.Sheet.{headerOf, word, scopeAt, rowsAt, afterAt, constraintVerdict}
 use Rattle.model.proofs.Lists.{both-l, both-r, T-of, of-T}
-use Rattle.sheet.specs.Fill.{order, numbersWith, supportsWith, ScopeAsked, RowsAsked}
+use Rattle.sheet.specs.Fill.{ScopeAsked, RowsAsked}
 use Rattle.sheet.specs.Steps.{ConstraintAsked}
 use Rattle.sheet.specs.declared.constraints.Step.the-variants.{Next, Refused}
 use Rattle.sheet.proofs.RowsTest.{order-two, rows-ascend, rows-fall, rows-fit, row-unfit}

@@ -1,19 +1,19 @@
 -- The turns of the loops that decode the tables. Assumes nothing.
 use mathlib.Core.Path.{_≡_, refl, sym, ap, ap₂, _∙_, subst, subst₂}
 use mathlib.Core.Bool.{Bool, true, false, false≢true}
-use mathlib.Core.List.{List, [], map, Memᴰ·map, Memᴰ·of-map}
-use Prim.Native.Nat.{ℕ, zero, suc, _+_, _*_, _/_, _%_, _≤_, _<_}
+use mathlib.Core.List.{List, [], Memᴰ·map, Memᴰ·of-map}
+use Prim.Native.Nat.{ℕ, suc, _+_, _*_, _/_, _%_, _≤_, _<_}
 use native.Mathlib.Omega.{arith}
-use native.Mathlib.Nat.{not-suc-le-zero, div-add-mod', mod-lt, div-lt-iff-lt-mul, mul-le-mul-right, suc-mul, mul-comm}
+use native.Mathlib.Nat.{not-suc-le-zero, mul-le-mul-right, suc-mul}
 use native.Mathlib.Numerals.{add-one}
 use lib.Dec.{T, eqb, ltb, ltb→lt, eqb→eq}
 use lib.ListN.{length, set}
 use borrow.Author.Tests.{eqb-true, eqb-false}
 use lib.Arith.{digits-lt, digits-div, digits-mod}
-use Rattle.model.specs.Lists.{at, both, all, below}
+use Rattle.model.specs.Lists.{at, all, below}
 use Rattle.model.specs.ValueSets.{has}
 use Rattle.model.specs.Problem.{Problem, isPair, pair}
-use Rattle.model.specs.Sheet.{headerOf, word, words, tableAt, problemOf, permutesPairs, distinct}
+use Rattle.model.specs.Sheet.{headerOf, word, tableAt, problemOf, permutesPairs, distinct}
 use Rattle.model.proofs.Lists.{both-l, all-e, all-i, below-i, below-e, length-below, T-of, of-T}
 use Rattle.model.proofs.Accepted.{at-words}
 use Rattle.model.proofs.Filling.{filled-turn}

@@ -2,19 +2,17 @@
 use mathlib.Core.Path.{_≡_, refl, sym, ap, ap₂, _∙_, subst}
 use mathlib.Core.Bool.{Bool, true, false}
 use mathlib.Core.List.{List}
-use Prim.Native.Nat.{ℕ, _+_, _*_, _≤_, _<_}
+use Prim.Native.Nat.{ℕ, _*_, _≤_}
 use native.Mathlib.Omega.{arith}
 use native.Mathlib.Nat.{mul-le-mul}
-use lib.Dec.{T}
 use lib.ListN.{length}
-use Rattle.model.specs.Lists.{at}
-use Rattle.model.specs.Verdict.{Verdict, accepted, refused, ask, isAccepted}
+use Rattle.model.specs.Verdict.{Verdict, accepted, ask}
 use Rattle.model.specs.Sheet.{Header as Numbers′, headerOf, problemOf, tablesFit, formVerdict}
 use Rattle.layout.specs.Layout.{Numbers, Supports}
 use Rattle.layout.specs.Places.{SUPPORTS, NUMBERS}
 use Rattle.sheet.specs.Meaning.{means, andThen, Answers}
 use Rattle.sheet.specs.Parts.{headerAsked, setsAsked, Fit, AllSets, SetsAsked}
-use Rattle.sheet.specs.Steps.{constraintsAsked, ConstraintsAsked, numbersTo, supportsTo}
+use Rattle.sheet.specs.Steps.{constraintsAsked, ConstraintsAsked, numbersTo}
 use Rattle.sheet.specs.Form.{Zeros, counted, FormAsked}
 use Rattle.reader.specs.Read.{stated}
 use Rattle.reader.specs.declared.Header.{Header}

@@ -6,9 +6,9 @@ use Prim.Native.Nat.{ℕ, zero, suc, _+_, _*_, _≤_, _<_}
 use native.Mathlib.Omega.{arith}
 use native.Mathlib.Numerals.{add-one}
 use lib.Dec.{T, eqb, ltb, ltb→lt, eqb→eq}
-use lib.ListN.{length, length-append}
-use borrow.Author.Tests.{eq-eqb, ne-eqb, eqb-true, eqb-false, lt-ltb, le-ltb, ltb-true, ltb-false}
-use Rattle.model.specs.Lists.{all, at, below, upFrom, same, earlier}
+use lib.ListN.{length}
+use borrow.Author.Tests.{eq-eqb, eqb-true, eqb-false, lt-ltb, le-ltb, ltb-true, ltb-false}
+use Rattle.model.specs.Lists.{all, below, upFrom, same, earlier}
 use Rattle.model.specs.Sheet.{word, words}
 use Rattle.layout.specs.Layout.{place}
 use Rattle.model.proofs.Lists.{all-cons, both-l, both-r, upFrom-add, map-append, T-ext, T-of, same-eq, same-refl}

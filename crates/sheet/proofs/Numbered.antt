@@ -1,23 +1,22 @@
 -- The numbers and the support sets of a sheet that passed questions 1 to 14. Assumes nothing.
-use mathlib.Core.Path.{_≡_, refl, sym, ap, ap₂, _∙_, subst}
-use mathlib.Core.Bool.{Bool, true, false}
+use mathlib.Core.Path.{_≡_, sym, ap, ap₂, _∙_, subst}
+use mathlib.Core.Bool.{Bool}
 use mathlib.Core.List.{List, [], _∷_, _++_, map}
-use Prim.Native.Nat.{ℕ, zero, suc, _+_, _*_, _/_, _%_, _^_, _≤_, _<_}
+use Prim.Native.Nat.{ℕ, suc, _+_, _*_, _/_, _%_, _^_, _<_}
 use native.Mathlib.Omega.{arith}
-use lib.Dec.{T, eqb, ltb}
-use lib.ListN.{length, set, length-set, length-map}
+use lib.Dec.{eqb}
+use lib.ListN.{length, set, length-set}
 use borrow.Author.Tests.{lt-ltb}
 use Rattle.model.specs.Lists.{at, both, either, any, below, same}
 use Rattle.model.specs.ValueSets.{has, maskOf}
 use Rattle.model.specs.Problem.{Constraint}
-use Rattle.model.specs.Sheet.{headerOf, word, words, scopeAt, rowsAt, problemOf, constraintsFrom, tableAt}
+use Rattle.model.specs.Sheet.{headerOf, word, scopeAt, rowsAt, problemOf, tableAt}
 use Rattle.model.proofs.Lists.{length-below, at-set, at-set-other}
 use Rattle.model.proofs.Sets.{has-none}
 use Rattle.model.proofs.Accepted.{length-words, at-words}
 use Rattle.layout.specs.Layout.{Numbers, Supports, constraintAt, place}
 use Rattle.layout.specs.Places.{SUPPORTS, NUMBERS}
 use Rattle.sheet.specs.Parts.{Fit, AllSets}
-use Rattle.sheet.specs.Fill.{packed}
 use Rattle.sheet.specs.Steps.{offsetAt, numbersTo, supportsTo}
 use Rattle.sheet.specs.Form.{counted}
 use Rattle.sheet.proofs.Touch.{Good, Held, held, packed-arity, packed-at}

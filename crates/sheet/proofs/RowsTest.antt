@@ -1,20 +1,19 @@
 -- What was asked of the rows one by one is what questions 12 and 13 ask of them together. Assumes nothing.
-use mathlib.Core.Path.{_≡_, refl, sym, ap, ap₂, _∙_, subst}
+use mathlib.Core.Path.{_≡_, refl, sym, ap₂, _∙_, subst}
 use mathlib.Core.Bool.{Bool, true, false}
 use mathlib.Core.Logic.{_⊎_, inl, inr}
 use mathlib.Core.List.{List, map}
 use Prim.Native.Nat.{ℕ, zero, suc, _+_, _*_, _≤_, _<_}
 use native.Mathlib.Omega.{arith}
 use lib.Dec.{T, eqb, ltb, ltb→lt, lt→ltb}
-use lib.ListN.{length}
 use borrow.Author.Tests.{ltb-true, ltb-false, lt-ltb, eqb-true, eqb-false}
 use Rattle.model.specs.Lists.{all, below, earlier, rowsAscend, choose}
-use Rattle.model.specs.Sheet.{word, words, rowsAt}
+use Rattle.model.specs.Sheet.{word, words}
 use Rattle.model.proofs.Lists.{T-of, of-T, not-of}
 use Rattle.model.proofs.Accepted.{length-words}
-use Rattle.sheet.specs.Fill.{keyTo, rowKey, rowFits, leastKey, order}
+use Rattle.sheet.specs.Fill.{rowKey, rowFits, leastKey, order}
 use Rattle.sheet.proofs.Words.{map-all-i, map-all-e, words-all-i, words-all-e}
-use Rattle.sheet.proofs.Keys.{keyFrom, Digits, key-earlier, key-words}
+use Rattle.sheet.proofs.Keys.{Digits, key-earlier, key-words}
 use Rattle.sheet.proofs.Ascend.{rows-i, rows-e}
 
 -- values below d are digits

@@ -1,15 +1,15 @@
 -- The turns of the loop over the tables. Assumes nothing.
 use mathlib.Core.Path.{_≡_, refl, sym, ap, ap₂, _∙_, subst}
 use mathlib.Core.Bool.{Bool, true, false}
-use mathlib.Core.List.{List, [], _∷_, map}
-use Prim.Native.Nat.{ℕ, zero, suc, _+_, _-_, _*_, _≤_, _<_}
+use mathlib.Core.List.{List, map}
+use Prim.Native.Nat.{ℕ, suc, _+_, _-_, _*_, _≤_, _<_}
 use native.Mathlib.Omega.{arith}
 use native.Mathlib.Nat.{mul-le-mul-right, suc-mul}
 use native.Mathlib.Numerals.{add-one}
 use lib.ListN.{length}
 use Rattle.model.specs.Lists.{upFrom, below}
 use Rattle.model.specs.Verdict.{Verdict, accepted, refused, ask}
-use Rattle.model.specs.Problem.{Problem, respects}
+use Rattle.model.specs.Problem.{respects}
 use Rattle.model.specs.Sheet.{headerOf, words, tableAt, problemOf, permutesPairs, formVerdict, symmetriesVerdict}
 use Rattle.layout.specs.Layout.{Numbers}
 use Rattle.symmetry.specs.Table.{TableAt, Asked, tableOf, answerOf, tableAnswer}

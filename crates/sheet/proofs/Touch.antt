@@ -1,7 +1,7 @@
 -- What the scopes leave in the numbers. Assumes nothing.
 use mathlib.Core.Path.{_≡_, refl, sym, ap, ap₂, _∙_, subst}
 use mathlib.Core.Bool.{Bool, true, false}
-use mathlib.Core.List.{List, map}
+use mathlib.Core.List.{List}
 use Prim.Native.Nat.{ℕ, zero, suc, _+_, _*_, _/_, _%_, _^_, _≤_, _<_}
 use native.Mathlib.Omega.{arith}
 use native.Mathlib.Nat.{not-suc-le-zero, lt-of-lt-of-le}
@@ -10,14 +10,14 @@ use lib.Pow.{pow-lt, pow-mono}
 use lib.Dec.{T, eqb, ltb}
 use lib.ListN.{length, set, length-set}
 use borrow.Author.Tests.{eqb-true, eqb-false, lt-ltb, le-ltb, ltb-true, ltb-false}
-use Rattle.model.specs.Lists.{at, both, either, any, below, ascending}
+use Rattle.model.specs.Lists.{at, both, either, any, ascending}
 use Rattle.model.specs.ValueSets.{has}
 use Rattle.model.specs.Sheet.{word, words, scopeAt}
 use Rattle.model.proofs.Lists.{at-set, at-set-other}
 use Rattle.model.proofs.Masks.{has-or, has-one}
 use Rattle.model.proofs.Members.{both-no, both-yes, either-no}
 use Rattle.layout.specs.Places.{NUMBERS}
-use Rattle.sheet.specs.Fill.{touch, touched, packed, rowFits, numbersWith}
+use Rattle.sheet.specs.Fill.{touch, touched, packed, rowFits}
 use Rattle.sheet.specs.Steps.{offsetAt, numbersTo}
 use Rattle.sheet.proofs.Any.{either-assoc, any-more, any-none}
 

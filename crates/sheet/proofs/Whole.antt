@@ -1,17 +1,16 @@
 -- The answer to all questions from those of the two parts. Assumes nothing.
 use mathlib.Core.Bool.{Bool, true, false, false≢true}
-use mathlib.Core.Path.{_≡_, refl, sym, ap, _∙_, subst}
+use mathlib.Core.Path.{_≡_, refl, sym, ap, _∙_}
 use mathlib.Core.List.{List}
 use Prim.Native.Nat.{ℕ, _≤_}
 use native.Mathlib.Omega.{arith}
 use lib.ListN.{length, replicate, length-replicate}
-use Rattle.model.specs.Lists.{at}
-use Rattle.model.specs.Verdict.{Verdict, accepted, refused, ask, isAccepted}
+use Rattle.model.specs.Verdict.{accepted, ask, isAccepted}
 use Rattle.model.specs.Sheet.{problemOf, permutesPairs, formVerdict, symmetriesVerdict, verdictOf}
 use Rattle.model.proofs.Lists.{at-replicate, all-i, of-T}
 use Rattle.model.proofs.Accepted.{symmetries-e}
 use Rattle.layout.specs.Layout.{Compiled}
-use Rattle.sheet.specs.Meaning.{means, andThen, Answers}
+use Rattle.sheet.specs.Meaning.{means, andThen}
 use Rattle.sheet.specs.Decoding.{permuting, Tabled, TablesDecoded}
 use Rattle.sheet.specs.Form.{Zeros, Formed, FormAsked, Sized, Compilation, compilable, Recompilation}
 use Rattle.sheet.specs.declared.Answer.{Answer}

@@ -1,11 +1,9 @@
 -- Laws of the numbers at an offset: tests over them, and their elements. Assumes nothing.
-use mathlib.Core.Path.{_≡_, refl, sym, ap, _∙_, subst}
-use mathlib.Core.Bool.{Bool, true, false}
-use mathlib.Core.List.{List, [], _∷_, map, List·Memᴰ, Memᴰ·map, Memᴰ·of-map}
-use Prim.Native.Nat.{ℕ, zero, suc, _+_, _*_, _≤_, _<_}
-use native.Mathlib.Omega.{arith}
+use mathlib.Core.Path.{subst}
+use mathlib.Core.Bool.{Bool}
+use mathlib.Core.List.{List, map, Memᴰ·map, Memᴰ·of-map}
+use Prim.Native.Nat.{ℕ, _+_, _*_, _<_}
 use lib.Dec.{T}
-use lib.ListN.{length}
 use Rattle.model.specs.Lists.{all, below}
 use Rattle.model.specs.Sheet.{word, words}
 use Rattle.model.proofs.Lists.{all-i, all-e, below-i, below-e}

@@ -1,9 +1,9 @@
 -- What the questions on the constraints store: the scope of each, the constraints that touch a variable, and the support sets.
 use mathlib.Core.Path.{_≡_}
-use mathlib.Core.Bool.{Bool, true, false}
-use mathlib.Core.List.{List, [], _∷_}
+use mathlib.Core.Bool.{Bool, true}
+use mathlib.Core.List.{List}
 use Prim.Native.Nat.{ℕ, zero, suc, _+_, _*_, _/_, _%_, _^_, _≤_, _<_}
-use lib.ListN.{length, set}
+use lib.ListN.{set}
 use lib.Bits.{bitOr}
 use lib.Dec.{T, ltb}
 use Rattle.model.specs.Lists.{at, all, both, ascending, choose}

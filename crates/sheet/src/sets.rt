@@ -4,7 +4,6 @@ use layout::INITIAL;
 use layout::Numbers;
 use model::ValueSet;
 use reader::read_word;
-ghost use Prim.Native.Nat.{_≤_};
 ghost use mathlib.Core.Bool.{not};
 ghost use mathlib.Core.Path.{_≡_};
 ghost use lib.ListN.{length};

@@ -8,7 +8,6 @@ use lib.Dec.{T, eqb, ltb, eqb→eq}
 use lib.ListN.{length, drop, getD}
 use borrow.Author.Tests.{ltb-true, ltb-false}
 use Rattle.model.specs.Lists.{all, keep, flat, upFrom, below, at}
-use Rattle.model.specs.Bytes.{twoBytes}
 use Rattle.model.specs.ValueSets.{has, members}
 use Rattle.model.specs.Verdict.{Verdict, accepted, refused, isAccepted}
 use Rattle.model.specs.Sheet.{word, words, headerOf, scopeAt, constraintsFrom, problemOf, verdictOf}

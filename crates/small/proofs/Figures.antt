@@ -6,7 +6,6 @@ use native.Mathlib.Omega.{arith}
 use lib.ListN.{length, length-append, length-map}
 use Rattle.model.specs.Lists.{all, any, keep, flat, upFrom, below, at, same, earlier, ascending, rowsAscend}
 use Rattle.model.specs.ValueSets.{has, members}
-use Rattle.model.specs.Bytes.{twoBytes}
 use Rattle.model.specs.Problem.{assignments, pair, isPair, within, doubled, pairsAt, excluded, forbidden, respects}
 use Rattle.model.specs.Sheet.{word, words, headerOf, scopeAt, rowsAt, afterAt, constraintsFrom, tableAt, problemOf, setsVerdict, constraintsVerdict, distinct, permutesPairs, symmetriesVerdict, verdictOf, constraintVerdict, headerVerdict, formVerdict}
 use Rattle.model.proofs.Lists.{keep-ext, below-e}

@@ -6,7 +6,6 @@ use Prim.Native.Nat.{ℕ, _+_, _*_, _/_, _%_, _<_}
 use native.Mathlib.Omega.{arith}
 use Rattle.model.specs.Lists.{all, keep, flat, upFrom, below, at, earlier, ascending, rowsAscend}
 use Rattle.model.specs.ValueSets.{has, members}
-use Rattle.model.specs.Bytes.{twoBytes}
 use Rattle.model.specs.Problem.{Problem}
 use Rattle.model.specs.Verdict.{Verdict, isAccepted}
 use Rattle.model.specs.Sheet.{word, words, headerOf, scopeAt, rowsAt, afterAt, constraintsFrom, tableAt, problemOf, setsVerdict, constraintsVerdict, symmetriesVerdict, verdictOf, constraintVerdict, headerVerdict, formVerdict}

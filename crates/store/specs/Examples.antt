@@ -3,7 +3,6 @@
 use mathlib.Core.Path.{_≡_}
 use mathlib.Core.Bool.{true}
 use mathlib.Core.List.{List, [], _∷_, _++_}
-use Prim.Native.Nat.{ℕ}
 use Rattle.model.specs.Verdict.{accepted}
 use Rattle.model.specs.Room.{wrote, refusal}
 use Rattle.store.specs.Store.{emptyStore, put, fetch, remove, Call, call, callVerdict, storeAfter, storeEnd, callsOf, repliesTo}

@@ -7,7 +7,7 @@ use native.Mathlib.Omega.{arith}
 use lib.Dec.{T, eqb}
 use Rattle.model.specs.Lists.{all, at, below, both}
 use Rattle.model.specs.ValueSets.{members}
-use Rattle.model.specs.Problem.{Problem, Constraint, isPair, respects}
+use Rattle.model.specs.Problem.{Problem, isPair, respects}
 use Rattle.model.specs.Sheet.{permutesPairs, distinct}
 use Rattle.model.proofs.Lists.{T-of, both-r}
 use Rattle.model.proofs.Counting.{distinct-at}

@@ -1,24 +1,23 @@
 -- The forbidden sets among given pairs: what lies in them, and when three pairs hold one. Assumes nothing.
-use mathlib.Core.Path.{_≡_, refl, sym, ap, ap₂, _∙_, subst}
+use mathlib.Core.Path.{_≡_, refl, sym, ap, _∙_, subst}
 use mathlib.Core.Bool.{Bool, true, false, not}
-use mathlib.Core.List.{List, [], _∷_, map, List·Memᴰ, List·Memᴰ·head, List·Memᴰ·tail, List·Memᴰ·not-nil, List·Memᴰ·eq-of-singleton, List·Memᴰ·cases-cons, Memᴰ·cast, Memᴰ·map, Memᴰ·of-map}
+use mathlib.Core.List.{List, [], _∷_, map, List·Memᴰ, List·Memᴰ·head, List·Memᴰ·tail, List·Memᴰ·not-nil, List·Memᴰ·eq-of-singleton, Memᴰ·cast, Memᴰ·map, Memᴰ·of-map}
 use mathlib.Core.Logic.{_⊎_, inl, inr, ⊎-elim}
-use Prim.Native.Nat.{ℕ, zero, suc, _+_, _*_, _/_, _%_, _^_, _≤_, _<_}
-use native.Mathlib.Nat.{not-suc-le-zero, le-of-suc-le-suc}
+use Prim.Native.Nat.{ℕ, suc, _*_, _/_, _%_, _≤_, _<_}
 use native.Mathlib.Omega.{arith}
-use lib.Dec.{T, T-not, not-T, eqb, ltb, eqb-refl, ltb→lt, lt→ltb}
+use lib.Dec.{T, T-not, not-T, eqb, ltb}
 use lib.ListN.{length, getD}
-use borrow.Author.Tests.{eqb-true, eqb-false, eq-eqb, ne-eqb, ltb-true, ltb-false}
-use Rattle.model.specs.Lists.{all, any, keep, flat, below, at, same, both, choose}
+use borrow.Author.Tests.{eqb-true, eq-eqb, ltb-true, ltb-false}
+use Rattle.model.specs.Lists.{any, keep, at, same}
 use Rattle.model.specs.ValueSets.{has, members}
-use Rattle.model.specs.Problem.{Problem, Constraint, pair, pairsAt, within, assignments, excluded, doubled, forbidden}
-use Rattle.model.proofs.Lists.{T-of, of-T, T-ext, not-of, of-not, both-i, both-l, both-r, all-e, all-i, all-cons, any-e, any-i, keep-e, keep-i, flat-i, flat-e}
+use Rattle.model.specs.Problem.{Problem, Constraint, pair, pairsAt, within, assignments, excluded, forbidden}
+use Rattle.model.proofs.Lists.{T-of, T-ext, of-not, both-i, both-l, both-r, any-e, any-i, keep-e, keep-i, flat-i, flat-e}
 use Rattle.model.proofs.Sets.{members-i, members-e}
-use Rattle.model.proofs.Pairs.{within-i, within-e, doubled-e, doubled-i, forbidden-e, forbidden-doubled, forbidden-excluded}
+use Rattle.model.proofs.Pairs.{within-i, within-e, doubled-e, doubled-i, forbidden-e, forbidden-doubled}
 use Rattle.layout.specs.Layout.{constraintAt}
 use Rattle.symmetry.specs.Table.{Stated}
-use Rattle.symmetry.specs.Forbidden.{blocked, numberOf, PairCode, MaybePair, Begun, clashes, valueIn, refusedBy}
-use Rattle.symmetry.proofs.Codes.{good, init-lt, init-16, pair-lt, pair-div, pair-mod, code-value, code-is, none-out, code-lt, constraint-in}
+use Rattle.symmetry.specs.Forbidden.{blocked, numberOf, PairCode, MaybePair, Begun, clashes}
+use Rattle.symmetry.proofs.Codes.{good, init-lt, init-16, pair-lt}
 
 -- ---- lists
 pub mem-index : {A : Type 0} (l : List A) (d y : A) → List·Memᴰ y l → (i : ℕ) × (i < length l) × (getD l i d ≡ y)

@@ -1,17 +1,17 @@
 -- Pairs, their numbers and their codes, in a problem that questions 1 to 14 passed. Assumes nothing.
 use mathlib.Core.Path.{_≡_, refl, sym, ap, ap₂, _∙_, subst}
-use mathlib.Core.Bool.{Bool, true, false, not}
+use mathlib.Core.Bool.{Bool, true, false}
 use mathlib.Core.List.{List, [], _∷_, List·Memᴰ, List·Memᴰ·head, List·Memᴰ·tail}
-use mathlib.Core.Logic.{_⊎_, inl, inr, ⊎-elim}
+use mathlib.Core.Logic.{inl, inr}
 use Prim.Native.Nat.{ℕ, zero, suc, _+_, _*_, _/_, _%_, _^_, _≤_, _<_}
 use native.Mathlib.Nat.{mul-add-div-right, mul-add-mod-self-right, mod-eq-of-lt, div-eq-of-lt, div-add-mod', div-lt-iff-lt-mul, mod-lt, mul-le-mul-right, add-zero, not-suc-le-zero, le-of-suc-le-suc, lt-of-lt-of-le}
 use native.Mathlib.Omega.{arith}
 use lib.Dec.{T, eqb, ltb, eqb→eq, ltb→lt, lt→ltb}
 use lib.ListN.{length, getD}
 use lib.Pow.{pow-mono}
-use Rattle.model.specs.Lists.{at, all, below, both}
+use Rattle.model.specs.Lists.{at, all, below}
 use Rattle.model.specs.ValueSets.{has}
-use Rattle.model.specs.Problem.{Problem, Constraint, pair, isPair}
+use Rattle.model.specs.Problem.{Problem, pair, isPair}
 use Rattle.model.specs.Sheet.{permutesPairs, distinct}
 use Rattle.model.proofs.Lists.{both-i, both-l, both-r, all-e, below-i}
 use Rattle.model.proofs.Sets.{has-lt}

@@ -1,16 +1,15 @@
 -- The forbidden sets that the code walks are all of them, so what it finds is whether a table respects the sheet. Assumes nothing.
-use mathlib.Core.Path.{_≡_, refl, sym, ap, ap₂, _∙_, subst}
-use mathlib.Core.Bool.{Bool, true, false, not}
-use mathlib.Core.List.{List, [], _∷_, _++_, map, append-nil, List·Memᴰ, List·Memᴰ·head, List·Memᴰ·tail, List·Memᴰ·not-nil}
-use Prim.Native.Nat.{ℕ, zero, suc, _+_, _*_, _/_, _%_, _≤_, _<_}
+use mathlib.Core.Path.{_≡_, refl, sym, ap, ap₂, _∙_}
+use mathlib.Core.Bool.{Bool, true, not}
+use mathlib.Core.List.{List, [], _∷_, _++_, map, append-nil, List·Memᴰ, List·Memᴰ·head, List·Memᴰ·tail}
+use Prim.Native.Nat.{ℕ, _+_, _*_, _<_}
 use native.Mathlib.Omega.{arith}
-use lib.Dec.{T, eqb, ltb}
-use lib.ListN.{length}
+use lib.Dec.{T, ltb}
 use lib.Seq.{append-snoc}
 use borrow.Author.Tests.{lt-ltb, le-ltb}
 use Rattle.model.specs.Lists.{all, any, keep, flat, below, at, same, both, either}
-use Rattle.model.specs.ValueSets.{has, members}
-use Rattle.model.specs.Problem.{Problem, Constraint, pair, pairsAt, within, assignments, doubled, excluded, forbidden, respects}
+use Rattle.model.specs.ValueSets.{members}
+use Rattle.model.specs.Problem.{Problem, Constraint, pair, pairsAt, assignments, doubled, excluded, forbidden, respects}
 use Rattle.model.specs.Sheet.{permutesPairs}
 use Rattle.model.proofs.Lists.{all-cons, keep-yes, keep-no, keep-e, Sorted, below-e}
 use Rattle.model.proofs.Sets.{members-e, members-sorted}

@@ -2,7 +2,7 @@
 use mathlib.Core.Path.{_≡_, refl, sym, ap, ap₂, _∙_, subst}
 use mathlib.Core.Bool.{Bool, true, false, not}
 use mathlib.Core.List.{List, [], _∷_, _++_, map, List·Memᴰ}
-use Prim.Native.Nat.{ℕ, zero, suc, _+_, _*_, _/_, _%_, _^_, _≤_, _<_}
+use Prim.Native.Nat.{ℕ, zero, suc, _+_, _*_, _/_, _%_, _≤_, _<_}
 use native.Mathlib.Nat.{not-suc-le-zero}
 use native.Mathlib.Numerals.{add-one}
 use native.Mathlib.Omega.{arith}
@@ -14,7 +14,7 @@ use Rattle.model.specs.ValueSets.{has}
 use Rattle.model.specs.Problem.{Problem, Constraint}
 use Rattle.model.proofs.Lists.{of-T, not-of, both-l, all-i, all-e, at-mem, mem-at, at-map, map-append}
 use Rattle.model.specs.WellFormed.{GoodConstraint}
-use Rattle.layout.specs.Layout.{constraintAt, Supports}
+use Rattle.layout.specs.Layout.{constraintAt}
 use Rattle.layout.specs.Places.{SUPPORTS}
 use Rattle.symmetry.specs.Table.{Ready}
 use Rattle.symmetry.specs.Forbidden.{packed, valueIn, refusedBy, LookedUp}

@@ -1,23 +1,21 @@
 -- The loops over a table, one number further: whether it permutes the pairs, and the codes of its images. Assumes nothing.
 use mathlib.Core.Path.{_≡_, refl, sym, ap, ap₂, _∙_, subst}
-use mathlib.Core.Bool.{Bool, true, false, not}
-use mathlib.Core.List.{List, [], _∷_, map}
-use mathlib.Core.Logic.{_⊎_, inl, inr, ⊎-elim}
-use Prim.Native.Nat.{ℕ, zero, suc, _+_, _*_, _/_, _%_, _^_, _≤_, _<_}
+use mathlib.Core.Bool.{Bool, true, false}
+use mathlib.Core.List.{List}
+use Prim.Native.Nat.{ℕ, _+_, _*_, _≤_, _<_}
 use native.Mathlib.Nat.{not-suc-le-zero, mul-le-mul, mul-le-mul-right, lt-of-lt-of-le}
 use native.Mathlib.Omega.{arith}
-use lib.Dec.{T, eqb, ltb, eqb→eq}
+use lib.Dec.{T, eqb, eqb→eq}
 use lib.ListN.{length, set}
 use borrow.Author.Tests.{eqb-true, eqb-false, eq-eqb, ne-eqb}
-use Rattle.model.specs.Lists.{all, below, at, both}
-use Rattle.model.specs.ValueSets.{has}
+use Rattle.model.specs.Lists.{all, below, at}
 use Rattle.model.specs.Problem.{Problem, isPair, pair}
 use Rattle.model.specs.Sheet.{word, permutesPairs, distinct}
-use Rattle.model.proofs.Lists.{T-of, of-T, not-of, of-not, T-dec, both-i, both-l, both-r, all-i, all-e, below-i, below-e, at-set, at-set-other}
+use Rattle.model.proofs.Lists.{T-of, of-T, not-of, of-not, both-i, both-l, both-r, all-i, all-e, below-i, below-e, at-set, at-set-other}
 use Rattle.model.proofs.Counting.{distinct-at}
 use Rattle.model.proofs.Accepted.{length-words, at-words}
 use Rattle.layout.specs.Layout.{pairCode}
-use Rattle.symmetry.specs.Table.{Stated, Framed, tableOf}
+use Rattle.symmetry.specs.Table.{Stated, tableOf}
 use Rattle.symmetry.specs.Forbidden.{Decoded}
 use Rattle.symmetry.specs.Scan.{fits, Seen, DecodedTo}
 use Rattle.symmetry.proofs.Codes.{code-inj, image-lt, pair-div, pair-mod, pair-lt}

@@ -1,9 +1,9 @@
 -- Which constraints can lie among three variables. Assumes nothing.
 use mathlib.Core.Path.{_≡_, refl, sym, ap₂, _∙_, subst}
-use mathlib.Core.Bool.{Bool, true, false, not}
+use mathlib.Core.Bool.{Bool, true, false}
 use mathlib.Core.List.{List, [], _∷_, List·Memᴰ, List·Memᴰ·head, Memᴰ·cast}
-use mathlib.Core.Logic.{_⊎_, inl, inr, ⊎-elim}
-use Prim.Native.Nat.{ℕ, zero, suc, _+_, _*_, _/_, _%_, _^_, _≤_, _<_}
+use mathlib.Core.Logic.{_⊎_, inl, inr}
+use Prim.Native.Nat.{ℕ, _^_, _≤_, _<_}
 use native.Mathlib.Nat.{lt-of-le-of-lt}
 use native.Mathlib.Omega.{arith}
 use lib.Dec.{T, eqb, ltb, eqb-refl, eqb→eq, ltb→lt}
@@ -11,11 +11,11 @@ use lib.ListN.{length}
 use lib.Bits.{bitAnd, bitOr, and-le-l, or-lt}
 use Rattle.model.specs.Lists.{all, any, at, either, ascending}
 use Rattle.model.specs.ValueSets.{has}
-use Rattle.model.specs.Problem.{Problem, Constraint}
+use Rattle.model.specs.Problem.{Problem}
 use Rattle.model.proofs.Lists.{either-l, either-r, all-e, any-e, any-i}
 use Rattle.model.proofs.Masks.{has-or}
-use Rattle.layout.specs.Layout.{constraintAt, Numbers}
-use Rattle.symmetry.specs.Table.{Stated, Framed}
+use Rattle.layout.specs.Layout.{constraintAt}
+use Rattle.symmetry.specs.Table.{Framed}
 use Rattle.symmetry.proofs.Codes.{good}
 use Rattle.symmetry.proofs.Blocks.{three}
 

@@ -3,20 +3,20 @@ use mathlib.Core.Path.{_≡_, refl, sym, ap, ap₂, _∙_, subst}
 use mathlib.Core.Bool.{Bool, true, false, not}
 use mathlib.Core.List.{List, [], _∷_, map, List·Memᴰ, List·Memᴰ·head, List·Memᴰ·tail, List·Memᴰ·not-nil, Memᴰ·cast}
 use mathlib.Core.Logic.{_⊎_, inl, inr, ⊎-elim}
-use Prim.Native.Nat.{ℕ, zero, suc, _+_, _*_, _/_, _%_, _^_, _≤_, _<_}
+use Prim.Native.Nat.{ℕ, _/_, _%_, _<_}
 use native.Mathlib.Omega.{arith}
-use lib.Dec.{T, T-not, not-T, eqb, ltb, eqb-refl, ltb→lt, lt→ltb}
-use lib.ListN.{length, getD}
-use borrow.Author.Tests.{eqb-true, eqb-false, eq-eqb, ne-eqb}
-use Rattle.model.specs.Lists.{all, any, at, same, both, choose}
+use lib.Dec.{T, T-not, not-T, eqb, ltb, ltb→lt, lt→ltb}
+use lib.ListN.{length}
+use borrow.Author.Tests.{eqb-true, eqb-false}
+use Rattle.model.specs.Lists.{all, any, at, same, choose}
 use Rattle.model.specs.ValueSets.{has}
-use Rattle.model.specs.Problem.{Problem, Constraint, pair, pairsAt, forbidden}
-use Rattle.model.proofs.Lists.{T-of, of-T, T-ext, both-i, both-l, both-r, all-e, all-i, any-i}
+use Rattle.model.specs.Problem.{Problem, Constraint, pair, pairsAt}
+use Rattle.model.proofs.Lists.{both-i, both-l, both-r, all-e, all-i}
 use Rattle.model.proofs.Pairs.{doubled-e, forbidden-e, forbidden-excluded}
 use Rattle.layout.specs.Layout.{constraintAt}
 use Rattle.symmetry.specs.Table.{Stated}
-use Rattle.symmetry.specs.Forbidden.{blocked, numberOf, PairCode, MaybePair, Begun, clashes, valueIn, refusedBy}
-use Rattle.symmetry.proofs.Codes.{good, init-lt, init-16, pair-lt, code-is, constraint-in}
+use Rattle.symmetry.specs.Forbidden.{blocked, numberOf, MaybePair, Begun, clashes, valueIn, refusedBy}
+use Rattle.symmetry.proofs.Codes.{good, init-lt, init-16, code-is, constraint-in}
 use Rattle.symmetry.proofs.Blocks.{mem-index, three, excluded-e, excluded-i, blocked-i, blocked-e, clash-no}
 
 -- ---- the value that three codes give to a variable

@@ -6,11 +6,11 @@ use mathlib.Core.Logic.{_⊎_}
 use Prim.Native.Nat.{ℕ, _+_, _*_, _^_, _/_, _%_, _≤_, _<_, suc}
 use lib.ListN.{length, take, drop}
 use lib.Dec.{T, eqb, ltb}
-use Rattle.model.specs.Lists.{all, any, at, same, both, either, below, choose}
+use Rattle.model.specs.Lists.{all, any, at, same, both, either, choose}
 use Rattle.model.specs.ValueSets.{has, members}
 use Rattle.model.specs.Problem.{Problem, Constraint, pair, forbidden, within}
 use Rattle.layout.specs.Layout.{constraintAt, imageCode, pairCode}
-use Rattle.symmetry.specs.Table.{Framed, Ready}
+use Rattle.symmetry.specs.Table.{Ready}
 
 -- some forbidden set lies among the pairs
 unfoldable pub blocked : Problem → List ℕ → Bool

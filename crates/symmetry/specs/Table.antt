@@ -1,5 +1,4 @@
 -- Questions 15 and 16 for one table (paper 01): what is known of the problem before they are asked, and their answer.
-use mathlib.Core.Path.{_≡_}
 use mathlib.Core.Bool.{Bool, true, false}
 use mathlib.Core.List.{List, List·Memᴰ}
 use Prim.Native.Nat.{ℕ, _+_, _*_, _^_, _≤_, _<_}

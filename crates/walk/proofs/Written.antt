@@ -1,16 +1,16 @@
 -- A plan's bytes over a list, by variable number: one turn of `keep` for each variable in the order. Assumes nothing.
 use mathlib.Core.Path.{_≡_, refl, sym, ap, _∙_, subst}
-use mathlib.Core.List.{List, _++_}
+use mathlib.Core.List.{List}
 use Prim.Native.Nat.{ℕ, _+_, _-_, _≤_, _<_}
 use native.Mathlib.Nat.{not-suc-le-zero}
 use native.Mathlib.Decide.{decLt, ℕ-discrete}
 use native.Mathlib.Omega.{arith}
-use lib.ListN.{length, take, drop, set, length-set, length-append}
-use lib.Seq.{length-take-le, getD-drop}
+use lib.ListN.{length, take, set, length-set}
+use lib.Seq.{length-take-le}
 use Rattle.model.proofs.Written.{length-placed, placed-before, placed-in, placed-after}
 use Rattle.model.specs.Written.{placed}
 use Rattle.model.specs.Lists.{at}
-use Rattle.model.proofs.Lists.{mem-at, at-set, at-set-other, at-ext, at-append, at-skip, at-take, at-tabulate, at-below, length-tabulate}
+use Rattle.model.proofs.Lists.{mem-at, at-set, at-set-other, at-ext, at-take, at-tabulate, at-below, length-tabulate}
 use Rattle.order.specs.Order.{Ordering}
 use Rattle.order.specs.Reordered.{position, write}
 use Rattle.order.proofs.Reordered.{position-e}

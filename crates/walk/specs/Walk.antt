@@ -4,7 +4,7 @@
 use mathlib.Core.Path.{_≡_}
 use mathlib.Core.List.{List, [], _∷_, _++_, map}
 use Prim.Native.Nat.{ℕ, suc, _+_, _*_}
-use lib.ListN.{length, take, drop, set, replicate}
+use lib.ListN.{length, take, set, replicate}
 use lib.Dec.{leb, eqb}
 use Rattle.model.specs.Written.{placed}
 use Rattle.model.specs.Lists.{flat, choose, at, total}

@@ -7,7 +7,7 @@ use lib.ListN.{length}
 use Rattle.model.specs.Bytes.{fourBytes}
 use Rattle.model.specs.Written.{placed}
 use Rattle.model.proofs.Written.{placed-then}
-use Rattle.desk.specs.Places.{LENGTH, LIMIT, STANDING, NODES, PLANS, DEPTH, LAST, COUNTS, SHEET, SHEET-BYTES, LIST, LIST-BYTES, SEAT, NEXT, size}
+use Rattle.desk.specs.Places.{SHEET}
 use Rattle.desk.specs.Layout.{headBytes, seatBytes}
 use borrow.Author.Needs.{needs}
 use Rattle.desk.proofs.fill.Statement.{statement}

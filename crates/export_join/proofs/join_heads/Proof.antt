@@ -1,13 +1,7 @@
 -- `join_heads`: the answer's length is asked first; then the join, and its answer in bytes. Assumes nothing.
-use mathlib.Core.Path.{_≡_, refl, sym, ap, _∙_, subst}
-use mathlib.Core.List.{List, [], _∷_}
-use Prim.Native.Nat.{ℕ, _+_, _-_, _*_, _≤_, _<_}
-use native.Mathlib.Omega.{arith}
+use mathlib.Core.Path.{refl, sym, _∙_}
 use borrow.Author.Needs.{needs}
-use lib.ListN.{length, length-set, replicate}
-use Rattle.model.specs.Lists.{at, tabulate}
-use Rattle.model.specs.Written.{Written}
-use Rattle.model.specs.Bytes.{fourBytes}
+use lib.ListN.{replicate}
 use Rattle.join.specs.declared.Answer.the-variants.{Refused, Joined, Missing}
 use Rattle.export_join.specs.Joined.{standBytes, beginBytes}
 use Rattle.export_join.proofs.Wides.{wrong-size, right-size, said, pieces}

@@ -1,5 +1,4 @@
 -- `write_report`: the answer's length is asked first, then whether the buffer holds the report. Assumes nothing.
-use mathlib.Core.Path.{_≡_}
 use native.Mathlib.Omega.{arith}
 use Rattle.export_report.proofs.Reported.{wrong-answer, too-short, reported, whole-input}
 use borrow.Author.Needs.{needs}

@@ -1,7 +1,7 @@
 -- `range_run::with_node` meets its contract. Assumes nothing.
 use mathlib.Core.Path.{refl}
 use native.Mathlib.Omega.{arith}
-use Rattle.model.specs.Lists.{at, total}
+use Rattle.model.specs.Lists.{at}
 use Rattle.model.proofs.Tally.{at-total}
 use Rattle.walk.specs.Meaning.{tallyIn}
 use Rattle.walk.proofs.Walk.{summed-more}

@@ -2,7 +2,6 @@
 use mathlib.Core.Path.{sym}
 use native.Mathlib.Omega.{arith}
 use Rattle.report.proofs.Digits.{length-one, length-two, length-three}
-use borrow.Author.Needs.{needs}
 use Rattle.report.proofs.digit_count.Statement.{statement}
 use Rattle.report.proofs.digit_count.Tie as tie
 

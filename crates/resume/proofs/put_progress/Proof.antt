@@ -1,6 +1,5 @@
 -- `resume::put_progress` meets its contract: proofs/Going. Assumes nothing.
 use borrow.Author.Needs.{needs}
-use Rattle.model.specs.Lists.{at}
 use Rattle.resume.proofs.Going.{put-so}
 use Rattle.resume.proofs.put_progress.Statement.{statement}
 use Rattle.resume.proofs.put_progress.Tie as tie

@@ -1,5 +1,5 @@
 use borrow.Author.Needs.{needs}
-use Prim.Native.Nat.{_-_, _≤_, _<_}
+use Prim.Native.Nat.{_-_, _≤_}
 use Rattle.sheet_examples.proofs.constraints.Statement.{statement}
 use Rattle.sheet_examples.proofs.constraints.Tie as tie
 use Rattle.sheet_examples.proofs.constraints.Reads as reads

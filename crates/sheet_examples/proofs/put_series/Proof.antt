@@ -1,5 +1,5 @@
 use borrow.Author.Needs.{needs}
-use Prim.Native.Nat.{_-_, _≤_, _<_}
+use Prim.Native.Nat.{_-_, _≤_}
 use Rattle.sheet_examples.proofs.put_series.Statement.{statement}
 use Rattle.sheet_examples.proofs.put_series.Tie as tie
 use Rattle.sheet_examples.proofs.put_series.Reads as reads

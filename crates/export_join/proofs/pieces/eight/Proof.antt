@@ -1,12 +1,8 @@
 -- `eight`: two halves. Assumes nothing.
-use mathlib.Core.Path.{_≡_, refl, sym, ap, _∙_, subst}
-use mathlib.Core.List.{List}
-use Prim.Native.Nat.{ℕ, _+_, _-_, _*_, _≤_, _<_}
+use mathlib.Core.Path.{refl}
 use native.Mathlib.Omega.{arith}
 use borrow.Author.Needs.{needs}
-use lib.ListN.{length, length-set}
-use Rattle.model.specs.Lists.{at, tabulate}
-use Rattle.model.specs.Written.{Written}
+use Rattle.model.specs.Lists.{at}
 use Rattle.model.specs.Bytes.{fourBytes}
 use Rattle.export_join.proofs.Wides.{eight-put}
 use Rattle.export_join.proofs.pieces.eight.Statement.{statement}

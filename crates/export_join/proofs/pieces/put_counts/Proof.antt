@@ -1,13 +1,11 @@
 -- `put_counts`: after i turns the first i counts are written. Assumes nothing.
-use mathlib.Core.Path.{_≡_, refl, sym, ap, _∙_, subst}
-use mathlib.Core.List.{List}
-use Prim.Native.Nat.{ℕ, _+_, _-_, _*_, _≤_, _<_}
+use mathlib.Core.Path.{_≡_, refl, _∙_}
+use Prim.Native.Nat.{_+_, _-_, _*_, _≤_}
 use native.Mathlib.Omega.{arith}
 use borrow.Author.Needs.{needs}
-use lib.ListN.{length, length-set}
+use lib.ListN.{length}
 use Rattle.model.specs.Lists.{at, tabulate}
 use Rattle.model.specs.Written.{Written}
-use Rattle.model.specs.Bytes.{fourBytes}
 use Rattle.export_join.specs.Joined.{widesOf}
 use Rattle.export_join.proofs.Wides.{wides-start, wides-turn, wides-all, eight-ends}
 use Rattle.export_join.proofs.pieces.put_counts.Statement.{statement}

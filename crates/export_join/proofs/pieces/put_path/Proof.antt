@@ -1,13 +1,10 @@
 -- `put_path`: after i turns the first i bytes are written. Assumes nothing.
-use mathlib.Core.Path.{_≡_, refl, sym, ap, _∙_, subst}
-use mathlib.Core.List.{List, [], _∷_}
-use Prim.Native.Nat.{ℕ, _+_, _-_, _*_, _≤_, _<_}
+use mathlib.Core.Path.{_≡_, refl, _∙_}
+use Prim.Native.Nat.{_+_, _-_, _≤_}
 use native.Mathlib.Omega.{arith}
-use borrow.Author.Needs.{needs}
-use lib.ListN.{length, length-set, replicate}
+use lib.ListN.{length, length-set}
 use Rattle.model.specs.Lists.{at, tabulate}
 use Rattle.model.specs.Written.{Written}
-use Rattle.model.specs.Bytes.{fourBytes}
 use Rattle.export_join.proofs.Wides.{bytes-start, bytes-turn, bytes-all}
 use Rattle.export_join.proofs.pieces.put_path.Statement.{statement}
 use Rattle.export_join.proofs.pieces.put_path.Tie as tie

@@ -1,13 +1,6 @@
 -- `put_range`: two paths. Assumes nothing.
-use mathlib.Core.Path.{_≡_, refl, sym, ap, _∙_, subst}
-use mathlib.Core.List.{List, [], _∷_}
-use Prim.Native.Nat.{ℕ, _+_, _-_, _*_, _≤_, _<_}
-use native.Mathlib.Omega.{arith}
+use mathlib.Core.Path.{refl}
 use borrow.Author.Needs.{needs}
-use lib.ListN.{length, length-set, replicate}
-use Rattle.model.specs.Lists.{at, tabulate}
-use Rattle.model.specs.Written.{Written}
-use Rattle.model.specs.Bytes.{fourBytes}
 use Rattle.export_join.specs.Joined.{standBytes, beginBytes}
 use Rattle.export_join.proofs.Wides.{two-put}
 use Rattle.export_join.proofs.pieces.put_range.Statement.{statement}

@@ -1,12 +1,6 @@
 -- `put_sums`: numbers one behind the other. Assumes nothing.
-use mathlib.Core.Path.{_≡_, refl, sym, ap, _∙_, subst}
-use mathlib.Core.List.{List, [], _∷_}
-use Prim.Native.Nat.{ℕ, _+_, _-_, _*_, _≤_, _<_}
 use native.Mathlib.Omega.{arith}
 use borrow.Author.Needs.{needs}
-use lib.ListN.{length, length-set, replicate}
-use Rattle.model.specs.Lists.{at, tabulate}
-use Rattle.model.specs.Written.{Written}
 use Rattle.model.specs.Bytes.{fourBytes}
 use Rattle.export_join.proofs.Wides.{sums-put, eight-ends}
 use Rattle.export_join.proofs.pieces.put_sums.Statement.{statement}

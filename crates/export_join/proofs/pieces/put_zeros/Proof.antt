@@ -1,13 +1,5 @@
 -- `put_zeros`: four zeros and two. Assumes nothing.
-use mathlib.Core.Path.{_≡_, refl, sym, ap, _∙_, subst}
-use mathlib.Core.List.{List}
-use Prim.Native.Nat.{ℕ, _+_, _-_, _*_, _≤_, _<_}
-use native.Mathlib.Omega.{arith}
 use borrow.Author.Needs.{needs}
-use lib.ListN.{length, length-set}
-use Rattle.model.specs.Lists.{at, tabulate}
-use Rattle.model.specs.Written.{Written}
-use Rattle.model.specs.Bytes.{fourBytes}
 use Rattle.export_join.proofs.Wides.{zeros-put}
 use Rattle.export_join.proofs.pieces.put_zeros.Statement.{statement}
 use Rattle.export_join.proofs.pieces.put_zeros.Tie as tie

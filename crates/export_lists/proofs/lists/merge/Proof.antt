@@ -1,9 +1,7 @@
 -- `merge`: the answer's length is asked first; then the merge, and its answer as three numbers. Assumes nothing.
 use mathlib.Core.Path.{refl, sym, ap, _∙_}
 use native.Mathlib.Omega.{arith}
-use lib.ListN.{length}
 use Rattle.model.specs.Room.{wrote, refusal}
-use Rattle.merge.specs.Merge.{merged, mergeVerdict}
 use Rattle.merge.specs.Meaning.{means}
 use Rattle.merge.proofs.Asking.{merge-item}
 use Rattle.wire.proofs.Outcomes.{refused-is}

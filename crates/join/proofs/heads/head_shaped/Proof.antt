@@ -1,11 +1,8 @@
 -- `head_shaped`: question by question. Assumes nothing.
-use mathlib.Core.Path.{_≡_, sym, ap, _∙_}
-use mathlib.Core.Bool.{Bool, true, false}
-use Prim.Native.Nat.{ℕ, _+_, _-_, _*_, _≤_, _<_}
-use native.Mathlib.Omega.{arith}
-use borrow.Author.Count.{below-more}
+use mathlib.Core.Path.{sym, _∙_}
+use mathlib.Core.Bool.{false}
+use Prim.Native.Nat.{_+_, _*_}
 use borrow.Author.Needs.{needs}
-use lib.ListN.{length, getD}
 use borrow.Author.Tests.{not-true, not-false}
 use Rattle.join.specs.Join.{pathShaped}
 use Rattle.join.proofs.Questions.{shape-low, shape-high, shape-paths, paths-first, paths-second, paths-third}

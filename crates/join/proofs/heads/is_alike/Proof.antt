@@ -1,11 +1,9 @@
 -- `is_alike`: after i turns the first i bytes are the same. Assumes nothing.
-use mathlib.Core.Path.{_≡_, sym, ap, _∙_}
-use mathlib.Core.Bool.{true, false}
+use mathlib.Core.Path.{_≡_, sym, _∙_}
 use Prim.Native.Nat.{ℕ, _+_, _-_, _*_, _≤_, _<_}
 use native.Mathlib.Omega.{arith}
 use borrow.Author.Count.{below-more}
 use borrow.Author.Needs.{needs}
-use lib.ListN.{length, getD}
 use Rattle.model.specs.Lists.{at}
 use Rattle.join.proofs.Questions.{alike-yes, alike-no}
 use Rattle.join.proofs.heads.is_alike.Statement.{statement}

@@ -1,11 +1,8 @@
 -- `none_full`: after k turns none of the first k is. Assumes nothing.
-use mathlib.Core.Path.{_≡_, sym, ap, _∙_}
-use mathlib.Core.Bool.{true, false}
-use Prim.Native.Nat.{ℕ, _+_, _-_, _*_, _≤_, _<_}
+use Prim.Native.Nat.{ℕ, _-_, _≤_, _<_}
 use native.Mathlib.Omega.{arith}
 use borrow.Author.Count.{below-more}
 use borrow.Author.Needs.{needs}
-use lib.ListN.{length, getD}
 use Rattle.join.specs.Join.{kindAt}
 use Rattle.join.proofs.Questions.{few-kinds, full-kind}
 use Rattle.join.proofs.heads.none_full.Statement.{statement}

@@ -1,11 +1,6 @@
 -- `four_at`: four bytes. Assumes nothing.
-use mathlib.Core.Path.{_≡_, sym, ap, _∙_}
-use mathlib.Core.Bool.{Bool, true, false}
-use Prim.Native.Nat.{ℕ, _+_, _-_, _*_, _≤_, _<_}
 use native.Mathlib.Omega.{arith}
-use borrow.Author.Count.{below-more}
 use borrow.Author.Needs.{needs}
-use lib.ListN.{length, getD}
 use Rattle.model.specs.Lists.{at}
 use Rattle.join.proofs.paths.four_at.Statement.{statement}
 use Rattle.join.proofs.paths.four_at.Tie as tie

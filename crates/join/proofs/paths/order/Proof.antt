@@ -1,11 +1,9 @@
 -- `order`: after i turns the first i values are the same. Assumes nothing.
-use mathlib.Core.Path.{_≡_, sym, ap, _∙_}
-use mathlib.Core.Bool.{Bool, true, false}
-use Prim.Native.Nat.{ℕ, _+_, _-_, _*_, _≤_, _<_}
+use mathlib.Core.Path.{_≡_, sym, _∙_}
+use Prim.Native.Nat.{ℕ, _+_, _-_, _≤_, _<_}
 use native.Mathlib.Omega.{arith}
 use borrow.Author.Count.{below-more}
 use borrow.Author.Needs.{needs}
-use lib.ListN.{length, getD}
 use Rattle.model.specs.Lists.{at}
 use Rattle.join.proofs.Orders.{order-diff, order-end}
 use Rattle.join.proofs.paths.order.Statement.{statement}

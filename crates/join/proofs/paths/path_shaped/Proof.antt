@@ -1,11 +1,10 @@
 -- `path_shaped`: from the length on, the values up to the i-th are zeros. Assumes nothing.
-use mathlib.Core.Path.{_≡_, sym, ap, _∙_}
-use mathlib.Core.Bool.{Bool, true, false}
-use Prim.Native.Nat.{ℕ, _+_, _-_, _*_, _≤_, _<_}
+use mathlib.Core.Path.{_≡_, sym}
+use Prim.Native.Nat.{ℕ, _+_, _-_, _≤_, _<_}
 use native.Mathlib.Omega.{arith}
 use borrow.Author.Count.{below-more}
 use borrow.Author.Needs.{needs}
-use lib.ListN.{length, getD}
+use lib.ListN.{length}
 use Rattle.model.specs.Lists.{at}
 use Rattle.join.proofs.Orders.{shaped-yes, shaped-long, shaped-behind}
 use Rattle.join.proofs.paths.path_shaped.Statement.{statement}

@@ -1,11 +1,8 @@
 -- `at_end`: where one stands at no head, it is not. Assumes nothing.
-use mathlib.Core.Path.{_≡_, sym, ap, _∙_}
-use mathlib.Core.Bool.{Bool, true, false}
-use Prim.Native.Nat.{ℕ, _+_, _-_, _*_, _≤_, _<_}
+use mathlib.Core.Path.{ap, _∙_}
+use Prim.Native.Nat.{ℕ, _-_}
 use native.Mathlib.Omega.{arith}
-use borrow.Author.Count.{below-more}
 use borrow.Author.Needs.{needs}
-use lib.ListN.{length, getD}
 use mathlib.Core.List.{List, [], _∷_}
 use Rattle.model.specs.Lists.{same}
 use Rattle.join.proofs.Turns.{reach-path, stand-none, stand-pred}

@@ -1,11 +1,7 @@
 -- `further`: compared with the best so far. Assumes nothing.
-use mathlib.Core.Path.{_≡_, sym, ap, _∙_}
-use mathlib.Core.Bool.{Bool, true, false}
-use Prim.Native.Nat.{ℕ, _+_, _-_, _*_, _≤_, _<_}
+use Prim.Native.Nat.{_-_}
 use native.Mathlib.Omega.{arith}
-use borrow.Author.Count.{below-more}
 use borrow.Author.Needs.{needs}
-use lib.ListN.{length, getD}
 use Rattle.join.specs.Join.{pathAt}
 use Rattle.join.proofs.Turns.{reach-path, further-first, further-next}
 use Rattle.join.proofs.steps.further.Statement.{statement}

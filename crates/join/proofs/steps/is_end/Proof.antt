@@ -1,11 +1,7 @@
 -- `is_end`: compared with the last path. Assumes nothing.
-use mathlib.Core.Path.{_≡_, sym, ap, _∙_}
-use mathlib.Core.Bool.{Bool, true, false}
-use Prim.Native.Nat.{ℕ, _+_, _-_, _*_, _≤_, _<_}
-use native.Mathlib.Omega.{arith}
-use borrow.Author.Count.{below-more}
+use mathlib.Core.Path.{ap, _∙_}
+use Prim.Native.Nat.{ℕ}
 use borrow.Author.Needs.{needs}
-use lib.ListN.{length, getD}
 use mathlib.Core.List.{List}
 use Rattle.model.specs.Lists.{same}
 use Rattle.join.specs.Join.{pathAt}

@@ -1,11 +1,8 @@
 -- `nearest`: from where one stands. Assumes nothing.
-use mathlib.Core.Path.{_≡_, sym, ap, _∙_}
-use mathlib.Core.Bool.{Bool, true, false}
-use Prim.Native.Nat.{ℕ, _+_, _-_, _*_, _≤_, _<_}
+use mathlib.Core.Path.{sym, ap, _∙_}
+use Prim.Native.Nat.{ℕ, _-_}
 use native.Mathlib.Omega.{arith}
-use borrow.Author.Count.{below-more}
 use borrow.Author.Needs.{needs}
-use lib.ListN.{length, getD}
 use mathlib.Core.List.{List}
 use Rattle.join.specs.Join.{standPath, nearestOf}
 use Rattle.join.proofs.Turns.{start-path, start-is, reach-path, stand-pred}

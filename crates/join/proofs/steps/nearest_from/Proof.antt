@@ -1,11 +1,7 @@
 -- `nearest_from`: after k turns it is that of the first k heads. Assumes nothing.
-use mathlib.Core.Path.{_≡_, sym, ap, _∙_}
-use mathlib.Core.Bool.{Bool, true, false}
-use Prim.Native.Nat.{ℕ, _+_, _-_, _*_, _≤_, _<_}
+use mathlib.Core.Path.{_≡_, ap, _∙_}
+use Prim.Native.Nat.{_-_, _≤_}
 use native.Mathlib.Omega.{arith}
-use borrow.Author.Count.{below-more}
-use borrow.Author.Needs.{needs}
-use lib.ListN.{length, getD}
 use Rattle.parts.specs.Parts.{after}
 use Rattle.join.specs.Join.{pathAt, fromAt, nearer, nearestOf}
 use Rattle.join.proofs.Turns.{near-none, near-turn, chosen-few}

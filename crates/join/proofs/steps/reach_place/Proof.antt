@@ -1,11 +1,5 @@
 -- `reach_place`: by the kind. Assumes nothing.
-use mathlib.Core.Path.{_≡_, sym, ap, _∙_}
-use mathlib.Core.Bool.{Bool, true, false}
-use Prim.Native.Nat.{ℕ, _+_, _-_, _*_, _≤_, _<_}
-use native.Mathlib.Omega.{arith}
-use borrow.Author.Count.{below-more}
 use borrow.Author.Needs.{needs}
-use lib.ListN.{length, getD}
 use Rattle.join.proofs.Questions.{place-end, place-last}
 use Rattle.join.proofs.steps.reach_place.Statement.{statement}
 use Rattle.join.proofs.steps.reach_place.Tie as tie

@@ -1,11 +1,8 @@
 -- `step`: the best from where one stands, if that is not the end. Assumes nothing.
-use mathlib.Core.Path.{_≡_, sym, ap, _∙_}
-use mathlib.Core.Bool.{Bool, true, false}
-use Prim.Native.Nat.{ℕ, _+_, _-_, _*_, _≤_, _<_}
+use mathlib.Core.Path.{sym, ap, _∙_}
+use Prim.Native.Nat.{_-_}
 use native.Mathlib.Omega.{arith}
-use borrow.Author.Count.{below-more}
 use borrow.Author.Needs.{needs}
-use lib.ListN.{length, getD}
 use mathlib.Core.List.{[]}
 use Rattle.join.specs.Join.{standPath}
 use Rattle.join.proofs.Turns.{start-path, start-best, reach-path, stand-pred, step-end, step-best}

@@ -1,11 +1,8 @@
 -- `add_counts`: after i turns the first i counts are raised. Assumes nothing.
-use mathlib.Core.Path.{_≡_, refl, sym, ap, _∙_}
-use mathlib.Core.Bool.{Bool, true, false}
-use Prim.Native.Nat.{ℕ, _+_, _-_, _*_, _≤_, _<_}
+use mathlib.Core.Path.{refl}
+use Prim.Native.Nat.{_-_, _≤_}
 use native.Mathlib.Omega.{arith}
-use borrow.Author.Count.{below-more}
 use borrow.Author.Needs.{needs}
-use lib.ListN.{length, getD}
 use Rattle.model.specs.Lists.{at}
 use Rattle.join.proofs.Sums.{Half, counts-turn}
 use Rattle.join.proofs.walks.add_counts.Statement.{statement}

@@ -1,12 +1,8 @@
 -- `walk`: what is summed up and what is left are the whole. Assumes nothing.
-use mathlib.Core.Path.{_≡_, refl, sym, ap, _∙_}
-use mathlib.Core.Bool.{Bool, true, false}
-use Prim.Native.Nat.{ℕ, _+_, _-_, _*_, _≤_, _<_}
+use mathlib.Core.Path.{sym, _∙_}
+use Prim.Native.Nat.{_-_, _≤_}
 use native.Mathlib.Omega.{arith}
-use borrow.Author.Count.{below-more}
 use borrow.Author.Needs.{needs}
-use lib.ListN.{length, getD}
-use Rattle.join.specs.Join.{headsIn}
 use Rattle.join.proofs.Sums.{Underway, underway, underway-turn, summed, taken-stop, none-left}
 use Rattle.join.proofs.walks.walk.Statement.{statement}
 use Rattle.join.proofs.walks.walk.Tie as tie

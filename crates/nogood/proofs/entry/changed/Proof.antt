@@ -1,5 +1,4 @@
 -- `nogood::entry::changed` meets its contract. The sets before `y` are compared. Assumes nothing.
-use mathlib.Core.Bool.{true, false}
 use Prim.Native.Nat.{_-_, _≤_}
 use native.Mathlib.Nat.{not-suc-le-zero}
 use borrow.Author.Needs.{needs}

@@ -1,7 +1,7 @@
 use Prim.Native.Nat.{_-_, _≤_}
-use mathlib.Core.Path.{_≡_, ap}
+use mathlib.Core.Path.{ap}
 use native.Mathlib.Omega.{arith}
-use Rattle.model.specs.Sheet.{headerOf, Header as Numbers}
+use Rattle.model.specs.Sheet.{Header as Numbers}
 use Rattle.sheet.proofs.ConstraintsTurn.{ConstraintsTo, constraints-none, constraints-more, constraints-no, constraints-short, constraints-end}
 use Rattle.sheet.proofs.constraints.ask.Statement.{statement}
 use Rattle.sheet.proofs.constraints.ask.Tie as tie

@@ -1,5 +1,4 @@
 use native.Mathlib.Omega.{arith}
-use native.Mathlib.Nat.{mul-le-mul}
 use Rattle.sheet.proofs.FormTurn.{tables-room, pair-room}
 use borrow.Author.Needs.{needs}
 use Rattle.sheet.proofs.form.tables_fit.Statement.{statement}

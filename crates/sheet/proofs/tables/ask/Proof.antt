@@ -1,5 +1,5 @@
 use Prim.Native.Nat.{ℕ, _-_, _≤_, _<_}
-use mathlib.Core.Path.{ap, sym, subst}
+use mathlib.Core.Path.{ap, subst}
 use native.Mathlib.Omega.{arith}
 use Rattle.model.specs.Sheet.{Header as Numbers, problemOf}
 use Rattle.sheet.proofs.Stating.{form-passed}

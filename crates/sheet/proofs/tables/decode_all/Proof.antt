@@ -1,10 +1,9 @@
 use mathlib.Core.Path.{_≡_, sym, ap, _∙_, subst}
-use mathlib.Core.Bool.{Bool, true, false}
+use mathlib.Core.Bool.{true}
 use Prim.Native.Nat.{ℕ, _-_, _*_, _≤_, _<_}
 use native.Mathlib.Omega.{arith}
 use borrow.Author.Tests.{not-true, not-false}
 use denote.Ref.{now}
-use lib.ListN.{length}
 use Rattle.model.specs.Sheet.{Header as Numbers, headerOf, problemOf, permutesPairs}
 use Rattle.sheet.specs.Decoding.{Decodable}
 use Rattle.sheet.proofs.Stating.{FormPassed, form-passed}
