@@ -74,7 +74,7 @@ fn best_from(here: &[u8], o: usize, l: &[u8], n: usize, marks: &[u64; 1024]) -> 
 }
 
 // Whether the path there is the last one, 255.
-pub fn is_end(l: &[u8], o: usize) -> bool
+fn is_end(l: &[u8], o: usize) -> bool
     requires { ⌜ Path (now l) o ⌝ }
     ensures { λ r. ⌜ r ≡ same (pathAt (now (l .entry)) o) (255 ∷ []) ⌝ }
 {
@@ -83,7 +83,7 @@ pub fn is_end(l: &[u8], o: usize) -> bool
 }
 
 // Whether one stands at the last path.
-pub fn at_end(l: &[u8], n: usize, stand: usize) -> bool
+fn at_end(l: &[u8], n: usize, stand: usize) -> bool
     requires { ⌜ Heads (now l) n × (stand ≤ n) ⌝ }
     ensures { λ r. ⌜ r ≡ same (standPath (now (l .entry)) stand) (255 ∷ []) ⌝ }
 {
