@@ -1,5 +1,5 @@
 -- The run of a report on the arrays of its sheet (specs/Held). Assumes nothing.
-use mathlib.Core.Path.{_≡_, sym, ap, _∙_, subst, subst₂}
+use mathlib.Core.Path.{_≡_, refl, sym, ap, _∙_, subst, subst₂}
 use mathlib.Core.List.{List, _++_}
 use Prim.Native.Nat.{ℕ, _*_, _≤_, _<_}
 use native.Mathlib.Omega.{arith}
@@ -14,7 +14,6 @@ use Rattle.model.proofs.Accepted.{passed, well-formed, constraints-are, symmetr
 use Rattle.layout.specs.Places.{VARIABLES, PLANS, STACK, TABLES, WORK}
 use Rattle.figure.specs.Figure.{reportFigure}
 use Rattle.sheet.specs.Form.{Compilation}
-use Rattle.sheet.specs.Meaning as S
 use Rattle.sheet.specs.declared.Answer as A
 use Rattle.sheet.specs.declared.Answer.the-variants.{Accepted}
 use Rattle.sheet.proofs.Whole.{zeros}
@@ -28,12 +27,12 @@ use Rattle.search.specs.declared.Answer.the-variants.{Refused}
 use Rattle.search.proofs.Whole.{ended-same}
 use Rattle.counting.specs.Told.{told}
 use Rattle.counting.specs.Told as F
-use Rattle.counting.specs.Held.{Runs, Ran, Listed, RunTold}
+use Rattle.counting.specs.Held.{Runs, Ran, Fresh, Listed, RunTold}
 use Rattle.counting.specs.declared.Answer as C
 
-module _ (b : List ℕ) (limit : ℕ) (numbers supports images : List ℕ) (v : A.Answer) (c : Compilation b numbers supports images v) (is : v ≡ Accepted) where
+module _ (b : List ℕ) (limit : ℕ) (numbers supports images : List ℕ) (c : Compilation b numbers supports images Accepted) where
   verdict : verdictOf b ≡ accepted
-  verdict = sym (c .answers) ∙ ap S.means is
+  verdict = sym (c .answers)
 
   good : T (isAccepted (verdictOf b))
   good = subst (λ (u : Verdict). T (isAccepted u)) (sym verdict) tt
@@ -42,19 +41,19 @@ module _ (b : List ℕ) (limit : ℕ) (numbers supports images : List ℕ) (v : 
   few-constraints = let l = constraints-are b in let f = passed b good .header .constraints in omega arith
 
   pub report-few : at numbers VARIABLES ≤ 12
-  report-few = let e = c .compiled is .numbered .variables in let f = well-formed b good .few in omega arith
+  report-few = let e = c .compiled refl .numbered .variables in let f = well-formed b good .few in omega arith
 
-  module _ (list : List ℕ) (long : length list ≡ 4096 * at numbers VARIABLES) where
+  module _ (stack work tables : List ℕ) (fresh : Fresh stack work tables) (list : List ℕ) (long : length list ≡ 4096 * at numbers VARIABLES) where
     room-is : length list ≡ 4096 * problemOf b .variables
-    room-is = long ∙ ap (λ (k : ℕ). 4096 * k) (c .compiled is .numbered .variables)
+    room-is = long ∙ ap (λ (k : ℕ). 4096 * k) (c .compiled refl .numbered .variables)
 
-    pub report-runs : Runs (problemOf b) (replicate STACK 0) (replicate WORK 0) supports (replicate TABLES 0) numbers images list
+    pub report-runs : Runs (problemOf b) stack work supports tables numbers images list
     report-runs = record {
-      compiled = c .compiled is;
+      compiled = c .compiled refl;
       limits = record { wellFormed = well-formed b good; constraints = let l = few-constraints in omega arith; symmetries = let l = symmetries-are b in let f = passed b good .header .symmetries in omega arith };
-      long = c .sizes is .numbers-length;
-      writable = record { stack-length = zeros STACK .sized; work-length = zeros WORK .sized; tables-length = zeros TABLES .sized };
-      begun = zeros WORK .blank PLANS;
+      long = c .sizes refl .numbers-length;
+      writable = fresh .writable;
+      begun = fresh .begun;
       lent = room-is;
     }
 
@@ -65,7 +64,7 @@ module _ (b : List ℕ) (limit : ℕ) (numbers supports images : List ℕ) (v : 
       pub report-listed : Listed b limit stack′ work′ supports tables′ numbers′ images stop
       report-listed = record {
         verdict = verdict;
-        compiled = record { numbered = numbers-kept (problemOf b) numbers numbers′ (well-formed b good .few) (let l = few-constraints in omega arith) (λ i l. a .same i l) (c .compiled is .numbered); supported = c .compiled is .supported; imaged = c .compiled is .imaged };
+        compiled = record { numbered = numbers-kept (problemOf b) numbers numbers′ (well-formed b good .few) (let l = few-constraints in omega arith) (λ i l. a .same i l) (c .compiled refl .numbered); supported = c .compiled refl .supported; imaged = c .compiled refl .imaged };
         long = a .long;
         writable = a .writable;
         plans = a .plans ∙ ap (λ (k : ℕ). plansIn (resultOf (problemOf b) limit k .ending)) room-is;
@@ -84,13 +83,19 @@ module _ (b : List ℕ) (limit : ℕ) (numbers supports images : List ℕ) (v : 
           let s = a .stopped in
           let o = q .ended (λ z. omega arith) in
           record {
-            sized = record { most = report-few; true-of = λ z. c .compiled is .numbered .variables };
+            sized = record { most = report-few; true-of = λ z. c .compiled refl .numbered .variables };
             call = subst₂ (λ (i j : List ℕ). Call b limit i r j) x (sym (take-at list′ (drop (4096 * at numbers VARIABLES) whole) (4096 * at numbers VARIABLES) (y ∙ long))) record {
               answers = o .1 ∙ ap ended (ended-same (o .0) e (o .2 ∙ a .plans) (o .3 ∙ m ∙ a .nodes) (o .4 ∙ a .stopped)) ∙ ap (λ (u : Verdict). answerFor u b limit (length list)) (sym verdict);
               leaves = a .wrote ∙ ap (λ (u : Verdict). listFor u b limit list) (sym verdict);
             };
             figure = λ z. g;
           }
+
+pub new-arrays : Fresh (replicate STACK 0) (replicate WORK 0) (replicate TABLES 0)
+new-arrays = record { writable = record { stack-length = zeros STACK .sized; work-length = zeros WORK .sized; tables-length = zeros TABLES .sized }; begun = zeros WORK .blank PLANS }
+
+pub accepted-so : (b numbers supports images : List ℕ) (v : A.Answer) → v ≡ Accepted → Compilation b numbers supports images v → Compilation b numbers supports images Accepted
+accepted-so b numbers supports images v e c = subst (Compilation b numbers supports images) e c
 
 -- a refusal, of which no byte of the list counts
 pub report-refused : (b : List ℕ) (limit : ℕ) (list : List ℕ) (number item : ℕ) (f : C.Answer) → refused number item ≡ verdictOf b → RunTold b limit list (record { answer = Refused number item; figure = f; variables = 0 }) list

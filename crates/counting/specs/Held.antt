@@ -64,6 +64,11 @@ pub record Whole (b pairs block : List ℕ) (symmetries : ℕ) (stack work suppo
   pub writable : Writable stack work tables
 
 -- ---- a report
+-- nothing is written on what is lent to write on
+pub record Fresh (stack work tables : List ℕ) : Type 0 where
+  pub writable : Writable stack work tables
+  pub begun : at work PLANS ≡ 0
+
 -- the run of a report has stopped so
 pub record Listed (b : List ℕ) (limit : ℕ) (stack work supports tables numbers images : List ℕ) (stop : ℕ) : Type 0 where
   pub verdict : verdictOf b ≡ accepted

@@ -7,10 +7,11 @@ ghost use lib.ListN.{length, replicate};
 ghost use Rattle.model.specs.Problem.{Problem};
 ghost use Rattle.walk.specs.Meaning.{tallyIn};
 ghost use Rattle.lent.specs.Compile.{AskedLent};
+ghost use Rattle.sheet.specs.Form.{Compilation};
 ghost use Rattle.sheet.specs.declared.Answer.the-variants.{Accepted};
 ghost use Rattle.figure.specs.Figure.{reportFigure, familiesLent};
 ghost use Rattle.counting.specs.Told.{countedLent, told, means};
-ghost use Rattle.counting.specs.Held.{Roomy, Runs, Ran, Put, Whole, Listed, RunTold};
+ghost use Rattle.counting.specs.Held.{Roomy, Runs, Ran, Put, Whole, Fresh, Listed, RunTold};
 use layout::ALL;
 use layout::IMAGES;
 use layout::Images;
@@ -227,6 +228,43 @@ fn report_figure(
     )
 }
 
+// The run of a report and its figure, on the arrays of its sheet; the plans go to the front of the list.
+fn report_arrays(
+    stack: &mut Stack,
+    work: &mut Work,
+    supports: &Supports,
+    tables: &mut Tables,
+    numbers: &mut Numbers,
+    images: &Images,
+    limit: u32,
+    list: &mut [u8],
+) -> ReportRun
+    requires { ⌜ ((b : List ℕ) × Compilation b (now numbers) (now supports) (now images) Accepted) × Fresh (now stack) (now work) (now tables) × (length (now list) ≡ 49152) ⌝ }
+    ensures { λ r. ⌜ ((b : List ℕ) → Compilation b (now (numbers .entry)) (now (supports .entry)) (now (images .entry)) Accepted → RunTold b limit (now (list .entry)) r (now (list .exit))) ⌝ }
+{
+    let variables = numbers[VARIABLES] as usize;
+    let used = 4096 * variables;
+    let part = run_arrays(
+        stack,
+        work,
+        supports,
+        tables,
+        numbers,
+        images,
+        limit,
+        &mut list[..used],
+    );
+    let tally = part.tally;
+    let stop = part.stop;
+    let answer = search::answered(work, tally.nodes, stop);
+    let figure = report_figure(stack, work, supports, tables, numbers, images, stop, limit);
+    ReportRun {
+        answer,
+        figure,
+        variables,
+    }
+}
+
 // The run of a report with its figure, and the plans at the front of a list that is lent whole (`plan_room`), cut to room for 4,096.
 pub fn report_run(sheet: &[u8], limit: u32, list: &mut [u8]) -> ReportRun
     requires { ⌜ length (now list) ≡ 49152 ⌝ }
@@ -240,38 +278,16 @@ pub fn report_run(sheet: &[u8], limit: u32, list: &mut [u8]) -> ReportRun
     let mut images = [0u8; IMAGES];
     let verdict = sheet::compile(sheet, &mut numbers, &mut supports, &mut images);
     match verdict {
-        sheet::Answer::Accepted => {
-            let variables = numbers[VARIABLES] as usize;
-            let used = 4096 * variables;
-            let part = run_arrays(
-                &mut stack,
-                &mut work,
-                &supports,
-                &mut tables,
-                &mut numbers,
-                &images,
-                limit,
-                &mut list[..used],
-            );
-            let tally = part.tally;
-            let stop = part.stop;
-            let answer = search::answered(&work, tally.nodes, stop);
-            let figure = report_figure(
-                &mut stack,
-                &mut work,
-                &supports,
-                &mut tables,
-                &mut numbers,
-                &images,
-                stop,
-                limit,
-            );
-            ReportRun {
-                answer,
-                figure,
-                variables,
-            }
-        }
+        sheet::Answer::Accepted => report_arrays(
+            &mut stack,
+            &mut work,
+            &supports,
+            &mut tables,
+            &mut numbers,
+            &images,
+            limit,
+            list,
+        ),
         sheet::Answer::Refused { number, item } => ReportRun {
             answer: search::Answer::Refused { number, item },
             figure: Answer::Dash,
