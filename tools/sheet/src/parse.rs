@@ -292,7 +292,7 @@ impl Parser {
     /// Windows, each once, as written.
     fn windows(&self, words: &[&str]) -> Parsed<Vec<usize>> {
         let mut seen = BTreeSet::new();
-        let once = |word: &&str| match *word == "," || seen.insert(word.to_string()) {
+        let once = |word: &&str| match *word == "," || seen.insert(name_of(word)) {
             true => self.window(word),
             false => self.fault(format!("`{}` stands twice", name_of(word))),
         };

@@ -82,6 +82,7 @@ fn rules() {
     assert_eq!(after("different a d"), "4: no window is called `d`");
     assert_eq!(after("different a"), "4: `different` takes two windows; of more say `all different`");
     assert_eq!(after("different a a"), "4: `a` stands twice");
+    assert_eq!(after("all different a \"a\" b"), "4: `a` stands twice");
     assert_eq!(after("all different a"), "4: `all different` takes two or more windows");
     assert_eq!(after("all a b"), "4: write `all different WINDOW ..`");
     assert_eq!(after("\nrule a b\nrows x w"), "6: no duty is called `w`");
