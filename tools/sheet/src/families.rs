@@ -31,11 +31,6 @@ pub fn not_counted(listing: &Listing) -> Option<String> {
     })
 }
 
-/// What is to be said beside their number.
-pub fn words(listing: &Listing, input: &Input) -> Vec<String> {
-    not_counted(listing).into_iter().chain(closed(listing, input)).collect()
-}
-
 /// Are the exchanges closed? Every family has a listed plan, so as many plans as families are one of each.
 pub fn closed(listing: &Listing, input: &Input) -> Option<String> {
     let families = listing.families?;

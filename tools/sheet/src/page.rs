@@ -3,18 +3,20 @@
 
 mod tables;
 
-use crate::command::{Arguments, Command, Outcome, Stop};
+use crate::command::{out, Arguments, Command, Outcome, Stop};
 use crate::counts::share;
-use crate::families::words;
+use crate::families::{closed, not_counted};
 use crate::input::{Input, HALL_OPTIONS, WHERE_OPTION};
 use crate::listing::{Limits, Listing, PLANS_OPTION};
 use crate::pairs::settled;
+use crate::plans::EXPLAIN_OPTION;
 use crate::problem::Problem;
 use crate::runner::Manner;
 use crate::text::{Stated, Statement};
 use crate::watch::Watch;
 use crate::why::narrow;
 use planner::Ending;
+use std::io::{Result as Written, Write};
 use std::path::Path;
 use tables::Tables;
 
@@ -23,7 +25,7 @@ pub const COMMAND: Command = Command {
     usage: "TEXT > hall.html",
     about: "writes the hall and its plans as a page",
     files: 1..=1,
-    options: &[&[WHERE_OPTION, PLANS_OPTION], HALL_OPTIONS],
+    options: &[&[EXPLAIN_OPTION, WHERE_OPTION, PLANS_OPTION], HALL_OPTIONS],
     asks: false,
     run,
 };
@@ -59,9 +61,14 @@ fn run(arguments: &Arguments) -> Result<Outcome, Stop> {
         Ending::Finished if listing.plans.is_empty() => narrow(&input.text, limits.first(), &watch).lines,
         _ => Vec::new(),
     };
-    let page = Page { title, input: &input, listing: &listing, why };
+    drop(watch);
+    let page =
+        Page { title, input: &input, listing: &listing, why, explain: arguments.has(EXPLAIN_OPTION.name) };
+    let mut out = out();
+    out.all(|out| page.write(out))?;
+    out.end()?;
     Ok(Outcome {
-        output: page.html().into_bytes(),
+        output: Vec::new(),
         note: input.notes() + &listing.ending() + listing.hint(),
         status: listing.status(),
     })
@@ -74,6 +81,8 @@ pub struct Page<'a> {
     pub listing: &'a Listing,
     /// Lines that already have no plan.
     pub why: Vec<Stated>,
+    /// Is it to be said whether the exchanges are closed?
+    pub explain: bool,
 }
 
 impl Page<'_> {
@@ -81,11 +90,22 @@ impl Page<'_> {
         &self.input.made.problem
     }
 
-    pub fn html(&self) -> String {
+    /// The plans row by row, whatever their number.
+    pub fn write(&self, out: &mut dyn Write) -> Written<()> {
+        write!(out, "{}{}{}", self.head(), self.ending(), self.no_plan())?;
+        self.plans(out)?;
+        write!(
+            out,
+            "{}{}{}</main>\n<footer>\n<h2>How it was proved</h2>\n<p>{PROOF}</p>\n</footer>\n</body>\n</html>\n",
+            self.windows(),
+            self.lines(),
+            self.trials()
+        )
+    }
+
+    /// What comes before the ending.
+    fn head(&self) -> String {
         let title = escaped(&self.title);
-        let parts =
-            [self.ending(), self.no_plan(), self.plans(), self.windows(), self.lines(), self.trials()]
-                .concat();
         let class = if self.problem().variables.len() > 8 { " class=\"broad\"" } else { "" };
         let script = match self.listing.plans.is_empty() {
             true => String::new(),
@@ -95,8 +115,7 @@ impl Page<'_> {
             "<!DOCTYPE html>\n<html lang=\"en\">\n<head>\n<meta charset=\"utf-8\">\n\
              <meta name=\"viewport\" content=\"width=device-width, initial-scale=1\">\n\
              <meta http-equiv=\"Content-Security-Policy\" content=\"{POLICY}\">\n\
-             <title>{title}</title>\n<style>\n{STYLE}</style>\n{script}</head>\n<body{class}>\n<main>\n<h1>{title}</h1>\n\
-             {}{parts}</main>\n<footer>\n<h2>How it was proved</h2>\n<p>{PROOF}</p>\n</footer>\n</body>\n</html>\n",
+             <title>{title}</title>\n<style>\n{STYLE}</style>\n{script}</head>\n<body{class}>\n<main>\n<h1>{title}</h1>\n{}",
             paragraph(&escaped(&self.input.text.about))
         )
     }
@@ -184,29 +203,34 @@ impl Page<'_> {
     }
 
     /// The plans, and how often each window has each duty.
-    fn plans(&self) -> String {
+    fn plans(&self, out: &mut dyn Write) -> Written<()> {
         if self.listing.plans.is_empty() {
-            return String::new();
+            return Ok(());
         }
+        let tables = Tables::new(self.problem(), &self.listing.plans, self.input.present());
+        let duties = self.problem().values.len();
+        write!(
+            out,
+            "<section id=\"plans\" style=\"--duties:{duties}\">\n<h2>The plans</h2>\n{}",
+            self.said()
+        )?;
+        tables.list(out)?;
+        write!(out, "<h3>How many plans have a duty at a window</h3>\n")?;
+        tables.counts(out)?;
+        write!(out, "</section>\n")
+    }
+
+    /// What is said of the plans.
+    fn said(&self) -> String {
         let left = if self.input.made.has_exchanges() { LEFT_OUT } else { "" };
-        let families: String = words(self.listing, self.input)
-            .iter()
-            .map(|words| paragraph(&marked(&sentence(words))))
-            .collect();
+        let closed = if self.explain { closed(self.listing, self.input) } else { None };
+        let families = not_counted(self.listing).into_iter().chain(closed);
+        let families: String = families.map(|words| paragraph(&marked(&sentence(&words)))).collect();
         let order = match settled(self.problem(), &self.input.made.pairs) {
             windows if windows.is_empty() => String::new(),
             windows => format!("Read in the order in which windows are settled: {}.", windows.join(", ")),
         };
-        let tables = Tables::new(self.problem(), &self.listing.plans);
-        format!(
-            "<section id=\"plans\" style=\"--duties:{}\">\n<h2>The plans</h2>\n{}{families}{}{}\
-             <h3>How many plans have a duty at a window</h3>\n{}</section>\n",
-            self.problem().values.len(),
-            paragraph(left),
-            paragraph(&escaped(&order)),
-            tables.list(),
-            tables.counts()
-        )
+        paragraph(left) + &families + &paragraph(&escaped(&order))
     }
 
     /// Where the trials went: a bar for each window, the longest for the largest count.

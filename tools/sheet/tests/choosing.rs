@@ -125,6 +125,16 @@ fn preferred() {
     }
 }
 
+/// On the page a duty that is away isn't free, and no count is asked of it.
+#[test]
+fn away_on_the_page() {
+    let page = answer(&["page", "-"], "windows a\nduties x y z\naway y\n").1;
+    assert!(page.contains("<tr><th scope=\"row\">1</th><td class=\"d0\">x</td><td>z</td></tr>\n"), "{page}");
+    assert!(page.contains("<th scope=\"row\" class=\"d1\">y</th><td></td><td>away</td></tr>\n"), "{page}");
+    let page = answer(&["page", "-"], "windows a\nduties x y\naway y\n").1;
+    assert!(page.contains("<tr><th scope=\"col\">Plan</th><th scope=\"col\">a</th></tr>"), "{page}");
+}
+
 /// The plan of last week, as `--csv` writes it or as a row alone.
 #[test]
 fn near() {
@@ -256,13 +266,13 @@ fn a_closed_output() {
     assert_eq!(shell("exec \"$0\" plans none.txt >&-").status.code(), Some(3));
 }
 
-/// A million plans in the memory of their bytes, as a table and as CSV and JSON.
+/// A million plans in the memory of their bytes, as a table, as CSV and JSON, and as a page.
 #[test]
 fn row_by_row() {
     let hall = "windows a b c d e f g h\\nduties 0 1 2 3 4 5 6 7\\n";
-    for form in ["", "--csv", "--json"] {
+    for form in ["plans", "plans --csv", "plans --json", "page"] {
         let line = format!(
-            "printf '{hall}' | (ulimit -v 100000; exec \"$0\" plans {form} --plans 1000000 --trials 9000000 -) | wc -l"
+            "printf '{hall}' | (ulimit -v 100000; exec \"$0\" {form} --plans 1000000 --trials 9000000 -) | wc -l"
         );
         let output = shell(&line);
         let lines: usize = String::from_utf8(output.stdout).unwrap().trim().parse().unwrap();

@@ -65,7 +65,7 @@ fn golden_files() {
     golden("hall.html", output("page examples/hall.txt"), 0);
     golden("stand.table", output("plans examples/stand.txt"), 0);
     golden("cycle.table", output("plans examples/cycle.txt"), 0);
-    golden("cycle.html", output("page examples/cycle.txt"), 0);
+    golden("cycle.html", output("page --explain examples/cycle.txt"), 0);
     golden("cycle.json", output("plans --json examples/cycle.txt"), 0);
     golden("hall.trials", output("plans --by-window examples/hall.txt"), 0);
     golden("spent.html", output("page --trials=4 examples/cycle.txt"), 2);

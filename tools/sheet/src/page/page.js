@@ -17,6 +17,7 @@ addEventListener('DOMContentLoaded', () => {
   const plans = rows.map(row => windows.map((_, window) => Number(row.cells[window + 1].className.slice(1))));
   const sets = plans.map(plan => plan.reduce((set, duty) => set | 1 << duty, 0));
   const ANY = windows.length;
+  const away = [...counts.tBodies[0].rows].map(row => row.cells[ANY + 1].textContent === 'away');
 
   let state, unknown, shown, room;
 
@@ -242,7 +243,7 @@ addEventListener('DOMContentLoaded', () => {
     const line = (name, cells) => make('tr', {}, make('th', { scope: 'row' }, name), ...cells);
     const cell = (duty, pinned) => make('td', { className: `d${duty}` }, (duty === pinned ? '' : '≠ ') + duties[duty]);
     const chosen = numbers.map(number => plans[number - 1]);
-    const free = plan => duties.filter((_, duty) => !plan.includes(duty)).join(', ') || 'nobody';
+    const free = plan => duties.filter((_, duty) => !plan.includes(duty) && !away[duty]).join(', ') || 'nobody';
     const names = ['Window', ...numbers.map(number => `Plan ${number}`)];
     return [
       make('thead', {}, make('tr', {}, ...names.map(name => make('th', { scope: 'col' }, name)))),

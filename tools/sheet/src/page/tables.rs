@@ -4,6 +4,8 @@
 use super::escaped;
 use crate::listing::Plans;
 use crate::problem::Problem;
+use crate::table::free;
+use std::io::{Result, Write};
 
 /// What stands in the tables' heads and cells, escaped.
 pub struct Tables<'a> {
@@ -11,65 +13,85 @@ pub struct Tables<'a> {
     duties: Vec<String>,
     problem: &'a Problem,
     plans: &'a Plans,
+    /// The duties that aren't away.
+    present: u16,
 }
 
 impl Tables<'_> {
-    pub fn new<'a>(problem: &'a Problem, plans: &'a Plans) -> Tables<'a> {
+    pub fn new<'a>(problem: &'a Problem, plans: &'a Plans, present: u16) -> Tables<'a> {
         let names = |names: &[String]| names.iter().map(|name| escaped(name)).collect();
-        Tables { windows: names(&problem.variables), duties: names(&problem.values), problem, plans }
+        Tables { windows: names(&problem.variables), duties: names(&problem.values), problem, plans, present }
     }
 
     /// The plans, a column for each window and, where a plan leaves a duty over, one for those that are free.
-    pub fn list(&self) -> String {
-        let has_free = self.plans.iter().any(|plan| !self.free(plan).is_empty());
-        let row = |(number, plan): (usize, &[u8])| {
-            let cell = |&duty: &u8| format!("<td class=\"d{duty}\">{}</td>", self.duties[duty as usize]);
-            let cells: String = plan.iter().map(cell).collect();
-            let free =
-                if has_free { format!("<td>{}</td>", self.free(plan).join(", ")) } else { String::new() };
-            format!("<tr><th scope=\"row\">{}</th>{cells}{free}</tr>\n", number + 1)
-        };
-        let rows: String = self.plans.iter().enumerate().map(row).collect();
-        let last = if has_free { "Free" } else { "" };
-        wide("list", "The plans, by number", &self.head("Plan", last), &rows)
+    pub fn list(&self, out: &mut dyn Write) -> Result<()> {
+        let has_free = self.plans.iter().any(|plan| self.free(plan).next().is_some());
+        self.start(out, "list", "The plans, by number", "Plan", if has_free { "Free" } else { "" })?;
+        for (number, plan) in self.plans.iter().enumerate() {
+            write!(out, "<tr><th scope=\"row\">{}</th>", number + 1)?;
+            plan.iter().try_for_each(|&duty| {
+                write!(out, "<td class=\"d{duty}\">{}</td>", self.duties[usize::from(duty)])
+            })?;
+            if has_free {
+                write!(out, "<td>{}</td>", self.free(plan).collect::<Vec<_>>().join(", "))?;
+            }
+            writeln!(out, "</tr>")?;
+        }
+        end(out)
     }
 
     /// How many plans have each duty at each window, and at any; nothing where the window may not have it.
-    pub fn counts(&self) -> String {
-        let count = |duty: usize, window: usize| match self.problem.may(window, duty) {
-            true => self.plans.iter().filter(|plan| plan[window] as usize == duty).count().to_string(),
-            false => String::new(),
-        };
-        let row = |duty: usize| {
-            let cell = |window| format!("<td>{}</td>", count(duty, window));
+    pub fn counts(&self, out: &mut dyn Write) -> Result<()> {
+        let (counts, any) = self.counted();
+        self.start(out, "counts", "Plans by duty and window", "Duty", "Any window")?;
+        for (duty, name) in self.duties.iter().enumerate() {
+            let cell = |window: usize| match self.problem.may(window, duty) {
+                true => format!("<td>{}</td>", counts[window][duty]),
+                false => "<td></td>".to_string(),
+            };
             let cells: String = (0..self.windows.len()).map(cell).collect();
-            let any = self.plans.iter().filter(|plan| plan.contains(&(duty as u8))).count();
-            let name = &self.duties[duty];
-            format!("<tr><th scope=\"row\" class=\"d{duty}\">{name}</th>{cells}<td>{any}</td></tr>\n")
-        };
-        let rows: String = (0..self.duties.len()).map(row).collect();
-        wide("counts", "Plans by duty and window", &self.head("Duty", "Any window"), &rows)
+            let any = if self.is_away(duty) { "away".to_string() } else { any[duty].to_string() };
+            writeln!(out, "<tr><th scope=\"row\" class=\"d{duty}\">{name}</th>{cells}<td>{any}</td></tr>")?;
+        }
+        end(out)
     }
 
-    /// The duties that no window has.
-    fn free(&self, plan: &[u8]) -> Vec<&str> {
-        let duties = self.duties.iter().enumerate();
-        let free = duties.filter(|(duty, _)| !plan.contains(&(*duty as u8)));
-        free.map(|(_, name)| name.as_str()).collect()
+    /// How many plans have each duty by window, and how many have it anywhere.
+    fn counted(&self) -> (Vec<Vec<usize>>, Vec<usize>) {
+        let none = vec![0; self.duties.len()];
+        let (mut counts, mut any) = (vec![none.clone(); self.windows.len()], none);
+        for plan in self.plans.iter() {
+            plan.iter().zip(&mut counts).for_each(|(&duty, counts)| counts[usize::from(duty)] += 1);
+            any.iter_mut()
+                .enumerate()
+                .for_each(|(duty, any)| *any += usize::from(plan.contains(&(duty as u8))));
+        }
+        (counts, any)
     }
 
-    /// The names of the columns: the windows between a first and, if it has a name, a last.
-    fn head(&self, first: &str, last: &str) -> String {
+    fn is_away(&self, duty: usize) -> bool {
+        self.present >> duty & 1 == 0
+    }
+
+    /// The duties that no window has and that aren't away.
+    fn free<'a>(&'a self, plan: &'a [u8]) -> impl Iterator<Item = &'a str> {
+        free(plan, self.present).map(|duty| self.duties[duty].as_str())
+    }
+
+    /// A table that scrolls both ways under the names of its columns: the windows between a first and, if it has a name, a
+    /// last.
+    fn start(&self, out: &mut dyn Write, id: &str, label: &str, first: &str, last: &str) -> Result<()> {
         let windows = self.windows.iter().map(String::as_str);
         let names = [first].into_iter().chain(windows).chain((!last.is_empty()).then_some(last));
-        names.map(|name| format!("<th scope=\"col\">{name}</th>")).collect()
+        let head: String = names.map(|name| format!("<th scope=\"col\">{name}</th>")).collect();
+        write!(
+            out,
+            "<div class=\"wide tall\" tabindex=\"0\" role=\"region\" aria-label=\"{label}\"><table class=\"plans\" id=\"{id}\">\n\
+             <thead><tr>{head}</tr></thead>\n<tbody>\n"
+        )
     }
 }
 
-/// A table that scrolls both ways under its names.
-fn wide(id: &str, label: &str, head: &str, rows: &str) -> String {
-    format!(
-        "<div class=\"wide tall\" tabindex=\"0\" role=\"region\" aria-label=\"{label}\"><table class=\"plans\" id=\"{id}\">\n\
-         <thead><tr>{head}</tr></thead>\n<tbody>\n{rows}</tbody>\n</table></div>\n"
-    )
+fn end(out: &mut dyn Write) -> Result<()> {
+    write!(out, "</tbody>\n</table></div>\n")
 }
