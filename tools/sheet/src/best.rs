@@ -1,10 +1,12 @@
 //! `sheet best`: the plans that cost least by the text's preferences, of all solutions.
 //!
 //! The sets of the windows are parted by what their duties cost beyond the cheapest. Halls of one duty class for each
-//! window are run in the order of their total, so that the first plans found are the best, and no list is longer than
-//! the plans asked for.
+//! window are run in the order of their total, first those of the least, then those of ever more totals at once, so that
+//! no list is longer than the plans asked for. Halls are left out that cost more by what windows cost which never have
+//! the same duty, or that have no plan.
 
 use crate::answers;
+use crate::classes::Classes;
 use crate::command::{out, refuse, Arguments, Choice, Command, Out, Outcome, Source, Status, Stop};
 use crate::input::{Input, HALL_OPTIONS, WHERE_OPTION};
 use crate::json::{list, object, write_rows, Fields, Json, JSON_OPTION};
@@ -18,6 +20,7 @@ use crate::text::{Stated, Statement};
 use crate::watch::{Cause, Watch};
 use crate::words::{counted, grouped, written};
 use planner::{Ending, Refusal};
+use std::ops::RangeInclusive;
 
 pub const COMMAND: Command = Command {
     name: "best",
@@ -104,7 +107,7 @@ pub struct Best {
     pub ending: Read,
     /// Are these all plans there are?
     pub all: bool,
-    /// No plan that isn't among them costs less.
+    /// Each that costs less is among them.
     pub cost: u64,
     pub trials: u32,
     /// How many exchanges keep every preference, and how many don't; alike windows count for one, or for one of each.
@@ -138,13 +141,15 @@ pub fn best(input: &Input, score: &Score, count: usize, trials: u32, watch: &Wat
     if has_none(input, &mut parts, watch)? {
         best.all = true;
     } else {
-        let classes = Classes::new(input, score);
-        let mut total = Some(0);
-        while let Some(extra) = total.filter(|_| best.plans.len() < count && best.ending == Read::Done) {
+        let classes = Classes::new(&made.problem, score);
+        let (mut next, mut more) = (Some(0), 0);
+        while let Some(extra) = next.filter(|_| best.plans.len() < count && best.ending == Read::Done) {
             best.cost = classes.least + extra;
-            total = cheapest(&mut best, &mut parts, &classes, &same, [count as u64, extra])?;
+            let wanted = count - best.plans.len();
+            next = cheapest(&mut best, &mut parts, &classes, &same, wanted, extra..=extra + more)?;
+            more = 2 * more + u64::from(!best.plans.is_empty());
         }
-        best.all = total.is_none() && best.ending == Read::Done && best.plans.len() < count;
+        best.all = next.is_none() && best.ending == Read::Done && best.plans.len() < count;
     }
     best.trials = trials - parts.trials;
     Ok(best)
@@ -157,108 +162,95 @@ fn has_none(input: &Input, parts: &mut Parts, watch: &Watch) -> Result<bool, Ref
     Ok(sum.ending == Some(Ending::Finished) && sum.plans == 0)
 }
 
-/// Adds the plans of one total, as many as are wanted still; the answer is the next total.
+/// Adds the plans of some totals, as many as are wanted still; the answer is the next total.
 fn cheapest(
     best: &mut Best,
     parts: &mut Parts,
     classes: &Classes,
     same: &Same,
-    [count, extra]: [u64; 2],
+    wanted: usize,
+    totals: RangeInclusive<u64>,
 ) -> Result<Option<u64>, Refusal> {
-    let wanted = count as usize - best.plans.len();
-    let order = parts.order.clone();
-    let reading = |plan: &Vec<u8>| order.iter().map(|&window| plan[window]).collect::<Vec<u8>>();
-    let (halls, next) = classes.halls(extra);
-    let mut found: Vec<Vec<u8>> = Vec::new();
-    for sets in halls {
-        let mut new = Vec::new();
-        let read = parts.each(sets, |plan| {
-            if same.is_first(plan, &order) {
-                new.push(plan.to_vec());
-            }
-            new.len() < wanted
-        })?;
-        found.append(&mut new);
-        found.sort_by_key(reading);
-        found.truncate(wanted);
-        if read == Read::Spent {
-            best.ending = Read::Spent;
-            break;
-        }
-    }
-    best.plans.append(&mut found);
-    Ok(next)
+    let mut search = Search { classes, same, parts, totals, wanted, found: Vec::new(), next: None };
+    best.ending = search.choose(&classes.sets(), 0)?;
+    best.plans.extend(search.found.into_iter().map(|(_, plan)| plan));
+    Ok(search.next)
 }
 
-/// The duties of each window by what they cost beyond its cheapest, ascending.
-struct Classes {
-    least: u64,
-    by_window: Vec<Vec<(u64, u16)>>,
-}
-
-impl Classes {
-    fn new(input: &Input, score: &Score) -> Classes {
-        let problem = &input.made.problem;
-        let mut classes = Classes { least: 0, by_window: Vec::new() };
-        for window in 0..problem.variables.len() {
-            let cost = |value: usize| score.of(window, value);
-            let least = problem.values_of(window).map(cost).min().unwrap_or(0);
-            let mut costs: Vec<u64> = problem.values_of(window).map(|value| cost(value) - least).collect();
-            costs.sort();
-            costs.dedup();
-            let set = |extra: u64| {
-                let values = problem.values_of(window).filter(|&value| cost(value) - least == extra);
-                values.fold(0, |set, value| set | 1 << value)
-            };
-            classes.by_window.push(costs.into_iter().map(|extra| (extra, set(extra))).collect());
-            classes.least += least;
-        }
-        classes
-    }
-
-    /// The halls of one class for each window whose costs make a total, and the next total.
-    fn halls(&self, total: u64) -> (Vec<Vec<u16>>, Option<u64>) {
-        let mut halls = Halls { classes: self, total, found: Vec::new(), next: None };
-        halls.choose(&mut Vec::new(), 0);
-        (halls.found, halls.next)
-    }
-
-    /// The most that the windows from one on can cost beyond their cheapest.
-    fn most(&self, window: usize) -> u64 {
-        self.by_window[window..].iter().filter_map(|classes| classes.last()).map(|(extra, _)| extra).sum()
-    }
-}
-
-struct Halls<'a> {
+/// The plans of some totals: a class is chosen for each window in turn, as long as a plan that is wanted may be left.
+struct Search<'a, 'b> {
     classes: &'a Classes,
-    total: u64,
-    found: Vec<Vec<u16>>,
+    same: &'a Same,
+    parts: &'a mut Parts<'b>,
+    totals: RangeInclusive<u64>,
+    wanted: usize,
+    /// The best so far with their totals, as many as are wanted, the cheapest first, then as read.
+    found: Vec<(u64, Vec<u8>)>,
+    /// No plan costs more than these totals and less than that one.
     next: Option<u64>,
 }
 
-impl Halls<'_> {
-    /// Chooses a class for the next window, after those chosen that cost so much.
-    fn choose(&mut self, sets: &mut Vec<u16>, cost: u64) {
-        if sets.len() == self.classes.by_window.len() {
-            self.found.push(sets.clone());
-            return;
+impl Search<'_, '_> {
+    /// Chooses classes from one window on.
+    fn choose(&mut self, sets: &[u16], window: usize) -> Result<Read, Refusal> {
+        let Some(least) = self.classes.least_of(sets) else { return Ok(Read::Done) };
+        if least > *self.totals.end() {
+            self.next = Some(self.next.map_or(least, |next| next.min(least)));
+            return Ok(Read::Done);
         }
-        if cost + self.classes.most(sets.len()) < self.total {
-            return;
+        if self.classes.most_of(sets) < *self.totals.start() || self.are_better(least, sets) {
+            return Ok(Read::Done);
         }
-        let is_last = sets.len() + 1 == self.classes.by_window.len();
-        for &(extra, set) in &self.classes.by_window[sets.len()] {
-            let cost = cost + extra;
-            if cost > self.total {
-                self.next = Some(self.next.map_or(cost, |next| next.min(cost)));
-                break;
+        if window == sets.len() {
+            return self.read(least, sets);
+        }
+        if !self.may_have_plan(sets, window)? {
+            return Ok(Read::Done);
+        }
+        for &(_, class) in &self.classes.by_window[window] {
+            let part = [&sets[..window], &[class], &sets[window + 1..]].concat();
+            if self.choose(&part, window + 1)? == Read::Spent {
+                return Ok(Read::Spent);
             }
-            if !is_last || cost == self.total {
-                sets.push(set);
-                self.choose(sets, cost);
-                sets.pop();
-            }
         }
+        Ok(Read::Done)
+    }
+
+    /// Are as many plans as are wanted found that cost less than all from some sets, or as much and read earlier?
+    fn are_better(&self, least: u64, sets: &[u16]) -> bool {
+        let order = &self.parts.order;
+        let first = order.iter().map(|&window| sets[window].trailing_zeros() as u8);
+        let last = self.found.last().filter(|_| self.found.len() == self.wanted);
+        last.is_some_and(|(cost, plan)| {
+            least > *cost || least == *cost && first.gt(order.iter().map(|&window| plan[window]))
+        })
+    }
+
+    /// May there be a plan after the class chosen last? The question is put where it made the window's set smaller and
+    /// several classes are left at the others.
+    fn may_have_plan(&mut self, sets: &[u16], window: usize) -> Result<bool, Refusal> {
+        let is_new = window > 0 && sets[window - 1] != self.classes.sets()[window - 1];
+        match is_new && self.classes.by_window[window..].iter().any(|classes| classes.len() > 1) {
+            true => self.parts.may_have_plan(sets),
+            false => Ok(true),
+        }
+    }
+
+    /// Adds the plans of a hall of one class for each window, which all cost the same.
+    fn read(&mut self, cost: u64, sets: &[u16]) -> Result<Read, Refusal> {
+        let order = self.parts.order.clone();
+        let mut new = Vec::new();
+        let read = self.parts.each(sets.to_vec(), |plan| {
+            if self.same.is_first(plan, &order) {
+                new.push((cost, plan.to_vec()));
+            }
+            new.len() < self.wanted
+        })?;
+        self.found.append(&mut new);
+        let reading = |plan: &[u8]| order.iter().map(|&window| plan[window]).collect::<Vec<u8>>();
+        self.found.sort_by_key(|(cost, plan)| (*cost, reading(plan)));
+        self.found.truncate(self.wanted);
+        Ok(read)
     }
 }
 
@@ -451,7 +443,8 @@ impl Shown<'_> {
         };
         let words = match self.best.ending {
             Read::Spent => format!(
-                "{spent}, {plans} so far: none costs less, but plans that cost {} or more may be missing{hint}",
+                "{spent}, {plans} so far: {}plans that cost {} or more may be missing{hint}",
+                if self.are_cheapest() { "none costs less, but " } else { "" },
                 self.best.cost
             ),
             Read::Done if self.best.all && count > 0 => {
@@ -466,6 +459,11 @@ impl Shown<'_> {
             false => String::new(),
         };
         words + &shown
+    }
+
+    /// Is no plan missing that costs less than one of these?
+    fn are_cheapest(&self) -> bool {
+        self.best.plans.iter().all(|plan| self.score.of_plan(plan) <= self.best.cost)
     }
 
     /// What is to be said of exchanges.

@@ -35,6 +35,7 @@ mod advice;
 mod alike;
 mod amount;
 mod answers;
+mod classes;
 mod columns;
 mod compose;
 mod counts;

@@ -4,7 +4,10 @@ use crate::pairs::order;
 use crate::problem::Problem;
 use crate::walker::{Tree, Walker};
 use crate::watch::{Progress, Watch};
-use planner::{Ending, Refusal, END, START};
+use planner::{at_least, Ending, Enough, Refusal, END, START};
+
+/// The most trials of a short run.
+const SHORT: u32 = 1_000;
 
 /// A hall without exchanges, the order in which it is read, and the trials left to it.
 pub struct Parts<'a> {
@@ -36,18 +39,16 @@ impl<'a> Parts<'a> {
 
     /// Shows every solution from some sets in reading order, as long as `take` goes on.
     pub fn each(&mut self, sets: Vec<u16>, mut take: impl FnMut(&[u8]) -> bool) -> Result<Read, Refusal> {
-        let windows = self.order.len();
+        let (windows, pairs) = (self.order.len(), self.pairs.clone());
         let sheet = Problem { initial: sets, ..self.problem.clone() }.encode();
-        let tree = Tree { sheet: &sheet, pairs: &self.pairs, block: &[], windows };
+        let tree = Tree { sheet: &sheet, pairs: &pairs, block: &[], windows };
         let mut walker = Walker::new(tree, START, END);
         while self.watch.stops().is_none() {
             let step = walker.step(self.trials.into(), self.room as u64)?;
             let answer = step.head.answer();
             let plans = step.rows.chunks(windows);
             let last = plans.clone().last().map(<[u8]>::to_vec);
-            self.trials = self.trials.saturating_sub(answer.nodes.max(1));
-            let made = u64::from(self.allowance - self.trials);
-            self.watch.hear(Progress { trials: made, plans: None, allowance: Some(self.allowance.into()) });
+            self.took(answer.nodes);
             if !plans.into_iter().all(&mut take) {
                 return Ok(Read::Done);
             }
@@ -61,5 +62,24 @@ impl<'a> Parts<'a> {
             }
         }
         Ok(Read::Spent)
+    }
+
+    /// May there be a solution from some sets? There may be one, unless a short run finds that there is none.
+    pub fn may_have_plan(&mut self, sets: &[u16]) -> Result<bool, Refusal> {
+        if self.watch.stops().is_some() {
+            return Ok(true);
+        }
+        let sheet = Problem { initial: sets.to_vec(), ..self.problem.clone() }.encode();
+        let answer = at_least(&sheet, &self.pairs, &[], 1, self.trials.min(SHORT))?;
+        let (Enough::Yes { nodes, .. } | Enough::No { nodes, .. } | Enough::Spent { nodes, .. }) = answer;
+        self.took(nodes);
+        Ok(!matches!(answer, Enough::No { .. }))
+    }
+
+    /// So many trials were made, and one for a call that makes none.
+    fn took(&mut self, trials: u32) {
+        self.trials = self.trials.saturating_sub(trials.max(1));
+        let made = u64::from(self.allowance - self.trials);
+        self.watch.hear(Progress { trials: made, plans: None, allowance: Some(self.allowance.into()) });
     }
 }

@@ -125,6 +125,21 @@ fn preferred() {
     }
 }
 
+/// Every window ranks ten clerks alike: the eight cheapest are found at once, and so are a thousand plans.
+#[test]
+fn ranked() {
+    let windows = "a b c d e f g h";
+    let mut hall = format!("windows {windows}\nduties 0 1 2 3 4 5 6 7 8 9\nall different {windows}\n");
+    for window in windows.split(' ') {
+        hall += &(1..10).map(|duty| format!("avoid {window} {duty} {duty}\n")).collect::<String>();
+    }
+    let (status, out, _) = answer(&["best", "--trials", "1000", "-"], &hall);
+    assert_eq!(status, 0);
+    assert!(out.contains("\n28    0  1  2  3  4  5  6  7  8, 9\n"), "{out}");
+    let many = answer(&["best", "1000", "--csv", "-"], &hall);
+    assert_eq!((many.0, many.1.lines().count()), (0, 1_001));
+}
+
 /// On the page a duty that is away isn't free, and no count is asked of it.
 #[test]
 fn away_on_the_page() {
@@ -266,16 +281,18 @@ fn a_closed_output() {
     assert_eq!(shell("exec \"$0\" plans none.txt >&-").status.code(), Some(3));
 }
 
-/// A million plans in the memory of their bytes, as a table, as CSV and JSON, and as a page.
+/// A million plans in the memory of their bytes, as a table, as CSV and JSON; fewer as a page.
 #[test]
 fn row_by_row() {
     let hall = "windows a b c d e f g h\\nduties 0 1 2 3 4 5 6 7\\n";
-    for form in ["plans", "plans --csv", "plans --json", "page"] {
+    let million = 1_000_000;
+    let forms = [("plans", million), ("plans --csv", million), ("plans --json", million), ("page", 300_000)];
+    for (form, plans) in forms {
         let line = format!(
-            "printf '{hall}' | (ulimit -v 100000; exec \"$0\" {form} --plans 1000000 --trials 9000000 -) | wc -l"
+            "printf '{hall}' | (ulimit -v 100000; exec \"$0\" {form} --plans {plans} --trials 9000000 -) | wc -l"
         );
         let output = shell(&line);
         let lines: usize = String::from_utf8(output.stdout).unwrap().trim().parse().unwrap();
-        assert!(lines >= 1_000_000, "{form}: {lines} {}", String::from_utf8_lossy(&output.stderr));
+        assert!(lines >= plans, "{form}: {lines} {}", String::from_utf8_lossy(&output.stderr));
     }
 }

@@ -134,7 +134,7 @@ fn wishes(rng: &mut Rng) -> String {
         let [window, duty] = [["a", "b", "c", "d"], ["w", "x", "y", "z"]].map(|names| rng.pick(&names));
         format!("{} {window} {duty} {}\n", rng.pick(&["prefer", "avoid"]), 1 + rng.below(3))
     };
-    (0..rng.below(5)).map(|_| wish(rng)).collect()
+    (0..rng.below(10)).map(|_| wish(rng)).collect()
 }
 
 /// All solutions but those that an exchange makes of an earlier one, if every pair costs the same as its image; cheapest
@@ -188,7 +188,7 @@ fn best_plans() {
     assert!(kept > 100 && told_apart > 100, "{kept} kept, {told_apart} not");
 }
 
-/// Stopped short, the plans so far are the first of the best, and none that is missing costs less.
+/// Stopped short, the plans so far are in order, and each that costs less than what is said is among them.
 #[test]
 fn stopped_short() {
     let mut rng = Rng::new(6);
@@ -200,11 +200,11 @@ fn stopped_short() {
         if found.ending == Read::Spent {
             short += 1;
             let cost = |plan: &[u8]| score.of_plan(plan);
-            assert!(found.plans.iter().all(|plan| cost(plan) <= found.cost));
+            assert!(found.plans.is_sorted_by_key(|plan| cost(plan)));
             let as_bytes = |plan: &Plan| plan.iter().map(|&duty| duty as u8).collect::<Vec<u8>>();
             let cheaper: Vec<Vec<u8>> = by_hand(&input, &score).iter().map(as_bytes).collect();
-            let cheaper = cheaper.iter().filter(|plan| cost(plan) < found.cost);
-            assert!(cheaper.zip(&found.plans).all(|(expected, plan)| expected == plan));
+            let cheaper: Vec<&Vec<u8>> = cheaper.iter().filter(|plan| cost(plan) < found.cost).collect();
+            assert!(found.plans.iter().take(cheaper.len()).eq(cheaper));
         }
     }
     assert!(short > 50, "{short}");
