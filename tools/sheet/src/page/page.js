@@ -107,7 +107,7 @@ addEventListener('DOMContentLoaded', () => {
   }
 
   function read() {
-    state = { choice: unchosen(), find: '', pin: 0, with: 0, day: '' };
+    state = { choice: unchosen(), find: '', pin: Number(rows.length === 1), with: 0, day: '' }; // an only plan is pinned
     unknown = location.hash.slice(1).split('&').filter(part => {
       try { return part && !take(part); } catch { return true; }
     });
