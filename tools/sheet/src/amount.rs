@@ -2,13 +2,18 @@
 //!
 //! Only windows that may have the duty and another one count; m of them are left. Of such windows a rule on three can say
 //! that not all of one, two or three have the duty, and that not all of them lack it. So `at most N` can be said of any
-//! number of windows where N is at most 2, and `at least N` where at most two of them may lack the duty.
+//! number of windows where N is at most 2, and `at least N` where at most two of them may lack the duty; what takes a rule
+//! for every three of them, of at most six.
 
+use crate::compose::MOST_RULES;
 use crate::problem::{draws, Constraint, Problem};
 use crate::words::listed;
 
 /// The most windows of a rule.
 const MOST_WINDOWS: usize = 3;
+
+/// Of more windows there are more threes than rules.
+const MOST_BY_THREES: usize = 6;
 
 /// A count, with the windows that may have the duty and another one.
 pub struct Amount {
@@ -77,17 +82,24 @@ impl Amount {
     pub fn unsaid(&self, problem: &Problem) -> Option<String> {
         let windows = self.open.len();
         let sizes = self.sizes();
-        let wide = sizes.into_iter().flatten().any(|size| size > MOST_WINDOWS);
+        let most = if windows > MOST_BY_THREES { MOST_WINDOWS - 1 } else { MOST_WINDOWS };
+        let wide = sizes.into_iter().flatten().any(|size| size > most);
         if self.wanted.is_none() || windows <= MOST_WINDOWS || !wide {
             return None;
         }
         let names: Vec<&String> = self.open.iter().map(|&window| &problem.variables[window]).collect();
         let what = match sizes {
-            [Some(size), _] if size > MOST_WINDOWS => "at most 0, 1 or 2 of them".to_string(),
-            _ => format!("at least {} of them", windows - 2),
+            [Some(size), _] if size > most => {
+                format!("at most {} of them", if most == MOST_WINDOWS { "0, 1 or 2" } else { "0 or 1" })
+            }
+            _ => format!("at least {} of them", windows + 1 - most),
+        };
+        let rules = match most == MOST_WINDOWS {
+            true => String::new(),
+            false => format!(", there are at most {MOST_RULES} rules"),
         };
         Some(format!(
-            "it doesn't fit: a rule has at most three windows, and {} of these may have `{}`, {}. Of so many it can be \
+            "it doesn't fit: a rule has at most three windows{rules}, and {} of these may have `{}`, {}. Of so many it can be \
              said that {what} have it; anything of three windows: fewer by `clerk` or `may` lines, or `fix` it at one",
             windows, problem.values[self.value],
             listed(&names)

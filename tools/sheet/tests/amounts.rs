@@ -126,4 +126,20 @@ fn what_does_not_fit() {
         )
     );
     assert!(make("windows a b c d e\nduties x y\nfix e y\nfix d y\nat least 1 x a b c d e\n").is_ok());
+    let seven = "windows a b c d e f g\nduties x y\n";
+    let said = |count: &str| make(&format!("{seven}{count} x a b c d e f g\n")).unwrap_err().remove(0).text;
+    let fits = |what: &str| {
+        format!(
+            "it doesn't fit: a rule has at most three windows, there are at most 32 rules, and 7 of these may have `x`, a, \
+             b, c, d, e, f and g. Of so many it can be said that {what} of them have it; anything of three windows: fewer \
+             by `clerk` or `may` lines, or `fix` it at one"
+        )
+    };
+    assert_eq!(said("at most 2"), fits("at most 0 or 1"));
+    assert_eq!(said("at least 5"), fits("at least 6"));
+    for count in ["at most 0", "at most 1", "at least 6", "exactly 7"] {
+        assert!(make(&format!("{seven}{count} x a b c d e f g\n")).is_ok(), "{count}");
+    }
+    let six = "windows a b c d e f\nduties x y\nat most 2 x a b c d e f\n";
+    assert_eq!(make(six).unwrap().problem.constraints.len(), 20);
 }
