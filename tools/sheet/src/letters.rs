@@ -90,6 +90,12 @@ pub fn cleaned(cell: &str) -> String {
     composed(&words.into_iter().filter(|word| !word.is_empty()).collect::<Vec<_>>().join(" "))
 }
 
+/// A name without the marks that join or part letters, or choose their shape: names with the same rest look alike.
+pub fn looks(name: &str) -> String {
+    let shapes = |letter: &char| matches!(letter, '\u{200c}' | '\u{200d}' | '\u{fe00}'..='\u{fe0f}');
+    name.chars().filter(|letter| !shapes(letter)).collect()
+}
+
 fn is_direction(letter: char) -> bool {
     matches!(letter, '\u{61c}' | '\u{200e}' | '\u{200f}' | '\u{202a}'..='\u{202e}' | '\u{2066}'..='\u{2069}')
 }

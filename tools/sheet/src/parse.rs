@@ -1,7 +1,7 @@
 //! Reads a text line by line.
 
 use crate::alike;
-use crate::letters::composed;
+use crate::letters::{composed, looks};
 use crate::problem::Constraint;
 use crate::text::{fault, Exchange, Fault, Faults, Parsed, Stated, Statement, Text};
 use crate::words::{counted, halves, name_of, nearest, nearest_name, words, LONGEST_NAME};
@@ -566,6 +566,9 @@ fn wrong_name(kind: &str, word: &str, name: &str, before: &[String]) -> Option<S
             let two =
                 if composed(word) == word { "" } else { ", here with letter and accent as two characters" };
             Some(format!("the name `{name}` stands twice{two}"))
+        }
+        _ if before.iter().any(|other| looks(other) == looks(name)) => {
+            Some(format!("the name `{name}` looks like one before it: one has a mark that can't be seen"))
         }
         _ => None,
     }

@@ -335,6 +335,10 @@ fn names_of_two_words() {
         names("Zo\u{eb} Zoe\u{308}"),
         "2: the name `Zo\u{eb}` stands twice, here with letter and accent as two characters"
     );
+    assert_eq!(
+        names("xy x\u{200c}y"),
+        "2: the name `x\u{200c}y` looks like one before it: one has a mark that can't be seen"
+    );
     assert!(make("windows a\nduties Zo\u{eb} x\nmay a Zoe\u{308}\n").is_ok());
     assert!(make("windows a\nduties \"Jo “J” Smith\" x\n").is_ok());
     let long = "a".repeat(65_536);
