@@ -5,6 +5,7 @@
 //! no list is longer than the plans asked for. Halls are left out that cost more by what windows cost which never have
 //! the same duty, or that have no plan.
 
+use crate::advice::advice_of;
 use crate::answers;
 use crate::classes::Classes;
 use crate::command::{out, refuse, Arguments, Choice, Command, Out, Outcome, Source, Status, Stop};
@@ -76,8 +77,9 @@ fn run(arguments: &Arguments) -> Result<Outcome, Stop> {
     let watch = Watch::of(arguments)?;
     let best = input.accepted(best(&input, &score, count, limits.trials, &watch))?;
     let stop = watch.stopped();
+    let hint = hint(&input, &best, limits, stop);
     drop(watch);
-    let shown = Shown { input: &input, score: &score, best: &best, limits, stop };
+    let shown = Shown { input: &input, score: &score, best: &best, limits, stop, hint };
     let mut out = out();
     match forms {
         [true, _, _] => {
@@ -321,6 +323,14 @@ fn inverse(images: &[usize]) -> Vec<usize> {
     from
 }
 
+/// What helps where the trials are used up.
+fn hint(input: &Input, best: &Best, limits: Limits, stop: Option<Cause>) -> String {
+    match (best.ending, stop) {
+        (Read::Spent, None) => format!(" (--trials N allows more){}", advice_of(&input.made, limits)),
+        _ => String::new(),
+    }
+}
+
 /// The best plans as they are shown.
 struct Shown<'a> {
     input: &'a Input,
@@ -329,6 +339,7 @@ struct Shown<'a> {
     limits: Limits,
     /// Why the runs stopped before their limits, if they did.
     stop: Option<Cause>,
+    hint: String,
 }
 
 impl Shown<'_> {
@@ -434,19 +445,8 @@ impl Shown<'_> {
         let count = self.best.plans.len();
         let plans = if count == 0 { "no plan".to_string() } else { counted(count as u64, "plan") };
         let trials = counted(self.best.trials, "trial");
-        let (spent, hint) = match self.stop {
-            Some(cause) => (format!("{} and {trials}", cause.words()), ""),
-            None => {
-                let allowance = counted(self.limits.trials, "trial");
-                (format!("stopped at the allowance of {allowance}"), " (--trials N allows more)")
-            }
-        };
         let words = match self.best.ending {
-            Read::Spent => format!(
-                "{spent}, {plans} so far: {}plans that cost {} or more may be missing{hint}",
-                if self.are_cheapest() { "none costs less, but " } else { "" },
-                self.best.cost
-            ),
+            Read::Spent => self.spent(&plans, &trials),
             Read::Done if self.best.all && count > 0 => {
                 format!("finished: {plans} in all, best first, {trials}")
             }
@@ -458,12 +458,23 @@ impl Shown<'_> {
             true => format!("; {}", self.input.shown(self.plans().len())),
             false => String::new(),
         };
-        words + &shown
+        words + &shown + &self.hint
     }
 
-    /// Is no plan missing that costs less than one of these?
+    /// How it stopped short, with so many plans and trials.
+    fn spent(&self, plans: &str, trials: &str) -> String {
+        let at = match self.stop {
+            Some(cause) => format!("{} and {trials}", cause.words()),
+            None => format!("stopped at the allowance of {}", counted(self.limits.trials, "trial")),
+        };
+        let cheapest = if self.are_cheapest() { "none costs less, but " } else { "" };
+        format!("{at}, {plans} so far: {cheapest}plans that cost {} or more may be missing", self.best.cost)
+    }
+
+    /// Are there plans, and is none missing that costs less than one of these?
     fn are_cheapest(&self) -> bool {
-        self.best.plans.iter().all(|plan| self.score.of_plan(plan) <= self.best.cost)
+        let dearest = self.best.plans.last().map(|plan| self.score.of_plan(plan));
+        dearest.is_some_and(|cost| cost <= self.best.cost)
     }
 
     /// What is to be said of exchanges.

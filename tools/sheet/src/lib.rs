@@ -29,7 +29,8 @@
 //! ```
 
 // `fixed` keeps the exchanges that a text's fixed duties bear; `compose`, `amount` and `pack` make what its sheet states;
-// `runner` runs the planner. Each command is a module with a `COMMAND` in the list of `command`.
+// `runner` runs the planner; what costs too much `best` reckons by itself. Each command is a module with a `COMMAND` in the
+// list of `command`.
 
 mod advice;
 mod alike;

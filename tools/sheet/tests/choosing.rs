@@ -233,6 +233,12 @@ fn what_helps() {
         assert_eq!(status, 2);
         assert!(out.contains(help), "{out}");
     }
+    let same =
+        "windows a b c d e f g h i j k\nduties t u v w x y z\nmay i x y\nmay j x y\nmay k x y\nprefer a z\n\
+                rule i j\nrows x x, y y\nrule j k\nrows x x, y y\ndifferent i k\n";
+    let (status, out, _) = answer(&["best", "-"], same);
+    assert_eq!(status, 2);
+    assert!(out.contains(" of the trials went to ") && out.contains("`before i h`"), "{out}");
     let before: String = "abcdefgh".chars().map(|window| format!("before j {window}\n")).collect();
     let text = std::fs::read_to_string(root().join(hard)).unwrap();
     let helped = answer(&["plans", "-"], &(text + &before));

@@ -137,7 +137,7 @@ fn seconds() {
     for (words, start) in [
         (&["enough", "7"][..], "not known: stopped after 0 seconds and 0 trials, no plan so far\n"),
         (&["why"], none),
-        (&["best"], "stopped after 0 seconds and 0 trials, no plan so far: none costs less, but plans that cost 0 or more"),
+        (&["best"], "stopped after 0 seconds and 0 trials, no plan so far: plans that cost 0 or more may be missing\n"),
         (&["page"], "<!DOCTYPE html>"),
     ] {
         let stopped = output(&[words, &["--seconds", "0", hall.file()]].concat());
