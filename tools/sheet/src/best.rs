@@ -140,19 +140,21 @@ pub fn best(input: &Input, score: &Score, count: usize, trials: u32, watch: &Wat
         trials: 0,
         exchanges: same.exchanges,
     };
+    let classes = Classes::new(&made.problem, score);
+    let (mut next, mut more) = (Some(0), 0);
     if has_none(input, &mut parts, watch)? {
-        best.all = true;
-    } else {
-        let classes = Classes::new(&made.problem, score);
-        let (mut next, mut more) = (Some(0), 0);
-        while let Some(extra) = next.filter(|_| best.plans.len() < count && best.ending == Read::Done) {
-            best.cost = classes.least + extra;
-            let wanted = count - best.plans.len();
-            next = cheapest(&mut best, &mut parts, &classes, &same, wanted, extra..=extra + more)?;
-            more = 2 * more + u64::from(!best.plans.is_empty());
-        }
-        best.all = next.is_none() && best.ending == Read::Done && best.plans.len() < count;
+        next = None;
+    } else if classes.least_of(&classes.sets()).is_none() {
+        best.ending = parts.each(classes.sets(), |_| true)?; // that there is no plan the planner has to say
+        next = None;
     }
+    while let Some(extra) = next.filter(|_| best.plans.len() < count && best.ending == Read::Done) {
+        best.cost = classes.least + extra;
+        let wanted = count - best.plans.len();
+        next = cheapest(&mut best, &mut parts, &classes, &same, wanted, extra..=extra + more)?;
+        more = 2 * more + u64::from(!best.plans.is_empty());
+    }
+    best.all = next.is_none() && best.ending == Read::Done && best.plans.len() < count;
     best.trials = trials - parts.trials;
     Ok(best)
 }

@@ -228,7 +228,7 @@ fn what_helps() {
     let hard = "tools/sheet/tests/golden/hard.txt";
     let help = "the run ends after 9 trials with `before j a`, `before j b`, `before j c`, `before j d`, `before j e`, \
                 `before j f`, `before j g` and `before j h`)\n";
-    for words in [vec!["plans", hard], vec!["why", hard], vec!["enough", "1", hard]] {
+    for words in [vec!["plans", hard], vec!["why", hard], vec!["enough", "1", hard], vec!["best", hard]] {
         let (status, out, _) = answer(&words, "");
         assert_eq!(status, 2);
         assert!(out.contains(help), "{out}");
