@@ -1,9 +1,9 @@
 //! `sheet best`: the plans that cost least by the text's preferences, of all solutions.
 //!
-//! The sets of the windows are parted by what their duties cost beyond the cheapest. Halls of one duty class for each
-//! window are run in the order of their total, first those of the least, then those of ever more totals at once, so that
-//! no list is longer than the plans asked for. Halls are left out that cost more by what windows cost which never have
-//! the same duty, or that have no plan.
+//! Where a part of the trials is enough to read all solutions, these are the best of them. Else the sets of the windows are
+//! parted by what their duties cost beyond the cheapest. Halls of one duty class for each window are run in the order of
+//! their total, first those of the least, then those of ever more totals at once, so that no list is longer than the plans
+//! asked for. Halls are left out that cost more by what windows cost which never have the same duty, or that have no plan.
 
 use crate::advice::advice_of;
 use crate::answers;
@@ -59,7 +59,10 @@ const FIXED: &str = "--fixed";
 const MOST: usize = 100_000;
 
 /// The room of one run's list.
-const ROOM: usize = 4_096;
+const ROOM: u32 = 4_096;
+
+/// The most trials to read all solutions, and at most a quarter of those that are left.
+const READING: u32 = 250_000;
 
 fn run(arguments: &Arguments) -> Result<Outcome, Stop> {
     let (count, source) = match &arguments.sources[..] {
@@ -75,7 +78,7 @@ fn run(arguments: &Arguments) -> Result<Outcome, Stop> {
     let files: Vec<Source> = arguments.all("--near").cloned().map(Source).collect();
     let score = Score::new(&input.text, source, &files)?;
     let watch = Watch::of(arguments)?;
-    let best = input.accepted(best(&input, &score, count, limits.trials, &watch))?;
+    let best = input.accepted(best(&input, &score, count, limits.trials, true, &watch))?;
     let stop = watch.stopped();
     let hint = hint(&input, &best, limits, stop);
     drop(watch);
@@ -126,12 +129,19 @@ impl Best {
     }
 }
 
-/// The best plans of a hall, but those that exchanges which keep every preference make of earlier ones.
-pub fn best(input: &Input, score: &Score, count: usize, trials: u32, watch: &Watch) -> Result<Best, Refusal> {
+/// The best plans of a hall, but those that exchanges which keep every preference make of earlier ones. If it `reads`, it
+/// looks first whether all solutions can be read.
+pub fn best(
+    input: &Input,
+    score: &Score,
+    count: usize,
+    trials: u32,
+    reads: bool,
+    watch: &Watch,
+) -> Result<Best, Refusal> {
     let made = &input.made;
     let same = Same::new(input, score);
-    let room = if same.is_empty() { count.min(ROOM) } else { ROOM };
-    let mut parts = Parts::new(&made.problem, &made.pairs, trials, room, watch);
+    let mut parts = Parts::new(&made.problem, &made.pairs, trials, watch);
     let mut best = Best {
         plans: Vec::new(),
         ending: Read::Done,
@@ -140,23 +150,39 @@ pub fn best(input: &Input, score: &Score, count: usize, trials: u32, watch: &Wat
         trials: 0,
         exchanges: same.exchanges,
     };
-    let classes = Classes::new(&made.problem, score);
+    let none = has_none(input, &mut parts, watch)?;
+    let read = if reads && !none { of_all(input, score, &same, count, &mut parts)? } else { None };
+    match read {
+        _ if none => best.all = true,
+        Some(plans) => (best.all, best.plans) = (plans.len() < count, plans),
+        None => by_totals(&mut best, &mut parts, &Classes::new(&made.problem, score), &same, count)?,
+    }
+    best.trials = trials - parts.trials;
+    Ok(best)
+}
+
+/// Adds plans from the least total on.
+fn by_totals(
+    best: &mut Best,
+    parts: &mut Parts,
+    classes: &Classes,
+    same: &Same,
+    count: usize,
+) -> Result<(), Refusal> {
     let (mut next, mut more) = (Some(0), 0);
-    if has_none(input, &mut parts, watch)? {
-        next = None;
-    } else if classes.least_of(&classes.sets()).is_none() {
-        best.ending = parts.each(classes.sets(), |_| true)?; // that there is no plan the planner has to say
+    if classes.least_of(&classes.sets()).is_none() {
+        // that there is no plan the planner has to say
+        best.ending = parts.each(classes.sets(), [parts.trials, ROOM], |_| true)?;
         next = None;
     }
     while let Some(extra) = next.filter(|_| best.plans.len() < count && best.ending == Read::Done) {
         best.cost = classes.least + extra;
         let wanted = count - best.plans.len();
-        next = cheapest(&mut best, &mut parts, &classes, &same, wanted, extra..=extra + more)?;
-        more = 2 * more + u64::from(!best.plans.is_empty());
+        next = cheapest(best, parts, classes, same, wanted, extra..=extra + more)?;
+        more = 2 * more + 1;
     }
     best.all = next.is_none() && best.ending == Read::Done && best.plans.len() < count;
-    best.trials = trials - parts.trials;
-    Ok(best)
+    Ok(())
 }
 
 /// Has the hall no plan, as the planner finds under all its exchanges with a part of the trials?
@@ -164,6 +190,37 @@ fn has_none(input: &Input, parts: &mut Parts, watch: &Watch) -> Result<bool, Ref
     let sum = count(&input.made, 1, (parts.trials / 4).into(), watch)?;
     parts.trials -= sum.trials as u32;
     Ok(sum.ending == Some(Ending::Finished) && sum.plans == 0)
+}
+
+/// The best of all solutions, where a part of the trials is enough to read them all.
+fn of_all(
+    input: &Input,
+    score: &Score,
+    same: &Same,
+    count: usize,
+    parts: &mut Parts,
+) -> Result<Option<Vec<Vec<u8>>>, Refusal> {
+    let trials = READING.min(parts.trials / 4);
+    let order = parts.order.clone();
+    let mut found = Vec::new();
+    let read = parts.each(input.made.problem.initial.clone(), [trials, ROOM], |plan| {
+        if same.is_first(plan, &order) {
+            found.push((score.of_plan(plan), plan.to_vec()));
+        }
+        if found.len() >= 2 * count + ROOM as usize {
+            keep_best(&mut found, count, &order);
+        }
+        true
+    })?;
+    keep_best(&mut found, count, &order);
+    Ok((read == Read::Done).then(|| found.into_iter().map(|(_, plan)| plan).collect()))
+}
+
+/// Keeps so many plans, the cheapest first, then as read.
+fn keep_best(found: &mut Vec<(u64, Vec<u8>)>, count: usize, order: &[usize]) {
+    let reading = |plan: &[u8]| order.iter().map(|&window| plan[window]).collect::<Vec<u8>>();
+    found.sort_by_cached_key(|(cost, plan)| (*cost, reading(plan)));
+    found.truncate(count);
 }
 
 /// Adds the plans of some totals, as many as are wanted still; the answer is the next total.
@@ -244,16 +301,15 @@ impl Search<'_, '_> {
     fn read(&mut self, cost: u64, sets: &[u16]) -> Result<Read, Refusal> {
         let order = self.parts.order.clone();
         let mut new = Vec::new();
-        let read = self.parts.each(sets.to_vec(), |plan| {
+        let room = if self.same.is_empty() { ROOM.min(self.wanted as u32) } else { ROOM };
+        let read = self.parts.each(sets.to_vec(), [self.parts.trials, room], |plan| {
             if self.same.is_first(plan, &order) {
                 new.push((cost, plan.to_vec()));
             }
             new.len() < self.wanted
         })?;
         self.found.append(&mut new);
-        let reading = |plan: &[u8]| order.iter().map(|&window| plan[window]).collect::<Vec<u8>>();
-        self.found.sort_by_key(|(cost, plan)| (*cost, reading(plan)));
-        self.found.truncate(self.wanted);
+        keep_best(&mut self.found, self.wanted, &order);
         Ok(read)
     }
 }

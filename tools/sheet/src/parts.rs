@@ -16,7 +16,6 @@ pub struct Parts<'a> {
     pub order: Vec<usize>,
     allowance: u32,
     pub trials: u32,
-    room: usize,
     watch: &'a Watch,
 }
 
@@ -30,25 +29,32 @@ pub enum Read {
 }
 
 impl<'a> Parts<'a> {
-    /// Each call's list has room for so many plans.
-    pub fn new(problem: &Problem, pairs: &[u8], trials: u32, room: usize, watch: &'a Watch) -> Parts<'a> {
+    pub fn new(problem: &Problem, pairs: &[u8], trials: u32, watch: &'a Watch) -> Parts<'a> {
         let problem = Problem { symmetries: Vec::new(), ..problem.clone() };
         let order = order(problem.variables.len(), pairs);
-        Parts { problem, pairs: pairs.to_vec(), order, allowance: trials, trials, room: room.max(1), watch }
+        Parts { problem, pairs: pairs.to_vec(), order, allowance: trials, trials, watch }
     }
 
-    /// Shows every solution from some sets in reading order, as long as `take` goes on.
-    pub fn each(&mut self, sets: Vec<u16>, mut take: impl FnMut(&[u8]) -> bool) -> Result<Read, Refusal> {
+    /// Shows every solution from some sets in reading order, as long as `take` goes on, with at most so many trials and room
+    /// for so many plans in each call's list.
+    pub fn each(
+        &mut self,
+        sets: Vec<u16>,
+        [trials, room]: [u32; 2],
+        mut take: impl FnMut(&[u8]) -> bool,
+    ) -> Result<Read, Refusal> {
+        let kept = self.trials.saturating_sub(trials);
         let (windows, pairs) = (self.order.len(), self.pairs.clone());
         let sheet = Problem { initial: sets, ..self.problem.clone() }.encode();
         let tree = Tree { sheet: &sheet, pairs: &pairs, block: &[], windows };
         let mut walker = Walker::new(tree, START, END);
         while self.watch.stops().is_none() {
-            let step = walker.step(self.trials.into(), self.room as u64)?;
+            let most = self.trials - kept;
+            let step = walker.step(most.into(), room.into())?;
             let answer = step.head.answer();
             let plans = step.rows.chunks(windows);
             let last = plans.clone().last().map(<[u8]>::to_vec);
-            self.took(answer.nodes);
+            self.took(answer.nodes, most);
             if !plans.into_iter().all(&mut take) {
                 return Ok(Read::Done);
             }
@@ -57,7 +63,7 @@ impl<'a> Parts<'a> {
                 (Ending::Full, Some(plan)) => {
                     walker.at = self.order.iter().map(|&window| plan[window]).collect()
                 }
-                _ if self.trials == 0 => return Ok(Read::Spent),
+                _ if self.trials == kept => return Ok(Read::Spent),
                 _ => {}
             }
         }
@@ -70,15 +76,16 @@ impl<'a> Parts<'a> {
             return Ok(true);
         }
         let sheet = Problem { initial: sets.to_vec(), ..self.problem.clone() }.encode();
-        let answer = at_least(&sheet, &self.pairs, &[], 1, self.trials.min(SHORT))?;
+        let most = self.trials.min(SHORT);
+        let answer = at_least(&sheet, &self.pairs, &[], 1, most)?;
         let (Enough::Yes { nodes, .. } | Enough::No { nodes, .. } | Enough::Spent { nodes, .. }) = answer;
-        self.took(nodes);
+        self.took(nodes, most);
         Ok(!matches!(answer, Enough::No { .. }))
     }
 
-    /// So many trials were made, and one for a call that makes none.
-    fn took(&mut self, trials: u32) {
-        self.trials = self.trials.saturating_sub(trials.max(1));
+    /// Takes off the trials of a call, and one for a call that makes none, if it might have made one.
+    fn took(&mut self, trials: u32, most: u32) {
+        self.trials -= trials.max(1).min(most);
         let made = u64::from(self.allowance - self.trials);
         self.watch.hear(Progress { trials: made, plans: None, allowance: Some(self.allowance.into()) });
     }

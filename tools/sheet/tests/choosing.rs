@@ -97,7 +97,7 @@ fn preferred() {
     let best = answer(&["best", "-"], &format!("{hall}prefer a y\n")).1;
     assert_eq!(
         best,
-        "cost  a  b  free\n0     y  x\n\nplan 1 costs nothing\nfinished: the best plan of all, 5 trials\n\
+        "cost  a  b  free\n0     y  x\n\nplan 1 costs nothing\nfinished: the best plan of all, 7 trials\n\
          (1 exchange not used: a preference tells apart what they make of one another)\n"
     );
     let both = answer(&["best", "3", "-"], &format!("{hall}prefer a y\nprefer b y\n")).1;

@@ -176,7 +176,7 @@ fn best_plans() {
         let (input, source) = input("best", &(hall(&mut rng) + &wishes(&mut rng) + before(&mut rng)));
         let score = Score::new(&input.text, &source, &[]).unwrap();
         let count = 1 + rng.below(12);
-        let found = best(&input, &score, count, 1_000_000, &Watch::nobody()).unwrap();
+        let found = best(&input, &score, count, 1_000_000, rng.chance(30), &Watch::nobody()).unwrap();
         let expected: Vec<Plan> = by_hand(&input, &score).into_iter().take(count).collect();
         let plans: Vec<Plan> =
             found.plans.iter().map(|plan| plan.iter().map(|&duty| duty.into()).collect()).collect();
@@ -196,7 +196,8 @@ fn stopped_short() {
     for _ in 0..200 {
         let (input, source) = input("short", &(hall(&mut rng) + &wishes(&mut rng)));
         let score = Score::new(&input.text, &source, &[]).unwrap();
-        let found = best(&input, &score, 1_000, 1 + rng.below(60) as u32, &Watch::nobody()).unwrap();
+        let found =
+            best(&input, &score, 1_000, 1 + rng.below(60) as u32, rng.chance(30), &Watch::nobody()).unwrap();
         if found.ending == Read::Spent {
             short += 1;
             let cost = |plan: &[u8]| score.of_plan(plan);
@@ -220,9 +221,9 @@ fn parts() {
         let bare = statements.iter().filter(|stated| !stated.statement.exchanges()).cloned().collect();
         let made = make_all(&Text { statements: bare, ..text.clone() }).unwrap();
         let watch = Watch::nobody();
-        let mut parts = Parts::new(&made.problem, &made.pairs, u32::MAX, 1 + round % 4, &watch);
+        let mut parts = Parts::new(&made.problem, &made.pairs, u32::MAX, &watch);
         let mut shown = Vec::new();
-        let read = parts.each(made.problem.initial.clone(), |plan| {
+        let read = parts.each(made.problem.initial.clone(), [u32::MAX, 1 + round % 4], |plan| {
             shown.push(plan.iter().map(|&duty| duty.into()).collect::<Plan>());
             true
         });
