@@ -12,7 +12,9 @@ use Rattle.model.specs.Verdict.{Verdict, refused, ask}
 use Rattle.model.specs.Sheet.{headerOf, headerVerdict, Header as Numbers}
 use Rattle.reader.specs.Read.{stated}
 use Rattle.reader.specs.declared.Header.{Header}
+use Rattle.sheet.specs.Meaning.{Answers}
 use Rattle.sheet.specs.Parts.{headerAsked}
+use Rattle.sheet.specs.declared.Answer.{Answer}
 
 -- a question passed, and one that is not
 pub pass : (c : Bool) (n i : ℕ) (v w : Verdict) → c ≡ true → v ≡ w → ask c n i v ≡ w
@@ -25,5 +27,5 @@ pub in-range : (n : ℕ) → both (leb 1 n) (leb n 12) ≡ true → n ≤ 12
 in-range n e = leb-true n 12 (of-T (leb n 12) (both-r (leb 1 n) (leb n 12) (T-of (both (leb 1 n) (leb n 12)) e)))
 
 -- what was asked of the header as read was asked of the sheet's
-pub heading : (h : Header) (b : List ℕ) (later v : Verdict) → stated h ≡ headerOf b → headerVerdict (stated h) (length b) later ≡ v → headerAsked b later ≡ v
-heading h b later v e p = subst (λ (k : Numbers). headerVerdict k (length b) later ≡ v) e p
+pub heading : (h : Header) (b : List ℕ) (r : Answer) → stated h ≡ headerOf b → Answers (headerVerdict (stated h) (length b)) r → Answers (headerAsked b) r
+heading h b r e a = subst (λ (k : Numbers). Answers (headerVerdict k (length b)) r) e a

@@ -2,22 +2,25 @@
 use mathlib.Core.Path.{_≡_, refl, sym, ap, ap₂, _∙_, subst}
 use mathlib.Core.Bool.{Bool, true, false}
 use mathlib.Core.List.{List}
-use Prim.Native.Nat.{ℕ, _*_, _≤_}
+use Prim.Native.Nat.{ℕ, _*_, _≤_, _<_}
 use native.Mathlib.Omega.{arith}
 use native.Mathlib.Nat.{mul-le-mul}
 use lib.ListN.{length}
+use borrow.Author.Tests.{lt-leb}
 use Rattle.model.specs.Verdict.{Verdict, accepted, ask}
-use Rattle.model.specs.Sheet.{Header as Numbers′, headerOf, problemOf, tablesFit, formVerdict}
+use Rattle.model.specs.Sheet.{Header as Numbers′, headerOf, problemOf, headerVerdict, tablesFit, formVerdict}
 use Rattle.layout.specs.Layout.{Numbers, Supports}
 use Rattle.layout.specs.Places.{SUPPORTS, NUMBERS}
 use Rattle.sheet.specs.Meaning.{means, andThen, Answers}
 use Rattle.sheet.specs.Parts.{headerAsked, setsAsked, Fit, AllSets, SetsAsked}
 use Rattle.sheet.specs.Steps.{constraintsAsked, ConstraintsAsked, numbersTo}
-use Rattle.sheet.specs.Form.{Zeros, counted, FormAsked}
+use Rattle.sheet.specs.Form.{Zeros, counted, FormAsked, FormRead}
 use Rattle.reader.specs.Read.{stated}
 use Rattle.reader.specs.declared.Header.{Header}
 use Rattle.sheet.specs.declared.Answer.{Answer}
 use Rattle.sheet.specs.declared.Answer.the-variants.{Accepted, Refused}
+use Rattle.sheet.specs.declared.form.Form.the-variants.{Passed, Refused as NotPassed}
+use Rattle.sheet.proofs.Asking.{stop}
 use Rattle.sheet.proofs.Passed.{fit, good, is-accepted}
 use Rattle.sheet.proofs.Numbered.{numbered, numbered-length, supports-length, supports-hold}
 
@@ -106,3 +109,21 @@ module _ (b : List ℕ) where
             whole =
                 ap (λ (x : Numbers′). counted (x .variables) (x .values) (x .constraints) (x .symmetries) numbers) eh
                 ∙ ap (counted (headerOf b .variables) (headerOf b .values) (headerOf b .constraints) (headerOf b .symmetries)) (a₃ .scoped e₃)
+
+-- ---- with question 1 and the header as read
+pub read-no : (b numbers supports : List ℕ) (r : Answer) (n i : ℕ) → r ≡ Refused n i → FormAsked b numbers supports r → FormRead b numbers supports (NotPassed n i)
+read-no b numbers supports r n i e a = record { asked = subst (FormAsked b numbers supports) e a; headed = λ h q. absurd (never h q) }
+  where
+    never : (h : Header) → NotPassed n i ≡ Passed h → ⊥
+    never h q = let z : _≡_ {A = ℕ} 0 1 = cc in omega arith
+
+pub read-yes : (b numbers supports : List ℕ) (h : Header) (r : Answer) → stated h ≡ headerOf b → r ≡ Accepted → FormAsked b numbers supports r → FormRead b numbers supports (Passed h)
+read-yes b numbers supports h r eh e a = record { asked = subst (FormAsked b numbers supports) e a; headed = λ k q. subst (λ (x : Header). stated x ≡ headerOf b) (same k q) eh }
+  where
+    same : (k : Header) → Passed h ≡ Passed k → h ≡ k
+    same k q = cc
+
+pub read-short : (b numbers supports : List ℕ) → length b < 16 → FormRead b numbers supports (NotPassed 1 0)
+unfolding headerVerdict
+read-short b numbers supports l =
+    read-no b numbers supports (Refused 1 0) 1 0 refl (form-heading b numbers supports (Refused 1 0) 1 0 refl (λ later. stop _ _ _ _ (lt-leb _ _ l)))

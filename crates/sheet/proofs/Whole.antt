@@ -2,21 +2,23 @@
 use mathlib.Core.Bool.{Bool, true, false, false≢true}
 use mathlib.Core.Path.{_≡_, refl, sym, ap, _∙_}
 use mathlib.Core.List.{List}
-use Prim.Native.Nat.{ℕ, _≤_}
+use Prim.Native.Nat.{ℕ}
 use native.Mathlib.Omega.{arith}
-use lib.ListN.{length, replicate, length-replicate}
-use Rattle.model.specs.Verdict.{accepted, ask, isAccepted}
+use lib.ListN.{replicate, length-replicate}
+use Rattle.model.specs.Verdict.{Verdict, accepted, ask, isAccepted}
 use Rattle.model.specs.Sheet.{problemOf, permutesPairs, formVerdict, symmetriesVerdict, verdictOf}
 use Rattle.model.proofs.Lists.{at-replicate, all-i, of-T}
 use Rattle.model.proofs.Accepted.{symmetries-e}
 use Rattle.layout.specs.Layout.{Compiled}
+use Rattle.reader.specs.declared.Header.{Header}
 use Rattle.sheet.specs.Meaning.{means, andThen}
 use Rattle.sheet.specs.Decoding.{permuting, Tabled, TablesDecoded}
-use Rattle.sheet.specs.Form.{Zeros, Formed, FormAsked, Sized, Compilation, compilable, Recompilation}
+use Rattle.sheet.specs.Form.{Zeros, Formed, answer, FormRead, Sized, Compilation, compilable, Recompilation}
 use Rattle.sheet.specs.declared.Answer.{Answer}
 use Rattle.sheet.specs.declared.Answer.the-variants.{Accepted, Refused}
+use Rattle.sheet.specs.declared.form.Form.{Form}
+use Rattle.sheet.specs.declared.form.Form.the-variants.{Passed, Refused as NotPassed}
 use Rattle.sheet.proofs.Passed.{is-accepted}
-use Rattle.sheet.proofs.Stating.{form-passed}
 use Rattle.sheet.proofs.Compilable.{asked-last}
 
 pub zeros : (n : ℕ) → Zeros n (replicate n 0)
@@ -27,16 +29,18 @@ parts : (b : List ℕ) → verdictOf b ≡ formVerdict b (symmetriesVerdict (pro
 unfolding verdictOf
 parts b = refl
 
-pub whole-no : (b numbers supports : List ℕ) (r : Answer) (n i : ℕ) → r ≡ Refused n i → FormAsked b numbers supports r → means r ≡ verdictOf b
-whole-no b numbers supports r n i e a =
-    sym (parts b ∙ a .answers _ ∙ ap (λ (x : Answer). andThen (means x) (symmetriesVerdict (problemOf b) 0 (problemOf b .symmetries))) e ∙ sym (ap means e))
+module _ (b numbers supports : List ℕ) (r : Form) (o : FormRead b numbers supports r) where
+  form-verdict : (s : Form) (later : Verdict) → r ≡ s → formVerdict b later ≡ andThen (means (answer s)) later
+  form-verdict s later e = o .asked .answers later ∙ ap (λ (x : Form). andThen (means (answer x)) later) e
 
-pub whole-yes : (b numbers supports : List ℕ) (r t : Answer) → r ≡ Accepted → FormAsked b numbers supports r → means t ≡ symmetriesVerdict (problemOf b) 0 (problemOf b .symmetries) → means t ≡ verdictOf b
-whole-yes b numbers supports r t e a q =
-    q ∙ sym (parts b ∙ a .answers _ ∙ ap (λ (x : Answer). andThen (means x) (symmetriesVerdict (problemOf b) 0 (problemOf b .symmetries))) e)
+  pub whole-no : (n i : ℕ) → r ≡ NotPassed n i → means (Refused n i) ≡ verdictOf b
+  whole-no n i e = sym (parts b ∙ form-verdict (NotPassed n i) _ e)
 
-pub long : (b numbers supports : List ℕ) (r : Answer) → r ≡ Accepted → FormAsked b numbers supports r → 16 ≤ length b
-long b numbers supports r e a = form-passed b (a .formed e .passed) .fits .long
+  pub whole-yes : (h : Header) (t : Answer) → r ≡ Passed h → means t ≡ symmetriesVerdict (problemOf b) 0 (problemOf b .symmetries) → means t ≡ verdictOf b
+  whole-yes h t e q = q ∙ sym (parts b ∙ form-verdict (Passed h) _ e)
+
+  pub formed : (h : Header) → r ≡ Passed h → Formed b numbers supports
+  formed h e = o .asked .formed (ap answer e)
 
 -- a refusal leaves the arrays free
 pub compile-no : (b numbers supports images : List ℕ) (r : Answer) (n i : ℕ) → r ≡ Refused n i → means r ≡ verdictOf b → Compilation b numbers supports images r
@@ -70,20 +74,22 @@ compile-yes b numbers supports images t f v k d =
     record { answers = sym v; compiled = λ _. compiled b numbers supports images t f d (d .answers ∙ k .known refl); sizes = λ _. sizes b numbers supports images t f d }
 
 -- ---- without question 16
-pub recompile-no : (b numbers supports images : List ℕ) (r : Answer) (n i : ℕ) → r ≡ Refused n i → FormAsked b numbers supports r → Recompilation b numbers supports images false
-unfolding compilable
-recompile-no b numbers supports images r n i e a =
-    record {
-      answers = sym (ap isAccepted (a .answers _ ∙ ap (λ (x : Answer). andThen (means x) (ask (permuting b) 15 0 accepted)) e));
-      compiled = λ q. absurd (false≢true q);
-      sizes = λ q. absurd (false≢true q);
-    }
+module _ (b numbers supports images : List ℕ) (r : Form) (o : FormRead b numbers supports r) where
+  pub recompile-no : (n i : ℕ) → r ≡ NotPassed n i → Recompilation b numbers supports images false
+  unfolding compilable
+  recompile-no n i e =
+      record {
+        answers = sym (ap isAccepted (form-verdict b numbers supports r o (NotPassed n i) (ask (permuting b) 15 0 accepted) e));
+        compiled = λ q. absurd (false≢true q);
+        sizes = λ q. absurd (false≢true q);
+      }
 
-pub recompile-yes : (b numbers supports images : List ℕ) (r : Answer) (t : Bool) → r ≡ Accepted → FormAsked b numbers supports r → TablesDecoded b images t → Recompilation b numbers supports images t
-unfolding compilable
-recompile-yes b numbers supports images r t e a d =
-    record {
-      answers = d .answers ∙ sym (ap isAccepted (a .answers _ ∙ ap (λ (x : Answer). andThen (means x) (ask (permuting b) 15 0 accepted)) e) ∙ asked-last (permuting b));
-      compiled = compiled b numbers supports images t (a .formed e) d;
-      sizes = λ _. sizes b numbers supports images t (a .formed e) d;
-    }
+  pub recompile-yes : (h : Header) (t : Bool) → r ≡ Passed h → TablesDecoded b images t → Recompilation b numbers supports images t
+  unfolding compilable
+  recompile-yes h t e d =
+      let f = formed b numbers supports r o h e in
+      record {
+        answers = d .answers ∙ sym (ap isAccepted (form-verdict b numbers supports r o (Passed h) (ask (permuting b) 15 0 accepted) e) ∙ asked-last (permuting b));
+        compiled = compiled b numbers supports images t f d;
+        sizes = λ _. sizes b numbers supports images t f d;
+      }

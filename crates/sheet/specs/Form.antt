@@ -6,12 +6,16 @@ use Prim.Native.Nat.{ℕ}
 use lib.ListN.{length, set}
 use Rattle.model.specs.Lists.{at, all}
 use Rattle.model.specs.Verdict.{accepted, ask, isAccepted}
-use Rattle.model.specs.Sheet.{problemOf, formVerdict, permutesPairs, verdictOf}
+use Rattle.model.specs.Sheet.{headerOf, problemOf, formVerdict, permutesPairs, verdictOf}
 use Rattle.layout.specs.Places.{VARIABLES, VALUES, CONSTRAINTS, SYMMETRIES, IMAGES, NUMBERS, SUPPORTS}
 use Rattle.layout.specs.Layout.{Numbers, Supports, Compiled}
+use Rattle.reader.specs.Read.{stated}
+use Rattle.reader.specs.declared.Header.{Header}
 use Rattle.sheet.specs.Meaning.{means, Answers}
 use Rattle.sheet.specs.declared.Answer.{Answer}
-use Rattle.sheet.specs.declared.Answer.the-variants.{Accepted}
+use Rattle.sheet.specs.declared.Answer.the-variants.{Accepted, Refused}
+use Rattle.sheet.specs.declared.form.Form.{Form}
+use Rattle.sheet.specs.declared.form.Form.the-variants.{Passed, Refused as NotPassed}
 
 -- an array of n zeros
 pub record Zeros (n : ℕ) (l : List ℕ) : Type 0 where
@@ -33,6 +37,15 @@ pub record Formed (b : List ℕ) (numbers supports : List ℕ) : Type 0 where
 pub record FormAsked (b : List ℕ) (numbers supports : List ℕ) (r : Answer) : Type 0 where
   pub answers : Answers (formVerdict b) r
   pub formed : r ≡ Accepted → Formed b numbers supports
+
+-- the same with the header as read
+abbrev pub answer : Form → Answer
+answer (Passed h) = Accepted
+answer (NotPassed number item) = Refused number item
+
+pub record FormRead (b : List ℕ) (numbers supports : List ℕ) (r : Form) : Type 0 where
+  pub asked : FormAsked b numbers supports (answer r)
+  pub headed : (h : Header) → r ≡ Passed h → stated h ≡ headerOf b
 
 -- the arrays have their lengths
 pub record Sized (numbers supports images : List ℕ) : Type 0 where

@@ -13,10 +13,17 @@ use reader::Header;
 use reader::read_header;
 ghost use Prim.Native.Nat.{_^_, _≤_, _<_};
 ghost use mathlib.Core.Path.{_≡_};
-ghost use Rattle.model.specs.Sheet.{tablesFit};
+ghost use lib.ListN.{length};
+ghost use Rattle.model.specs.Sheet.{headerOf, tablesFit};
 ghost use Rattle.layout.specs.Places.{SUPPORTS, NUMBERS};
 ghost use Rattle.reader.specs.Read.{stated};
-ghost use Rattle.sheet.specs.Form.{Zeros, counted, FormAsked};
+ghost use Rattle.sheet.specs.Form.{Zeros, counted, FormAsked, FormRead};
+
+// The answer to questions 1 to 14: the header as read, or the first "no".
+pub enum Form {
+    Passed(Header),
+    Refused { number: u8, item: usize },
+}
 
 // Question 14: the symmetries' tables fill the rest.
 fn tables_fit(h: Header) -> bool
@@ -35,16 +42,15 @@ fn store_counts(h: Header, numbers: &mut Numbers)
     numbers[SYMMETRIES] = h.symmetries as u64;
 }
 
-// The arrays are lent full of zeros.
-pub fn ask(sheet: &[u8], numbers: &mut Numbers, supports: &mut Supports) -> Answer
-    requires { ⌜ Zeros NUMBERS (now numbers) × Zeros SUPPORTS (now supports) ⌝ }
+// Questions 2 to 14 to a sheet that passed question 1. The arrays are lent full of zeros.
+fn ask(sheet: &[u8], h: Header, numbers: &mut Numbers, supports: &mut Supports) -> Answer
+    requires { ⌜ (16 ≤ length (now sheet)) × (stated h ≡ headerOf (now sheet)) × Zeros NUMBERS (now numbers) × Zeros SUPPORTS (now supports) ⌝ }
     ensures { λ r. ⌜ FormAsked (now (sheet .entry)) (now (numbers .exit)) (now (supports .exit)) r ⌝ }
 {
-    let first = heading::ask(sheet);
+    let first = heading::ask(h, sheet.len());
     let Answer::Accepted = first else {
         return first;
     };
-    let h = read_header(sheet);
     let second = sets::ask(sheet, h.variables, h.values, numbers);
     let Answer::Accepted = second else {
         return second;
@@ -61,4 +67,20 @@ pub fn ask(sheet: &[u8], numbers: &mut Numbers, supports: &mut Supports) -> Answ
     }
     store_counts(h, numbers);
     Answer::Accepted
+}
+
+// Question 1, the one reading of the header, and the other questions with it.
+pub fn read(sheet: &[u8], numbers: &mut Numbers, supports: &mut Supports) -> Form
+    requires { ⌜ Zeros NUMBERS (now numbers) × Zeros SUPPORTS (now supports) ⌝ }
+    ensures { λ r. ⌜ FormRead (now (sheet .entry)) (now (numbers .exit)) (now (supports .exit)) r ⌝ }
+{
+    if sheet.len() < 16 {
+        return Form::Refused { number: 1, item: 0 };
+    }
+    let h = read_header(sheet);
+    let answer = ask(sheet, h, numbers, supports);
+    match answer {
+        Answer::Accepted => Form::Passed(h),
+        Answer::Refused { number, item } => Form::Refused { number, item },
+    }
 }

@@ -1,15 +1,13 @@
-// Questions 1 to 7, on the header.
+// Questions 2 to 7, on the header.
 use crate::Answer;
 use reader::Header;
-use reader::read_header;
 ghost use Prim.Native.Nat.{_≤_};
 ghost use mathlib.Core.Path.{_≡_};
 ghost use lib.Dec.{leb};
 ghost use Rattle.model.specs.Lists.{both};
-ghost use Rattle.model.specs.Sheet.{offsetsFit};
+ghost use Rattle.model.specs.Sheet.{offsetsFit, headerVerdict};
 ghost use Rattle.reader.specs.Read.{stated};
 ghost use Rattle.sheet.specs.Meaning.{Answers};
-ghost use Rattle.sheet.specs.Parts.{headerAsked};
 
 fn within(x: usize, low: usize, high: usize) -> bool
     ensures { λ r. ⌜ r ≡ both (leb low x) (leb x high) ⌝ }
@@ -31,13 +29,11 @@ fn offsets_fit(h: Header) -> bool
     within(h.third, h.second, h.size)
 }
 
-pub fn ask(sheet: &[u8]) -> Answer
-    ensures { λ r. ⌜ Answers (headerAsked (now (sheet .entry))) r ⌝ }
+// The header of a sheet of so many bytes, which passed question 1.
+pub fn ask(h: Header, bytes: usize) -> Answer
+    requires { ⌜ 16 ≤ bytes ⌝ }
+    ensures { λ r. ⌜ Answers (headerVerdict (stated h) bytes) r ⌝ }
 {
-    if sheet.len() < 16 {
-        return Answer::Refused { number: 1, item: 0 };
-    }
-    let h = read_header(sheet);
     if !within(h.variables, 1, 12) {
         return Answer::Refused { number: 2, item: 0 };
     }
@@ -50,7 +46,7 @@ pub fn ask(sheet: &[u8]) -> Answer
     if 16 < h.symmetries {
         return Answer::Refused { number: 5, item: 0 };
     }
-    if h.size != sheet.len() {
+    if h.size != bytes {
         return Answer::Refused { number: 6, item: 0 };
     }
     if !offsets_fit(h) {

@@ -7,17 +7,17 @@ ghost use Rattle.layout.specs.Places.{IMAGES, NUMBERS, SUPPORTS};
 
 mod constraints; // questions 9 to 13
 mod form; // questions 1 to 14
-mod heading; // questions 1 to 7
+mod heading; // questions 2 to 7
 mod rows; // questions 12 and 13 to one constraint
 mod sets; // question 8
 mod tables; // questions 15 and 16, and the images
 
+use form::Form;
 use layout::Images;
 use layout::NUMBERS;
 use layout::Numbers;
 use layout::SUPPORTS;
 use layout::Supports;
-use reader::read_header;
 
 // The first "no", with its number and item, or that there is none.
 pub enum Answer {
@@ -31,12 +31,11 @@ pub fn question(sheet: &[u8]) -> Answer
 {
     let mut numbers = [0u64; NUMBERS];
     let mut supports = [0u16; SUPPORTS];
-    let first = form::ask(sheet, &mut numbers, &mut supports);
-    let Answer::Accepted = first else {
-        return first;
-    };
-    let h = read_header(sheet);
-    tables::ask(sheet, h, &numbers, &supports)
+    let form = form::read(sheet, &mut numbers, &mut supports);
+    match form {
+        Form::Refused { number, item } => Answer::Refused { number, item },
+        Form::Passed(h) => tables::ask(sheet, h, &numbers, &supports),
+    }
 }
 
 // The same, and for an accepted sheet the arrays of the compiled problem (crate layout).
@@ -50,17 +49,18 @@ pub fn compile(
     requires { ⌜ Zeros NUMBERS (now numbers) × Zeros SUPPORTS (now supports) × (length (now images) ≡ IMAGES) ⌝ }
     ensures { λ r. ⌜ Compilation (now (sheet .entry)) (now (numbers .exit)) (now (supports .exit)) (now (images .exit)) r ⌝ }
 {
-    let first = form::ask(sheet, numbers, supports);
-    let Answer::Accepted = first else {
-        return first;
-    };
-    let h = read_header(sheet);
-    let second = tables::ask(sheet, h, numbers, supports);
-    let Answer::Accepted = second else {
-        return second;
-    };
-    tables::decode_all(sheet, h, numbers, true, images);
-    Answer::Accepted
+    let form = form::read(sheet, numbers, supports);
+    match form {
+        Form::Refused { number, item } => Answer::Refused { number, item },
+        Form::Passed(h) => {
+            let answer = tables::ask(sheet, h, numbers, supports);
+            let Answer::Accepted = answer else {
+                return answer;
+            };
+            tables::decode_all(sheet, h, numbers, true, images);
+            Answer::Accepted
+        }
+    }
 }
 
 // The same without question 16: the arrays of the compiled problem of bytes that pass questions 1 to 15, and whether they do.
@@ -73,10 +73,9 @@ pub fn recompile(
     requires { ⌜ Zeros NUMBERS (now numbers) × Zeros SUPPORTS (now supports) × (length (now images) ≡ IMAGES) ⌝ }
     ensures { λ r. ⌜ Recompilation (now (sheet .entry)) (now (numbers .exit)) (now (supports .exit)) (now (images .exit)) r ⌝ }
 {
-    let first = form::ask(sheet, numbers, supports);
-    let Answer::Accepted = first else {
-        return false;
-    };
-    let h = read_header(sheet);
-    tables::decode_all(sheet, h, numbers, false, images)
+    let form = form::read(sheet, numbers, supports);
+    match form {
+        Form::Refused { number: _, item: _ } => false,
+        Form::Passed(h) => tables::decode_all(sheet, h, numbers, false, images),
+    }
 }
