@@ -53,10 +53,14 @@ impl Drop for Hall {
 /// The limits that the whole hall needs.
 const ALL: [&str; 4] = ["--trials", "4294967295", "--plans", "100000"];
 
+/// Begins a run that hears both signals: where the tests run behind `&`, INT is ignored from the start, and the program leaves it so.
+const HEARS: [&str; 2] = ["--default-signal=INT,TERM", env!("CARGO_BIN_EXE_sheet")];
+
 /// Starts a run that says how far it has come, and sends it a signal once it has said so: what it answers, and the lines that it said.
 fn signalled(words: &[&str], signal: &str) -> (Output, Vec<String>) {
-    let mut run =
-        sheet(words).args(["--every", "0"]).stdout(Stdio::piped()).stderr(Stdio::piped()).spawn().unwrap();
+    let mut command = Command::new("env");
+    command.current_dir(ROOT).args(HEARS).args(words).args(["--every", "0"]).stdin(Stdio::null());
+    let mut run = command.stdout(Stdio::piped()).stderr(Stdio::piped()).spawn().unwrap();
     let mut errors = BufReader::new(run.stderr.take().unwrap());
     let mut line = String::new();
     errors.read_line(&mut line).unwrap();
