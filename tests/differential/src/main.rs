@@ -22,6 +22,7 @@ mod run;
 mod small;
 mod store;
 mod tally;
+mod version;
 mod visits;
 
 use sheets::Rng;
@@ -101,6 +102,7 @@ fn main() {
     let (seed, cases) = (environment("SEED", 1), environment("CASES", CASES));
     println!("differential: SEED={seed} CASES={cases}");
     let mut tally = Tally { cases, ..Tally::default() };
+    version::compare(&mut tally);
     for part in &parts {
         (tally.accepted, tally.refused) = (0, BTreeMap::new());
         test(part, seed, cases, &mut tally);
