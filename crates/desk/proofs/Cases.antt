@@ -11,7 +11,7 @@ use Rattle.model.specs.Nogood.{obeysFrom, obeying, used, filtered}
 use Rattle.model.specs.Search.{entriesAt, nogoodsOf, rowWith, supported, pruned, narrowed, rounds, setsAt, isLive, nodesBelow, nodes, isPlan}
 use Rattle.model.specs.Run.{finished, spent, search, resultOf, written, countsBy}
 use Rattle.model.specs.Examples.{sheetA}
-use Rattle.parts.specs.Parts.{after, nodesAfter, nodesBetween, nodesOf, lastOf, goOn, added}
+use Rattle.run_cut.specs.Parts.{after, nodesAfter, nodesBetween, nodesOf, lastOf, goOn, added}
 use Rattle.desk.specs.Desk.{over, hallTurned, firstOf, emptyDesk, Desk, sit, turn, leave, denied, seated, idle, served, left, deskEnd, deskReplies, due, behindLast, roundsDesk, turnsGiven, endedIn, goingOn, lookReply}
 use Rattle.desk.specs.Examples.{Stay}
 

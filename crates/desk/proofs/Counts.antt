@@ -12,8 +12,8 @@ use Rattle.model.specs.Bytes.{fourBytes}
 use Rattle.model.specs.Run.{countsBy}
 use Rattle.model.proofs.Lists.{at-ext, at-out, at-append, at-skip, at-replicate, length-tabulate, at-tabulate}
 use Rattle.model.proofs.Tally.{length-counts, at-counts}
-use Rattle.parts.specs.Parts.{added}
-use Rattle.parts.proofs.Counts.{length-added, at-added}
+use Rattle.run_cut.specs.Parts.{added}
+use Rattle.run_cut.proofs.Counts.{length-added, at-added}
 use Rattle.desk.specs.Places.{COUNTS}
 use Rattle.desk.specs.Layout.{long, nodesAt, countsAt, countBytes}
 use Rattle.desk.proofs.Bytes.{Small, small-nil, small-append, small-four}

@@ -15,14 +15,14 @@ use Rattle.model.specs.Search.{nodes, isPlan}
 use Rattle.model.specs.Verdict.{Verdict, accepted, refused, ask}
 use Rattle.model.specs.Sheet.{word, Header, headerOf, scopeAt, rowsAt, afterAt, permutesPairs, problemOf, setsVerdict, constraintVerdict, constraintsVerdict, symmetriesVerdict, headerVerdict, formVerdict, verdictOf}
 use Rattle.model.specs.Run.{Ending, finished, spent, full, plansIn, nodesIn, Result, search, resultOf, Answer, ended, answerFor, answerOf, written, listFor, listOf, Tally, settledBy, countsBy, tallyAt, tallyFor, tallyOf}
-use Rattle.parts.specs.Parts.{nodesAfter, lastOf, Progress, start, progressAt, goOn, added, countsAfter, resumed}
+use Rattle.run_cut.specs.Parts.{nodesAfter, lastOf, Progress, start, progressAt, goOn, added, countsAfter, resumed}
 use Rattle.desk.specs.Desk.{Standing, running, over, goesOn, Hall, newcomer, deskRoom, turnLimit, standingAfter, hallAfter, hallTurned, turned, Seat, free, taken, isFree, waits, seatTurned, Desk, emptyDesk, seatAt, Found, none-found, seat, firstOf, lowestFree, toServe, DeskCall, sit, turn, leave, DeskReply, denied, seated, idle, served, left, servedAs, sitReply, sitDesk, turnReply, turnDesk, fits, leaveFor, leaveReply, leaveSeat, deskReply, deskAfter, deskEnd, deskReplies, countsOf}
 use Rattle.desk.specs.Claims.{serves, turnsIn, timesServed, Throughout, Remains, Waits, Fair, alone, HoldsAs, Holds, As-alone, Same-as-run, Turn-of-64, Sixty-four-each, Turn-answers, Refused-same, Idle-exactly, Past-eighth, By-own-turns, Others-nothing, Leaves, Lowest-seat, Seats-taken, Keeps-seat}
 use Rattle.model.proofs.Lists.{T-of, of-T, of-not, any-cons, either-l, either-r, below-i, below-e}
 use Rattle.model.proofs.Room.{length-flat}
 use Rattle.model.proofs.Runs.{Ended, walk, rows-counted, rows-fit, rows-sized}
-use Rattle.parts.proofs.Resume.{stands, from-start, from-cut, in-parts, last-moves}
-use Rattle.parts.proofs.Anywhere.{no-fewer, counts-move}
+use Rattle.run_cut.proofs.Resume.{stands, from-start, from-cut, in-parts, last-moves}
+use Rattle.run_cut.proofs.Anywhere.{no-fewer, counts-move}
 
 -- ---- the first that passes a test
 seat-is : (j k : ℕ) → seat j ≡ seat k → j ≡ k

@@ -12,8 +12,8 @@ use Rattle.model.specs.Problem.{Problem}
 use Rattle.model.specs.Sheet.{problemOf}
 use Rattle.model.specs.Run.{Ending, finished, spent, full, nodesIn, Result}
 use Rattle.model.proofs.Runs.{Ended, Walk, walk}
-use Rattle.parts.specs.Parts.{nodesAfter, Progress, goOn, progressAfter, andNext}
-use Rattle.parts.proofs.Anywhere.{after-from, from-anywhere, stands-anywhere}
+use Rattle.run_cut.specs.Parts.{nodesAfter, Progress, goOn, progressAfter, andNext}
+use Rattle.run_cut.proofs.Anywhere.{after-from, from-anywhere, stands-anywhere}
 use Rattle.desk.proofs.Rounds.{due-over}
 use Rattle.desk.specs.Desk.{running, over, goesOn, Hall, deskRoom, standingAfter, hallAfter, hallTurned, turned, due, given}
 

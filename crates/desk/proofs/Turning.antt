@@ -18,10 +18,10 @@ use Rattle.model.specs.Run.{Ending, finished, spent, full, plansIn, nodesIn, se
 use Rattle.model.proofs.Lists.{T-of, at-take, both-l, keep-e, flat-append, at-out}
 use Rattle.model.proofs.Room.{Wide, length-listed, listed-wide}
 use Rattle.model.proofs.Runs.{walk}
-use Rattle.parts.specs.Parts.{after, nodesAfter, lastOf, goOn, madeIn}
-use Rattle.parts.proofs.Resume.{node-values, last-in, taken}
-use Rattle.parts.proofs.Counts.{length-added}
-use Rattle.parts.proofs.Anywhere.{no-fewer}
+use Rattle.run_cut.specs.Parts.{after, nodesAfter, lastOf, goOn, madeIn}
+use Rattle.run_cut.proofs.Resume.{node-values, last-in, taken}
+use Rattle.run_cut.proofs.Counts.{length-added}
+use Rattle.run_cut.proofs.Anywhere.{no-fewer}
 use Rattle.sheet.specs.Form.{compilable}
 use Rattle.sheet.proofs.Compilable.{compilable-fits}
 use Rattle.desk.specs.Desk.{Standing, running, over, Hall, deskRoom, turnLimit, standingAfter, hallTurned}

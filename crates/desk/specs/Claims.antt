@@ -12,7 +12,7 @@ use Rattle.model.specs.Verdict.{refused}
 use Rattle.model.specs.Search.{nodes}
 use Rattle.model.specs.Sheet.{verdictOf, problemOf}
 use Rattle.model.specs.Run.{Ending, spent, plansIn, nodesIn, Result, resultOf, ended, answerOf, written, listOf, Tally, tallyAt, tallyOf}
-use Rattle.parts.specs.Parts.{progressAt}
+use Rattle.run_cut.specs.Parts.{progressAt}
 use Rattle.desk.specs.Desk.{Standing, running, over, goesOn, Hall, newcomer, deskRoom, hallTurned, turned, free, taken, isFree, waits, Desk, emptyDesk, seatAt, DeskCall, sit, turn, leave, DeskReply, denied, seated, idle, served, left, fits, leaveSeat, deskReply, deskAfter, deskEnd, deskReplies, roundsDesk, turnsGiven, due, lookCounts}
 use Rattle.desk.specs.Places.{size}
 use Rattle.desk.specs.Layout.{deskOf, roundsBytes, replyOn, bytesAfter}

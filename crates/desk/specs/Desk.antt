@@ -11,7 +11,7 @@ use Rattle.model.specs.Problem.{Problem}
 use Rattle.model.specs.Verdict.{Verdict, accepted, refused}
 use Rattle.model.specs.Sheet.{verdictOf, problemOf}
 use Rattle.model.specs.Run.{Ending, finished, spent, full, Result, written}
-use Rattle.parts.specs.Parts.{Progress, start, goOn, progressAfter}
+use Rattle.run_cut.specs.Parts.{Progress, start, goOn, progressAfter}
 
 -- ---- a hall at its seat
 pub data Standing : Type 0 where

@@ -2,8 +2,8 @@
 // first. Each function answers 0; or a refusal, and then every buffer is as it came; or, asked first, 255 times 256 where the answer or the desk has
 // another length than is asked.
 use desk::Answer;
+use desk_turns::Reply;
 use export_lent::counts;
-use serve::Reply;
 use wire::WRONG_LENGTH;
 use wire::code;
 use wire::four;
@@ -118,7 +118,7 @@ pub fn turn(desk: &mut [u8], answer: &mut [u8]) -> u32
     if answer.len() != 16 {
         return WRONG_LENGTH;
     }
-    let r = serve::turn(desk);
+    let r = desk_turns::turn(desk);
     told(answer, r)
 }
 
@@ -130,7 +130,7 @@ pub fn rounds(desk: &mut [u8], turns: u32, answer: &mut [u8]) -> u32
     if answer.len() != 12 {
         return WRONG_LENGTH;
     }
-    let r = serve::rounds(desk, turns);
+    let r = desk_turns::rounds(desk, turns);
     match r {
         Reply::Refused { number, item } => code(number, item),
         Reply::Given { ended, going } => {

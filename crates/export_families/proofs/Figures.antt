@@ -9,9 +9,9 @@ use borrow.Author.Tests.{eq-eqb, ne-eqb}
 use Rattle.model.specs.Lists.{choose}
 use Rattle.model.specs.Verdict.{Verdict, accepted, refused}
 use Rattle.model.specs.Sheet.{problemOf}
-use Rattle.lent.specs.Lent.{verdictLent}
-use Rattle.figure.specs.Figure.{Figure, familiesLent}
-use Rattle.counting.specs.Told.{Told, refusal, toldFor, countedLent}
+use Rattle.run_input.specs.Lent.{verdictLent}
+use Rattle.families_figure.specs.Figure.{Figure, familiesLent}
+use Rattle.families_count.specs.Told.{Told, refusal, toldFor, countedLent}
 use Rattle.wire.specs.Wire.{wrongLength}
 use Rattle.export_families.specs.Families.{figureCode, countedBytes, familiesCode, familiesAnswer, CallFigured}
 

@@ -5,8 +5,8 @@ use Prim.Native.Nat.{ℕ, _+_, _*_}
 use lib.Dec.{eqb}
 use lib.ListN.{length}
 use Rattle.model.specs.Lists.{choose}
-use Rattle.figure.specs.Figure.{Figure, number, dash}
-use Rattle.counting.specs.Told.{Told, refusal, told, countedLent}
+use Rattle.families_figure.specs.Figure.{Figure, number, dash}
+use Rattle.families_count.specs.Told.{Told, refusal, told, countedLent}
 use Rattle.wire.specs.Wire.{wrongLength, threeNumbers}
 
 -- 0, or the number and the item of the refusal

@@ -1,5 +1,5 @@
 // The number of families of a run (paper 02, #104).
-use counting::Answer;
+use families_count::Answer;
 use wire::WRONG_LENGTH;
 use wire::code;
 use wire::three;
@@ -14,7 +14,7 @@ pub fn families(sheet: &[u8], pairs: &[u8], block: &[u8], limit: u32, answer: &m
     if answer.len() != 12 {
         return WRONG_LENGTH;
     }
-    let r = counting::families(sheet, pairs, block, limit);
+    let r = families_count::families(sheet, pairs, block, limit);
     match r {
         Answer::Refused { number, item } => code(number, item),
         Answer::Dash => {

@@ -12,11 +12,11 @@ use Rattle.model.specs.Lists.{at}
 use Rattle.model.specs.Verdict.{Verdict, accepted, refused}
 use Rattle.model.specs.Nogood.{FilterEnding, failed, entailed, consistent, FilterAnswer, declined, answered, answerBy, entries, filterEnding, filterVerdict, filterAnswer, setsAfter}
 use Rattle.model.proofs.Lists.{at-out}
-use Rattle.nogood.specs.Lists.{means}
-use Rattle.nogood.specs.FilterCalls.{CallFilter, EntryRight, ListsRight}
-use Rattle.nogood.specs.declared.Answer.{Answer}
-use Rattle.nogood.specs.declared.Answer.the-variants.{Failed, Entailed, Consistent, Refused}
-use Rattle.nogood.proofs.FilterCalls.{filter-calls}
+use Rattle.filter.specs.Lists.{means}
+use Rattle.filter.specs.FilterCalls.{CallFilter, EntryRight, ListsRight}
+use Rattle.filter.specs.declared.Answer.{Answer}
+use Rattle.filter.specs.declared.Answer.the-variants.{Failed, Entailed, Consistent, Refused}
+use Rattle.filter.proofs.FilterCalls.{filter-calls}
 use Rattle.export_filter.specs.Filter.{filterAnswerCode, setsIn, bytesOf, filteredBytes}
 use Rattle.export_filter.specs.FilterBytes.{codeOf, Bytes-held}
 use Rattle.export_filter.proofs.SetBytes.{length-sets, at-sets, bytes-back}

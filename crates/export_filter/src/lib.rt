@@ -7,20 +7,20 @@ ghost use mathlib.Core.Path.{_≡_};
 ghost use Prim.Native.Nat.{_*_};
 ghost use lib.ListN.{length};
 ghost use Rattle.model.specs.Nogood.{filterAnswer};
-ghost use Rattle.nogood.specs.Lists.{means};
+ghost use Rattle.filter.specs.Lists.{means};
 ghost use Rattle.export_filter.specs.Filter.{filterAnswerCode, setsIn, filteredBytes, SmallAnswer};
 ghost use Rattle.export_filter.specs.FilterBytes.{CallBytes};
 
 // How the filter ended as one number, or its refusal.
-fn filter_code(answer: nogood::Answer) -> u32
+fn filter_code(answer: filter::Answer) -> u32
     requires { ⌜ SmallAnswer (means answer) ⌝ }
     ensures { λ r. ⌜ r ≡ filterAnswerCode (means answer) ⌝ }
 {
     match answer {
-        nogood::Answer::Consistent => 0,
-        nogood::Answer::Entailed => 1,
-        nogood::Answer::Failed => 2,
-        nogood::Answer::Refused { number, item } => code(number, item),
+        filter::Answer::Consistent => 0,
+        filter::Answer::Entailed => 1,
+        filter::Answer::Failed => 2,
+        filter::Answer::Refused { number, item } => code(number, item),
     }
 }
 
@@ -37,7 +37,7 @@ fn filter_words(
     ensures { λ _. ⌜ now (sets .exit) ≡ filteredBytes (now (sets .entry)) (now (index .entry)) (now (equal .entry)) (now («not_equal» .entry)) ⌝ }
 {
     sets::load(sets, words);
-    let answer = nogood::filter(words, index, equal, not_equal);
+    let answer = filter::filter(words, index, equal, not_equal);
     sets::store(words, sets);
     filter_code(answer)
 }

@@ -14,14 +14,14 @@ use Rattle.model.specs.Written.{Written}
 use Rattle.model.proofs.Written.{written-byte, written-then, written-none}
 use Rattle.wire.specs.Wire.{wrongLength}
 use Rattle.wire.proofs.Numbers.{whole}
-use Rattle.join.proofs.Orders.{tabulate-same}
-use Rattle.join.proofs.Turns.{startBytes, endBytes}
-use Rattle.join.specs.Join.{joinVerdict, kindAt, reachPlace, plansOf, nodesOf, countOf}
+use Rattle.run_join.proofs.Orders.{tabulate-same}
+use Rattle.run_join.proofs.Turns.{startBytes, endBytes}
+use Rattle.run_join.specs.Join.{joinVerdict, kindAt, reachPlace, plansOf, nodesOf, countOf}
 use Rattle.model.specs.Verdict.{Verdict, accepted, refused}
-use Rattle.join.specs.Calls.{answerFor, figureFor, CallJoin}
-use Rattle.join.specs.declared.Joining.{Joining}
-use Rattle.join.specs.declared.Answer.{Answer}
-use Rattle.join.specs.declared.Answer.the-variants.{Refused, Joined, Missing}
+use Rattle.run_join.specs.Calls.{answerFor, figureFor, CallJoin}
+use Rattle.run_join.specs.declared.Joining.{Joining}
+use Rattle.run_join.specs.declared.Answer.{Answer}
+use Rattle.run_join.specs.declared.Answer.the-variants.{Refused, Joined, Missing}
 use Rattle.export_join.specs.Joined.{eightBytes, widesOf, pathBytesAt, standBytes, beginBytes, joinBytes, joinCodeFor, joinAnswerFor, joinCode, joinAnswer, CallJoinBytes}
 
 -- ---- a number in eight bytes

@@ -7,10 +7,10 @@ use lib.ListN.{length, replicate}
 use Rattle.model.specs.Bytes.{fourBytes}
 use Rattle.model.specs.Lists.{at, choose, tabulate}
 use Rattle.wire.specs.Wire.{wrongLength}
-use Rattle.join.specs.Join.{joinVerdict, reachPlace, plansOf, nodesOf, countOf}
-use Rattle.join.specs.Calls.{answerFor}
-use Rattle.join.specs.declared.Answer.{Answer}
-use Rattle.join.specs.declared.Answer.the-variants.{Refused, Joined, Missing}
+use Rattle.run_join.specs.Join.{joinVerdict, reachPlace, plansOf, nodesOf, countOf}
+use Rattle.run_join.specs.Calls.{answerFor}
+use Rattle.run_join.specs.declared.Answer.{Answer}
+use Rattle.run_join.specs.declared.Answer.the-variants.{Refused, Joined, Missing}
 
 -- a number in eight bytes, low byte first; numbers one after another
 unfoldable pub eightBytes : ℕ → List ℕ

@@ -16,18 +16,18 @@ pub fn join_heads(heads: &[u8], answer: &mut [u8]) -> u32
     if answer.len() != 152 {
         return WRONG_LENGTH;
     }
-    let r = join::join(heads);
+    let r = run_join::join(heads);
     let said = r.answer;
     let counts = r.counts;
     match said {
-        join::Answer::Refused(number) => number as u32 * 256,
-        join::Answer::Joined => {
+        run_join::Answer::Refused(number) => number as u32 * 256,
+        run_join::Answer::Joined => {
             put_sums(answer, 1, r.plans, r.nodes, counts);
             put_none(answer);
             put_zeros(answer);
             0
         }
-        join::Answer::Missing(stand, near) => {
+        run_join::Answer::Missing(stand, near) => {
             put_sums(answer, 2, r.plans, r.nodes, counts);
             put_range(answer, heads, stand, near);
             put_zeros(answer);

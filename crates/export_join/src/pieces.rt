@@ -1,5 +1,5 @@
 // The answer of a join, piece by piece.
-use join::steps::reach_place;
+use run_join::steps::reach_place;
 use wire::four;
 ghost use mathlib.Core.Path.{_≡_};
 ghost use mathlib.Core.List.{[], _∷_, _++_};
@@ -8,7 +8,7 @@ ghost use lib.ListN.{length, replicate};
 ghost use Rattle.model.specs.Bytes.{fourBytes};
 ghost use Rattle.model.specs.Lists.{at, tabulate};
 ghost use Rattle.model.specs.Written.{Written};
-ghost use Rattle.join.specs.Join.{headsIn};
+ghost use Rattle.run_join.specs.Join.{headsIn};
 ghost use Rattle.export_join.specs.Joined.{eightBytes, widesOf, pathBytesAt, standBytes, beginBytes};
 
 // Puts a number in eight bytes; answers the place after it.

@@ -9,10 +9,10 @@ use borrow.Author.Tests.{eq-eqb, ne-eqb}
 use Rattle.model.specs.Lists.{choose}
 use Rattle.model.specs.Problem.{Problem}
 use Rattle.model.specs.Verdict.{Verdict, accepted, refused}
-use Rattle.lent.specs.Lent.{verdictLent, problemLent}
-use Rattle.enough.specs.AtLeast.{Enough, enough, tooFew, unknown, enoughOf}
-use Rattle.enough.specs.Lent.{EnoughAnswer, answered, enoughLentFor, enoughLent}
-use Rattle.enough.proofs.AtLeast.{Said, said, to-limit}
+use Rattle.run_input.specs.Lent.{verdictLent, problemLent}
+use Rattle.run_enough.specs.AtLeast.{Enough, enough, tooFew, unknown, enoughOf}
+use Rattle.run_enough.specs.Lent.{EnoughAnswer, answered, enoughLentFor, enoughLent}
+use Rattle.run_enough.proofs.AtLeast.{Said, said, to-limit}
 use Rattle.wire.specs.Wire.{wrongLength}
 use Rattle.export_lent.specs.Enough.{saidCode, saidBytes, enoughCode, enoughBytes}
 use Rattle.export_lent.specs.Inner.{SmallSaid}

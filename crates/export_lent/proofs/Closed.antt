@@ -9,8 +9,8 @@ use borrow.Author.Tests.{eq-eqb, ne-eqb}
 use Rattle.model.specs.Lists.{choose}
 use Rattle.model.specs.Problem.{Problem}
 use Rattle.model.specs.Verdict.{Verdict, accepted, refused}
-use Rattle.lent.specs.Lent.{verdictLent, problemWith}
-use Rattle.closed.specs.Lent.{Told, refusal, toldFor, closedLent}
+use Rattle.run_input.specs.Lent.{verdictLent, problemWith}
+use Rattle.families_closed.specs.Lent.{Told, refusal, toldFor, closedLent}
 use Rattle.wire.specs.Wire.{wrongLength}
 use Rattle.export_lent.specs.Closed.{toldCode, toldBytes, closedCode, closedAnswer}
 

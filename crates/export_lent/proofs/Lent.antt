@@ -17,9 +17,9 @@ use Rattle.model.proofs.Tally.{at-total}
 use Rattle.order.specs.Order.{settlesAll, orderVerdict}
 use Rattle.order.specs.RunBy.{resultBy, placeCounts}
 use Rattle.sheet.specs.Meaning.{andThen}
-use Rattle.lent.specs.Lent.{verdictLent, problemWith, orderLent, problemLent, answerLentFor, answerLent, listLent, tallyLent}
-use Rattle.lent.proofs.Lent.{ran-lent, counts-lent, passed-all}
-use Rattle.lent.proofs.LentTally.{tally-lent}
+use Rattle.run_input.specs.Lent.{verdictLent, problemWith, orderLent, problemLent, answerLentFor, answerLent, listLent, tallyLent}
+use Rattle.run_input.proofs.Lent.{ran-lent, counts-lent, passed-all}
+use Rattle.run_input.proofs.LentTally.{tally-lent}
 use Rattle.wire.specs.Wire.{wrongLength}
 use Rattle.export_run.specs.Run.{answerCode}
 use Rattle.export_lent.specs.Lent.{placedBytes, lentRunCode, lentRunList, lentRunAnswer}

@@ -4,8 +4,8 @@ use Prim.Native.Nat.{ℕ, _+_, _*_}
 use lib.Dec.{eqb}
 use lib.ListN.{length}
 use Rattle.model.specs.Lists.{choose}
-use Rattle.closed.specs.Open.{Open, none, two}
-use Rattle.closed.specs.Lent.{Told, refusal, told, closedLent}
+use Rattle.families_closed.specs.Open.{Open, none, two}
+use Rattle.families_closed.specs.Lent.{Told, refusal, told, closedLent}
 use Rattle.wire.specs.Wire.{wrongLength, threeNumbers}
 
 -- 0, or the number and the item of the refusal

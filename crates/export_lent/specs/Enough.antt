@@ -4,8 +4,8 @@ use Prim.Native.Nat.{ℕ, _+_, _*_}
 use lib.Dec.{eqb}
 use lib.ListN.{length}
 use Rattle.model.specs.Lists.{choose}
-use Rattle.enough.specs.AtLeast.{enough, tooFew, unknown}
-use Rattle.enough.specs.Lent.{EnoughAnswer, refusal, answered, enoughLent}
+use Rattle.run_enough.specs.AtLeast.{enough, tooFew, unknown}
+use Rattle.run_enough.specs.Lent.{EnoughAnswer, refusal, answered, enoughLent}
 use Rattle.wire.specs.Wire.{wrongLength, threeNumbers}
 
 abbrev pub saidCode : EnoughAnswer → ℕ

@@ -3,9 +3,9 @@ use mathlib.Core.Path.{_≡_}
 use mathlib.Core.List.{List}
 use Prim.Native.Nat.{ℕ, _^_, _<_}
 use lib.ListN.{length, getD}
-use Rattle.enough.specs.AtLeast.{enough, tooFew, unknown}
-use Rattle.enough.specs.Lent.{EnoughAnswer}
-use Rattle.enough.specs.Lent as L
+use Rattle.run_enough.specs.AtLeast.{enough, tooFew, unknown}
+use Rattle.run_enough.specs.Lent.{EnoughAnswer}
+use Rattle.run_enough.specs.Lent as L
 
 -- the item of a refusal stands in one byte, and the two numbers of an answer in four bytes each
 abbrev pub SmallSaid : EnoughAnswer → Type 0

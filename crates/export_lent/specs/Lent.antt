@@ -6,7 +6,7 @@ use lib.ListN.{length}
 use Rattle.model.specs.Lists.{choose}
 use Rattle.model.specs.Run.{Answer, refusal, ended, nodesIn}
 use Rattle.order.specs.RunBy.{placeCounts}
-use Rattle.lent.specs.Lent.{verdictLent, problemWith, orderLent, answerLent, listLent}
+use Rattle.run_input.specs.Lent.{verdictLent, problemWith, orderLent, answerLent, listLent}
 use Rattle.wire.specs.Wire.{codeOf, wrongLength}
 use Rattle.export_run.specs.Run.{endingBytes, answerCode}
 use Rattle.export_lent.specs.Tallied.{numbersOf}

@@ -1,11 +1,11 @@
 // At least m plans (paper 02, #101)?
-use search::Enough;
+use run::Enough;
 use wire::WRONG_LENGTH;
 use wire::code;
 use wire::three;
 ghost use mathlib.Core.Path.{_≡_};
 ghost use lib.ListN.{length};
-ghost use Rattle.search.specs.Meaning.{saidEnough};
+ghost use Rattle.run.specs.Meaning.{saidEnough};
 ghost use Rattle.export_lent.specs.Enough.{saidCode, saidBytes};
 ghost use Rattle.export_lent.specs.Calls.{CallEnoughBytes};
 ghost use Rattle.export_lent.specs.Inner.{SmallSaid};
@@ -47,6 +47,6 @@ pub fn at_least(
     if answer.len() != 12 {
         return WRONG_LENGTH;
     }
-    let r = search::at_least(sheet, pairs, block, plans as usize, limit);
+    let r = run::at_least(sheet, pairs, block, plans as usize, limit);
     said(answer, r)
 }

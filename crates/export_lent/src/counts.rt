@@ -1,12 +1,12 @@
 // Nodes by variable (paper 02, #107): an ending and the twelve counts as bytes.
-use walk::Ending;
+use run_state::Ending;
 use wire::four;
 ghost use mathlib.Core.Path.{_≡_};
 ghost use mathlib.Core.List.{_++_};
 ghost use Prim.Native.Nat.{_+_, _^_, _≤_, _<_};
 ghost use lib.ListN.{length};
 ghost use Rattle.model.specs.Written.{Written};
-ghost use Rattle.walk.specs.Meaning.{endingOf};
+ghost use Rattle.run_state.specs.Meaning.{endingOf};
 ghost use Rattle.wire.specs.Wire.{threeNumbers};
 ghost use Rattle.export_run.specs.Run.{endingBytes};
 ghost use Rattle.export_run.specs.Inner.{Counted};

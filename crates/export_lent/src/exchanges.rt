@@ -1,5 +1,5 @@
 // Whether the exchanges of a run are closed (paper 02, #112).
-use closed::Answer;
+use families_closed::Answer;
 use wire::WRONG_LENGTH;
 use wire::code;
 use wire::three;
@@ -14,7 +14,7 @@ pub fn closed(sheet: &[u8], pairs: &[u8], block: &[u8], answer: &mut [u8]) -> u3
     if answer.len() != 12 {
         return WRONG_LENGTH;
     }
-    let r = closed::closed(sheet, pairs, block);
+    let r = families_closed::closed(sheet, pairs, block);
     match r {
         Answer::Refused { number, item } => code(number, item),
         Answer::Closed => {

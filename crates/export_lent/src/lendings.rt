@@ -8,7 +8,7 @@ ghost use Rattle.export_lent.specs.Calls.{CallQuestionCode, CallRunBytes
 pub fn question_lent(sheet: &[u8], pairs: &[u8], block: &[u8]) -> u32
     ensures { λ r. ⌜ CallQuestionCode (now (sheet .entry)) (now (pairs .entry)) (now (block .entry)) r ⌝ }
 {
-    let answer = lent::question(sheet, pairs, block);
+    let answer = run_input::question(sheet, pairs, block);
     match answer {
         sheet::Answer::Accepted => 0,
         sheet::Answer::Refused { number, item } => code(number, item),
@@ -30,13 +30,13 @@ pub fn run_lent(
     if answer.len() != 60 {
         return WRONG_LENGTH;
     }
-    let r = search::run_counted(sheet, pairs, block, limit, list);
+    let r = run::run_counted(sheet, pairs, block, limit, list);
     let tally = r.tally;
     let counts = tally.counts;
     let said = r.answer;
     match said {
-        search::Answer::Refused { number, item } => code(number, item),
-        search::Answer::Ended(e) => {
+        run::Answer::Refused { number, item } => code(number, item),
+        run::Answer::Ended(e) => {
             ending(answer, e, counts);
             0
         }

@@ -8,7 +8,7 @@ use borrow.Author.Tests.{eq-eqb, ne-eqb}
 use Rattle.model.specs.Lists.{choose}
 use Rattle.model.specs.Verdict.{Verdict}
 use Rattle.model.specs.Room.{Outcome, outcomeOf, roomAfter}
-use Rattle.merge.specs.Merge.{merged, mergeVerdict}
+use Rattle.list_merge.specs.Merge.{merged, mergeVerdict}
 use Rattle.wire.specs.Wire.{wrongLength}
 use Rattle.wire.specs.Outcomes.{outcomeCode, lentCode, lentRoom}
 use Rattle.export_lists.specs.Merged.{mergeOutcome, mergeAnswer, CallMerged}

@@ -6,7 +6,7 @@ use Prim.Native.Nat.{ℕ}
 use lib.ListN.{length}
 use borrow.Author.Tests.{eq-eqb, ne-eqb}
 use Rattle.model.specs.Room.{Outcome}
-use Rattle.small.specs.Answers.{smallOutcome, smallRoom}
+use Rattle.sheet_small.specs.Answers.{smallOutcome, smallRoom}
 use Rattle.wire.specs.Wire.{wrongLength}
 use Rattle.wire.specs.Outcomes.{outcomeCode, outcomeAnswer}
 use Rattle.export_lists.specs.SmallSheets.{smallCode, smallOut, smallAnswer}

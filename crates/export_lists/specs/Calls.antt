@@ -4,7 +4,7 @@ use mathlib.Core.Path.{_≡_}
 use mathlib.Core.List.{List}
 use Prim.Native.Nat.{ℕ}
 use lib.ListN.{length}
-use Rattle.columns.specs.Columns.{columnsOf, rowsOf, columnsVerdict, rowsVerdict}
+use Rattle.list_columns.specs.Columns.{columnsOf, rowsOf, columnsVerdict, rowsVerdict}
 use Rattle.store.specs.Store.{call, put, fetch, remove}
 use Rattle.wire.specs.Outcomes.{lentCode, lentRoom, lentAnswer}
 use Rattle.export_lists.specs.Stored.{storedCode, storedAnswer, storedBytes, storedRoom}

@@ -8,7 +8,7 @@ use lib.ListN.{length}
 use Rattle.model.specs.Lists.{choose}
 use Rattle.model.specs.Verdict.{Verdict}
 use Rattle.model.specs.Room.{Outcome, wrote, refusal, outcomeOf}
-use Rattle.merge.specs.Merge.{merged, mergeVerdict}
+use Rattle.list_merge.specs.Merge.{merged, mergeVerdict}
 use Rattle.wire.specs.Wire.{threeNumbers}
 use Rattle.wire.specs.Outcomes.{lentCode, lentRoom}
 

@@ -5,7 +5,7 @@ use mathlib.Core.List.{List}
 use Prim.Native.Nat.{ℕ}
 use lib.Dec.{eqb}
 use lib.ListN.{length}
-use Rattle.small.specs.Answers.{smallOutcome, smallRoom}
+use Rattle.sheet_small.specs.Answers.{smallOutcome, smallRoom}
 use Rattle.wire.specs.Wire.{wrongLength}
 use Rattle.wire.specs.Outcomes.{outcomeCode, outcomeAnswer}
 

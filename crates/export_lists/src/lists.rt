@@ -1,6 +1,6 @@
 // One list from two (paper 02, #106). The answer has 12 bytes, three numbers of four bytes, low byte first: 1, then the number of bytes
 // written, its low half and its high half.
-use merge::Answer;
+use list_merge::Answer;
 use wire::WRONG_LENGTH;
 use wire::code;
 use wire::three;
@@ -21,7 +21,7 @@ pub fn merge<'a>(
     if answer.len() != 12 {
         return WRONG_LENGTH;
     }
-    let r = merge::merge(variables as usize, pairs, first, second, out);
+    let r = list_merge::merge(variables as usize, pairs, first, second, out);
     match r {
         Answer::Refused { number, item } => code(number, item),
         Answer::Written(count) => {

@@ -1,5 +1,5 @@
 // Every small sheet (paper 02, #114).
-use small::Answer;
+use sheet_small::Answer;
 use wire::WRONG_LENGTH;
 use wire::code;
 use wire::three;
@@ -14,7 +14,7 @@ pub fn small_sheet(k: u32, out: &mut [u8], answer: &mut [u8]) -> u32
     if answer.len() != 12 {
         return WRONG_LENGTH;
     }
-    let r = small::small_sheet(k as usize, out);
+    let r = sheet_small::small_sheet(k as usize, out);
     match r {
         Answer::Refused { number, item } => code(number, item),
         Answer::Written { bytes } => {

@@ -1,7 +1,7 @@
 // Plans stored by window (paper 02, #103): rows to columns and back. The answer has 12 bytes, three numbers of four bytes, low byte first:
 // 1, the number of bytes written, 0. Answers 0; or a refusal, and then every buffer is as it came; or, asked first, 255 times 256 where the
 // answer has not 12 bytes.
-use columns::Answer;
+use list_columns::Answer;
 use wire::WRONG_LENGTH;
 use wire::code;
 use wire::three;
@@ -14,7 +14,7 @@ pub fn columns(variables: u32, rows: &[u8], out: &mut [u8], answer: &mut [u8]) -
     if answer.len() != 12 {
         return WRONG_LENGTH;
     }
-    let r = columns::to_columns(variables as usize, rows, out);
+    let r = list_columns::to_columns(variables as usize, rows, out);
     match r {
         Answer::Refused { number, item } => code(number, item),
         Answer::Written(count) => {
@@ -31,7 +31,7 @@ pub fn rows(store: &[u8], out: &mut [u8], answer: &mut [u8]) -> u32
     if answer.len() != 12 {
         return WRONG_LENGTH;
     }
-    let r = columns::to_rows(store, out);
+    let r = list_columns::to_rows(store, out);
     match r {
         Answer::Refused { number, item } => code(number, item),
         Answer::Written(size) => {

@@ -18,10 +18,10 @@ use Rattle.model.proofs.Tally.{length-counts, at-counts}
 use Rattle.model.proofs.Lists.{at-out}
 use Rattle.families.proofs.FamilyCount.{keep-length}
 use Rattle.model.proofs.Written.{written-then}
-use Rattle.lent.specs.Lent.{verdictLent, problemLent, orderLent}
+use Rattle.run_input.specs.Lent.{verdictLent, problemLent, orderLent}
 use Rattle.wire.specs.Wire.{wrongLength}
 use Rattle.wire.proofs.Numbers.{whole}
-use Rattle.ranges.specs.Ranges.{partNodes, resultPart, answerPartFor, answerPart, listPart, madeBy, tallyPart, lastPart}
+use Rattle.run_ranges.specs.Ranges.{partNodes, resultPart, answerPartFor, answerPart, listPart, madeBy, tallyPart, lastPart}
 use Rattle.export_run.specs.Run.{endingBytes, answerCode}
 use Rattle.export_run.specs.Inner.{Counted}
 use Rattle.export_lent.specs.Tallied.{numbersOf}

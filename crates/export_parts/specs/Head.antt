@@ -4,7 +4,7 @@ use Prim.Native.Nat.{ℕ, _+_, _*_, _%_}
 use lib.ListN.{length, take}
 use Rattle.model.specs.Lists.{at, tabulate}
 use Rattle.model.specs.Run.{Ending, Answer, refusal, ended}
-use Rattle.ranges.specs.Claims.{Part}
+use Rattle.run_ranges.specs.Claims.{Part}
 use Rattle.export_run.specs.Run.{endingBytes}
 use Rattle.export_lent.specs.Tallied.{numbersOf}
 

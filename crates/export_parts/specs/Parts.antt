@@ -5,8 +5,8 @@ use Prim.Native.Nat.{ℕ}
 use lib.Dec.{eqb}
 use lib.ListN.{length}
 use Rattle.model.specs.Lists.{choose}
-use Rattle.ranges.specs.Ranges.{answerPart, listPart, tallyPart, lastPart}
-use Rattle.ranges.specs.Claims.{Part}
+use Rattle.run_ranges.specs.Ranges.{answerPart, listPart, tallyPart, lastPart}
+use Rattle.run_ranges.specs.Claims.{Part}
 use Rattle.wire.specs.Wire.{wrongLength}
 use Rattle.export_run.specs.Run.{answerCode}
 use Rattle.export_parts.specs.Head.{headFor}

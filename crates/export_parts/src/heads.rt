@@ -1,7 +1,7 @@
 // The head of a part, piece by piece.
 use crate::digests::digest;
 use export_lent::counts::numbers;
-use walk::Ending;
+use run_state::Ending;
 use wire::four;
 ghost use mathlib.Core.Path.{_≡_};
 ghost use mathlib.Core.List.{_++_};
@@ -9,7 +9,7 @@ ghost use Prim.Native.Nat.{_+_, _^_, _≤_, _<_, min};
 ghost use lib.ListN.{length, take};
 ghost use Rattle.model.specs.Lists.{at, tabulate};
 ghost use Rattle.model.specs.Written.{Written};
-ghost use Rattle.walk.specs.Meaning.{endingOf};
+ghost use Rattle.run_state.specs.Meaning.{endingOf};
 ghost use Rattle.wire.specs.Wire.{threeNumbers};
 ghost use Rattle.export_run.specs.Run.{endingBytes};
 ghost use Rattle.export_run.specs.Inner.{Counted};

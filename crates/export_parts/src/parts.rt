@@ -23,15 +23,15 @@ pub fn run_part(
     if answer.len() != 115 {
         return WRONG_LENGTH;
     }
-    let r = range_run::run_part(sheet, pairs, block, from, upto, limit, list);
+    let r = run_part::run_part(sheet, pairs, block, from, upto, limit, list);
     let tally = r.tally;
     let counts = tally.counts;
     let last = r.last;
     let length = r.length;
     let said = r.answer;
     match said {
-        search::Answer::Refused { number, item } => code(number, item),
-        search::Answer::Ended(e) => {
+        run::Answer::Refused { number, item } => code(number, item),
+        run::Answer::Ended(e) => {
             put_ending(answer, e, counts);
             put_name(answer, sheet, pairs, block);
             put_paths(answer, from, upto, &last, length);

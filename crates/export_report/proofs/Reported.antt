@@ -15,9 +15,9 @@ use Rattle.model.specs.Room.{Outcome, wrote, refusal, outcomeOf, roomAfter}
 use Rattle.model.specs.Sheet.{headerOf, problemOf, verdictOf}
 use Rattle.model.specs.Run.{Ending, plansIn, resultOf, ended, answerFor, answerOf, listOf, listedPlans}
 use Rattle.report.specs.Report.{line, refusedWord, resultText, reportFor, reportOf}
-use Rattle.figure.specs.Figure.{reportFigure}
-use Rattle.counting.specs.Held.{Sized}
-use Rattle.counting.proofs.Bare.{report-dash}
+use Rattle.families_figure.specs.Figure.{reportFigure}
+use Rattle.families_count.specs.Held.{Sized}
+use Rattle.families_count.proofs.Bare.{report-dash}
 use Rattle.model.proofs.Accepted.{passed}
 use Rattle.model.proofs.Demands.{ran, held}
 use Rattle.model.proofs.Runs.{rows-counted, rows-fit}

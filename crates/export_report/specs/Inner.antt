@@ -4,7 +4,7 @@ use Prim.Native.Nat.{ℕ, _*_, _≤_}
 use mathlib.Core.List.{List}
 use lib.ListN.{length}
 use Rattle.model.specs.Run.{Ending, finished, plansIn}
-use Rattle.figure.specs.Figure.{Figure, dash}
+use Rattle.families_figure.specs.Figure.{Figure, dash}
 
 -- an ending whose plans are rows of n bytes of the list
 pub record Listed (e : Ending) (n : ℕ) (list : List ℕ) : Type 0 where

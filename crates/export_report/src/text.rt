@@ -1,14 +1,14 @@
 // The report on a sheet: each function answers the report's length, and writes it where the buffer holds it.
-use search::Answer;
-use walk::Ending;
+use run::Answer;
+use run_state::Ending;
 ghost use mathlib.Core.Path.{_≡_};
 ghost use Rattle.model.specs.Sheet.{verdictOf};
 ghost use Rattle.model.specs.Run.{finished};
-ghost use Rattle.figure.specs.Figure.{Figure, dash};
+ghost use Rattle.families_figure.specs.Figure.{Figure, dash};
 ghost use Rattle.report.specs.Report.{reportFor};
 ghost use Rattle.report.specs.Text.{endedText, Fitted};
-ghost use Rattle.walk.specs.Meaning.{endingOf};
-ghost use Rattle.counting.specs.Told.{told, means};
+ghost use Rattle.run_state.specs.Meaning.{endingOf};
+ghost use Rattle.families_count.specs.Told.{told, means};
 ghost use Rattle.export_report.specs.Inner.{Listed, Dashed};
 
 // A run whose families aren't counted.
@@ -25,7 +25,7 @@ fn stop_report(e: Ending, list: &[u8], n: usize, out: &mut [u8]) -> usize
 
 // A finished run, with the number of families or a dash.
 fn finished_report(
-    figure: counting::Answer,
+    figure: families_count::Answer,
     plans: usize,
     nodes: usize,
     list: &[u8],
@@ -35,7 +35,7 @@ fn finished_report(
     requires { ⌜ Listed (finished plans nodes) n (now list) ⌝ }
     ensures { λ r. ⌜ ((f : Figure) → means figure ≡ told f → Fitted (now (out .entry)) (endedText (finished plans nodes) f n (now (list .entry))) (now (out .exit)) r) ⌝ }
 {
-    let counting::Answer::Number(families) = figure else {
+    let families_count::Answer::Number(families) = figure else {
         return report::uncounted(plans, nodes, list, n, out);
     };
     report::finished(plans, nodes, families, list, n, out)
@@ -43,7 +43,7 @@ fn finished_report(
 
 // A finished run is taken apart first; the two others are a stop, whose figure is the dash.
 fn ending_report(
-    figure: counting::Answer,
+    figure: families_count::Answer,
     e: Ending,
     list: &[u8],
     n: usize,
@@ -62,8 +62,8 @@ fn ending_report(
 pub fn sheet_report(sheet: &[u8], out: &mut [u8]) -> usize
     ensures { λ r. ⌜ Fitted (now (out .entry)) (reportFor (verdictOf (now (sheet .entry))) (now (sheet .entry))) (now (out .exit)) r ⌝ }
 {
-    let mut list = counting::plan_room();
-    let run = counting::report_run(sheet, 1000000, &mut list);
+    let mut list = families_count::plan_room();
+    let run = families_count::report_run(sheet, 1000000, &mut list);
     let answer = run.answer;
     let figure = run.figure;
     let n = run.variables;

@@ -1,11 +1,11 @@
 // The questions to a sheet, and the run of paper 01.
-use walk::Ending;
+use run_state::Ending;
 use wire::WRONG_LENGTH;
 use wire::code;
 use wire::three;
 ghost use mathlib.Core.Path.{_≡_};
 ghost use lib.ListN.{length};
-ghost use Rattle.walk.specs.Meaning.{endingOf};
+ghost use Rattle.run_state.specs.Meaning.{endingOf};
 ghost use Rattle.export_run.specs.Run.{endingBytes};
 ghost use Rattle.export_run.specs.Calls.{CallCode, CallExported};
 ghost use Rattle.export_run.specs.Inner.{Counted};
@@ -42,10 +42,10 @@ pub fn run(sheet: &[u8], limit: u32, list: &mut [u8], answer: &mut [u8]) -> u32
     if answer.len() != 12 {
         return WRONG_LENGTH;
     }
-    let r = search::run(sheet, limit, list);
+    let r = run::run(sheet, limit, list);
     match r {
-        search::Answer::Refused { number, item } => code(number, item),
-        search::Answer::Ended(e) => {
+        run::Answer::Refused { number, item } => code(number, item),
+        run::Answer::Ended(e) => {
             ending(answer, e);
             0
         }

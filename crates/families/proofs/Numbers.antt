@@ -10,7 +10,7 @@ use lib.Dec.{T}
 use lib.ListN.{length, getD, length-append}
 use Rattle.model.specs.Lists.{flat, at, earlier}
 use Rattle.model.specs.Problem.{Problem, pair, takes, isSolution}
-use Rattle.layout.specs.Layout.{symmetryAt}
+use Rattle.arrays.specs.Layout.{symmetryAt}
 use Rattle.families.specs.Families.{solutionsOf}
 use Rattle.families.specs.Walk.{solutionAt, imageAt, Between}
 use Rattle.model.specs.WellFormed.{WellFormed, Respected}

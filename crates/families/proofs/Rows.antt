@@ -16,8 +16,8 @@ use Rattle.model.proofs.Tree.{solution-e}
 use Rattle.model.proofs.Obey.{first-i}
 use Rattle.model.proofs.Pairs as P
 use Rattle.model.proofs.Symmetry as S
-use Rattle.layout.specs.Layout.{symmetryAt}
-use Rattle.layout.specs.Places.{IMAGES}
+use Rattle.arrays.specs.Layout.{symmetryAt}
+use Rattle.arrays.specs.Places.{IMAGES}
 use Rattle.families.specs.Families.{solutionsOf}
 use Rattle.families.specs.Walk.{solutionAt, imageAt, Between}
 use Rattle.families.specs.Numbered.{keyOf, Keys, Listed, Imaging, Finding, Numbering}

@@ -12,7 +12,7 @@ use lib.Seq.{take-suc, take-length, length-take-le}
 use Rattle.model.specs.Lists.{keep, below, at, earlier}
 use Rattle.model.specs.Problem.{Problem, takes}
 use Rattle.model.specs.Sheet.{distinct}
-use Rattle.layout.specs.Layout.{symmetryAt}
+use Rattle.arrays.specs.Layout.{symmetryAt}
 use Rattle.families.specs.Families.{Joined, alone, further, solutionsOf, isEarliest, earliestOf, familiesOf}
 use Rattle.families.specs.Walk.{solutionAt, imageAt, Walk}
 use Rattle.model.specs.WellFormed.{WellFormed, Respected}

@@ -8,7 +8,7 @@ use lib.Dec.{T}
 use Rattle.model.specs.Lists.{at}
 use Rattle.model.specs.Problem.{Problem, isSolution}
 use Rattle.model.specs.WellFormed.{WellFormed, Respected}
-use Rattle.layout.specs.Layout.{Images}
+use Rattle.arrays.specs.Layout.{Images}
 use Rattle.families.specs.Families.{solutionsOf}
 use Rattle.families.specs.Walk.{solutionAt, Walk}
 

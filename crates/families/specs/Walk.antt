@@ -7,7 +7,7 @@ use lib.ListN.{length, take, getD}
 use Rattle.model.specs.Lists.{keep, at}
 use Rattle.model.specs.ValueSets.{least}
 use Rattle.model.specs.Problem.{Problem, takes}
-use Rattle.layout.specs.Layout.{symmetryAt}
+use Rattle.arrays.specs.Layout.{symmetryAt}
 use Rattle.families.specs.Families.{Joined, solutionsOf, isEarliest}
 
 -- ---- solutions by their number

@@ -1,5 +1,5 @@
 // Counts the families of solutions by breadth-first search over their numbers (paper 02, #104).
-use layout::Images;
+use arrays::Images;
 ghost use mathlib.Core.Path.{_≡_};
 ghost use mathlib.Core.List.{List};
 ghost use Prim.Native.Nat.{ℕ, _+_, _*_, _<_, _≤_};

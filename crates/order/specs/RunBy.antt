@@ -1,5 +1,5 @@
 -- A problem's run in an order of its variables (paper 02, requests 107 and 108): what it lists, its leaders, its sets at a prefix by place number,
--- and its nodes by the place that each settles. Everything is said of any problem and any order; crate lent has the run that is lent a sheet.
+-- and its nodes by the place that each settles. Everything is said of any problem and any order; crate run_input has the run that is lent a sheet.
 use mathlib.Core.Path.{_≡_}
 use mathlib.Core.Bool.{Bool, false, not}
 use mathlib.Core.List.{List, [], _∷_, _++_, map, List·Memᴰ}

@@ -18,14 +18,14 @@ use Rattle.model.proofs.Lists.{rowsAscend-take}
 use Rattle.model.proofs.Room.{length-flat}
 use Rattle.model.proofs.Runs.{rows-counted, rows-sized}
 use Rattle.model.proofs.Demands as M
-use Rattle.walk.specs.Meaning.{tallyIn, endingOf}
-use Rattle.search.specs.Meaning.{means}
-use Rattle.walk.specs.declared.Tally.{Tally}
-use Rattle.walk.specs.declared.Ending.{Ending}
-use Rattle.walk.specs.declared.Ending.the-variants.{Finished, Spent, Full}
-use Rattle.search.specs.declared.Answer.{Answer}
-use Rattle.search.specs.declared.Answer.the-variants.{Refused, Ended}
-use Rattle.search.specs.Calls.{Call, CallWith}
+use Rattle.run_state.specs.Meaning.{tallyIn, endingOf}
+use Rattle.run.specs.Meaning.{means}
+use Rattle.run_state.specs.declared.Tally.{Tally}
+use Rattle.run_state.specs.declared.Ending.{Ending}
+use Rattle.run_state.specs.declared.Ending.the-variants.{Finished, Spent, Full}
+use Rattle.run.specs.declared.Answer.{Answer}
+use Rattle.run.specs.declared.Answer.the-variants.{Refused, Ended}
+use Rattle.run.specs.Calls.{Call, CallWith}
 use Rattle.promises.specs.Demands.{plansFrom, AtEnd, AtFinish, Demands}
 use Rattle.promises.proofs.Refusals.{answer-refused, list-refused}
 

@@ -1,4 +1,4 @@
--- The demands, of what `run_lent` answers, writes and counts: from its contract and crate lent's theorems about the definitions. Assumes nothing.
+-- The demands, of what `run_lent` answers, writes and counts: from its contract and crate run_input's theorems about the definitions. Assumes nothing.
 use mathlib.Core.Path.{_≡_, sym, ap, ap₂, _∙_, subst, subst₂}
 use mathlib.Core.Logic.{_↔_}
 use mathlib.Core.List.{List, map, List·Memᴰ, Sublistᴰ}
@@ -17,19 +17,19 @@ use Rattle.model.proofs.Room.{length-flat}
 use Rattle.order.specs.Reordered.{read, ChainBy}
 use Rattle.order.specs.RunBy.{resultBy, leadersBy}
 use Rattle.order.proofs.RunBy.{take-map, rows-sized-by, rows-counted-by, leadersBy-ascend}
-use Rattle.lent.specs.Lent.{verdictLent, problemWith, orderLent, answerLent, listLent, tallyLent}
-use Rattle.lent.proofs.Lent as L
-use Rattle.lent.proofs.LentQuestions.{refused-lent}
-use Rattle.lent.proofs.LentTally.{tally-lent}
-use Rattle.walk.specs.Meaning.{tallyIn, endingOf}
-use Rattle.search.specs.Meaning.{means}
-use Rattle.walk.specs.declared.Tally.{Tally}
-use Rattle.walk.specs.declared.Ending.{Ending}
-use Rattle.walk.specs.declared.Ending.the-variants.{Finished}
-use Rattle.search.specs.declared.Answer.{Answer}
-use Rattle.search.specs.declared.Answer.the-variants.{Refused, Ended}
+use Rattle.run_input.specs.Lent.{verdictLent, problemWith, orderLent, answerLent, listLent, tallyLent}
+use Rattle.run_input.proofs.Lent as L
+use Rattle.run_input.proofs.LentQuestions.{refused-lent}
+use Rattle.run_input.proofs.LentTally.{tally-lent}
+use Rattle.run_state.specs.Meaning.{tallyIn, endingOf}
+use Rattle.run.specs.Meaning.{means}
+use Rattle.run_state.specs.declared.Tally.{Tally}
+use Rattle.run_state.specs.declared.Ending.{Ending}
+use Rattle.run_state.specs.declared.Ending.the-variants.{Finished}
+use Rattle.run.specs.declared.Answer.{Answer}
+use Rattle.run.specs.declared.Answer.the-variants.{Refused, Ended}
 use Rattle.promises.specs.Demands.{plansFrom}
-use Rattle.search.specs.Calls.{CallLent}
+use Rattle.run.specs.Calls.{CallLent}
 use Rattle.promises.specs.DemandsLent.{AtEndLent, AtFinishLent, TalliedLent, DemandsLent}
 use Rattle.promises.proofs.Demands.{is-refused, is-ended, is-finished}
 

@@ -24,22 +24,22 @@ use Rattle.order.specs.Reordered.{LeaderBy}
 use Rattle.order.specs.RunBy.{resultBy, leadersBy}
 use Rattle.order.proofs.RunBy.{rows-sized-by, rows-counted-by, leadersBy-hold}
 use Rattle.block.specs.Block.{blockLent}
-use Rattle.lent.specs.Lent.{verdictLent, problemWith, orderLent}
-use Rattle.lent.proofs.Lent as L
-use Rattle.merge.specs.Merge.{ascends, mergedBy, merged, wholeLists, orderedVerdict, mergeVerdict}
-use Rattle.merge.specs.Meaning.{means}
-use Rattle.merge.specs.Calls.{CallMerge}
-use Rattle.merge.specs.declared.Answer.{Answer}
-use Rattle.merge.specs.declared.Answer.the-variants.{Written, Refused}
-use Rattle.merge.proofs.Asking.{union-length}
-use Rattle.merge.proofs.Claimed.{holds-by, ascends-by}
-use Rattle.walk.specs.declared.Tally.{Tally}
-use Rattle.walk.specs.Meaning.{endingOf}
-use Rattle.search.specs.Calls.{CallLent}
+use Rattle.run_input.specs.Lent.{verdictLent, problemWith, orderLent}
+use Rattle.run_input.proofs.Lent as L
+use Rattle.list_merge.specs.Merge.{ascends, mergedBy, merged, wholeLists, orderedVerdict, mergeVerdict}
+use Rattle.list_merge.specs.Meaning.{means}
+use Rattle.list_merge.specs.Calls.{CallMerge}
+use Rattle.list_merge.specs.declared.Answer.{Answer}
+use Rattle.list_merge.specs.declared.Answer.the-variants.{Written, Refused}
+use Rattle.list_merge.proofs.Asking.{union-length}
+use Rattle.list_merge.proofs.Claimed.{holds-by, ascends-by}
+use Rattle.run_state.specs.declared.Tally.{Tally}
+use Rattle.run_state.specs.Meaning.{endingOf}
+use Rattle.run.specs.Calls.{CallLent}
 use Rattle.promises.specs.Demands.{plansFrom}
-use Rattle.walk.specs.declared.Ending.{Ending}
-use Rattle.walk.specs.declared.Ending.the-variants.{Finished}
-use Rattle.search.specs.declared.Answer.the-variants.{Ended}
+use Rattle.run_state.specs.declared.Ending.{Ending}
+use Rattle.run_state.specs.declared.Ending.the-variants.{Finished}
+use Rattle.run.specs.declared.Answer.the-variants.{Ended}
 use Rattle.promises.proofs.DemandsLent.{demands-lent}
 use Rattle.promises.specs.EitherCalls.{plansOf, plansBytes, InMerged, Either-calls}
 

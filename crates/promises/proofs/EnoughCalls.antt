@@ -15,22 +15,22 @@ use Rattle.model.specs.Run.{plansIn, ended}
 use Rattle.model.specs.Claims.{plansAmong}
 use Rattle.model.proofs.Room.{length-listed}
 use Rattle.order.specs.RunBy.{leadersBy}
-use Rattle.lent.specs.Lent.{verdictLent, problemWith, orderLent, problemLent, answerLentFor, answerLent, listLent}
-use Rattle.enough.specs.AtLeast.{enough, tooFew, unknown}
-use Rattle.enough.specs.Lent.{enoughLent}
-use Rattle.enough.specs.LentClaims.{AgreesLent, FiguresLent}
-use Rattle.enough.proofs.AtLeast.{among-all, among-most}
-use Rattle.enough.proofs.LentEnough.{tree-leaders, enough-refused-lent, enough-none-lent, enough-agrees-lent, enough-figures-lent, enough-more-lent}
-use Rattle.walk.specs.declared.Tally.{Tally}
-use Rattle.search.specs.Meaning.{means, saidEnough}
-use Rattle.walk.specs.Meaning.{endingOf}
-use Rattle.search.specs.Calls.{CallLent, CallEnough}
-use Rattle.walk.specs.declared.Ending.{Ending}
-use Rattle.walk.specs.declared.Ending.the-variants as E
-use Rattle.search.specs.declared.Answer.{Answer}
-use Rattle.search.specs.declared.Answer.the-variants.{Ended}
-use Rattle.search.specs.declared.Enough.{Enough}
-use Rattle.search.specs.declared.Enough.the-variants as N
+use Rattle.run_input.specs.Lent.{verdictLent, problemWith, orderLent, problemLent, answerLentFor, answerLent, listLent}
+use Rattle.run_enough.specs.AtLeast.{enough, tooFew, unknown}
+use Rattle.run_enough.specs.Lent.{enoughLent}
+use Rattle.run_enough.specs.LentClaims.{AgreesLent, FiguresLent}
+use Rattle.run_enough.proofs.AtLeast.{among-all, among-most}
+use Rattle.run_enough.proofs.LentEnough.{tree-leaders, enough-refused-lent, enough-none-lent, enough-agrees-lent, enough-figures-lent, enough-more-lent}
+use Rattle.run_state.specs.declared.Tally.{Tally}
+use Rattle.run.specs.Meaning.{means, saidEnough}
+use Rattle.run_state.specs.Meaning.{endingOf}
+use Rattle.run.specs.Calls.{CallLent, CallEnough}
+use Rattle.run_state.specs.declared.Ending.{Ending}
+use Rattle.run_state.specs.declared.Ending.the-variants as E
+use Rattle.run.specs.declared.Answer.{Answer}
+use Rattle.run.specs.declared.Answer.the-variants.{Ended}
+use Rattle.run.specs.declared.Enough.{Enough}
+use Rattle.run.specs.declared.Enough.the-variants as N
 use Rattle.promises.specs.EnoughCalls.{Agrees, Roomy, EnoughHeld, Enough-calls}
 use Rattle.promises.proofs.RetypedCalls.{answer-known}
 use Rattle.promises.proofs.DemandsLent.{demands-lent}

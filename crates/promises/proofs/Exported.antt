@@ -15,12 +15,12 @@ use Rattle.model.specs.Sheet.{Header, word, headerOf, problemOf, scopeAt, rowsA
 use Rattle.model.specs.Run as R
 use Rattle.model.specs.Run.{refusal, ended, finished, spent, full, answerFor, answerOf, listFor, listOf}
 use Rattle.model.proofs.Demands as M
-use Rattle.walk.specs.Meaning.{endingOf}
-use Rattle.search.specs.Calls.{Call}
-use Rattle.walk.specs.declared.Ending.{Ending}
-use Rattle.walk.specs.declared.Ending.the-variants.{Finished, Spent, Full}
-use Rattle.search.specs.declared.Answer.{Answer}
-use Rattle.search.specs.declared.Answer.the-variants.{Ended}
+use Rattle.run_state.specs.Meaning.{endingOf}
+use Rattle.run.specs.Calls.{Call}
+use Rattle.run_state.specs.declared.Ending.{Ending}
+use Rattle.run_state.specs.declared.Ending.the-variants.{Finished, Spent, Full}
+use Rattle.run.specs.declared.Answer.{Answer}
+use Rattle.run.specs.declared.Answer.the-variants.{Ended}
 use Rattle.promises.proofs.Demands.{demands}
 use Rattle.wire.specs.Wire.{codeOf, wrongLength, threeNumbers, fourAt}
 use Rattle.export_run.specs.Run.{questionCode, endingBytes, answerCode, answerBytes, runCode, runList, runAnswer}

@@ -21,26 +21,26 @@ use Rattle.order.specs.Order.{settlesAll, orderVerdict}
 use Rattle.order.specs.RunBy.{placeCounts}
 use Rattle.block.specs.Block.{blockTables, isBlock, blockVerdict, blockLent}
 use Rattle.sheet.specs.Meaning.{andThen}
-use Rattle.lent.specs.Lent.{verdictLent, problemWith, orderLent, answerLentFor, answerLent, listLentFor, listLent, tallyLentFor, tallyLent}
-use Rattle.lent.proofs.Lent as L
-use Rattle.walk.specs.Meaning.{tallyIn}
-use Rattle.walk.specs.declared.Tally.{Tally}
-use Rattle.enough.specs.AtLeast.{enough, tooFew, unknown}
-use Rattle.enough.specs.Lent.{EnoughAnswer, enoughLent}
-use Rattle.enough.specs.Lent as E
-use Rattle.closed.specs.Open.{none, two}
-use Rattle.closed.specs.Lent.{Told, refusal, told, closedLent, means as closedMeans}
-use Rattle.closed.specs.declared.Answer as CA
-use Rattle.closed.specs.declared.Answer.the-variants as CV
-use Rattle.closed.proofs.Calls.{closed-calls}
-use Rattle.search.specs.Meaning.{saidEnough}
-use Rattle.search.specs.declared.Enough.{Enough}
-use Rattle.search.specs.declared.Enough.the-variants as N
+use Rattle.run_input.specs.Lent.{verdictLent, problemWith, orderLent, answerLentFor, answerLent, listLentFor, listLent, tallyLentFor, tallyLent}
+use Rattle.run_input.proofs.Lent as L
+use Rattle.run_state.specs.Meaning.{tallyIn}
+use Rattle.run_state.specs.declared.Tally.{Tally}
+use Rattle.run_enough.specs.AtLeast.{enough, tooFew, unknown}
+use Rattle.run_enough.specs.Lent.{EnoughAnswer, enoughLent}
+use Rattle.run_enough.specs.Lent as E
+use Rattle.families_closed.specs.Open.{none, two}
+use Rattle.families_closed.specs.Lent.{Told, refusal, told, closedLent, means as closedMeans}
+use Rattle.families_closed.specs.declared.Answer as CA
+use Rattle.families_closed.specs.declared.Answer.the-variants as CV
+use Rattle.families_closed.proofs.Calls.{closed-calls}
+use Rattle.run.specs.Meaning.{saidEnough}
+use Rattle.run.specs.declared.Enough.{Enough}
+use Rattle.run.specs.declared.Enough.the-variants as N
 use Rattle.promises.proofs.EnoughCalls.{enough-calls}
-use Rattle.search.specs.Calls.{CallLent, noTally}
-use Rattle.walk.specs.declared.Ending.{Ending}
-use Rattle.walk.specs.declared.Ending.the-variants.{Finished, Spent, Full}
-use Rattle.search.specs.declared.Answer.the-variants.{Ended}
+use Rattle.run.specs.Calls.{CallLent, noTally}
+use Rattle.run_state.specs.declared.Ending.{Ending}
+use Rattle.run_state.specs.declared.Ending.the-variants.{Finished, Spent, Full}
+use Rattle.run.specs.declared.Answer.the-variants.{Ended}
 use Rattle.promises.proofs.DemandsLent.{demands-lent}
 use Rattle.wire.specs.Wire.{codeOf, wrongLength, threeNumbers, fourAt}
 use Rattle.export_run.specs.Run.{questionCode, endingBytes, answerCode}

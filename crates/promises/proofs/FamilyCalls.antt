@@ -5,25 +5,25 @@ use mathlib.Core.List.{List, []}
 use Prim.Native.Nat.{ℕ, _*_}
 use native.Mathlib.Omega.{arith}
 use lib.ListN.{length}
-use Rattle.walk.specs.Meaning.{endingOf}
+use Rattle.run_state.specs.Meaning.{endingOf}
 use Rattle.model.specs.Verdict.{Verdict, accepted, refused}
 use Rattle.model.specs.Sheet.{problemOf}
 use Rattle.model.specs.Run.{Ending, finished, spent, full, ended, listedPlans}
-use Rattle.lent.specs.Lent.{verdictLent, problemWith}
+use Rattle.run_input.specs.Lent.{verdictLent, problemWith}
 use Rattle.families.specs.Families.{FamilyCount, familiesOf}
-use Rattle.figure.specs.Figure.{Figure, number, dash, figureFor, bareSheet, familiesLent}
-use Rattle.figure.specs.FigureClaims.{ranWith, ranBare, Finished, OneListedEach}
-use Rattle.figure.proofs.FamiliesLent.{families-lent, bare-run, one-of-each-lent, block-alone-one-each}
-use Rattle.walk.specs.declared.Tally.{Tally}
-use Rattle.search.specs.Calls.{CallLent}
-use Rattle.search.specs.Meaning as M
-use Rattle.walk.specs.declared.Ending.the-variants.{Finished as Done}
-use Rattle.search.specs.declared.Answer as SA
-use Rattle.search.specs.declared.Answer.the-variants.{Ended}
+use Rattle.families_figure.specs.Figure.{Figure, number, dash, figureFor, bareSheet, familiesLent}
+use Rattle.families_figure.specs.FigureClaims.{ranWith, ranBare, Finished, OneListedEach}
+use Rattle.families_figure.proofs.FamiliesLent.{families-lent, bare-run, one-of-each-lent, block-alone-one-each}
+use Rattle.run_state.specs.declared.Tally.{Tally}
+use Rattle.run.specs.Calls.{CallLent}
+use Rattle.run.specs.Meaning as M
+use Rattle.run_state.specs.declared.Ending.the-variants.{Finished as Done}
+use Rattle.run.specs.declared.Answer as SA
+use Rattle.run.specs.declared.Answer.the-variants.{Ended}
 use Rattle.promises.proofs.Demands.{is-ended, is-finished}
-use Rattle.counting.specs.Told.{refusal, told, toldFor, countedLent, means}
-use Rattle.counting.specs.declared.Answer.{Answer}
-use Rattle.counting.specs.declared.Answer.the-variants.{Number, Dash, Refused}
+use Rattle.families_count.specs.Told.{refusal, told, toldFor, countedLent, means}
+use Rattle.families_count.specs.declared.Answer.{Answer}
+use Rattle.families_count.specs.declared.Answer.the-variants.{Number, Dash, Refused}
 use Rattle.promises.specs.FamilyCalls.{Families-calls, One-of-each-calls, Block-calls}
 
 -- ---- families

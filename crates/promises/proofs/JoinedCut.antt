@@ -11,12 +11,12 @@ use Rattle.model.specs.Lists.{choose}
 use Rattle.model.specs.Verdict.{Verdict, accepted}
 use Rattle.model.specs.Run.{finished, spent, full, Answer, refusal, ended}
 use Rattle.model.proofs.Lists.{place-of, mem-getD}
-use Rattle.parts.specs.Parts.{after, Cuts, lastOf}
-use Rattle.parts.proofs.Parts.{after-e, after-i, after-total}
-use Rattle.ranges.specs.Claims.{Part, Goes, Done}
-use Rattle.join.specs.Join.{fromAt, reachAt, headsIn, joinVerdict, standPath, beginOr, stands, joined, nearest}
-use Rattle.join.specs.Calls.{answerFor}
-use Rattle.join.specs.declared.Answer.the-variants.{Joined, Missing}
+use Rattle.run_cut.specs.Parts.{after, Cuts, lastOf}
+use Rattle.run_cut.proofs.Parts.{after-e, after-i, after-total}
+use Rattle.run_ranges.specs.Claims.{Part, Goes, Done}
+use Rattle.run_join.specs.Join.{fromAt, reachAt, headsIn, joinVerdict, standPath, beginOr, stands, joined, nearest}
+use Rattle.run_join.specs.Calls.{answerFor}
+use Rattle.run_join.specs.declared.Answer.the-variants.{Joined, Missing}
 use Rattle.promises.specs.JoinedHeads.{HeadOf, partAt}
 use Rattle.promises.specs.JoinedClaims.{MissingHeld, rangesOf, Cuts-joined}
 use Rattle.promises.proofs.JoinedHeads.{many-held, heads-held}

@@ -13,17 +13,17 @@ use Rattle.model.proofs.Lists.{at-tabulate}
 use Rattle.order.specs.Order.{pairsIn, forerunners, canFollow, settledFirst, settlingOrder, settlesAll, orderVerdict}
 use Rattle.order.specs.Reordered.{position, read, write, valueOf, scopeIn, rowIn, renamed, symmetryIn}
 use Rattle.block.specs.Block.{tablesLent, blockLent}
-use Rattle.lent.specs.Lent.{verdictLent}
-use Rattle.parts.specs.Parts.{after, nodesBetween, lastOf}
-use Rattle.ranges.specs.Ranges.{resultPart, answerPartFor, answerPart, listPartFor, listPart, tallyPart, lastPart}
-use Rattle.ranges.specs.Claims.{Part, Call, Done}
+use Rattle.run_input.specs.Lent.{verdictLent}
+use Rattle.run_cut.specs.Parts.{after, nodesBetween, lastOf}
+use Rattle.run_ranges.specs.Ranges.{resultPart, answerPartFor, answerPart, listPartFor, listPart, tallyPart, lastPart}
+use Rattle.run_ranges.specs.Claims.{Part, Call, Done}
 use Rattle.wire.specs.Wire.{threeNumbers}
 use Rattle.export_lent.specs.Tallied.{numbersOf}
 use Rattle.export_parts.specs.Head.{digestFrom, digest, nameBytes, pathBytes, headOf}
-use Rattle.join.specs.Join.{pathAt, wholeHeads, pathShaped, headShaped, alike, joinVerdict, countOf, comes, mayTake, bestOf, stepOf, takenFrom, taken, standAfter, nearestOf}
-use Rattle.join.specs.Calls.{answerFor, figureFor, CallJoin}
-use Rattle.join.specs.declared.Answer.the-variants.{Joined}
-use Rattle.join.specs.declared.Joining.{Joining}
+use Rattle.run_join.specs.Join.{pathAt, wholeHeads, pathShaped, headShaped, alike, joinVerdict, countOf, comes, mayTake, bestOf, stepOf, takenFrom, taken, standAfter, nearestOf}
+use Rattle.run_join.specs.Calls.{answerFor, figureFor, CallJoin}
+use Rattle.run_join.specs.declared.Answer.the-variants.{Joined}
+use Rattle.run_join.specs.declared.Joining.{Joining}
 use Rattle.promises.specs.JoinedHeads.{takenParts, partAt}
 use Rattle.promises.specs.JoinedClaims.{JoinedHeld, rangesOf, CutHeld}
 use Rattle.promises.specs.JoinedExamples.{partA, cutA, spentA, cutsA, headsA, joiningA, testsJoined, HeldA}

@@ -12,10 +12,10 @@ use Rattle.model.specs.Run.{Ending, finished, spent, full, plansIn, nodesIn, se
 use Rattle.model.proofs.Lists.{at-append, at-tabulate, at-take, at-ext, length-tabulate, mem-getD}
 use Rattle.model.proofs.Tally.{length-counts}
 use Rattle.wire.specs.Wire.{threeNumbers}
-use Rattle.lent.specs.Lent.{verdictLent, orderLent, problemLent}
-use Rattle.ranges.specs.Ranges.{partNodes, resultPart, answerPartFor, answerPart, plansSaid, nodesSaid, madeBy, tallyPart}
-use Rattle.ranges.specs.Claims.{Part, Call}
-use Rattle.join.specs.Join.{fourAt, pathAt, headsIn}
+use Rattle.run_input.specs.Lent.{verdictLent, orderLent, problemLent}
+use Rattle.run_ranges.specs.Ranges.{partNodes, resultPart, answerPartFor, answerPart, plansSaid, nodesSaid, madeBy, tallyPart}
+use Rattle.run_ranges.specs.Claims.{Part, Call}
+use Rattle.run_join.specs.Join.{fourAt, pathAt, headsIn}
 use Rattle.export_run.specs.Run.{endingBytes}
 use Rattle.export_lent.specs.Tallied.{numbersOf}
 use Rattle.export_lent.proofs.Tallied.{length-numbers}

@@ -14,13 +14,13 @@ use Rattle.model.specs.Verdict.{Verdict, accepted}
 use Rattle.model.specs.Run.{finished, ended, Tally}
 use Rattle.model.proofs.Room.{length-listed}
 use Rattle.order.specs.Reordered.{read, LeaderBy, ChainBy}
-use Rattle.lent.specs.Lent.{verdictLent, problemWith, orderLent, problemLent, answerLent, listLent, tallyLent}
-use Rattle.lent.proofs.Lent.{lists-leaders-lent, leaders-ascend-lent, chains-lent, nothing-listed-lent}
-use Rattle.ranges.specs.Ranges.{plansSaid, nodesSaid}
-use Rattle.ranges.specs.Claims.{Part, Chain, allPlans, sumPlans, sumNodes, sumCounts, Together}
-use Rattle.ranges.proofs.Joined.{joined-run}
-use Rattle.join.specs.Join.{fourAt, headsIn, joinVerdict, taken, joined, plansOf, nodesOf, countOf}
-use Rattle.join.specs.Calls.{figureFor}
+use Rattle.run_input.specs.Lent.{verdictLent, problemWith, orderLent, problemLent, answerLent, listLent, tallyLent}
+use Rattle.run_input.proofs.Lent.{lists-leaders-lent, leaders-ascend-lent, chains-lent, nothing-listed-lent}
+use Rattle.run_ranges.specs.Ranges.{plansSaid, nodesSaid}
+use Rattle.run_ranges.specs.Claims.{Part, Chain, allPlans, sumPlans, sumNodes, sumCounts, Together}
+use Rattle.run_ranges.proofs.Joined.{joined-run}
+use Rattle.run_join.specs.Join.{fourAt, headsIn, joinVerdict, taken, joined, plansOf, nodesOf, countOf}
+use Rattle.run_join.specs.Calls.{figureFor}
 use Rattle.promises.specs.JoinedHeads.{cutTwelve, takenParts}
 use Rattle.promises.specs.JoinedClaims.{Twelve-nodes, Twelve-values, Head-says, Heads-say, RunHeld, DemandsHeld, Joined-held}
 use Rattle.promises.proofs.JoinedTwelve.{small-lent, twelve-between, call-twelve}

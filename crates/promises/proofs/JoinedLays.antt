@@ -11,11 +11,11 @@ use Rattle.model.specs.Lists.{all, at, below, both}
 use Rattle.model.specs.Verdict.{accepted, ask}
 use Rattle.model.specs.Run.{finished, spent, full, Answer, refusal, ended}
 use Rattle.model.proofs.Lists.{at-tabulate, at-out, length-tabulate, mem-getD}
-use Rattle.ranges.specs.Claims.{Part, Goes}
+use Rattle.run_ranges.specs.Claims.{Part, Goes}
 use Rattle.export_parts.specs.Head.{pathBytes}
-use Rattle.join.specs.Join.{kindAt, headsIn, pathShaped, headShaped, alike, wholeHeads, joinVerdict}
-use Rattle.join.proofs.Orders.{all-below, both-yes, shaped-yes}
-use Rattle.join.proofs.Questions.{alike-yes, shape-paths, few-kinds}
+use Rattle.run_join.specs.Join.{kindAt, headsIn, pathShaped, headShaped, alike, wholeHeads, joinVerdict}
+use Rattle.run_join.proofs.Orders.{all-below, both-yes, shaped-yes}
+use Rattle.run_join.proofs.Questions.{alike-yes, shape-paths, few-kinds}
 use Rattle.promises.specs.JoinedHeads.{kindSaid, HeldBytes, partAt}
 use Rattle.promises.specs.JoinedClaims.{Heads-accepted}
 use Rattle.promises.proofs.JoinedHeads.{Found, Pieces, twelve-counts, ends, bytes-pieces, length-name, size-held, many-held, call-held, found-held, heads-held}

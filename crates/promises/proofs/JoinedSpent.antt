@@ -14,12 +14,12 @@ use Rattle.model.specs.Search.{isPlan}
 use Rattle.model.specs.Sheet.{problemOf}
 use Rattle.model.specs.Run.{Ending, finished, full, plansIn, search, Answer, ended, listedPlans}
 use Rattle.model.proofs.Runs.{Ended, Walk, walk}
-use Rattle.parts.specs.Parts.{nodesBetween, lastOf}
-use Rattle.lent.specs.Lent.{problemLent}
-use Rattle.ranges.specs.Ranges.{plansSaid, nodesSaid}
-use Rattle.ranges.specs.Claims.{Goes, reachedFor, plansHeld}
-use Rattle.ranges.proofs.Between.{before-of, stop}
-use Rattle.ranges.proofs.Joined.{joined, finishes}
+use Rattle.run_cut.specs.Parts.{nodesBetween, lastOf}
+use Rattle.run_input.specs.Lent.{problemLent}
+use Rattle.run_ranges.specs.Ranges.{plansSaid, nodesSaid}
+use Rattle.run_ranges.specs.Claims.{Goes, reachedFor, plansHeld}
+use Rattle.run_ranges.proofs.Between.{before-of, stop}
+use Rattle.run_ranges.proofs.Joined.{joined, finishes}
 use Rattle.promises.specs.JoinedClaims.{Spent-finished, Full-lacks}
 use Rattle.promises.proofs.JoinedTwelve.{small-lent}
 use Rattle.promises.proofs.JoinedHeads.{answered}

@@ -12,14 +12,14 @@ use borrow.Author.Tests.{ltb-true, ltb-false}
 use Rattle.model.specs.Lists.{both, choose, same}
 use Rattle.model.specs.Verdict.{Verdict, accepted, refused}
 use Rattle.model.proofs.Lists.{T-of, of-T, of-not, both-i, both-r, same-eq, same-refl}
-use Rattle.parts.specs.Parts.{after}
-use Rattle.parts.proofs.Parts.{after-trans, after-not}
-use Rattle.join.specs.Join.{fromAt, reachAt, headsIn, joinVerdict, goesOn, comes, leads, mayTake, standPath, reachOr, bestOf, stepOf, takenFrom, taken, standAfter, stands, joined, nearer, nearestOf, beginOr, nearest}
-use Rattle.join.proofs.Fewer.{further, fewer, further-few}
-use Rattle.join.proofs.Leads.{Next, comes-end, comes-next, comes-all, comes-out}
-use Rattle.join.specs.Calls.{answerFor}
-use Rattle.join.specs.declared.Answer.the-variants.{Joined, Missing}
-use Rattle.ranges.specs.Claims.{Chain}
+use Rattle.run_cut.specs.Parts.{after}
+use Rattle.run_cut.proofs.Parts.{after-trans, after-not}
+use Rattle.run_join.specs.Join.{fromAt, reachAt, headsIn, joinVerdict, goesOn, comes, leads, mayTake, standPath, reachOr, bestOf, stepOf, takenFrom, taken, standAfter, stands, joined, nearer, nearestOf, beginOr, nearest}
+use Rattle.run_join.proofs.Fewer.{further, fewer, further-few}
+use Rattle.run_join.proofs.Leads.{Next, comes-end, comes-next, comes-all, comes-out}
+use Rattle.run_join.specs.Calls.{answerFor}
+use Rattle.run_join.specs.declared.Answer.the-variants.{Joined, Missing}
+use Rattle.run_ranges.specs.Claims.{Chain}
 use Rattle.promises.specs.JoinedHeads.{takenParts}
 use Rattle.promises.specs.JoinedClaims.{HeadChain, Joined-exactly, MissingHeld, Missing-held, Missing-chain}
 use Rattle.promises.proofs.JoinedTaken.{betters, step-goes, taken-chain}

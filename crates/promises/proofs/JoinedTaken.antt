@@ -15,16 +15,16 @@ use Rattle.model.specs.Verdict.{Verdict, accepted, ask}
 use Rattle.model.specs.Search.{nodes}
 use Rattle.model.specs.Run.{Ending, finished, spent, full, Answer, ended}
 use Rattle.model.proofs.Lists.{T-of, of-T, of-not, both-r, keep-e, same-eq}
-use Rattle.parts.specs.Parts.{after, nodesBetween, lastOf}
-use Rattle.parts.proofs.Parts.{after-trans, after-asym, after-not}
-use Rattle.parts.proofs.Resume.{node-values, last-in, taken}
-use Rattle.lent.specs.Lent.{verdictLent, problemLent}
-use Rattle.ranges.specs.Ranges.{nodesSaid, madeBy, lastPart}
-use Rattle.ranges.specs.Claims.{Part, Call, Goes, reachedFor, reachedBy, Chain}
-use Rattle.ranges.proofs.Between.{between}
-use Rattle.join.specs.Join.{pathAt, kindAt, fromAt, reachAt, headsIn, headShaped, alike, wholeHeads, joinVerdict, standPath, mayTake, reachOr, bestOf, stepOf, takenFrom, standAfter}
-use Rattle.join.proofs.Orders.{each-below, both-first, both-second}
-use Rattle.join.proofs.Questions.{place-end, place-last}
+use Rattle.run_cut.specs.Parts.{after, nodesBetween, lastOf}
+use Rattle.run_cut.proofs.Parts.{after-trans, after-asym, after-not}
+use Rattle.run_cut.proofs.Resume.{node-values, last-in, taken}
+use Rattle.run_input.specs.Lent.{verdictLent, problemLent}
+use Rattle.run_ranges.specs.Ranges.{nodesSaid, madeBy, lastPart}
+use Rattle.run_ranges.specs.Claims.{Part, Call, Goes, reachedFor, reachedBy, Chain}
+use Rattle.run_ranges.proofs.Between.{between}
+use Rattle.run_join.specs.Join.{pathAt, kindAt, fromAt, reachAt, headsIn, headShaped, alike, wholeHeads, joinVerdict, standPath, mayTake, reachOr, bestOf, stepOf, takenFrom, standAfter}
+use Rattle.run_join.proofs.Orders.{each-below, both-first, both-second}
+use Rattle.run_join.proofs.Questions.{place-end, place-last}
 use Rattle.promises.specs.JoinedHeads.{kindSaid, HeadOf, cutTwelve, HeldHeads}
 use Rattle.promises.proofs.JoinedTwelve.{small-lent, twelve-again, call-twelve}
 use Rattle.promises.proofs.JoinedHeads.{ends}

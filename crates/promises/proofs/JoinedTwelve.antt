@@ -14,13 +14,13 @@ use Rattle.model.specs.Sheet.{problemOf}
 use Rattle.model.specs.Run.{search, Answer, ended, written, Tally, settledBy, countsBy}
 use Rattle.model.proofs.Lists.{keep-ext}
 use Rattle.order.specs.Reordered.{write}
-use Rattle.parts.specs.Parts.{nodesBetween, lastOf}
-use Rattle.lent.specs.Lent.{verdictLent, orderLent, problemLent}
-use Rattle.lent.proofs.Lent.{passed-all, well-lent}
-use Rattle.ranges.specs.Ranges.{partNodes, resultPart, answerPartFor, answerPart, listPartFor, listPart, nodesSaid, tallyPart, lastPart}
-use Rattle.ranges.specs.Claims.{Part, Call}
-use Rattle.parts.proofs.Resume.{node-values}
-use Rattle.ranges.proofs.Between.{between, after-short}
+use Rattle.run_cut.specs.Parts.{nodesBetween, lastOf}
+use Rattle.run_input.specs.Lent.{verdictLent, orderLent, problemLent}
+use Rattle.run_input.proofs.Lent.{passed-all, well-lent}
+use Rattle.run_ranges.specs.Ranges.{partNodes, resultPart, answerPartFor, answerPart, listPartFor, listPart, nodesSaid, tallyPart, lastPart}
+use Rattle.run_ranges.specs.Claims.{Part, Call}
+use Rattle.run_cut.proofs.Resume.{node-values}
+use Rattle.run_ranges.proofs.Between.{between, after-short}
 use Rattle.promises.specs.JoinedHeads.{cutTwelve}
 
 pub twelve-again : (l : List ℕ) → take 12 (take 12 l) ≡ take 12 l

@@ -16,12 +16,12 @@ use Rattle.model.proofs.Runs.{turn, search-turn, walk}
 use Rattle.order.specs.Reordered.{reordered}
 use Rattle.order.specs.RunBy.{resultBy, placeCounts, leadersBy}
 use Rattle.block.proofs.BlockLent.{is-accepted}
-use Rattle.lent.specs.Lent.{verdictLent, problemWith, orderLent}
-use Rattle.lent.proofs.Lent as L
-use Rattle.search.specs.Meaning.{means}
-use Rattle.walk.specs.Meaning.{endingOf}
-use Rattle.walk.specs.declared.Ending.{Ending}
-use Rattle.search.specs.declared.Answer.the-variants.{Ended}
+use Rattle.run_input.specs.Lent.{verdictLent, problemWith, orderLent}
+use Rattle.run_input.proofs.Lent as L
+use Rattle.run.specs.Meaning.{means}
+use Rattle.run_state.specs.Meaning.{endingOf}
+use Rattle.run_state.specs.declared.Ending.{Ending}
+use Rattle.run.specs.declared.Answer.the-variants.{Ended}
 use Rattle.promises.specs.DemandsLent.{TalliedLent}
 use Rattle.promises.specs.Moments.{Each-moment}
 use Rattle.promises.proofs.DemandsLent.{demands-lent}

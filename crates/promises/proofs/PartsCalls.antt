@@ -7,10 +7,10 @@ use Rattle.model.specs.Verdict.{Verdict}
 use Rattle.model.specs.Sheet.{problemOf}
 use Rattle.model.specs.Run.{Answer}
 use Rattle.model.specs.Run as Run
-use Rattle.lent.specs.Lent.{answerLentFor, answerLent, listLent, tallyLentFor, tallyLent}
-use Rattle.walk.specs.Meaning.{tallyIn}
-use Rattle.ranges.specs.Claims.{Together}
-use Rattle.ranges.proofs.Joined.{joined-run, whole-run}
+use Rattle.run_input.specs.Lent.{answerLentFor, answerLent, listLent, tallyLentFor, tallyLent}
+use Rattle.run_state.specs.Meaning.{tallyIn}
+use Rattle.run_ranges.specs.Claims.{Together}
+use Rattle.run_ranges.proofs.Joined.{joined-run, whole-run}
 use Rattle.promises.specs.PartsCalls.{Parts-calls, Whole-calls}
 
 pub parts-calls : Parts-calls

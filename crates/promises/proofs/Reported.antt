@@ -17,7 +17,7 @@ use Rattle.model.specs.Claims.{leaders, Chain}
 use Rattle.model.proofs.Lists.{all-e}
 use Rattle.model.proofs.Demands as D
 use Rattle.model.proofs.Runs as R
-use Rattle.figure.specs.Figure.{Figure, number, dash, reportFigure}
+use Rattle.families_figure.specs.Figure.{Figure, number, dash, reportFigure}
 use Rattle.report.specs.Report.{digits, decimal, line, planWord, finishedWord, spentWord, fullWord, refusedWord, figureLine, endingLine, resultText, reportFor, reportOf}
 use Rattle.promises.specs.Reported.{onto, linesIn, sheetIn, ReportEnds, ReportFinished, ReportHeld, Reported}
 

@@ -6,17 +6,17 @@ use native.Mathlib.Omega.{arith}
 use lib.ListN.{length}
 use Rattle.model.specs.Run.{plansIn, listedPlans, ended, Answer as Told, Tally as Counts}
 use Rattle.model.specs.Sheet.{problemOf}
-use Rattle.lent.specs.Lent.{verdictLent, answerLentFor, answerLent, listLent, tallyLentFor, tallyLent}
-use Rattle.lent.proofs.Lent.{passed-all, lent-passed}
-use Rattle.retyped.proofs.Retyped.{same-symmetries}
-use Rattle.retyped.proofs.LentRetyped.{retyped-lent, retyped-accepted-lent}
-use Rattle.walk.specs.Meaning.{tallyIn, endingOf}
-use Rattle.walk.specs.declared.Ending.{Ending}
-use Rattle.walk.specs.declared.Ending.the-variants.{Finished, Spent, Full}
-use Rattle.search.specs.declared.Answer.{Answer}
-use Rattle.search.specs.declared.Answer.the-variants.{Refused, Ended}
-use Rattle.search.specs.Meaning.{means}
-use Rattle.search.specs.Calls.{CallLent}
+use Rattle.run_input.specs.Lent.{verdictLent, answerLentFor, answerLent, listLent, tallyLentFor, tallyLent}
+use Rattle.run_input.proofs.Lent.{passed-all, lent-passed}
+use Rattle.run_retyped.proofs.Retyped.{same-symmetries}
+use Rattle.run_retyped.proofs.LentRetyped.{retyped-lent, retyped-accepted-lent}
+use Rattle.run_state.specs.Meaning.{tallyIn, endingOf}
+use Rattle.run_state.specs.declared.Ending.{Ending}
+use Rattle.run_state.specs.declared.Ending.the-variants.{Finished, Spent, Full}
+use Rattle.run.specs.declared.Answer.{Answer}
+use Rattle.run.specs.declared.Answer.the-variants.{Refused, Ended}
+use Rattle.run.specs.Meaning.{means}
+use Rattle.run.specs.Calls.{CallLent}
 use Rattle.promises.specs.RetypedCalls.{Retyped-calls}
 use Rattle.promises.proofs.DemandsLent.{demands-lent}
 

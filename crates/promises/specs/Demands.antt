@@ -12,13 +12,13 @@ use Rattle.model.specs.Verdict.{accepted, refused}
 use Rattle.model.specs.Sheet.{verdictOf, problemOf}
 use Rattle.model.specs.Run.{listedPlans, plansIn, nodesIn}
 use Rattle.model.specs.Claims.{leaders, CountsAt, Tallied, Chain, OneMore}
-use Rattle.walk.specs.Meaning.{tallyIn, endingOf}
-use Rattle.search.specs.Calls.{Call, CallWith}
-use Rattle.walk.specs.declared.Tally.{Tally}
-use Rattle.walk.specs.declared.Ending.{Ending}
-use Rattle.walk.specs.declared.Ending.the-variants.{Finished}
-use Rattle.search.specs.declared.Answer.{Answer}
-use Rattle.search.specs.declared.Answer.the-variants.{Refused, Ended}
+use Rattle.run_state.specs.Meaning.{tallyIn, endingOf}
+use Rattle.run.specs.Calls.{Call, CallWith}
+use Rattle.run_state.specs.declared.Tally.{Tally}
+use Rattle.run_state.specs.declared.Ending.{Ending}
+use Rattle.run_state.specs.declared.Ending.the-variants.{Finished}
+use Rattle.run.specs.declared.Answer.{Answer}
+use Rattle.run.specs.declared.Answer.the-variants.{Refused, Ended}
 
 -- the listed plans: as many rows of n bytes at the front of the list as the ending carries
 abbrev pub plansFrom : List ℕ → ℕ → List ℕ → List (List ℕ)

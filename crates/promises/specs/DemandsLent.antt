@@ -15,15 +15,15 @@ use Rattle.model.specs.Run.{plansIn, nodesIn}
 use Rattle.model.specs.Claims.{OneMore}
 use Rattle.order.specs.Reordered.{read, ChainBy}
 use Rattle.order.specs.RunBy.{leadersBy, CountsBy, placeCounts}
-use Rattle.lent.specs.Lent.{verdictLent, problemWith, orderLent, problemLent}
-use Rattle.walk.specs.Meaning.{endingOf}
-use Rattle.search.specs.Calls.{CallLent}
+use Rattle.run_input.specs.Lent.{verdictLent, problemWith, orderLent, problemLent}
+use Rattle.run_state.specs.Meaning.{endingOf}
+use Rattle.run.specs.Calls.{CallLent}
 use Rattle.promises.specs.Demands.{plansFrom}
-use Rattle.walk.specs.declared.Tally.{Tally}
-use Rattle.walk.specs.declared.Ending.{Ending}
-use Rattle.walk.specs.declared.Ending.the-variants.{Finished}
-use Rattle.search.specs.declared.Answer.{Answer}
-use Rattle.search.specs.declared.Answer.the-variants.{Refused, Ended}
+use Rattle.run_state.specs.declared.Tally.{Tally}
+use Rattle.run_state.specs.declared.Ending.{Ending}
+use Rattle.run_state.specs.declared.Ending.the-variants.{Finished}
+use Rattle.run.specs.declared.Answer.{Answer}
+use Rattle.run.specs.declared.Answer.the-variants.{Refused, Ended}
 
 -- ---- demand 2, of every run that ends: the listed plans are a first part of the leaders in the order; read in the order they ascend strictly, so
 -- each stands there once; the bytes after them are unchanged, the nodes are within the limit, and the counts are those of the tree up to where the run

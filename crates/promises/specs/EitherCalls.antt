@@ -10,18 +10,18 @@ use Rattle.model.specs.Sheet.{problemOf}
 use Rattle.model.specs.Room.{rowsIn}
 use Rattle.model.specs.Run.{plansIn}
 use Rattle.order.specs.Reordered.{LeaderBy}
-use Rattle.lent.specs.Lent.{problemWith, orderLent}
-use Rattle.merge.specs.Merge.{ascends}
-use Rattle.merge.specs.Calls.{CallMerge}
-use Rattle.merge.specs.declared.Answer.{Answer}
-use Rattle.merge.specs.declared.Answer.the-variants.{Written, Refused}
-use Rattle.walk.specs.declared.Tally.{Tally}
-use Rattle.walk.specs.Meaning.{endingOf}
-use Rattle.search.specs.Calls.{CallLent}
+use Rattle.run_input.specs.Lent.{problemWith, orderLent}
+use Rattle.list_merge.specs.Merge.{ascends}
+use Rattle.list_merge.specs.Calls.{CallMerge}
+use Rattle.list_merge.specs.declared.Answer.{Answer}
+use Rattle.list_merge.specs.declared.Answer.the-variants.{Written, Refused}
+use Rattle.run_state.specs.declared.Tally.{Tally}
+use Rattle.run_state.specs.Meaning.{endingOf}
+use Rattle.run.specs.Calls.{CallLent}
 use Rattle.promises.specs.Demands.{plansFrom}
-use Rattle.walk.specs.declared.Ending.{Ending}
-use Rattle.walk.specs.declared.Ending.the-variants.{Finished}
-use Rattle.search.specs.declared.Answer.the-variants.{Ended}
+use Rattle.run_state.specs.declared.Ending.{Ending}
+use Rattle.run_state.specs.declared.Ending.the-variants.{Finished}
+use Rattle.run.specs.declared.Answer.the-variants.{Ended}
 
 -- how many plans an ending counts
 abbrev pub plansOf : Ending → ℕ

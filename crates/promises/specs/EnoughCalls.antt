@@ -9,16 +9,16 @@ use Rattle.model.specs.Run.{plansIn}
 use Rattle.model.specs.Verdict.{accepted, refused}
 use Rattle.model.specs.Sheet.{problemOf}
 use Rattle.order.specs.RunBy.{leadersBy}
-use Rattle.lent.specs.Lent.{verdictLent, problemWith, orderLent}
-use Rattle.walk.specs.Meaning.{endingOf}
-use Rattle.search.specs.Calls.{CallLent, CallEnough}
-use Rattle.walk.specs.declared.Tally.{Tally}
-use Rattle.walk.specs.declared.Ending.{Ending}
-use Rattle.walk.specs.declared.Ending.the-variants as E
-use Rattle.search.specs.declared.Answer.{Answer}
-use Rattle.search.specs.declared.Answer.the-variants.{Ended}
-use Rattle.search.specs.declared.Enough.{Enough}
-use Rattle.search.specs.declared.Enough.the-variants as N
+use Rattle.run_input.specs.Lent.{verdictLent, problemWith, orderLent}
+use Rattle.run_state.specs.Meaning.{endingOf}
+use Rattle.run.specs.Calls.{CallLent, CallEnough}
+use Rattle.run_state.specs.declared.Tally.{Tally}
+use Rattle.run_state.specs.declared.Ending.{Ending}
+use Rattle.run_state.specs.declared.Ending.the-variants as E
+use Rattle.run.specs.declared.Answer.{Answer}
+use Rattle.run.specs.declared.Answer.the-variants.{Ended}
+use Rattle.run.specs.declared.Enough.{Enough}
+use Rattle.run.specs.declared.Enough.the-variants as N
 
 -- beside a finished run that listed so many plans after so many trials: yes and no agree with its list; yes or no is said where the limit allows its trials
 pub record Agrees (r : Enough) (limit m plans nodes : ℕ) : Type 0 where

@@ -8,11 +8,11 @@ use lib.ListN.{length}
 use Rattle.export_run.specs.Calls.{CallCode, CallExported}
 use Rattle.model.specs.Verdict.{accepted, refused}
 use Rattle.model.specs.Sheet.{verdictOf}
-use Rattle.search.specs.Calls.{Call}
+use Rattle.run.specs.Calls.{Call}
 use Rattle.promises.specs.Demands.{AtEnd, AtFinish}
-use Rattle.walk.specs.declared.Ending.{Ending}
-use Rattle.walk.specs.declared.Ending.the-variants.{Finished, Spent, Full}
-use Rattle.search.specs.declared.Answer.the-variants.{Ended}
+use Rattle.run_state.specs.declared.Ending.{Ending}
+use Rattle.run_state.specs.declared.Ending.the-variants.{Finished, Spent, Full}
+use Rattle.run.specs.declared.Answer.the-variants.{Ended}
 use Rattle.wire.specs.Wire.{wrongLength, fourAt}
 
 -- 0 exactly for an accepted sheet, else the number and item of the first "no"

@@ -6,18 +6,18 @@ use Prim.Native.Nat.{ℕ, _+_, _*_, _<_}
 use lib.ListN.{length}
 use Rattle.model.specs.Lists.{at}
 use Rattle.model.specs.Verdict.{accepted, refused}
-use Rattle.lent.specs.Lent.{verdictLent}
-use Rattle.walk.specs.declared.Tally.{Tally}
-use Rattle.search.specs.Calls.{CallLent, noTally, CallEnough}
+use Rattle.run_input.specs.Lent.{verdictLent}
+use Rattle.run_state.specs.declared.Tally.{Tally}
+use Rattle.run.specs.Calls.{CallLent, noTally, CallEnough}
 use Rattle.promises.specs.DemandsLent.{AtEndLent, AtFinishLent, TalliedLent}
 use Rattle.promises.specs.EnoughCalls.{EnoughHeld}
-use Rattle.search.specs.declared.Enough.{Enough}
-use Rattle.search.specs.declared.Enough.the-variants as N
-use Rattle.closed.specs.Calls.{CallClosed, ClosedHeld}
-use Rattle.closed.specs.declared.Answer as CA
-use Rattle.closed.specs.declared.Answer.the-variants as CV
-use Rattle.walk.specs.declared.Ending.{Ending}
-use Rattle.search.specs.declared.Answer.the-variants.{Ended}
+use Rattle.run.specs.declared.Enough.{Enough}
+use Rattle.run.specs.declared.Enough.the-variants as N
+use Rattle.families_closed.specs.Calls.{CallClosed, ClosedHeld}
+use Rattle.families_closed.specs.declared.Answer as CA
+use Rattle.families_closed.specs.declared.Answer.the-variants as CV
+use Rattle.run_state.specs.declared.Ending.{Ending}
+use Rattle.run.specs.declared.Answer.the-variants.{Ended}
 use Rattle.wire.specs.Wire.{wrongLength, fourAt}
 use Rattle.promises.specs.Exported.{Tells}
 use Rattle.export_lent.specs.Calls.{CallRunBytes, CallEnoughBytes, CallClosedBytes}

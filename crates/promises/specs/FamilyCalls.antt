@@ -5,21 +5,21 @@ use mathlib.Core.Logic.{_↔_}
 use mathlib.Core.List.{List, []}
 use Prim.Native.Nat.{ℕ, _*_}
 use lib.ListN.{length}
-use Rattle.counting.specs.Calls.{CallFamilies}
+use Rattle.families_count.specs.Calls.{CallFamilies}
 use Rattle.model.specs.Verdict.{accepted, refused}
 use Rattle.model.specs.Sheet.{headerOf, problemOf}
-use Rattle.lent.specs.Lent.{verdictLent, problemWith}
+use Rattle.run_input.specs.Lent.{verdictLent, problemWith}
 use Rattle.families.specs.Families.{Closed, FamilyCount, familiesOf}
-use Rattle.figure.specs.Figure.{bareSheet}
-use Rattle.figure.specs.FigureClaims.{OneListedEach}
+use Rattle.families_figure.specs.Figure.{bareSheet}
+use Rattle.families_figure.specs.FigureClaims.{OneListedEach}
 use Rattle.promises.specs.Demands.{plansFrom}
-use Rattle.search.specs.Calls.{CallLent}
-use Rattle.walk.specs.declared.Tally.{Tally}
-use Rattle.walk.specs.declared.Ending.the-variants.{Finished as Done}
-use Rattle.search.specs.declared.Answer as SA
-use Rattle.search.specs.declared.Answer.the-variants.{Ended}
-use Rattle.counting.specs.declared.Answer.{Answer}
-use Rattle.counting.specs.declared.Answer.the-variants.{Number, Dash, Refused}
+use Rattle.run.specs.Calls.{CallLent}
+use Rattle.run_state.specs.declared.Tally.{Tally}
+use Rattle.run_state.specs.declared.Ending.the-variants.{Finished as Done}
+use Rattle.run.specs.declared.Answer as SA
+use Rattle.run.specs.declared.Answer.the-variants.{Ended}
+use Rattle.families_count.specs.declared.Answer.{Answer}
+use Rattle.families_count.specs.declared.Answer.the-variants.{Number, Dash, Refused}
 
 -- ---- families
 pub record FamiliesHeld (b pairs block : List ℕ) (limit : ℕ) (r : Answer) : Type 0 where
@@ -44,7 +44,7 @@ One-of-each-calls =
     (b pairs block : List ℕ) (limit : ℕ) (out : List ℕ) (tally : Tally) (r : SA.Answer) (after : List ℕ) (tally′ : Tally) → CallLent b pairs block limit out tally r after tally′ →
     (plans nodes : ℕ) → r ≡ Ended (Done plans nodes) → Closed (problemWith b block) → OneListedEach b pairs block plans (plansFrom b plans after)
 
--- closed they are where `closed` says so (crate closed's `Closed-calls`), and where a block is used with no exchanges of the sheet
+-- closed they are where `closed` says so (crate families_closed's `Closed-calls`), and where a block is used with no exchanges of the sheet
 abbrev pub Block-calls : Type 0
 Block-calls =
     (b pairs block : List ℕ) (limit : ℕ) (out : List ℕ) (tally : Tally) (r : SA.Answer) (after : List ℕ) (tally′ : Tally) → CallLent b pairs block limit out tally r after tally′ →

@@ -12,14 +12,14 @@ use Rattle.model.specs.Sheet.{problemOf}
 use Rattle.model.specs.Verdict.{accepted}
 use Rattle.model.specs.Run.{finished, spent, full, ended, written, Tally}
 use Rattle.order.specs.Reordered.{read, LeaderBy, ChainBy}
-use Rattle.lent.specs.Lent.{verdictLent, problemWith, orderLent, problemLent, answerLent, listLent, tallyLent}
-use Rattle.ranges.specs.Ranges.{nodesSaid}
-use Rattle.ranges.specs.Claims.{Part, Call, plansHeld, Goes, Done, Chain, allPlans}
-use Rattle.parts.specs.Parts.{after, nodesBetween, Cuts, lastOf}
-use Rattle.join.specs.Join.{fromAt, reachAt, headsIn, joinVerdict, standPath, beginOr}
-use Rattle.join.specs.Calls.{CallJoin}
-use Rattle.join.specs.declared.Answer.the-variants.{Joined, Missing}
-use Rattle.join.specs.declared.Joining.{Joining}
+use Rattle.run_input.specs.Lent.{verdictLent, problemWith, orderLent, problemLent, answerLent, listLent, tallyLent}
+use Rattle.run_ranges.specs.Ranges.{nodesSaid}
+use Rattle.run_ranges.specs.Claims.{Part, Call, plansHeld, Goes, Done, Chain, allPlans}
+use Rattle.run_cut.specs.Parts.{after, nodesBetween, Cuts, lastOf}
+use Rattle.run_join.specs.Join.{fromAt, reachAt, headsIn, joinVerdict, standPath, beginOr}
+use Rattle.run_join.specs.Calls.{CallJoin}
+use Rattle.run_join.specs.declared.Answer.the-variants.{Joined, Missing}
+use Rattle.run_join.specs.declared.Joining.{Joining}
 use Rattle.promises.specs.JoinedHeads.{HeadOf, cutTwelve, HeldHeads, takenParts, headBytes, HeldBytes, partAt}
 
 -- ---- twelve values

@@ -9,12 +9,12 @@ use Rattle.model.specs.Lists.{flat, tabulate}
 use Rattle.model.specs.Run.{finished, spent, full, ended}
 use Rattle.model.specs.Verdict.{accepted, refused}
 use Rattle.model.specs.Examples.{sheetA}
-use Rattle.ranges.specs.Claims.{Part, allPlans}
+use Rattle.run_ranges.specs.Claims.{Part, allPlans}
 use Rattle.export_parts.specs.Parts.{partOf}
-use Rattle.join.specs.Join.{joinVerdict, taken, joined, plansOf, nodesOf, countOf, missingFrom, missingUpto}
-use Rattle.join.specs.Calls.{CallJoin}
-use Rattle.join.specs.declared.Answer.the-variants.{Joined}
-use Rattle.join.specs.declared.Joining.{Joining}
+use Rattle.run_join.specs.Join.{joinVerdict, taken, joined, plansOf, nodesOf, countOf, missingFrom, missingUpto}
+use Rattle.run_join.specs.Calls.{CallJoin}
+use Rattle.run_join.specs.declared.Answer.the-variants.{Joined}
+use Rattle.run_join.specs.declared.Joining.{Joining}
 use Rattle.promises.specs.JoinedHeads.{headBytes, HeldBytes, takenParts, partAt}
 
 abbrev many : ℕ

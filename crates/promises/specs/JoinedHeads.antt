@@ -6,10 +6,10 @@ use lib.ListN.{take, getD}
 use Rattle.model.specs.Lists.{at, flat}
 use Rattle.model.specs.Run.{finished, spent, full, Answer, refusal, ended}
 use Rattle.model.specs.Verdict.{accepted}
-use Rattle.lent.specs.Lent.{verdictLent}
-use Rattle.ranges.specs.Ranges.{plansSaid, nodesSaid}
-use Rattle.ranges.specs.Claims.{Part, Call}
-use Rattle.join.specs.Join.{fourAt, pathAt, kindAt, fromAt, headsIn, taken}
+use Rattle.run_input.specs.Lent.{verdictLent}
+use Rattle.run_ranges.specs.Ranges.{plansSaid, nodesSaid}
+use Rattle.run_ranges.specs.Claims.{Part, Call}
+use Rattle.run_join.specs.Join.{fourAt, pathAt, kindAt, fromAt, headsIn, taken}
 use Rattle.export_parts.specs.Head.{headFor}
 use Rattle.export_parts.specs.Parts.{partOf}
 

@@ -8,14 +8,14 @@ use Rattle.model.specs.Lists.{at, total}
 use Rattle.model.specs.Sheet.{problemOf}
 use Rattle.model.specs.Run.{plansIn, nodesIn}
 use Rattle.order.specs.RunBy.{placeCounts}
-use Rattle.lent.specs.Lent.{problemWith, orderLent}
-use Rattle.walk.specs.declared.Tally.{Tally}
-use Rattle.walk.specs.Meaning.{endingOf}
-use Rattle.search.specs.Calls.{CallLent}
+use Rattle.run_input.specs.Lent.{problemWith, orderLent}
+use Rattle.run_state.specs.declared.Tally.{Tally}
+use Rattle.run_state.specs.Meaning.{endingOf}
+use Rattle.run.specs.Calls.{CallLent}
 use Rattle.promises.specs.Demands.{plansFrom}
-use Rattle.walk.specs.declared.Ending.{Ending}
-use Rattle.search.specs.declared.Answer.{Answer}
-use Rattle.search.specs.declared.Answer.the-variants.{Ended}
+use Rattle.run_state.specs.declared.Ending.{Ending}
+use Rattle.run.specs.declared.Answer.{Answer}
+use Rattle.run.specs.declared.Answer.the-variants.{Ended}
 
 -- the run ended with e and left `after`; stopped after k trials it answers r₂ and leaves after₂ and tally₂
 pub record Moment (b pairs block : List ℕ) (e : Ending) (after : List ℕ) (k : ℕ) (r₂ : Answer) (after₂ : List ℕ) (tally₂ : Tally) : Type 0 where

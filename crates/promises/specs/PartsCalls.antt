@@ -6,15 +6,15 @@ use Prim.Native.Nat.{ℕ, _*_, _≤_}
 use lib.ListN.{length}
 use Rattle.model.specs.Verdict.{accepted}
 use Rattle.model.specs.Sheet.{problemOf}
-use Rattle.lent.specs.Lent.{verdictLent}
-use Rattle.walk.specs.Meaning.{tallyIn}
-use Rattle.walk.specs.declared.Tally.{Tally}
-use Rattle.search.specs.Meaning.{means}
-use Rattle.search.specs.Calls.{CallLent}
-use Rattle.search.specs.declared.Answer.{Answer}
-use Rattle.ranges.specs.Claims.{Part, Chain, sumPlans, sumNodes, Together}
-use Rattle.range_run.specs.Calls.{CallPart}
-use Rattle.range_run.specs.declared.PartRun.{PartRun}
+use Rattle.run_input.specs.Lent.{verdictLent}
+use Rattle.run_state.specs.Meaning.{tallyIn}
+use Rattle.run_state.specs.declared.Tally.{Tally}
+use Rattle.run.specs.Meaning.{means}
+use Rattle.run.specs.Calls.{CallLent}
+use Rattle.run.specs.declared.Answer.{Answer}
+use Rattle.run_ranges.specs.Claims.{Part, Chain, sumPlans, sumNodes, Together}
+use Rattle.run_part.specs.Calls.{CallPart}
+use Rattle.run_part.specs.declared.PartRun.{PartRun}
 
 -- parts that go one behind the other from the empty path to the path 255, each finished or spent, whatever their limits and lists: a run with limit and room
 -- enough is finished; its plans are theirs, one behind the other, its nodes and each of its counts are the sums

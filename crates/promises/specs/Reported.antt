@@ -12,7 +12,7 @@ use Rattle.model.specs.Verdict.{accepted, refused}
 use Rattle.model.specs.Sheet.{verdictOf, problemOf}
 use Rattle.model.specs.Run.{Ending, plansIn, nodesIn}
 use Rattle.model.specs.Claims.{leaders, CountsAt, Chain}
-use Rattle.figure.specs.Figure.{reportFigure}
+use Rattle.families_figure.specs.Figure.{reportFigure}
 use Rattle.report.specs.Report.{line, planWord, finishedWord, refusedWord, endingLine, reportOf}
 
 -- the lines of a text, each with its newline

@@ -7,15 +7,15 @@ use lib.ListN.{length, drop}
 use Rattle.model.specs.Run.{plansIn}
 use Rattle.model.specs.Verdict.{accepted}
 use Rattle.model.specs.Sheet.{problemOf}
-use Rattle.lent.specs.Lent.{verdictLent}
-use Rattle.retyped.specs.Retyped.{SameButOrder}
-use Rattle.walk.specs.Meaning.{endingOf}
-use Rattle.search.specs.Calls.{CallLent}
+use Rattle.run_input.specs.Lent.{verdictLent}
+use Rattle.run_retyped.specs.Retyped.{SameButOrder}
+use Rattle.run_state.specs.Meaning.{endingOf}
+use Rattle.run.specs.Calls.{CallLent}
 use Rattle.promises.specs.Demands.{plansFrom}
-use Rattle.walk.specs.declared.Tally.{Tally}
-use Rattle.walk.specs.declared.Ending.{Ending}
-use Rattle.search.specs.declared.Answer.{Answer}
-use Rattle.search.specs.declared.Answer.the-variants.{Ended}
+use Rattle.run_state.specs.declared.Tally.{Tally}
+use Rattle.run_state.specs.declared.Ending.{Ending}
+use Rattle.run.specs.declared.Answer.{Answer}
+use Rattle.run.specs.declared.Answer.the-variants.{Ended}
 
 -- the first caller has sheet b, a list that came as out, answer r, list and tally at the end; the second has sheet c, and the others with a 2
 pub record RetypedHeld (b out : List ℕ) (r : Answer) (after : List ℕ) (tally : Tally) (c out₂ : List ℕ) (r₂ : Answer) (after₂ : List ℕ) (tally₂ : Tally) : Type 0 where

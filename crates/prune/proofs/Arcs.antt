@@ -17,12 +17,12 @@ use Rattle.model.specs.Search.{supported}
 use Rattle.model.proofs.Lists.{of-not, any-e, among-i, same-eq, list-2, ascending-sorted}
 use Rattle.model.specs.Pruning.{Inside}
 use Rattle.model.specs.WellFormed.{GoodConstraint}
-use Rattle.layout.specs.Places.{LINKED}
-use Rattle.layout.specs.Layout.{constraintAt}
-use Rattle.layout.specs.Tables.{linkOf, byRows, allowed, goes, Linked}
-use Rattle.layout.specs.Pruning.{Fixed, Arc}
-use Rattle.layout.proofs.Links.{scope-order, link-scope, by-rows-link, by-rows-two, link-by-rows, allowed-none, allowed-is, goes-up, goes-down}
-use Rattle.constraints.proofs.Rows.{RowIn, PairIn, supported-i, supported-out}
+use Rattle.arrays.specs.Places.{LINKED}
+use Rattle.arrays.specs.Layout.{constraintAt}
+use Rattle.arrays.specs.Tables.{linkOf, byRows, allowed, goes, Linked}
+use Rattle.arrays.specs.Pruning.{Fixed, Arc}
+use Rattle.arrays.proofs.Links.{scope-order, link-scope, by-rows-link, by-rows-two, link-by-rows, allowed-none, allowed-is, goes-up, goes-down}
+use Rattle.prune_constraints.proofs.Rows.{RowIn, PairIn, supported-i, supported-out}
 
 module _ (p : Problem) where
   pub by-rows-scope : (k : ℕ) → T (byRows p k) → (x : ℕ) × ((y : ℕ) × ((constraintAt p k .scope ≡ x ∷ y ∷ []) × (linkOf p x y ≡ k)))

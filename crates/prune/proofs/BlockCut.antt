@@ -21,8 +21,8 @@ use Rattle.model.proofs.Sets.{has-none, pow2, has-mask, mask-lt, mask-ext}
 use Rattle.model.proofs.Masks.{contains-op, has-and, has-not, has-one, has-ones, has-oneIf, is-mask}
 use Rattle.model.proofs.Members.{both-yes, Rest, rest-begin, rest-low, rest-turn, rest-has, rest-i, or-e}
 use Rattle.model.proofs.Firsts.{take-at, take-length}
-use Rattle.layout.specs.Places.{DEAD}
-use Rattle.constraints.proofs.Stores.{Moves, moves-more}
+use Rattle.arrays.specs.Places.{DEAD}
+use Rattle.prune_constraints.proofs.Stores.{Moves, moves-more}
 use Rattle.block.specs.BlockSets.{cutAfter}
 use Rattle.block.proofs.BlockSets.{cut-sets}
 use Rattle.prune.specs.Steps.{Differ, cutBelow, CutOr}

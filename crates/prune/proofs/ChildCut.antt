@@ -18,10 +18,10 @@ use Rattle.model.proofs.Sets.{empty-i, mask-ext}
 use Rattle.model.proofs.Masks.{has-and, has-or}
 use Rattle.model.proofs.Firsts.{take-at, take-sets, take-length, take-full, full-take}
 use Rattle.model.proofs.Tree.{well-sized}
-use Rattle.layout.specs.Places.{BLOCK, LINKED, MARKS, DEAD}
-use Rattle.layout.specs.Pruning.{Given, setsOf}
-use Rattle.constraints.specs.Steps.{Touched}
-use Rattle.levels.proofs.Marks.{mark-mono}
+use Rattle.arrays.specs.Places.{BLOCK, LINKED, MARKS, DEAD}
+use Rattle.arrays.specs.Pruning.{Given, setsOf}
+use Rattle.prune_constraints.specs.Steps.{Touched}
+use Rattle.prune_symmetries.proofs.Marks.{mark-mono}
 use Rattle.block.specs.BlockSets.{Ascends, cutAfter}
 use Rattle.block.proofs.BlockSets.{cut-sets, cut-e, cut-i}
 use Rattle.prune.specs.Node.{blockOf}

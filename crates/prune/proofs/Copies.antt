@@ -11,7 +11,7 @@ use Rattle.model.specs.Lists.{at}
 use Rattle.model.specs.ValueSets.{oneIf}
 use Rattle.model.specs.Filling as filling
 use Rattle.model.proofs.Filling as loops
-use Rattle.layout.specs.Places.{MARKS}
+use Rattle.arrays.specs.Places.{MARKS}
 use Rattle.prune.specs.Steps.{Differ, Stored, MarksCopied}
 use Rattle.prune.proofs.FilterLoop.{kept-none}
 

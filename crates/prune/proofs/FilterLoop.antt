@@ -21,12 +21,12 @@ use Rattle.model.proofs.Firsts.{take-sets, take-e, take-i, full-take}
 use Rattle.model.proofs.Filter.{filtered-inside}
 use Rattle.model.proofs.Prune.{filter-removal}
 use Rattle.model.proofs.Prunes.{prunes-none, prunes-then, removal-prunes}
-use Rattle.layout.specs.Places.{ENTAILED, FAILED, MARKS, SYMMETRIES, WORK}
-use Rattle.layout.specs.Layout.{symmetryAt}
-use Rattle.layout.specs.Pruning.{setsOf}
-use Rattle.nogood.specs.Marks.{Vacuous}
-use Rattle.levels.specs.Levels.{Mark, Resumes, FilterRequires, FilterEnsures, leaves}
-use Rattle.levels.proofs.Marks.{mark-mono, mark-skips, mark-resumes}
+use Rattle.arrays.specs.Places.{ENTAILED, FAILED, MARKS, SYMMETRIES, WORK}
+use Rattle.arrays.specs.Layout.{symmetryAt}
+use Rattle.arrays.specs.Pruning.{setsOf}
+use Rattle.filter.specs.Marks.{Vacuous}
+use Rattle.prune_symmetries.specs.Levels.{Mark, Resumes, FilterRequires, FilterEnsures, leaves}
+use Rattle.prune_symmetries.proofs.Marks.{mark-mono, mark-skips, mark-resumes}
 use Rattle.prune.specs.Node.{MarksRight}
 use Rattle.prune.specs.Steps.{ArraysHold, PrefixHeld, LiveSets, AllFiltered, AllFilteredOr, OnlyMarks}
 

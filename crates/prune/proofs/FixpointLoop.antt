@@ -23,17 +23,17 @@ use Rattle.model.proofs.Members.{has-0, or-e, and-e}
 use Rattle.model.proofs.Firsts.{take-sets, take-i, full-take}
 use Rattle.model.proofs.Prune.{narrowed-e, Sized, Kept, fixed-i, largest, live-is, way-live, way-end}
 use Rattle.model.proofs.Tree.{well-sized}
-use Rattle.layout.specs.Places.{DEAD, LINKED, LOOKS, MARKS, SYMMETRIES, WORK}
-use Rattle.layout.specs.Layout.{constraintAt}
-use Rattle.layout.specs.Tables.{LooksUp}
-use Rattle.layout.proofs.Links.{good}
-use Rattle.layout.specs.Pruning.{Given, Ended, setsOf}
-use Rattle.links.specs.Links.{Settled, ArcsMade}
-use Rattle.links.proofs.Settled.{settled-stays}
-use Rattle.constraints.specs.Steps.{Touched}
-use Rattle.constraints.specs.LookUps.{Alone, LookUp, LookUpsPending, LookedUp}
-use Rattle.constraints.proofs.Touching.{touchedOf, touched-of, touched-parts}
-use Rattle.levels.proofs.Marks.{mark-mono}
+use Rattle.arrays.specs.Places.{DEAD, LINKED, LOOKS, MARKS, SYMMETRIES, WORK}
+use Rattle.arrays.specs.Layout.{constraintAt}
+use Rattle.arrays.specs.Tables.{LooksUp}
+use Rattle.arrays.proofs.Links.{good}
+use Rattle.arrays.specs.Pruning.{Given, Ended, setsOf}
+use Rattle.prune_pairs.specs.Links.{Settled, ArcsMade}
+use Rattle.prune_pairs.proofs.Settled.{settled-stays}
+use Rattle.prune_constraints.specs.Steps.{Touched}
+use Rattle.prune_constraints.specs.LookUps.{Alone, LookUp, LookUpsPending, LookedUp}
+use Rattle.prune_constraints.proofs.Touching.{touchedOf, touched-of, touched-parts}
+use Rattle.prune_symmetries.proofs.Marks.{mark-mono}
 use Rattle.block.specs.BlockSets.{Ascends}
 use Rattle.block.proofs.BlockSets.{ascends-less, way-prunes-own, fixed-whole}
 use Rattle.prune.specs.Node.{MarksRight, blockOf}

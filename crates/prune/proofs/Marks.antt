@@ -7,8 +7,8 @@ use lib.ListN.{length}
 use Rattle.model.specs.Lists.{at}
 use Rattle.model.specs.Problem.{Problem, withSymmetries}
 use Rattle.model.specs.Search.{setsAt}
-use Rattle.layout.specs.Places.{MARKS}
-use Rattle.levels.specs.Levels.{Mark}
+use Rattle.arrays.specs.Places.{MARKS}
+use Rattle.prune_symmetries.specs.Levels.{Mark}
 use Rattle.prune.specs.Node.{Marked}
 
 pub marked-on : (p : Problem) (gs : List (List ℕ)) (work work′ prefix : List ℕ) (k : ℕ) → length (p .symmetries) ≤ 16 → ((i : ℕ) → 16 ≤ i → i < 16 * suc (suc k) → at work′ i ≡ at work i) → Marked p gs work prefix k → Marked p gs work′ prefix k

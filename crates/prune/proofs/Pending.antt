@@ -20,17 +20,17 @@ use Rattle.model.proofs.Masks.{has-or, has-and}
 use Rattle.model.proofs.Members.{low-has, or-i, or-e, and-e}
 use Rattle.model.proofs.Firsts.{take-at, take-e, take-i, full-take}
 use Rattle.model.proofs.Prunes.{prunes-none, prunes-then}
-use Rattle.layout.specs.Places.{DEAD, LINKED, OTHERS}
-use Rattle.layout.specs.Layout.{constraintAt}
-use Rattle.layout.specs.Tables.{byRows}
-use Rattle.layout.proofs.Links.{good}
-use Rattle.layout.specs.Pruning.{Given, Lessened, Ended, Fixed, Arc, setsOf}
-use Rattle.links.specs.Links as links
-use Rattle.constraints.specs.Revised as revised
-use Rattle.constraints.specs.Steps.{Touched}
-use Rattle.constraints.specs.LookUps.{LookedUp}
-use Rattle.constraints.proofs.Rows.{fixed-kept}
-use Rattle.constraints.proofs.Touching.{touchedOf, touched-of}
+use Rattle.arrays.specs.Places.{DEAD, LINKED, OTHERS}
+use Rattle.arrays.specs.Layout.{constraintAt}
+use Rattle.arrays.specs.Tables.{byRows}
+use Rattle.arrays.proofs.Links.{good}
+use Rattle.arrays.specs.Pruning.{Given, Lessened, Ended, Fixed, Arc, setsOf}
+use Rattle.prune_pairs.specs.Links as links
+use Rattle.prune_constraints.specs.Revised as revised
+use Rattle.prune_constraints.specs.Steps.{Touched}
+use Rattle.prune_constraints.specs.LookUps.{LookedUp}
+use Rattle.prune_constraints.proofs.Rows.{fixed-kept}
+use Rattle.prune_constraints.proofs.Touching.{touchedOf, touched-of}
 use Rattle.prune.specs.Steps.{ArraysHold, Pending, PrunedSoFar, AllConstrained, AllConstrainedOr}
 use Rattle.prune.proofs.Arcs.{arc-kept, arc-free, arcs-fixed}
 

@@ -25,16 +25,16 @@ use Rattle.model.proofs.Members.{one-bit, only-member}
 use Rattle.model.proofs.Firsts.{take-at, take-e, take-i, take-sets, take-length, take-full}
 use Rattle.model.proofs.Prune.{narrowed-e, Largest, largest, fixed-e, way-start, setsAt-live, setsAt-sets, live-closed}
 use Rattle.model.proofs.Tree.{well-sized}
-use Rattle.layout.specs.Places.{INITIAL, LINKED, MARKS, OTHERS, SYMMETRIES, VARIABLES, WORK}
-use Rattle.layout.specs.Layout.{constraintAt}
-use Rattle.layout.specs.Tables.{byRows}
-use Rattle.layout.proofs.Links.{is-one, good}
-use Rattle.layout.specs.Pruning.{Fixed, Arc, setsOf}
-use Rattle.constraints.specs.Steps.{Touched}
-use Rattle.links.proofs.Partners.{goes-kept}
-use Rattle.constraints.proofs.Rows.{fixed-kept}
-use Rattle.levels.specs.Levels.{Mark}
-use Rattle.levels.proofs.Marks.{mark-start, mark-mono, mark-longer}
+use Rattle.arrays.specs.Places.{INITIAL, LINKED, MARKS, OTHERS, SYMMETRIES, VARIABLES, WORK}
+use Rattle.arrays.specs.Layout.{constraintAt}
+use Rattle.arrays.specs.Tables.{byRows}
+use Rattle.arrays.proofs.Links.{is-one, good}
+use Rattle.arrays.specs.Pruning.{Fixed, Arc, setsOf}
+use Rattle.prune_constraints.specs.Steps.{Touched}
+use Rattle.prune_pairs.proofs.Partners.{goes-kept}
+use Rattle.prune_constraints.proofs.Rows.{fixed-kept}
+use Rattle.prune_symmetries.specs.Levels.{Mark}
+use Rattle.prune_symmetries.proofs.Marks.{mark-start, mark-mono, mark-longer}
 use Rattle.block.specs.BlockSets.{Ascends, cutAfter}
 use Rattle.block.proofs.BlockSets.{root-ascends, child-way, child-ascends}
 use Rattle.prune.specs.Node.{Ready, MarksRight, AtNode, Reached, longer, blockOf}

@@ -13,10 +13,10 @@ use Rattle.model.specs.ValueSets.{has}
 use Rattle.model.specs.Problem.{Problem, withSymmetries}
 use Rattle.model.specs.Search.{setsAt, isLive}
 use Rattle.model.specs.WellFormed.{WellFormed}
-use Rattle.layout.specs.Places.{BLOCK, MARKS, STACK, WORK}
+use Rattle.arrays.specs.Places.{BLOCK, MARKS, STACK, WORK}
 use Rattle.block.specs.BlockSets.{BlockIn}
-use Rattle.layout.specs.Tables.{Indexed}
-use Rattle.levels.specs.Levels.{Mark}
+use Rattle.arrays.specs.Tables.{Indexed}
+use Rattle.prune_symmetries.specs.Levels.{Mark}
 
 -- depth k of the stack holds the sets ds of p's variables, and {0} for every other of sixteen
 pub record Holds (p : Problem) (stack : List ℕ) (k : ℕ) (ds : List ℕ) : Type 0 where

@@ -13,10 +13,10 @@ use Rattle.model.specs.Nogood.{filtered}
 use Rattle.model.specs.Search.{nogoodsOf, setsAt, isLive}
 use Rattle.model.specs.Pruning.{Sets, Inside, Way, Prunes}
 use Rattle.model.specs.WellFormed.{WellFormed}
-use Rattle.layout.specs.Places.{MARKS, DEAD, WORK}
-use Rattle.layout.specs.Layout.{constraintAt}
-use Rattle.layout.specs.Tables.{Indexed, byRows}
-use Rattle.layout.specs.Pruning.{Given, Ended, Fixed, Arc, setsOf}
+use Rattle.arrays.specs.Places.{MARKS, DEAD, WORK}
+use Rattle.arrays.specs.Layout.{constraintAt}
+use Rattle.arrays.specs.Tables.{Indexed, byRows}
+use Rattle.arrays.specs.Pruning.{Given, Ended, Fixed, Arc, setsOf}
 use Rattle.block.specs.BlockSets.{BlockIn, Ascends}
 use Rattle.prune.specs.Node.{MarksRight, blockOf}
 

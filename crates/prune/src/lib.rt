@@ -1,19 +1,19 @@
 // The sets at a prefix (paper 01, "The search"), from those at the prefix with one value less.
-use layout::BLOCK;
-use layout::DEAD;
-use layout::FAILED;
-use layout::INITIAL;
-use layout::LINKED;
-use layout::LOOKS;
-use layout::MARKS;
-use layout::Numbers;
-use layout::OTHERS;
-use layout::SYMMETRIES;
-use layout::Stack;
-use layout::Supports;
-use layout::Tables;
-use layout::VARIABLES;
-use layout::Work;
+use arrays::BLOCK;
+use arrays::DEAD;
+use arrays::FAILED;
+use arrays::INITIAL;
+use arrays::LINKED;
+use arrays::LOOKS;
+use arrays::MARKS;
+use arrays::Numbers;
+use arrays::OTHERS;
+use arrays::SYMMETRIES;
+use arrays::Stack;
+use arrays::Supports;
+use arrays::Tables;
+use arrays::VARIABLES;
+use arrays::Work;
 use model::ValueSet;
 ghost use mathlib.Core.Path.{_≡_};
 ghost use mathlib.Core.Bool.{not};
@@ -26,8 +26,8 @@ ghost use Rattle.model.specs.ValueSets.{has, maskOf};
 ghost use Rattle.model.specs.Problem.{Problem};
 ghost use Rattle.model.specs.Pruning.{Sets};
 ghost use Rattle.block.specs.BlockSets.{cutAfter};
-ghost use Rattle.layout.specs.Places.{INITIAL, SYMMETRIES, STACK, WORK};
-ghost use Rattle.layout.specs.Pruning.{setsOf};
+ghost use Rattle.arrays.specs.Places.{INITIAL, SYMMETRIES, STACK, WORK};
+ghost use Rattle.arrays.specs.Pruning.{setsOf};
 ghost use Rattle.prune.specs.Node.{Ready, MarksRight, AtNode, Reached, longer};
 ghost use Rattle.prune.specs.Steps.{ArraysHold, Blocked, Pending, AllConstrainedOr, PrefixHeld, LiveSets, AllFilteredOr, BeforeFixpoint, LastSettled, AfterFixpoint, Differ, cutBelow, CutOr, Loaded, Stored, MarksCopied};
 
@@ -47,12 +47,12 @@ fn constrain(
     let mut left = todo;
     let mut moved = dirty;
     loop {
-        let cut = links::arcs(sets, tables, numbers, moved, 0);
+        let cut = prune_pairs::arcs(sets, tables, numbers, moved, 0);
         if cut == DEAD {
             return true;
         }
-        left = left | constraints::touched(numbers, cut);
-        let pruned = constraints::constrain(sets, numbers, supports, left, settled);
+        left = left | prune_constraints::touched(numbers, cut);
+        let pruned = prune_constraints::constrain(sets, numbers, supports, left, settled);
         if pruned == DEAD {
             return true;
         }
@@ -79,8 +79,8 @@ fn filters(
     let mut e = 0;
     while e < g {
         let start = work[16 * k + MARKS + e];
-        if levels::due(start, k) {
-            let mark = levels::filter(sets, work, tables, e, k, start);
+        if prune_symmetries::due(start, k) {
+            let mark = prune_symmetries::filter(sets, work, tables, e, k, start);
             if mark == FAILED {
                 return true;
             }
@@ -98,7 +98,8 @@ fn difference(old: &[u16; 16], new: &[u16; 16]) -> u64
     let mut all = 0u64;
     let mut i = 0;
     while i < 16 {
-        all = all | constraints::moved(ValueSet { bits: old[i] }, ValueSet { bits: new[i] }, i);
+        all = all
+            | prune_constraints::moved(ValueSet { bits: old[i] }, ValueSet { bits: new[i] }, i);
         i += 1;
     }
     all
@@ -126,7 +127,7 @@ fn alternate(
         if changed == 0 {
             return false;
         }
-        let left = constraints::touched(numbers, changed);
+        let left = prune_constraints::touched(numbers, changed);
         if constrain(
             sets,
             supports,
@@ -158,16 +159,16 @@ fn fixpoint(
     ensures { λ r. ⌜ ((p : Problem) (gs : List (List ℕ)) → ArraysHold p (now (supports .entry)) (now (tables .entry)) (now (numbers .entry)) → Blocked p gs (now (numbers .entry)) → BeforeFixpoint p gs (now (work .entry)) (now (numbers .entry)) (now (sets .entry)) k todo dirty → AfterFixpoint p gs k (now (work .entry)) (now (work .exit)) (now (sets .exit)) r) ⌝ }
 {
     let looks = todo & numbers[LOOKS + k];
-    let looked = constraints::look_ups(sets, numbers, supports, looks, v);
+    let looked = prune_constraints::look_ups(sets, numbers, supports, looks, v);
     if looked == DEAD {
         return true;
     }
     let moved = dirty | (looked & numbers[LINKED]);
-    let cut = links::arcs(sets, tables, numbers, moved, k - 1);
+    let cut = prune_pairs::arcs(sets, tables, numbers, moved, k - 1);
     if cut == DEAD {
         return true;
     }
-    let left = (todo & !looks) | constraints::touched(numbers, looked | cut);
+    let left = (todo & !looks) | prune_constraints::touched(numbers, looked | cut);
     if left != 0 {
         if constrain(sets, supports, tables, numbers, left, 0, (1u64 << k) - 1) {
             return true;
@@ -245,7 +246,7 @@ fn cut(sets: &mut [u16; 16], some: u64, v: u16) -> u64
             return DEAD;
         }
         sets[y] = kept.bits;
-        changed = changed | constraints::moved(old, kept, y);
+        changed = changed | prune_constraints::moved(old, kept, y);
         left = left & (left - 1);
     }
     changed
@@ -305,7 +306,7 @@ pub fn root(
     let mut sets = [1u16; 16];
     initial(numbers, &mut sets);
     clear_marks(work);
-    let todo = constraints::touched(numbers, (1u64 << numbers[VARIABLES]) - 1);
+    let todo = prune_constraints::touched(numbers, (1u64 << numbers[VARIABLES]) - 1);
     if constrain(
         &mut sets,
         supports,
@@ -356,7 +357,7 @@ pub fn child(
         tables,
         numbers,
         k + 1,
-        todo | constraints::touched(numbers, changed),
+        todo | prune_constraints::touched(numbers, changed),
         dirty | (changed & numbers[LINKED]),
         v as usize,
     );

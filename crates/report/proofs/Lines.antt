@@ -10,7 +10,7 @@ use lib.Seq.{take-suc, take-add, drop-drop, take-all, take-append-seam}
 use Rattle.model.specs.Lists.{flat}
 use Rattle.model.specs.Run.{Ending, plansIn, listedPlans}
 use Rattle.report.specs.Report.{decimal, line, planWord, figureLine, endingLine, resultText}
-use Rattle.figure.specs.Figure.{Figure, dash}
+use Rattle.families_figure.specs.Figure.{Figure, dash}
 use Rattle.model.proofs.Lists.{flat-append}
 use Rattle.report.specs.Text.{field, fields, planLines, endedText, room, Fitted}
 use Rattle.model.specs.Written.{Written, Fronted}

@@ -7,7 +7,7 @@ use Rattle.order.specs.Reordered.{position, read, write, valueOf, scopeIn, rowI
 use Rattle.order.specs.RunBy.{resultBy}
 use Rattle.block.specs.Block.{tablesLent}
 use Rattle.families.specs.Families.{solutionsOf, widened, reachedIn, familyOf, isEarliest, earliestOf, familiesOf}
-use Rattle.figure.specs.Figure.{familiesLent}
+use Rattle.families_figure.specs.Figure.{familiesLent}
 use Rattle.report.specs.Report.{digits, decimal, line, endingLine, resultText, reportFor, reportOf}
 use Rattle.report.specs.ReportExamples.{testsReport}
 

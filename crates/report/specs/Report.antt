@@ -8,7 +8,7 @@ use Rattle.model.specs.Lists.{flat}
 use Rattle.model.specs.Verdict.{Verdict, accepted, refused}
 use Rattle.model.specs.Sheet.{verdictOf, problemOf}
 use Rattle.model.specs.Run.{Ending, finished, spent, full, Result, resultOf}
-use Rattle.figure.specs.Figure.{Figure, number, dash, reportFigure}
+use Rattle.families_figure.specs.Figure.{Figure, number, dash, reportFigure}
 
 -- a number in decimal, at most k digits
 unfoldable pub digits : ℕ → ℕ → List ℕ

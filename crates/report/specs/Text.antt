@@ -5,7 +5,7 @@ use Prim.Native.Nat.{ℕ, _≤_, _<_}
 use lib.ListN.{length, drop}
 use Rattle.model.specs.Lists.{flat}
 use Rattle.model.specs.Run.{Ending, listedPlans, plansIn}
-use Rattle.figure.specs.Figure.{Figure}
+use Rattle.families_figure.specs.Figure.{Figure}
 use Rattle.report.specs.Report.{decimal, line, planWord, resultText}
 
 -- a field: a space and a number

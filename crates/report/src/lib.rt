@@ -5,7 +5,7 @@ ghost use mathlib.Core.List.{[], _∷_, _++_};
 ghost use Prim.Native.Nat.{_+_, _*_, _≤_, _<_, min};
 ghost use lib.ListN.{length};
 ghost use Rattle.model.specs.Run.{finished, spent, full};
-ghost use Rattle.figure.specs.Figure.{number, dash};
+ghost use Rattle.families_figure.specs.Figure.{number, dash};
 ghost use Rattle.report.specs.Report.{decimal, line, figureLine, planWord, refusedWord};
 ghost use Rattle.report.specs.Text.{field, fields, planLines, endedText, room, Fitted};
 ghost use Rattle.model.specs.Written.{Written, Fronted};

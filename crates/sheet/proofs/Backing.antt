@@ -15,8 +15,8 @@ use Rattle.model.proofs.Lists.{all-cons, all-i, both-i, both-l, both-r, at-mem}
 use Rattle.model.proofs.Sets.{has-none}
 use Rattle.model.proofs.Masks.{is-mask}
 use Rattle.model.proofs.Accepted.{length-words}
-use Rattle.layout.specs.Layout.{place}
-use Rattle.layout.specs.Places.{SUPPORTS}
+use Rattle.arrays.specs.Layout.{place}
+use Rattle.arrays.specs.Places.{SUPPORTS}
 use Rattle.sheet.specs.Fill.{rowKey, withRows}
 use Rattle.sheet.specs.Steps.{offsetAt, supportsTo}
 use Rattle.sheet.proofs.Any.{any-same}

@@ -18,9 +18,9 @@ use Rattle.model.proofs.Lists.{both-l, all-e, all-i, below-i, below-e, length-b
 use Rattle.model.proofs.Accepted.{at-words}
 use Rattle.model.proofs.Filling.{filled-turn}
 use Rattle.model.specs.Filling.{Filled}
-use Rattle.layout.specs.Layout.{Images, symmetryAt, pairCode}
-use Rattle.layout.specs.Places.{IMAGES}
-use Rattle.symmetry.proofs.Codes.{code-small, code-inj}
+use Rattle.arrays.specs.Layout.{Images, symmetryAt, pairCode}
+use Rattle.arrays.specs.Places.{IMAGES}
+use Rattle.sheet_symmetries.proofs.Codes.{code-small, code-inj}
 use Rattle.sheet.specs.Decoding.{Decodable, Decoded, permuting, TablesDecoded}
 use Rattle.sheet.proofs.Any.{getD-below}
 use Rattle.sheet.proofs.Stating.{FormPassed}

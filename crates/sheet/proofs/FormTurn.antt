@@ -9,8 +9,8 @@ use lib.ListN.{length}
 use borrow.Author.Tests.{lt-leb}
 use Rattle.model.specs.Verdict.{Verdict, accepted, ask}
 use Rattle.model.specs.Sheet.{Header as Numbers′, headerOf, problemOf, headerVerdict, tablesFit, formVerdict}
-use Rattle.layout.specs.Layout.{Numbers, Supports}
-use Rattle.layout.specs.Places.{SUPPORTS, NUMBERS}
+use Rattle.arrays.specs.Layout.{Numbers, Supports}
+use Rattle.arrays.specs.Places.{SUPPORTS, NUMBERS}
 use Rattle.sheet.specs.Meaning.{means, andThen, Answers}
 use Rattle.sheet.specs.Parts.{headerAsked, setsAsked, Fit, AllSets, SetsAsked}
 use Rattle.sheet.specs.Steps.{constraintsAsked, ConstraintsAsked, numbersTo}

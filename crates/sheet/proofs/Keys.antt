@@ -10,7 +10,7 @@ use lib.ListN.{length}
 use borrow.Author.Tests.{eq-eqb, eqb-true, eqb-false, lt-ltb, le-ltb, ltb-true, ltb-false}
 use Rattle.model.specs.Lists.{all, below, upFrom, same, earlier}
 use Rattle.model.specs.Sheet.{word, words}
-use Rattle.layout.specs.Layout.{place}
+use Rattle.arrays.specs.Layout.{place}
 use Rattle.model.proofs.Lists.{all-cons, both-l, both-r, upFrom-add, map-append, T-ext, T-of, same-eq, same-refl}
 use Rattle.sheet.specs.Fill.{keyTo}
 

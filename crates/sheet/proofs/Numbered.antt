@@ -14,8 +14,8 @@ use Rattle.model.specs.Sheet.{headerOf, word, scopeAt, rowsAt, problemOf, table
 use Rattle.model.proofs.Lists.{length-below, at-set, at-set-other}
 use Rattle.model.proofs.Sets.{has-none}
 use Rattle.model.proofs.Accepted.{length-words, at-words}
-use Rattle.layout.specs.Layout.{Numbers, Supports, constraintAt, place}
-use Rattle.layout.specs.Places.{SUPPORTS, NUMBERS}
+use Rattle.arrays.specs.Layout.{Numbers, Supports, constraintAt, place}
+use Rattle.arrays.specs.Places.{SUPPORTS, NUMBERS}
 use Rattle.sheet.specs.Parts.{Fit, AllSets}
 use Rattle.sheet.specs.Steps.{offsetAt, numbersTo, supportsTo}
 use Rattle.sheet.specs.Form.{counted}

@@ -14,7 +14,7 @@ use Rattle.model.specs.Sheet.{Header, word, headerOf, setsVerdict}
 use Rattle.model.proofs.Masks.{shl-one, shl-pos, full-op, full-all}
 use Rattle.model.proofs.Filling.{filled-turn}
 use Rattle.model.specs.Filling.{Filled}
-use Rattle.layout.specs.Places.{NUMBERS}
+use Rattle.arrays.specs.Places.{NUMBERS}
 use Rattle.sheet.specs.Parts.{ZeroSets, AllSets, SetsAsked}
 use Rattle.sheet.specs.declared.Answer.the-variants.{Accepted, Refused}
 

@@ -10,7 +10,7 @@ use Rattle.model.specs.Verdict.{Verdict, accepted, ask, isAccepted}
 use Rattle.model.specs.Sheet.{headerOf, problemOf, tablesFit, formVerdict}
 use Rattle.model.proofs.Lists.{below-i}
 use Rattle.model.proofs.Accepted.{asked, at-words, sets-e, constraints-e}
-use Rattle.symmetry.specs.Table.{Stated}
+use Rattle.sheet_symmetries.specs.Table.{Stated}
 use Rattle.sheet.specs.Parts.{setsAsked, Fit}
 use Rattle.sheet.specs.Steps.{constraintsAsked}
 use Rattle.sheet.proofs.Passed.{is-accepted, fit, length-constraints}

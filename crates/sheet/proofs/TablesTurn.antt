@@ -11,8 +11,8 @@ use Rattle.model.specs.Lists.{upFrom, below}
 use Rattle.model.specs.Verdict.{Verdict, accepted, refused, ask}
 use Rattle.model.specs.Problem.{respects}
 use Rattle.model.specs.Sheet.{headerOf, words, tableAt, problemOf, permutesPairs, formVerdict, symmetriesVerdict}
-use Rattle.layout.specs.Layout.{Numbers}
-use Rattle.symmetry.specs.Table.{TableAt, Asked, tableOf, answerOf, tableAnswer}
+use Rattle.arrays.specs.Layout.{Numbers}
+use Rattle.sheet_symmetries.specs.Table.{TableAt, Asked, tableOf, answerOf, tableAnswer}
 use Rattle.sheet.specs.Meaning.{means}
 use Rattle.sheet.specs.Form.{Formed}
 use Rattle.sheet.specs.declared.Answer.the-variants.{Accepted, Refused}

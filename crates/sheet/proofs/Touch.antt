@@ -16,7 +16,7 @@ use Rattle.model.specs.Sheet.{word, words, scopeAt}
 use Rattle.model.proofs.Lists.{at-set, at-set-other}
 use Rattle.model.proofs.Masks.{has-or, has-one}
 use Rattle.model.proofs.Members.{both-no, both-yes, either-no}
-use Rattle.layout.specs.Places.{NUMBERS}
+use Rattle.arrays.specs.Places.{NUMBERS}
 use Rattle.sheet.specs.Fill.{touch, touched, packed, rowFits}
 use Rattle.sheet.specs.Steps.{offsetAt, numbersTo}
 use Rattle.sheet.proofs.Any.{either-assoc, any-more, any-none}

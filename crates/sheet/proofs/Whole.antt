@@ -9,7 +9,7 @@ use Rattle.model.specs.Verdict.{Verdict, accepted, ask, isAccepted}
 use Rattle.model.specs.Sheet.{problemOf, permutesPairs, formVerdict, symmetriesVerdict, verdictOf}
 use Rattle.model.proofs.Lists.{at-replicate, all-i, of-T}
 use Rattle.model.proofs.Accepted.{symmetries-e}
-use Rattle.layout.specs.Layout.{Compiled}
+use Rattle.arrays.specs.Layout.{Compiled}
 use Rattle.reader.specs.declared.Header.{Header}
 use Rattle.sheet.specs.Meaning.{means, andThen}
 use Rattle.sheet.specs.Decoding.{permuting, Tabled, TablesDecoded}

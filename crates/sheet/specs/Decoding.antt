@@ -7,8 +7,8 @@ use lib.ListN.{length}
 use Rattle.model.specs.Lists.{at, all}
 use Rattle.model.specs.Verdict.{accepted}
 use Rattle.model.specs.Sheet.{word, problemOf, formVerdict, permutesPairs}
-use Rattle.layout.specs.Layout.{pairCode, Numbers, Images}
-use Rattle.layout.specs.Places.{IMAGES}
+use Rattle.arrays.specs.Layout.{pairCode, Numbers, Images}
+use Rattle.arrays.specs.Places.{IMAGES}
 
 -- a table of pair numbers at an offset, and room for its images
 pub record Decodable (b : List ℕ) (from count d base : ℕ) (old : List ℕ) : Type 0 where

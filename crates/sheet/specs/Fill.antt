@@ -9,7 +9,7 @@ use lib.Dec.{T, ltb}
 use Rattle.model.specs.Lists.{at, all, both, ascending, choose}
 use Rattle.model.specs.ValueSets.{unionMask}
 use Rattle.model.specs.Sheet.{word, words}
-use Rattle.layout.specs.Places.{SCOPES}
+use Rattle.arrays.specs.Places.{SCOPES}
 
 -- ---- scopes
 -- constraint k touches variable x

@@ -7,8 +7,8 @@ use lib.ListN.{length, set}
 use Rattle.model.specs.Lists.{at, all}
 use Rattle.model.specs.Verdict.{accepted, ask, isAccepted}
 use Rattle.model.specs.Sheet.{headerOf, problemOf, formVerdict, permutesPairs, verdictOf}
-use Rattle.layout.specs.Places.{VARIABLES, VALUES, CONSTRAINTS, SYMMETRIES, IMAGES, NUMBERS, SUPPORTS}
-use Rattle.layout.specs.Layout.{Numbers, Supports, Compiled}
+use Rattle.arrays.specs.Places.{VARIABLES, VALUES, CONSTRAINTS, SYMMETRIES, IMAGES, NUMBERS, SUPPORTS}
+use Rattle.arrays.specs.Layout.{Numbers, Supports, Compiled}
 use Rattle.reader.specs.Read.{stated}
 use Rattle.reader.specs.declared.Header.{Header}
 use Rattle.sheet.specs.Meaning.{means, Answers}

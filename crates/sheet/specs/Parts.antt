@@ -6,7 +6,7 @@ use lib.ListN.{length}
 use Rattle.model.specs.Lists.{below, at}
 use Rattle.model.specs.Verdict.{Verdict}
 use Rattle.model.specs.Sheet.{headerOf, word, headerVerdict, setsVerdict}
-use Rattle.layout.specs.Places.{INITIAL, SCOPES}
+use Rattle.arrays.specs.Places.{INITIAL, SCOPES}
 use Rattle.sheet.specs.Meaning.{Answers}
 use Rattle.sheet.specs.declared.Answer.{Answer}
 use Rattle.sheet.specs.declared.Answer.the-variants.{Accepted}

@@ -1,9 +1,9 @@
 // Questions 9 to 13, and what they store of each constraint: its scope, and the set of constraints that touch a variable.
 use crate::Answer;
 use crate::rows;
-use layout::Numbers;
-use layout::SCOPES;
-use layout::Supports;
+use arrays::Numbers;
+use arrays::SCOPES;
+use arrays::Supports;
 use reader::Header;
 use reader::read_word;
 ghost use Prim.Native.Nat.{_+_, _*_, _≤_, _<_};

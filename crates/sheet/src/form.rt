@@ -1,21 +1,21 @@
-// Questions 1 to 14, and the numbers and support sets of the compiled problem (its layout is in crate layout).
+// Questions 1 to 14, and the numbers and support sets of the compiled problem (its layout is in crate arrays).
 use crate::Answer;
 use crate::constraints;
 use crate::heading;
 use crate::sets;
-use layout::CONSTRAINTS;
-use layout::Numbers;
-use layout::SYMMETRIES;
-use layout::Supports;
-use layout::VALUES;
-use layout::VARIABLES;
+use arrays::CONSTRAINTS;
+use arrays::Numbers;
+use arrays::SYMMETRIES;
+use arrays::Supports;
+use arrays::VALUES;
+use arrays::VARIABLES;
 use reader::Header;
 use reader::read_header;
 ghost use Prim.Native.Nat.{_^_, _≤_, _<_};
 ghost use mathlib.Core.Path.{_≡_};
 ghost use lib.ListN.{length};
 ghost use Rattle.model.specs.Sheet.{headerOf, tablesFit};
-ghost use Rattle.layout.specs.Places.{SUPPORTS, NUMBERS};
+ghost use Rattle.arrays.specs.Places.{SUPPORTS, NUMBERS};
 ghost use Rattle.reader.specs.Read.{stated};
 ghost use Rattle.sheet.specs.Form.{Zeros, counted, FormAsked, FormRead};
 

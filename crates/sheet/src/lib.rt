@@ -3,7 +3,7 @@ ghost use mathlib.Core.Path.{_≡_};
 ghost use lib.ListN.{length};
 ghost use Rattle.sheet.specs.Calls.{CallQuestion};
 ghost use Rattle.sheet.specs.Form.{Zeros, Compilation, Recompilation};
-ghost use Rattle.layout.specs.Places.{IMAGES, NUMBERS, SUPPORTS};
+ghost use Rattle.arrays.specs.Places.{IMAGES, NUMBERS, SUPPORTS};
 
 mod constraints; // questions 9 to 13
 mod form; // questions 1 to 14
@@ -12,12 +12,12 @@ mod rows; // questions 12 and 13 to one constraint
 mod sets; // question 8
 mod tables; // questions 15 and 16, and the images
 
+use arrays::Images;
+use arrays::NUMBERS;
+use arrays::Numbers;
+use arrays::SUPPORTS;
+use arrays::Supports;
 use form::Form;
-use layout::Images;
-use layout::NUMBERS;
-use layout::Numbers;
-use layout::SUPPORTS;
-use layout::Supports;
 
 // The first "no", with its number and item, or that there is none.
 pub enum Answer {
@@ -38,7 +38,7 @@ pub fn question(sheet: &[u8]) -> Answer
     }
 }
 
-// The same, and for an accepted sheet the arrays of the compiled problem (crate layout).
+// The same, and for an accepted sheet the arrays of the compiled problem (crate arrays).
 // `numbers` and `supports` are lent full of zeros; after a refusal the arrays hold nothing that is meant.
 pub fn compile(
     sheet: &[u8],

@@ -1,5 +1,5 @@
 // Questions 12 and 13 to the rows of one constraint, and its support sets.
-use layout::Supports;
+use arrays::Supports;
 use model::ValueSet;
 use reader::read_word;
 ghost use Prim.Native.Nat.{_+_, _*_, _≤_, _<_};
@@ -8,7 +8,7 @@ ghost use lib.ListN.{length};
 ghost use lib.Dec.{ltb};
 ghost use Rattle.sheet.specs.Fill.{withRow, RowRead, RowsAsked};
 ghost use Rattle.model.specs.Lists.{choose};
-ghost use Rattle.layout.specs.Places.{SUPPORTS};
+ghost use Rattle.arrays.specs.Places.{SUPPORTS};
 
 // The row of a values at an offset as one number, a hexadecimal digit for each value; 4096 where one is not below d.
 // Rows in their order have keys in theirs.

@@ -1,7 +1,7 @@
 // Question 8, and the initial sets, into `numbers` from 16 on.
 use crate::Answer;
-use layout::INITIAL;
-use layout::Numbers;
+use arrays::INITIAL;
+use arrays::Numbers;
 use model::ValueSet;
 use reader::read_word;
 ghost use mathlib.Core.Bool.{not};
@@ -10,7 +10,7 @@ ghost use lib.ListN.{length};
 ghost use lib.Dec.{leb, eqb};
 ghost use Rattle.model.specs.Lists.{both};
 ghost use Rattle.model.specs.Sheet.{headerOf};
-ghost use Rattle.layout.specs.Places.{NUMBERS};
+ghost use Rattle.arrays.specs.Places.{NUMBERS};
 ghost use Rattle.sheet.specs.Parts.{Fit, SetsAsked, ZeroSets};
 
 // Whether a number is a set that is not empty, of values of the full set.

@@ -1,17 +1,17 @@
 // Questions 15 and 16 to each table of symmetries, and the images of the pairs.
 use crate::Answer;
-use layout::Images;
-use layout::Numbers;
-use layout::Supports;
+use arrays::Images;
+use arrays::Numbers;
+use arrays::Supports;
 use reader::Header;
 use reader::read_word;
-use symmetry::pair_code;
+use sheet_symmetries::pair_code;
 ghost use mathlib.Core.Path.{_≡_};
 ghost use mathlib.Core.Bool.{true};
 ghost use lib.ListN.{length};
 ghost use Rattle.model.specs.Sheet.{headerOf, problemOf, permutesPairs, symmetriesVerdict};
-ghost use Rattle.layout.specs.Places.{IMAGES};
-ghost use Rattle.symmetry.specs.Table.{TableAt, tableOf};
+ghost use Rattle.arrays.specs.Places.{IMAGES};
+ghost use Rattle.sheet_symmetries.specs.Table.{TableAt, tableOf};
 ghost use Rattle.sheet.specs.Meaning.{means};
 ghost use Rattle.sheet.specs.Form.{Formed};
 ghost use Rattle.sheet.specs.Decoding.{Decodable, Decoded, Tabled, TablesDecoded};
@@ -26,7 +26,7 @@ pub fn ask(sheet: &[u8], h: Header, numbers: &Numbers, supports: &Supports) -> A
     let mut at = h.third;
     let mut e = 0;
     while e < g {
-        let number = symmetry::table_question(sheet, at, numbers, supports);
+        let number = sheet_symmetries::table_question(sheet, at, numbers, supports);
         if number != 0 {
             return Answer::Refused { number, item: e };
         }
@@ -57,7 +57,7 @@ fn permuted(sheet: &[u8], from: usize, numbers: &Numbers, asked: bool) -> bool
     if asked {
         return true;
     }
-    symmetry::permutes(sheet, from, numbers)
+    sheet_symmetries::permutes(sheet, from, numbers)
 }
 
 // Whether all tables pass question 15, and their images. Where it was asked before, with yes for an answer, it is not asked again.

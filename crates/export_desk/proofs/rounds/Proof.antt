@@ -1,6 +1,6 @@
 -- `rounds`: the answer's length is asked first; then the call, and its two kinds of reply. Assumes nothing.
 use mathlib.Core.Path.{refl, sym, ap, _∙_}
-use Rattle.serve.specs.Meaning.{meansRounds}
+use Rattle.desk_turns.specs.Meaning.{meansRounds}
 use Rattle.export_desk.proofs.Replies.{refused-item, unrounded, rounded}
 use borrow.Author.Needs.{needs}
 use Rattle.export_desk.proofs.rounds.Statement.{statement}

@@ -2,9 +2,9 @@
 use mathlib.Core.Path.{refl, sym, ap, _∙_}
 use native.Mathlib.Omega.{arith}
 use borrow.Author.Needs.{needs}
-use Rattle.figure.specs.Figure.{number, dash}
-use Rattle.counting.specs.Told.{refusal, told, means}
-use Rattle.counting.proofs.Bare.{told-few}
+use Rattle.families_figure.specs.Figure.{number, dash}
+use Rattle.families_count.specs.Told.{refusal, told, means}
+use Rattle.families_count.proofs.Bare.{told-few}
 use Rattle.wire.proofs.Codes.{refused-small}
 use Rattle.export_lent.proofs.Lent.{lent-small}
 use Rattle.export_families.proofs.Figures.{wrong-answer, right-answer, refusal-counted}

@@ -1,7 +1,7 @@
 -- `filter_code`: the number of each case. Assumes nothing.
 use mathlib.Core.Path.{sym, ap, _∙_, subst}
-use Rattle.nogood.specs.declared.Answer.{Answer}
-use Rattle.nogood.specs.Lists.{means}
+use Rattle.filter.specs.declared.Answer.{Answer}
+use Rattle.filter.specs.Lists.{means}
 use Rattle.export_filter.specs.Filter.{filterAnswerCode}
 use Rattle.export_filter.specs.Filter.{SmallAnswer}
 use borrow.Author.Needs.{needs}

@@ -3,7 +3,7 @@ use mathlib.Core.Path.{_≡_, sym, ap, _∙_, subst}
 use mathlib.Core.List.{List}
 use Prim.Native.Nat.{ℕ}
 use Rattle.model.specs.Nogood.{entries, filterVerdict, filterAnswer, setsAfter}
-use Rattle.nogood.specs.Lists.{means}
+use Rattle.filter.specs.Lists.{means}
 use Rattle.export_filter.specs.Filter.{filterAnswerCode, setsIn, bytesOf, filteredBytes}
 use Rattle.export_filter.specs.Filter.{SmallAnswer}
 use Rattle.export_filter.proofs.Filtered.{answer-small}

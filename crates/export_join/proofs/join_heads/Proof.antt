@@ -2,7 +2,7 @@
 use mathlib.Core.Path.{refl, sym, _∙_}
 use borrow.Author.Needs.{needs}
 use lib.ListN.{replicate}
-use Rattle.join.specs.declared.Answer.the-variants.{Refused, Joined, Missing}
+use Rattle.run_join.specs.declared.Answer.the-variants.{Refused, Joined, Missing}
 use Rattle.export_join.specs.Joined.{standBytes, beginBytes}
 use Rattle.export_join.proofs.Wides.{wrong-size, right-size, said, pieces}
 use Rattle.export_join.proofs.join_heads.Statement.{statement}

@@ -4,7 +4,7 @@ use Prim.Native.Nat.{ℕ, _+_, _-_, _*_, _/_, _%_, _^_, _≤_, _<_}
 use native.Mathlib.Omega.{arith}
 use Rattle.model.specs.Lists.{at}
 use Rattle.model.specs.Problem.{Problem}
-use Rattle.layout.specs.Places.{IMAGES}
+use Rattle.arrays.specs.Places.{IMAGES}
 use Rattle.families.specs.Numbered.{Imaging}
 use Rattle.families.proofs.Keys.{digit-small, digit-shifted}
 use Rattle.families.proofs.Rows.{Carrying, sent, imaging-bounds, imaging-value, imaging-index, imaging-variable, carrying-begin, carrying-small, carrying-turn, carrying-end}

@@ -10,7 +10,7 @@ use borrow.Author.Needs.{needs}
 use Rattle.model.specs.Lists.{at}
 use Rattle.model.specs.Problem.{Problem}
 use Rattle.model.proofs.Sets.{size}
-use Rattle.layout.specs.Places.{LINKED}
+use Rattle.arrays.specs.Places.{LINKED}
 use Rattle.prune.specs.Steps.{ArraysHold, Blocked, BeforeFixpoint, AllFilteredOr, OnlyMarks}
 use Rattle.prune.proofs.FilterLoop.{kept-none, kept-trans}
 use Rattle.prune.proofs.Starts.{some-one}

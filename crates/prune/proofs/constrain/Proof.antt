@@ -4,7 +4,7 @@ use native.Mathlib.Nat.{lt-of-lt-of-le}
 use borrow.Author.Needs.{needs}
 use Rattle.model.specs.Problem.{Problem}
 use Rattle.model.proofs.Sets.{size}
-use Rattle.links.proofs.Settled.{none-settled}
+use Rattle.prune_pairs.proofs.Settled.{none-settled}
 use Rattle.prune.specs.Steps.{ArraysHold, Pending, PrunedSoFar}
 use Rattle.prune.proofs.Pending.{pruned-none, ended-more, all-constrained-dead, all-constrained-live, nothing-due, arcs-pending, arcs-pruned, arcs-size, arcs-turn, constraints-pending, pending-turn, pruned-turn, pending-less}
 use Rattle.prune.proofs.constrain.Statement.{statement}

@@ -3,7 +3,7 @@ use Prim.Native.Nat.{_+_, _*_, _-_, _≤_}
 use native.Mathlib.Omega.{arith}
 use borrow.Author.Needs.{needs}
 use Rattle.model.specs.Lists.{at}
-use Rattle.layout.specs.Places.{MARKS}
+use Rattle.arrays.specs.Places.{MARKS}
 use Rattle.prune.proofs.Copies.{Filled, filled-begin, filled-with, stored, copied, copied-none}
 use Rattle.prune.proofs.copy_marks.Statement.{statement}
 use Rattle.prune.proofs.copy_marks.Tie as tie

@@ -1,7 +1,7 @@
 -- The block's variables after k, where k is one of them. Assumes nothing.
 use mathlib.Core.Path.{refl}
 use borrow.Author.Needs.{needs}
-use Rattle.links.proofs.OneCut.{bit-in}
+use Rattle.prune_pairs.proofs.OneCut.{bit-in}
 use Rattle.prune.proofs.BlockCut.{bit-out, two-some, later-small, after-none, after-some}
 use Rattle.prune.proofs.cut_later.Statement.{statement}
 use Rattle.prune.proofs.cut_later.Tie as tie

@@ -8,8 +8,8 @@ use borrow.Author.Needs.{needs}
 use lib.ListN.{set, take}
 use Rattle.model.specs.Lists.{at}
 use Rattle.model.specs.Problem.{Problem}
-use Rattle.layout.specs.Places.{MARKS, SYMMETRIES}
-use Rattle.layout.specs.Pruning.{setsOf}
+use Rattle.arrays.specs.Places.{MARKS, SYMMETRIES}
+use Rattle.arrays.specs.Pruning.{setsOf}
 use Rattle.prune.specs.Node.{MarksRight}
 use Rattle.prune.specs.Steps.{ArraysHold, PrefixHeld, LiveSets}
 use Rattle.prune.proofs.FilterLoop.{FilteredSoFar, filtered-begin, filtered-end, filtered-skip, filtered-turn, filtered-dead, levelled, e-few, k-few}

@@ -8,9 +8,9 @@ use lib.Bits.{bitAnd, bitOr}
 use borrow.Author.Needs.{needs}
 use Rattle.model.specs.Lists.{at}
 use Rattle.model.specs.Problem.{Problem}
-use Rattle.layout.specs.Places.{LINKED, LOOKS}
-use Rattle.constraints.specs.LookUps.{LookUpsPending}
-use Rattle.constraints.proofs.Touching.{touchedOf}
+use Rattle.arrays.specs.Places.{LINKED, LOOKS}
+use Rattle.prune_constraints.specs.LookUps.{LookUpsPending}
+use Rattle.prune_constraints.proofs.Touching.{touchedOf}
 use Rattle.prune.specs.Steps.{ArraysHold, Blocked, AllConstrained, BeforeFixpoint}
 use Rattle.prune.proofs.Pending.{pruned-none, nothing-due, arcs-pending}
 use Rattle.prune.proofs.Starts.{some-one}

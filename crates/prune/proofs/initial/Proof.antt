@@ -3,7 +3,7 @@ use Prim.Native.Nat.{_+_, _-_, _%_, _≤_}
 use native.Mathlib.Omega.{arith}
 use borrow.Author.Needs.{needs}
 use Rattle.model.specs.Lists.{at}
-use Rattle.layout.specs.Places.{INITIAL}
+use Rattle.arrays.specs.Places.{INITIAL}
 use Rattle.prune.proofs.Copies.{Filled, filled-begin, filled-turn, from-start}
 use Rattle.prune.proofs.initial.Statement.{statement}
 use Rattle.prune.proofs.initial.Tie as tie

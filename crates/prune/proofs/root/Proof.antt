@@ -5,7 +5,7 @@ use Prim.Native.Nat.{ℕ}
 use borrow.Author.Needs.{needs}
 use Rattle.model.specs.Lists.{at}
 use Rattle.model.specs.Problem.{Problem}
-use Rattle.layout.specs.Places.{LINKED}
+use Rattle.arrays.specs.Places.{LINKED}
 use Rattle.prune.specs.Node.{Ready}
 use Rattle.prune.specs.Steps.{BeforeFixpoint}
 use Rattle.prune.proofs.FixpointLoop.{constrained-dead, constrained-done}

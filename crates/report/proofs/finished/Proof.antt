@@ -3,7 +3,7 @@ use mathlib.Core.Path.{sym}
 use native.Mathlib.Omega.{arith}
 use lib.Seq.{length-take-le}
 use Rattle.model.specs.Run.{finished}
-use Rattle.figure.specs.Figure.{number}
+use Rattle.families_figure.specs.Figure.{number}
 use Rattle.report.specs.Report.{endingLine}
 use Rattle.report.proofs.Lines.{front-taken, front-inside, ended-fits}
 use borrow.Author.Needs.{needs}

@@ -1,5 +1,5 @@
 use Rattle.sheet.proofs.Whole.{zeros, whole-no, whole-yes, formed}
-use Rattle.layout.specs.Places.{NUMBERS, SUPPORTS}
+use Rattle.arrays.specs.Places.{NUMBERS, SUPPORTS}
 use borrow.Author.Needs.{needs}
 use Rattle.sheet.proofs.question.Statement.{statement}
 use Rattle.sheet.proofs.question.Tie as tie

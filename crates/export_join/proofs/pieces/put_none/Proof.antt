@@ -2,7 +2,7 @@
 use borrow.Author.Needs.{needs}
 use lib.ListN.{replicate}
 use Rattle.export_join.specs.Joined.{pathBytesAt}
-use Rattle.join.proofs.Turns.{startBytes}
+use Rattle.run_join.proofs.Turns.{startBytes}
 use Rattle.export_join.proofs.Wides.{none-at, two-put}
 use Rattle.export_join.proofs.pieces.put_none.Statement.{statement}
 use Rattle.export_join.proofs.pieces.put_none.Tie as tie

@@ -1,7 +1,7 @@
 -- `at_least`: the answer's length is asked first; then whether there are so many plans. Assumes nothing.
 use mathlib.Core.Path.{sym, subst}
 use borrow.Author.Needs.{needs}
-use Rattle.enough.specs.Lent.{EnoughAnswer}
+use Rattle.run_enough.specs.Lent.{EnoughAnswer}
 use Rattle.export_lent.specs.Inner.{SmallSaid}
 use Rattle.export_lent.proofs.AtLeast.{small-said, wrong-size, right-size}
 use Rattle.export_lent.proofs.at_least.at_least.Statement.{statement}

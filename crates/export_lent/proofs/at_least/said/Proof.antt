@@ -1,8 +1,8 @@
 -- `said`: each answer has its kind. Assumes nothing.
 use mathlib.Core.Path.{sym, ap, _∙_, subst}
 use native.Mathlib.Omega.{arith}
-use Rattle.search.specs.declared.Enough.{Enough}
-use Rattle.search.specs.Meaning.{saidEnough}
+use Rattle.run.specs.declared.Enough.{Enough}
+use Rattle.run.specs.Meaning.{saidEnough}
 use Rattle.export_lent.specs.Enough.{saidCode, saidBytes}
 use Rattle.export_lent.specs.Inner.{SmallSaid}
 use borrow.Author.Needs.{needs}

@@ -2,9 +2,9 @@
 use mathlib.Core.Path.{refl, sym, ap, _∙_}
 use native.Mathlib.Omega.{arith}
 use borrow.Author.Needs.{needs}
-use Rattle.closed.specs.Open.{none, two}
-use Rattle.closed.specs.Lent.{refusal, told, means}
-use Rattle.closed.proofs.Testing.{told-few}
+use Rattle.families_closed.specs.Open.{none, two}
+use Rattle.families_closed.specs.Lent.{refusal, told, means}
+use Rattle.families_closed.proofs.Testing.{told-few}
 use Rattle.wire.proofs.Codes.{refused-small}
 use Rattle.export_lent.proofs.Lent.{lent-small}
 use Rattle.export_lent.proofs.Closed.{wrong-answer, right-answer, refusal-told}

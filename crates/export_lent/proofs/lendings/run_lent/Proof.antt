@@ -3,10 +3,10 @@ use mathlib.Core.Path.{refl, sym, ap, _∙_}
 use mathlib.Core.List.{List, _++_}
 use Prim.Native.Nat.{ℕ}
 use Rattle.model.specs.Run.{refusal, ended}
-use Rattle.lent.specs.Lent.{verdictLent}
-use Rattle.walk.specs.Meaning.{tallyIn, endingOf}
-use Rattle.search.specs.Meaning.{means}
-use Rattle.walk.specs.Walk.{noNodes}
+use Rattle.run_input.specs.Lent.{verdictLent}
+use Rattle.run_state.specs.Meaning.{tallyIn, endingOf}
+use Rattle.run.specs.Meaning.{means}
+use Rattle.run_state.specs.Walk.{noNodes}
 use Rattle.export_run.specs.Run.{endingBytes}
 use Rattle.export_lent.specs.Tallied.{numbersOf}
 use Rattle.wire.proofs.Codes.{refused-small}

@@ -2,8 +2,8 @@
 use mathlib.Core.Path.{refl, sym, ap, _∙_}
 use native.Mathlib.Omega.{arith}
 use Rattle.model.specs.Room.{wrote, refusal}
-use Rattle.merge.specs.Meaning.{means}
-use Rattle.merge.proofs.Asking.{merge-item}
+use Rattle.list_merge.specs.Meaning.{means}
+use Rattle.list_merge.proofs.Asking.{merge-item}
 use Rattle.wire.proofs.Outcomes.{refused-is}
 use Rattle.export_lists.proofs.Merged.{wrong-answer, right-answer}
 use borrow.Author.Needs.{needs}

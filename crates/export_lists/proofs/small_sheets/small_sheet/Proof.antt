@@ -3,8 +3,8 @@ use mathlib.Core.Path.{refl, sym, ap, _∙_}
 use native.Mathlib.Omega.{arith}
 use borrow.Author.Needs.{needs}
 use Rattle.model.specs.Room.{wrote, refusal}
-use Rattle.small.specs.Answers.{means}
-use Rattle.small.proofs.Bounds.{refusal-item, wrote-few}
+use Rattle.sheet_small.specs.Answers.{means}
+use Rattle.sheet_small.proofs.Bounds.{refusal-item, wrote-few}
 use Rattle.export_lists.proofs.SmallSheets.{wrong-length, answered}
 use Rattle.export_lists.proofs.small_sheets.small_sheet.Statement.{statement}
 use Rattle.export_lists.proofs.small_sheets.small_sheet.Tie as tie

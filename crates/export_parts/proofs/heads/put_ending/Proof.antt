@@ -3,8 +3,8 @@ use mathlib.Core.List.{_++_}
 use mathlib.Core.Path.{sym, subst}
 use native.Mathlib.Omega.{arith}
 use Rattle.model.specs.Written.{Written}
-use Rattle.walk.specs.declared.Ending.{Ending}
-use Rattle.walk.specs.Meaning.{endingOf}
+use Rattle.run_state.specs.declared.Ending.{Ending}
+use Rattle.run_state.specs.Meaning.{endingOf}
 use Rattle.export_run.specs.Run.{endingBytes}
 use Rattle.export_lent.specs.Tallied.{numbersOf}
 use Rattle.export_run.specs.Inner.{Counted}

@@ -1,9 +1,9 @@
 -- `run_part`: the answer's length is asked first; then the part, and its head. Assumes nothing.
 use mathlib.Core.Path.{refl, sym, ap, _∙_}
 use Rattle.model.specs.Run.{Tally, refusal, ended}
-use Rattle.lent.specs.Lent.{verdictLent}
-use Rattle.search.specs.Meaning.{means}
-use Rattle.walk.specs.Meaning.{endingOf}
+use Rattle.run_input.specs.Lent.{verdictLent}
+use Rattle.run.specs.Meaning.{means}
+use Rattle.run_state.specs.Meaning.{endingOf}
 use Rattle.wire.proofs.Codes.{refused-small}
 use Rattle.export_lent.proofs.Lent.{lent-small}
 use Rattle.export_parts.proofs.Answered.{refusal-of, counted, counts-fit, wrong-answer, right-answer, pieces}

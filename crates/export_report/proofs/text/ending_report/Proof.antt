@@ -1,10 +1,10 @@
 -- `ending_report`: a finished run is taken apart, the two others are a stop. Assumes nothing.
 use mathlib.Core.Path.{sym, subst}
-use Rattle.figure.specs.Figure.{Figure}
-use Rattle.counting.proofs.Bare.{stopped}
+use Rattle.families_figure.specs.Figure.{Figure}
+use Rattle.families_count.proofs.Bare.{stopped}
 use Rattle.report.specs.Text.{endedText, Fitted}
-use Rattle.walk.specs.declared.Ending.{Ending}
-use Rattle.walk.specs.Meaning.{endingOf}
+use Rattle.run_state.specs.declared.Ending.{Ending}
+use Rattle.run_state.specs.Meaning.{endingOf}
 use Rattle.export_report.specs.Inner.{Listed}
 use borrow.Author.Needs.{needs}
 use Rattle.export_report.proofs.text.ending_report.Statement.{statement}

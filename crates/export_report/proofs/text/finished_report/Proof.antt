@@ -8,11 +8,11 @@ use types.Run.{OneOf}
 use denote.Enum.Declared.{tagOf}
 use borrow.Author.Needs.{needs}
 use Rattle.model.specs.Run.{finished}
-use Rattle.figure.specs.Figure.{Figure, number, dash}
-use Rattle.counting.specs.Told.{refusal, told, means}
-use Rattle.counting.specs.declared.Answer.{Answer}
-use Rattle.counting.specs.declared.Answer.the-variants.{Number, Dash, Refused}
-use Rattle.counting.proofs.Answer.{the-type}
+use Rattle.families_figure.specs.Figure.{Figure, number, dash}
+use Rattle.families_count.specs.Told.{refusal, told, means}
+use Rattle.families_count.specs.declared.Answer.{Answer}
+use Rattle.families_count.specs.declared.Answer.the-variants.{Number, Dash, Refused}
+use Rattle.families_count.proofs.Answer.{the-type}
 use Rattle.report.specs.Text.{endedText, Fitted}
 use Rattle.export_report.proofs.text.finished_report.Statement.{statement}
 use Rattle.export_report.proofs.text.finished_report.Tie as tie

@@ -6,9 +6,9 @@ use native.Mathlib.Omega.{arith}
 use lib.ListN.{take}
 use lib.Seq.{length-take-le}
 use Rattle.report.specs.Text.{Fitted}
-use Rattle.search.specs.Meaning.{means}
-use Rattle.walk.specs.Meaning.{endingOf}
-use Rattle.counting.proofs.Bare.{room-long}
+use Rattle.run.specs.Meaning.{means}
+use Rattle.run_state.specs.Meaning.{endingOf}
+use Rattle.families_count.proofs.Bare.{room-long}
 use Rattle.export_run.proofs.Ran.{refusal-of}
 use Rattle.export_report.proofs.Reported.{refused-text, verdict, dashed, listed, ended-text}
 use borrow.Author.Needs.{needs}

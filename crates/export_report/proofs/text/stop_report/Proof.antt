@@ -1,9 +1,9 @@
 -- `stop_report`: the ending by its word, with a dash. Assumes nothing.
 use mathlib.Core.Path.{sym, subst}
-use Rattle.figure.specs.Figure.{dash}
+use Rattle.families_figure.specs.Figure.{dash}
 use Rattle.report.specs.Text.{endedText, Fitted}
-use Rattle.walk.specs.declared.Ending.{Ending}
-use Rattle.walk.specs.Meaning.{endingOf}
+use Rattle.run_state.specs.declared.Ending.{Ending}
+use Rattle.run_state.specs.Meaning.{endingOf}
 use Rattle.export_report.specs.Inner.{Listed}
 use borrow.Author.Needs.{needs}
 use Rattle.export_report.proofs.text.stop_report.Statement.{statement}

@@ -1,8 +1,8 @@
 -- `ending`: each ending has its kind. Assumes nothing.
 use mathlib.Core.Path.{sym, ap, _∙_, subst}
 use native.Mathlib.Omega.{arith}
-use Rattle.walk.specs.declared.Ending.{Ending}
-use Rattle.walk.specs.Meaning.{endingOf}
+use Rattle.run_state.specs.declared.Ending.{Ending}
+use Rattle.run_state.specs.Meaning.{endingOf}
 use Rattle.export_run.specs.Run.{endingBytes}
 use Rattle.export_run.specs.Inner.{Counted}
 use borrow.Author.Needs.{needs}

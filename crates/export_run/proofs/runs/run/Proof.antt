@@ -2,8 +2,8 @@
 use mathlib.Core.Path.{refl, sym, ap, _∙_}
 use Rattle.model.specs.Run.{refusal, ended}
 use Rattle.model.specs.Sheet.{verdictOf}
-use Rattle.search.specs.Meaning.{means}
-use Rattle.walk.specs.Meaning.{endingOf}
+use Rattle.run.specs.Meaning.{means}
+use Rattle.run_state.specs.Meaning.{endingOf}
 use Rattle.wire.proofs.Codes.{verdict-small, refused-small}
 use Rattle.export_run.proofs.Ran.{refusal-of, counted, wrong-answer, right-answer}
 use borrow.Author.Needs.{needs}

@@ -12,7 +12,7 @@ use Rattle.sheet.proofs.sets.ask.Tie as tie
 use Rattle.sheet.proofs.sets.ask.Reads as reads
 use Rattle.sheet.proofs.sets.ask.Lts as lts
 use Rattle.model.proofs.ValueSet.full.Reads as full-reads
-use Rattle.layout.specs.Places.{NUMBERS}
+use Rattle.arrays.specs.Places.{NUMBERS}
 use Rattle.reader.proofs.read_word.Reads as read-word-reads
 use Rattle.sheet.proofs.sets.fill.Reads as fill-reads
 use Rattle.sheet.proofs.sets.is_set.Reads as is-set-reads

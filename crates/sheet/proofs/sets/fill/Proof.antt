@@ -10,7 +10,7 @@ use Rattle.sheet.proofs.sets.fill.Tie as tie
 use Rattle.sheet.proofs.sets.fill.Reads as reads
 use Rattle.sheet.proofs.sets.fill.Lts as lts
 use Rattle.model.proofs.ValueSet.full.Reads as full-reads
-use Rattle.layout.specs.Places.{NUMBERS}
+use Rattle.arrays.specs.Places.{NUMBERS}
 
 abbrev Inv-loop : tie.InvT-loop
 Inv-loop numbers₀ first x₀ numbers x = (x ≤ 16) × (first .bits ≡ 1) × (length numbers₀ ≡ NUMBERS) × ZeroTo x numbers₀ numbers

@@ -7,7 +7,7 @@ use Rattle.sheet.proofs.tables.decode.Tie as tie
 use Rattle.sheet.proofs.tables.decode.Reads as reads
 use Rattle.sheet.proofs.tables.decode.Lts as lts
 use Rattle.reader.proofs.read_word.Reads as read-word-reads
-use Rattle.symmetry.proofs.pair_code.Reads as pair-code-reads
+use Rattle.sheet_symmetries.proofs.pair_code.Reads as pair-code-reads
 
 abbrev Inv-loop : tie.InvT-loop
 Inv-loop sheet from count d base images₀ q₀ images q = (q ≤ count) × DecodedTo sheet from d base q images₀ images

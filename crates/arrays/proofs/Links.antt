@@ -1,0 +1,57 @@
+-- A problem's constraints by number, the first constraint on two variables, and the values that go together by it. Assumes nothing.
+use mathlib.Core.Path.{_≡_, sym, ap, subst}
+use mathlib.Core.Bool.{Bool, true, false}
+use mathlib.Core.List.{List, [], _∷_, List·Memᴰ}
+use Prim.Native.Nat.{ℕ, _≤_, _<_}
+use lib.Dec.{T, eqb, eqb→eq, eqb-refl}
+use lib.ListN.{length}
+use borrow.Author.Tests.{lt-ltb, le-ltb, le-leb, lt-leb}
+use Rattle.model.specs.Lists.{both, either, any, at, same, ascending}
+use Rattle.model.specs.Problem.{Problem, Constraint}
+use Rattle.model.proofs.Lists.{T-of, both-l, same-eq, mem-getD, ascending-2}
+use Rattle.model.proofs.Masks.{least-is}
+use Rattle.model.specs.WellFormed.{WellFormed, GoodConstraint}
+use Rattle.arrays.specs.Layout.{constraintAt}
+use Rattle.arrays.specs.Tables.{linkOf, byRows, allowed, goes}
+
+-- ---- constraint k
+pub is-one : (p : Problem) (k : ℕ) → k < length (p .constraints) → List·Memᴰ (constraintAt p k) (p .constraints)
+is-one p k h = mem-getD (p .constraints) k _ h
+
+pub good : {p : Problem} → WellFormed p → (k : ℕ) → k < length (p .constraints) → GoodConstraint p (constraintAt p k)
+good {p} w k h = w .constrained (constraintAt p k) (is-one p k h)
+
+pub scope-order : {p : Problem} (c : Constraint) (a b : ℕ) → GoodConstraint p c → c .scope ≡ a ∷ b ∷ [] → a < b
+scope-order c a b g e = ascending-2 a b (subst (λ (l : List ℕ). T (ascending l)) e (g .ordered))
+
+-- ---- the first constraint on two variables
+-- it has them for its scope
+pub link-scope : (p : Problem) (x y : ℕ) → linkOf p x y < length (p .constraints) → constraintAt p (linkOf p x y) .scope ≡ x ∷ y ∷ []
+unfolding linkOf
+link-scope p x y h = same-eq _ _ (T-of _ (least-is (length (p .constraints)) (λ k. same (constraintAt p k .scope) (x ∷ y ∷ [])) h))
+
+pub by-rows-link : (p : Problem) (k x y : ℕ) → constraintAt p k .scope ≡ x ∷ y ∷ [] → byRows p k ≡ eqb (linkOf p x y) k
+unfolding byRows at
+by-rows-link p k x y e = ap (λ (s : List ℕ). both (eqb (length s) 2) (eqb (linkOf p (at s 0) (at s 1)) k)) e
+
+pub by-rows-two : (p : Problem) (k : ℕ) → T (byRows p k) → length (constraintAt p k .scope) ≡ 2
+unfolding byRows
+by-rows-two p k t = eqb→eq _ 2 (both-l (eqb (length (constraintAt p k .scope)) 2) _ t)
+
+pub link-by-rows : (p : Problem) (x y : ℕ) → linkOf p x y < length (p .constraints) → T (byRows p (linkOf p x y))
+link-by-rows p x y h = subst T (sym (by-rows-link p (linkOf p x y) x y (link-scope p x y h))) (eqb-refl (linkOf p x y))
+
+-- ---- values that go together
+pub allowed-none : (p : Problem) (k v w : ℕ) → length (p .constraints) ≤ k → T (allowed p k v w)
+allowed-none p k v w h = subst (λ (b : Bool). T (either b (any (same (v ∷ w ∷ [])) (constraintAt p k .rows)))) (sym (le-leb (length (p .constraints)) k h)) tt
+
+pub allowed-is : (p : Problem) (k v w : ℕ) → k < length (p .constraints) → allowed p k v w ≡ any (same (v ∷ w ∷ [])) (constraintAt p k .rows)
+allowed-is p k v w h = ap (λ (b : Bool). either b (any (same (v ∷ w ∷ [])) (constraintAt p k .rows))) (lt-leb (length (p .constraints)) k h)
+
+pub goes-up : (p : Problem) (x v y w : ℕ) → x < y → goes p x v y w ≡ allowed p (linkOf p x y) v w
+unfolding goes
+goes-up p x v y w h = ap (λ (b : Bool). elim b [ true ↦ allowed p (linkOf p x y) v w | false ↦ allowed p (linkOf p y x) w v ]) (lt-ltb x y h)
+
+pub goes-down : (p : Problem) (x v y w : ℕ) → y ≤ x → goes p x v y w ≡ allowed p (linkOf p y x) w v
+unfolding goes
+goes-down p x v y w h = ap (λ (b : Bool). elim b [ true ↦ allowed p (linkOf p x y) v w | false ↦ allowed p (linkOf p y x) w v ]) (le-ltb x y h)

@@ -1,0 +1,67 @@
+use mathlib.Core.Path.{sym, ap, _∙_, subst}
+use mathlib.Core.Logic.{⊎-elim}
+use Prim.Native.Nat.{_-_, _≤_}
+use native.Mathlib.Omega.{arith}
+use borrow.Author.Needs.{needs}
+use Rattle.model.specs.Lists.{at}
+use Rattle.model.specs.Filling.{Gathered}
+use Rattle.model.proofs.Filling.{gathered-begin, gathered-end}
+use Rattle.block.specs.Block.{inBlock}
+use Rattle.arrays_block.proofs.Gathering.{gather-one, gather-none}
+use Rattle.arrays_block.proofs.gather.Statement.{statement}
+use Rattle.arrays_block.proofs.gather.Tie as tie
+
+abbrev Inv-loop : tie.InvT-loop
+Inv-loop first m n order set₀ i₀ set i = (i ≤ n) × Gathered (λ i. inBlock first m (at order i)) i set
+
+abbrev μ-loop : tie.MeasureT-loop
+μ-loop first m n order set₀ i₀ set i = n - i
+
+loop-holds : tie.Need-loop-holds Inv-loop μ-loop
+loop-holds c = (omega arith, gathered-begin _)
+
+element-copy-out-wide : tie.Need-element-copy-out-wide Inv-loop μ-loop
+element-copy-out-wide c = search needs
+
+wide-requires : tie.Need-wide-requires Inv-loop μ-loop
+wide-requires c κs = tt
+
+is-inside-requires : tie.Need-is-inside-requires Inv-loop μ-loop
+is-inside-requires c κs = search needs
+
+shl-set : tie.Need-shl-set Inv-loop μ-loop
+shl-set c = search needs
+
+add-i : tie.Need-add-i Inv-loop μ-loop
+add-i c = search needs
+
+loop-less : tie.Need-loop-less Inv-loop μ-loop
+loop-less c = omega arith
+
+loop-again : tie.Need-loop-again Inv-loop μ-loop
+unfolding at
+loop-again c =
+    let i = c .before .before .before .before .before .loop .inv .1 in
+    let e = sym (c .before .is-inside .ensures ∙ ap (inBlock _ _) (c .before .before .wide .ensures)) in (
+      search needs,
+      ⊎-elim (λ w. subst (Gathered _ _) (sym (w .1)) (gather-one _ _ _ i (search needs) (e ∙ w .0 .taken))) (λ w. subst (Gathered _ _) (sym (w .1)) (gather-none _ _ _ i (e ∙ w .0 .left))) (c .if1 .came),
+    )
+
+returns : tie.Need-returns Inv-loop μ-loop
+returns c = gathered-end _ _ _ _ (search needs) (c .before .loop .inv .0) (c .before .loop .inv .1)
+
+pub gather-spec : {M : Type 1} → statement M
+gather-spec =
+    tie.close
+    (tie.spec
+    Inv-loop
+    μ-loop
+    loop-holds
+    element-copy-out-wide
+    wide-requires
+    is-inside-requires
+    shl-set
+    add-i
+    loop-less
+    loop-again
+    returns)

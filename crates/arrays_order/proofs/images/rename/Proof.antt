@@ -1,0 +1,48 @@
+-- One symmetry after another. Assumes nothing.
+use Prim.Native.Nat.{_-_, _≤_}
+use borrow.Author.Needs.{needs}
+use Rattle.arrays_order.specs.Steps.{MovedImages}
+use Rattle.arrays_order.proofs.Moves.{images-begin, images-turn, images-end}
+use Rattle.arrays_order.proofs.images.rename.Statement.{statement}
+use Rattle.arrays_order.proofs.images.rename.Tie as tie
+
+abbrev Inv-loop : tie.InvT-loop
+Inv-loop order stands n g images₀ e₀ images e = (e ≤ g) × MovedImages n order stands e images₀ images
+
+abbrev μ-loop : tie.MeasureT-loop
+μ-loop order stands n g images₀ e₀ images e = g - e
+
+loop-holds : tie.Need-loop-holds Inv-loop μ-loop
+loop-holds c = (search needs, images-begin _ _ _ _)
+
+mul-symmetry : tie.Need-mul-symmetry Inv-loop μ-loop
+mul-symmetry c = search needs
+
+symmetry-requires : tie.Need-symmetry-requires Inv-loop μ-loop
+symmetry-requires c κs = search needs
+
+add-e : tie.Need-add-e Inv-loop μ-loop
+add-e c = search needs
+
+loop-less : tie.Need-loop-less Inv-loop μ-loop
+loop-less c = search needs
+
+loop-again : tie.Need-loop-again Inv-loop μ-loop
+loop-again c = (search needs, images-turn _ _ _ _ _ _ _ (search needs) (c .before .before .before .loop .inv .1) (c .symmetry .ensures))
+
+returns : tie.Need-returns Inv-loop μ-loop
+returns c = images-end _ _ _ _ _ _ _ (search needs) (search needs) (c .before .loop .inv .1)
+
+pub rename-spec : {M : Type 1} → statement M
+rename-spec =
+    tie.close
+    (tie.spec
+    Inv-loop
+    μ-loop
+    loop-holds
+    mul-symmetry
+    symmetry-requires
+    add-e
+    loop-less
+    loop-again
+    returns)

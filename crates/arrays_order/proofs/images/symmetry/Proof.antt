@@ -1,0 +1,87 @@
+-- One pair after another. Assumes nothing.
+use mathlib.Core.Path.{_≡_, refl, ap, _∙_}
+use Prim.Native.Nat.{ℕ, _+_, _*_, _/_, _%_, _-_, _≤_, _<_}
+use native.Mathlib.Omega.{arith}
+use borrow.Author.Needs.{needs}
+use Rattle.model.specs.Lists.{at}
+use Rattle.model.proofs.Filling.{filled-begin, filled-turn, filled-end}
+use Rattle.model.specs.Filling.{Filled}
+use Rattle.arrays_order.specs.Steps.{renamedTo, imageFrom}
+use Rattle.arrays_order.proofs.images.symmetry.Statement.{statement}
+use Rattle.arrays_order.proofs.images.symmetry.Tie as tie
+
+abbrev Inv-loop : tie.InvT-loop
+Inv-loop order stands n from images₀ old m j₀ images j = (j ≤ m) × (m ≡ 16 * n) × ((i : ℕ) → i < 192 → at old i ≡ at images₀ (from + i)) × Filled (λ i. from + i) (λ i r. r ≡ renamedTo stands (at images₀ (from + imageFrom order i))) j images₀ images
+
+abbrev μ-loop : tie.MeasureT-loop
+μ-loop order stands n from images₀ old m j₀ images j = m - j
+
+load-requires : tie.Need-load-requires Inv-loop μ-loop
+load-requires c κs = search needs
+
+mul-m : tie.Need-mul-m Inv-loop μ-loop
+mul-m c = search needs
+
+loop-holds : tie.Need-loop-holds Inv-loop μ-loop
+loop-holds c = (search needs, refl, c .load .ensures .here, filled-begin _ _ _)
+
+entry-requires : tie.Need-entry-requires Inv-loop μ-loop
+entry-requires c κs = search needs
+
+cast-x : tie.Need-cast-x Inv-loop μ-loop
+cast-x c = search needs
+
+mul-image : tie.Need-mul-image Inv-loop μ-loop
+mul-image c = search needs
+
+add-image : tie.Need-add-image Inv-loop μ-loop
+add-image c = search needs
+
+image-requires : tie.Need-image-requires Inv-loop μ-loop
+image-requires c κs = (let l : c .before .before .before .loop .j / 16 < c .before .before .before .before .before .before .before .args .n = omega (arith, c .before .before .before .loop .inv .1) in omega (arith, c .before .entry .ensures, c .before .before .before .before .before .before .before .pre .2 (c .before .before .before .loop .j / 16) l))
+
+renamed-requires : tie.Need-renamed-requires Inv-loop μ-loop
+renamed-requires c κs = search needs
+
+add-images : tie.Need-add-images Inv-loop μ-loop
+add-images c = search needs
+
+element-write-images : tie.Need-element-write-images Inv-loop μ-loop
+element-write-images c = search needs
+
+add-j : tie.Need-add-j Inv-loop μ-loop
+add-j c = search needs
+
+loop-less : tie.Need-loop-less Inv-loop μ-loop
+loop-less c = search needs
+
+loop-again : tie.Need-loop-again Inv-loop μ-loop
+loop-again c =
+    let l : c .before .before .before .before .before .loop .j / 16 < c .before .before .before .before .before .before .before .before .before .args .n = omega (arith, c .before .before .before .before .before .loop .inv .1) in
+    let s : 16 * c .before .before .before .entry .result + c .before .before .before .before .before .loop .j % 16 < 192 = omega (arith, c .before .before .before .entry .ensures, c .before .before .before .before .before .before .before .before .before .pre .2 (c .before .before .before .before .before .loop .j / 16) l) in
+    (search needs, refl, c .before .before .before .before .before .loop .inv .2, filled-turn _ _ _ _ _ _ _ (c .before .before .before .before .before .loop .inv .3) refl (omega arith) (λ v l e. omega arith) (c .renamed .ensures ∙ ap (renamedTo (c .before .before .before .before .before .before .before .before .before .args .stands .now)) (c .before .image .ensures ∙ c .before .before .before .before .before .loop .inv .2 _ s ∙ ap (λ (z : ℕ). at (c .before .before .before .before .before .before .before .before .before .args .images .now) (c .before .before .before .before .before .before .before .before .before .args .from + (16 * z + c .before .before .before .before .before .loop .j % 16))) (c .before .before .before .entry .ensures))))
+
+returns : tie.Need-returns Inv-loop μ-loop
+returns c = filled-end _ _ _ _ _ _ (search needs) (search needs) (c .before .loop .inv .3)
+
+pub symmetry-spec : {M : Type 1} → statement M
+symmetry-spec =
+    tie.close
+    (tie.spec
+    Inv-loop
+    μ-loop
+    load-requires
+    mul-m
+    loop-holds
+    entry-requires
+    cast-x
+    mul-image
+    add-image
+    image-requires
+    renamed-requires
+    add-images
+    element-write-images
+    add-j
+    loop-less
+    loop-again
+    returns)

@@ -1,0 +1,55 @@
+-- One variable after another. Assumes nothing.
+use mathlib.Core.Path.{_≡_, refl}
+use Prim.Native.Nat.{_-_, _≤_}
+use native.Mathlib.Omega.{arith}
+use borrow.Author.Needs.{needs}
+use Rattle.model.proofs.Filling.{filled-begin, filled-turn, filled-end}
+use Rattle.model.specs.Filling.{Filled}
+use Rattle.arrays_order.specs.Steps.{stand}
+use Rattle.arrays_order.proofs.places.positions.Statement.{statement}
+use Rattle.arrays_order.proofs.places.positions.Tie as tie
+
+abbrev Inv-loop : tie.InvT-loop
+Inv-loop order n stands₀ x₀ stands x = (x ≤ n) × Filled (λ y. y) (λ y r. r ≡ stand n order y) x stands₀ stands
+
+abbrev μ-loop : tie.MeasureT-loop
+μ-loop order n stands₀ x₀ stands x = n - x
+
+loop-holds : tie.Need-loop-holds Inv-loop μ-loop
+loop-holds c = (search needs, filled-begin _ _ _)
+
+position-requires : tie.Need-position-requires Inv-loop μ-loop
+position-requires c κs = search needs
+
+cast-stands : tie.Need-cast-stands Inv-loop μ-loop
+cast-stands c = search needs
+
+element-write-stands : tie.Need-element-write-stands Inv-loop μ-loop
+element-write-stands c = search needs
+
+add-x : tie.Need-add-x Inv-loop μ-loop
+add-x c = search needs
+
+loop-less : tie.Need-loop-less Inv-loop μ-loop
+loop-less c = search needs
+
+loop-again : tie.Need-loop-again Inv-loop μ-loop
+loop-again c = (search needs, filled-turn _ _ _ _ _ _ _ (c .before .before .loop .inv .1) refl (omega arith) (λ v l e. omega arith) (c .position .ensures .0))
+
+returns : tie.Need-returns Inv-loop μ-loop
+returns c = filled-end _ _ _ _ _ _ (search needs) (search needs) (c .before .loop .inv .1)
+
+pub positions-spec : {M : Type 1} → statement M
+positions-spec =
+    tie.close
+    (tie.spec
+    Inv-loop
+    μ-loop
+    loop-holds
+    position-requires
+    cast-stands
+    element-write-stands
+    add-x
+    loop-less
+    loop-again
+    returns)

@@ -1,0 +1,58 @@
+-- One set after another. Assumes nothing.
+use Prim.Native.Nat.{_-_, _≤_}
+use native.Mathlib.Omega.{arith}
+use borrow.Author.Needs.{needs}
+use Rattle.model.specs.Lists.{at}
+use Rattle.arrays_order.proofs.Loops.{Columns, columns-begin, columns-turn, columns-end}
+use Rattle.arrays_order.proofs.supports.gather.Statement.{statement}
+use Rattle.arrays_order.proofs.supports.gather.Tie as tie
+
+abbrev Inv-loop : tie.InvT-loop
+Inv-loop supports base columns₀ v₀ columns v = (v ≤ 16) × Columns base supports v columns
+
+abbrev μ-loop : tie.MeasureT-loop
+μ-loop supports base columns₀ v₀ columns v = 16 - v
+
+loop-holds : tie.Need-loop-holds Inv-loop μ-loop
+loop-holds c = (search needs, columns-begin _ _ _ (c .pre .1) (c .pre .2))
+
+add-add : tie.Need-add-add Inv-loop μ-loop
+add-add c = search needs
+
+mul-add : tie.Need-mul-add Inv-loop μ-loop
+mul-add c = search needs
+
+element-copy-out-add : tie.Need-element-copy-out-add Inv-loop μ-loop
+element-copy-out-add c = search needs
+
+add-requires : tie.Need-add-requires Inv-loop μ-loop
+add-requires c κs = (search needs, c .before .before .before .loop .inv .1 .size)
+
+add-v : tie.Need-add-v Inv-loop μ-loop
+add-v c = search needs
+
+loop-less : tie.Need-loop-less Inv-loop μ-loop
+loop-less c = search needs
+
+loop-again : tie.Need-loop-again Inv-loop μ-loop
+unfolding at
+loop-again c = (search needs, columns-turn _ _ _ _ _ (c .before .before .before .before .loop .inv .1) (c .add .ensures))
+
+returns : tie.Need-returns Inv-loop μ-loop
+returns c = (c .before .loop .inv .1 .size, columns-end _ _ _ _ (omega arith) (c .before .loop .inv .1))
+
+pub gather-spec : {M : Type 1} → statement M
+gather-spec =
+    tie.close
+    (tie.spec
+    Inv-loop
+    μ-loop
+    loop-holds
+    add-add
+    mul-add
+    element-copy-out-add
+    add-requires
+    add-v
+    loop-less
+    loop-again
+    returns)

@@ -1,0 +1,56 @@
+-- Sixteen sets after another sixteen. Assumes nothing.
+use mathlib.Core.Path.{_∙_}
+use Prim.Native.Nat.{_*_, _-_, _≤_}
+use native.Mathlib.Omega.{arith}
+use borrow.Author.Needs.{needs}
+use Rattle.model.proofs.Filling.{filled-begin}
+use Rattle.arrays_order.specs.Steps.{Transposed}
+use Rattle.arrays_order.proofs.Tables.{transposed-turn}
+use Rattle.arrays_order.proofs.Swaps.{transposed-of}
+use Rattle.arrays_order.proofs.supports.transpose_each.Statement.{statement}
+use Rattle.arrays_order.proofs.supports.transpose_each.Tie as tie
+
+abbrev Inv-loop : tie.InvT-loop
+Inv-loop base d supports₀ v₀ supports v = (v ≤ d) × Transposed base (16 * v) supports₀ supports
+
+abbrev μ-loop : tie.MeasureT-loop
+μ-loop base d supports₀ v₀ supports v = d - v
+
+loop-holds : tie.Need-loop-holds Inv-loop μ-loop
+loop-holds c = (search needs, filled-begin _ _ _)
+
+mul-transpose : tie.Need-mul-transpose Inv-loop μ-loop
+mul-transpose c = search needs
+
+add-transpose : tie.Need-add-transpose Inv-loop μ-loop
+add-transpose c = search needs
+
+transpose-requires : tie.Need-transpose-requires Inv-loop μ-loop
+transpose-requires c κs = (omega arith, c .before .before .loop .inv .1 .size ∙ c .before .before .before .pre .3)
+
+add-v : tie.Need-add-v Inv-loop μ-loop
+add-v c = search needs
+
+loop-less : tie.Need-loop-less Inv-loop μ-loop
+loop-less c = search needs
+
+loop-again : tie.Need-loop-again Inv-loop μ-loop
+loop-again c = (search needs, transposed-turn _ _ _ _ _ (c .before .before .before .loop .inv .1) (c .transpose .ensures))
+
+returns : tie.Need-returns Inv-loop μ-loop
+returns c = transposed-of _ _ _ _ (c .before .before .pre .2) _ (omega arith) (omega arith) (omega arith) (c .before .loop .inv .1)
+
+pub transpose-each-spec : {M : Type 1} → statement M
+transpose-each-spec =
+    tie.close
+    (tie.spec
+    Inv-loop
+    μ-loop
+    loop-holds
+    mul-transpose
+    add-transpose
+    transpose-requires
+    add-v
+    loop-less
+    loop-again
+    returns)

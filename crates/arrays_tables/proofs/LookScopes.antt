@@ -1,0 +1,42 @@
+-- The constraints on three variables that are looked up at a depth. Assumes nothing.
+use mathlib.Core.Path.{_≡_, sym, ap, _∙_, subst}
+use mathlib.Core.Bool.{Bool}
+use mathlib.Core.List.{List}
+use Prim.Native.Nat.{ℕ, _+_, _*_, _/_, _%_, _≤_, _<_}
+use native.Mathlib.Omega.{arith}
+use lib.Dec.{T, eqb, ltb, eqb→eq}
+use lib.ListN.{length}
+use Rattle.model.specs.Lists.{at}
+use Rattle.model.specs.ValueSets.{has}
+use Rattle.model.specs.Problem.{Problem}
+use Rattle.model.specs.Filling.{Gathered}
+use Rattle.model.proofs.Lists.{both-r}
+use Rattle.model.proofs.Filling.{gathered-lt}
+use Rattle.arrays.specs.Places.{SCOPES, CONSTRAINTS, LINKED}
+use Rattle.arrays.specs.Layout.{Numbers}
+use Rattle.arrays.specs.Tables.{LooksUp}
+use Rattle.arrays_tables.specs.Steps.{LookScopes}
+
+-- the test of constraint c, whose arity and second variable are compared at once
+abbrev pub isLook : List ℕ → ℕ → ℕ → Bool
+isLook numbers k c = eqb (at numbers (SCOPES + c) % 256 + 256 * (at numbers (SCOPES + c) / 65536 % 256 + 1)) (3 + 256 * k)
+
+pub look-scopes : (numbers : List ℕ) (k r : ℕ) → Gathered (isLook numbers k) (at numbers CONSTRAINTS) r → LookScopes numbers k r
+look-scopes numbers k r g c t =
+    let e : at numbers (SCOPES + c) % 256 + 256 * (at numbers (SCOPES + c) / 65536 % 256 + 1) ≡ 3 + 256 * k = eqb→eq _ _ (both-r (ltb c (at numbers CONSTRAINTS)) (isLook numbers k c) (subst T (g .has-is c) t)) in
+    (gathered-lt (isLook numbers k) (at numbers CONSTRAINTS) r c g t, omega arith, omega arith)
+
+-- they are read from numbers before LINKED
+pub look-scopes-from : (old new : List ℕ) (k r : ℕ) → ((j : ℕ) → j < LINKED → at new j ≡ at old j) → at old CONSTRAINTS ≤ 32 → LookScopes new k r → LookScopes old k r
+look-scopes-from old new k r e h s c t =
+    let q = s c t in
+    let l : c < at old CONSTRAINTS = omega (arith, q .0, e CONSTRAINTS (omega arith)) in
+    let i = e (SCOPES + c) (omega arith) in
+    (l, ap (λ (n : ℕ). n % 256) (sym i) ∙ q .1, ap (λ (n : ℕ). n / 65536 % 256 + 1) (sym i) ∙ q .2)
+
+pub looks-up : (p : Problem) (numbers : List ℕ) (k r : ℕ) → Numbers p numbers → LookScopes numbers k r → (c : ℕ) → T (has r c) → LooksUp p k c
+looks-up p numbers k r nb s c t =
+    let q = s c t in
+    let l : c < length (p .constraints) = omega (arith, q .0, nb .constraints) in
+    let n = sym (nb .arity c l) ∙ q .1 in
+    record { known = l; three = n; second = ap (λ (y : ℕ). y + 1) (sym (nb .scope c 1 l (omega (arith, n)))) ∙ q .2 }

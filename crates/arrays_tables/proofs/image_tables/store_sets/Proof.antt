@@ -1,0 +1,64 @@
+-- Sixteen sets are stored one after another. Assumes nothing.
+use mathlib.Core.Path.{_≡_, refl}
+use Prim.Native.Nat.{_+_, _-_, _≤_}
+use native.Mathlib.Omega.{arith}
+use borrow.Author.Needs.{needs}
+use Rattle.model.specs.Lists.{at}
+use Rattle.model.specs.Filling.{Filled}
+use Rattle.model.proofs.Filling.{filled-end, filled-begin, filled-turn}
+use Rattle.arrays_tables.proofs.image_tables.store_sets.Statement.{statement}
+use Rattle.arrays_tables.proofs.image_tables.store_sets.Tie as tie
+
+abbrev Inv-loop : tie.InvT-loop
+Inv-loop tables₀ from sets i₀ tables i = (i ≤ 16) × Filled (λ j. from + j) (λ j r. r ≡ at sets j) i tables₀ tables
+
+abbrev μ-loop : tie.MeasureT-loop
+μ-loop tables₀ from sets i₀ tables i = 16 - i
+
+loop-holds : tie.Need-loop-holds Inv-loop μ-loop
+loop-holds c = (search needs, filled-begin _ _ _)
+
+mul-tables : tie.Need-mul-tables Inv-loop μ-loop
+mul-tables c = search needs
+
+element-copy-out-tables : tie.Need-element-copy-out-tables Inv-loop μ-loop
+element-copy-out-tables c = search needs
+
+add-tables : tie.Need-add-tables Inv-loop μ-loop
+add-tables c = search needs
+
+mul-tables-2 : tie.Need-mul-tables-2 Inv-loop μ-loop
+mul-tables-2 c = search needs
+
+element-write-tables : tie.Need-element-write-tables Inv-loop μ-loop
+element-write-tables c = search needs
+
+add-i : tie.Need-add-i Inv-loop μ-loop
+add-i c = search needs
+
+loop-less : tie.Need-loop-less Inv-loop μ-loop
+loop-less c = search needs
+
+loop-again : tie.Need-loop-again Inv-loop μ-loop
+unfolding at
+loop-again c = (search needs, filled-turn _ _ _ _ _ _ _ (c .before .before .loop .inv .1) refl (omega arith) (λ v l e. omega arith) refl)
+
+returns : tie.Need-returns Inv-loop μ-loop
+returns c = filled-end _ _ _ _ _ _ (search needs) (search needs) (c .before .loop .inv .1)
+
+pub store-sets-spec : {M : Type 1} → statement M
+store-sets-spec =
+    tie.close
+    (tie.spec
+    Inv-loop
+    μ-loop
+    loop-holds
+    mul-tables
+    element-copy-out-tables
+    add-tables
+    mul-tables-2
+    element-write-tables
+    add-i
+    loop-less
+    loop-again
+    returns)

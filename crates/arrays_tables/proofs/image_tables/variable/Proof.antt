@@ -1,0 +1,37 @@
+-- The pairs of a variable, value after value. Assumes nothing.
+use Prim.Native.Nat.{_-_, _≤_}
+use native.Mathlib.Omega.{arith}
+use borrow.Author.Needs.{needs}
+use Rattle.arrays_tables.specs.Steps.{PairsStored}
+use Rattle.arrays_tables.proofs.Images.{pairs-begin, pairs-end}
+use Rattle.arrays_tables.proofs.image_tables.variable.Statement.{statement}
+use Rattle.arrays_tables.proofs.image_tables.variable.Tie as tie
+
+abbrev Inv-loop : tie.InvT-loop
+Inv-loop images m from tables₀ sets₀ v₀ tables sets v = (v ≤ 16) × PairsStored images (m .bits) from v tables₀ tables sets
+
+abbrev μ-loop : tie.MeasureT-loop
+μ-loop images m from tables₀ sets₀ v₀ tables sets v = 16 - v
+
+loop-holds : tie.Need-loop-holds Inv-loop μ-loop
+loop-holds c = (search needs, pairs-begin _ _ _ _)
+
+pair-requires : tie.Need-pair-requires Inv-loop μ-loop
+pair-requires c κs = (search needs, search needs, omega (arith, c .before .before .before .loop .inv .1 .kept .size), c .before .before .before .loop .inv .1 .sixteen)
+
+add-v : tie.Need-add-v Inv-loop μ-loop
+add-v c = search needs
+
+loop-less : tie.Need-loop-less Inv-loop μ-loop
+loop-less c = search needs
+
+loop-again : tie.Need-loop-again Inv-loop μ-loop
+loop-again c = (search needs, c .pair .ensures _ (c .before .before .before .before .loop .inv .1))
+
+returns : tie.Need-returns Inv-loop μ-loop
+returns c = pairs-end _ _ _ _ _ _ _ (search needs) (c .before .loop .inv .1)
+
+pub variable-spec : {M : Type 1} → statement M
+variable-spec =
+    tie.close
+    (tie.spec Inv-loop μ-loop loop-holds pair-requires add-v loop-less loop-again returns)

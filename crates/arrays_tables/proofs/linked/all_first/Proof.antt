@@ -1,0 +1,62 @@
+-- The first constraints, one after another. Assumes nothing.
+use mathlib.Core.Bool.{Bool}
+use mathlib.Core.Path.{_≡_, refl, ap, _∙_}
+use Prim.Native.Nat.{_-_, _≤_}
+use native.Mathlib.Omega.{arith}
+use borrow.Author.Needs.{needs}
+use Rattle.model.specs.Problem.{Problem}
+use Rattle.model.specs.Lists.{at}
+use Rattle.model.specs.Filling.{Gathered}
+use Rattle.arrays.specs.Tables.{byRows}
+use Rattle.arrays.specs.Places.{CONSTRAINTS}
+use Rattle.arrays.specs.Layout.{Numbers}
+use Rattle.model.specs.ValueSets.{oneIf}
+use Rattle.model.proofs.Filling.{gathered-begin, gathered-turn, gathered-end}
+use Rattle.arrays_tables.proofs.linked.all_first.Statement.{statement}
+use Rattle.arrays_tables.proofs.linked.all_first.Tie as tie
+
+abbrev Inv-loop : tie.InvT-loop
+Inv-loop numbers c all₀ k₀ all k = (k ≤ c) × (c ≡ at numbers CONSTRAINTS) × ((p : Problem) → Numbers p numbers → Gathered (byRows p) k all)
+
+abbrev μ-loop : tie.MeasureT-loop
+μ-loop numbers c all₀ k₀ all k = c - k
+
+element-copy-out-c : tie.Need-element-copy-out-c Inv-loop μ-loop
+element-copy-out-c c = search needs
+
+loop-holds : tie.Need-loop-holds Inv-loop μ-loop
+unfolding at
+loop-holds c = (search needs, refl, λ p nb. gathered-begin _)
+
+first-requires : tie.Need-first-requires Inv-loop μ-loop
+first-requires c κs = search needs
+
+one-if-requires : tie.Need-one-if-requires Inv-loop μ-loop
+one-if-requires c κs = search needs
+
+add-k : tie.Need-add-k Inv-loop μ-loop
+add-k c = search needs
+
+loop-less : tie.Need-loop-less Inv-loop μ-loop
+loop-less c = search needs
+
+loop-again : tie.Need-loop-again Inv-loop μ-loop
+loop-again c = (search needs, c .before .before .before .loop .inv .1, λ p nb. gathered-turn _ _ _ _ (c .before .before .before .loop .inv .2 p nb) (c .one-if .ensures ∙ ap (λ (b : Bool). oneIf b (c .before .before .before .loop .k)) (c .before .first .ensures p nb (omega (arith, nb .constraints, c .before .before .before .loop .inv .1)))))
+
+returns : tie.Need-returns Inv-loop μ-loop
+returns c = λ p nb. gathered-end _ _ _ _ (omega (arith, nb .constraints, c .before .loop .inv .1)) (omega (arith, nb .constraints, c .before .loop .inv .1)) (c .before .loop .inv .2 p nb)
+
+pub all-first-spec : {M : Type 1} → statement M
+all-first-spec =
+    tie.close
+    (tie.spec
+    Inv-loop
+    μ-loop
+    element-copy-out-c
+    loop-holds
+    first-requires
+    one-if-requires
+    add-k
+    loop-less
+    loop-again
+    returns)

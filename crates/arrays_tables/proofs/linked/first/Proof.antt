@@ -1,0 +1,80 @@
+-- No constraint before has the same number. Assumes nothing.
+use mathlib.Core.Path.{_≡_, refl}
+use Prim.Native.Nat.{ℕ, _+_, _-_, _%_, _≤_, _<_}
+use native.Mathlib.Omega.{arith}
+use borrow.Author.Needs.{needs}
+use Rattle.model.specs.Lists.{at}
+use Rattle.arrays.specs.Places.{SCOPES}
+use Rattle.arrays_tables.proofs.Scopes.{first-other, first-no, first-yes, none-more}
+use Rattle.arrays_tables.proofs.linked.first.Statement.{statement}
+use Rattle.arrays_tables.proofs.linked.first.Tie as tie
+
+abbrev Inv-loop : tie.InvT-loop
+Inv-loop numbers k w i₀ i = (i ≤ k) × (w ≡ at numbers (SCOPES + k) % 16777216) × ((j : ℕ) → j < i → at numbers (SCOPES + j) % 16777216 ≡ at numbers (SCOPES + k) % 16777216 → ⊥)
+
+abbrev μ-loop : tie.MeasureT-loop
+μ-loop numbers k w i₀ i = k - i
+
+add-w : tie.Need-add-w Inv-loop μ-loop
+add-w c = search needs
+
+mul-w : tie.Need-mul-w Inv-loop μ-loop
+mul-w c = search needs
+
+element-copy-out-w : tie.Need-element-copy-out-w Inv-loop μ-loop
+element-copy-out-w c = search needs
+
+returns : tie.Need-returns Inv-loop μ-loop
+unfolding at
+returns c = λ p nb h. first-other p _ nb _ h (c .if1 .taken)
+
+loop-holds : tie.Need-loop-holds Inv-loop μ-loop
+unfolding at
+loop-holds c = (search needs, refl, λ j l e. omega arith)
+
+add-if2 : tie.Need-add-if2 Inv-loop μ-loop
+add-if2 c = search needs
+
+mul-if2 : tie.Need-mul-if2 Inv-loop μ-loop
+mul-if2 c = search needs
+
+element-copy-out-if2 : tie.Need-element-copy-out-if2 Inv-loop μ-loop
+element-copy-out-if2 c = search needs
+
+returns-2 : tie.Need-returns-2 Inv-loop μ-loop
+unfolding at
+returns-2 c = λ p nb h. first-no p _ nb _ h (c .before .before .before .before .if1 .left) _ (c .before .before .loop-test .taken) (c .if2 .taken)
+
+add-i : tie.Need-add-i Inv-loop μ-loop
+add-i c = search needs
+
+loop-less : tie.Need-loop-less Inv-loop μ-loop
+loop-less c = search needs
+
+loop-again : tie.Need-loop-again Inv-loop μ-loop
+unfolding at
+loop-again c = (search needs, refl, none-more (λ j. at (c .before .before .before .before .before .before .args .numbers .now) (SCOPES + j) % 16777216) _ _ (c .before .before .before .loop .inv .2) (c .if2 .left))
+
+returns-3 : tie.Need-returns-3 Inv-loop μ-loop
+unfolding at
+returns-3 c = λ p nb h. first-yes p _ nb _ h (c .before .before .if1 .left) (λ j l. c .before .loop .inv .2 j (omega arith))
+
+pub first-spec : {M : Type 1} → statement M
+first-spec =
+    tie.close
+    (tie.spec
+    Inv-loop
+    μ-loop
+    add-w
+    mul-w
+    element-copy-out-w
+    returns
+    loop-holds
+    add-if2
+    mul-if2
+    element-copy-out-if2
+    returns-2
+    add-i
+    loop-less
+    loop-again
+    returns-3)

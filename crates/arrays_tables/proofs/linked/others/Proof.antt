@@ -1,0 +1,66 @@
+-- The other constraints of each variable. Assumes nothing.
+use mathlib.Core.Path.{_≡_, refl, ap}
+use Prim.Native.Nat.{ℕ, _+_, _-_, _^_, _≤_}
+use native.Mathlib.Omega.{arith}
+use lib.Bits.{bitAnd}
+use borrow.Author.Needs.{needs}
+use Rattle.model.specs.Lists.{at}
+use Rattle.model.specs.Filling.{Filled}
+use Rattle.arrays.specs.Places.{OTHERS}
+use Rattle.model.proofs.Filling.{filled-begin, filled-turn, filled-end}
+use Rattle.arrays_tables.proofs.linked.others.Statement.{statement}
+use Rattle.arrays_tables.proofs.linked.others.Tie as tie
+
+abbrev Inv-loop : tie.InvT-loop
+Inv-loop numbers₀ set x₀ numbers x = (x ≤ 16) × Filled (λ y. OTHERS + y) (λ y r. r ≡ bitAnd (at numbers₀ y) ((2 ^ 64 - 1) - set)) x numbers₀ numbers
+
+abbrev μ-loop : tie.MeasureT-loop
+μ-loop numbers₀ set x₀ numbers x = 16 - x
+
+loop-holds : tie.Need-loop-holds Inv-loop μ-loop
+loop-holds c = (search needs, filled-begin _ _ _)
+
+mul-numbers : tie.Need-mul-numbers Inv-loop μ-loop
+mul-numbers c = search needs
+
+element-copy-out-numbers : tie.Need-element-copy-out-numbers Inv-loop μ-loop
+element-copy-out-numbers c = search needs
+
+add-numbers : tie.Need-add-numbers Inv-loop μ-loop
+add-numbers c = search needs
+
+mul-numbers-2 : tie.Need-mul-numbers-2 Inv-loop μ-loop
+mul-numbers-2 c = search needs
+
+element-write-numbers : tie.Need-element-write-numbers Inv-loop μ-loop
+element-write-numbers c = search needs
+
+add-x : tie.Need-add-x Inv-loop μ-loop
+add-x c = search needs
+
+loop-less : tie.Need-loop-less Inv-loop μ-loop
+loop-less c = search needs
+
+loop-again : tie.Need-loop-again Inv-loop μ-loop
+unfolding at
+loop-again c = (search needs, filled-turn _ _ _ _ _ _ _ (c .before .before .loop .inv .1) refl (omega arith) (λ v l e. omega arith) (ap (λ (n : ℕ). bitAnd n ((2 ^ 64 - 1) - c .before .before .before .args .set)) (c .before .before .loop .inv .1 .other _ (λ v l e. omega arith))))
+
+returns : tie.Need-returns Inv-loop μ-loop
+returns c = filled-end _ _ _ _ _ _ (search needs) (search needs) (c .before .loop .inv .1)
+
+pub others-spec : {M : Type 1} → statement M
+others-spec =
+    tie.close
+    (tie.spec
+    Inv-loop
+    μ-loop
+    loop-holds
+    mul-numbers
+    element-copy-out-numbers
+    add-numbers
+    mul-numbers-2
+    element-write-numbers
+    add-x
+    loop-less
+    loop-again
+    returns)

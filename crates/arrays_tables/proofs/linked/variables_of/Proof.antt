@@ -1,0 +1,65 @@
+-- The variables of a set of constraints. Assumes nothing.
+use mathlib.Core.Bool.{not}
+use mathlib.Core.Path.{_≡_, refl}
+use Prim.Native.Nat.{_-_, _≤_}
+use native.Mathlib.Omega.{arith}
+use lib.Dec.{eqb}
+use lib.Bits.{bitAnd}
+use borrow.Author.Needs.{needs}
+use Rattle.model.specs.Lists.{at}
+use Rattle.model.specs.Filling.{Gathered}
+use Rattle.arrays.specs.Places.{VARIABLES}
+use Rattle.model.proofs.Filling.{gathered-begin, gathered-turn, gathered-end}
+use Rattle.arrays_tables.proofs.linked.variables_of.Statement.{statement}
+use Rattle.arrays_tables.proofs.linked.variables_of.Tie as tie
+
+abbrev Inv-loop : tie.InvT-loop
+Inv-loop numbers set n all₀ x₀ all x = (x ≤ n) × (n ≡ at numbers VARIABLES) × Gathered (λ y. not (eqb (bitAnd (at numbers y) set) 0)) x all
+
+abbrev μ-loop : tie.MeasureT-loop
+μ-loop numbers set n all₀ x₀ all x = n - x
+
+element-copy-out-n : tie.Need-element-copy-out-n Inv-loop μ-loop
+element-copy-out-n c = search needs
+
+loop-holds : tie.Need-loop-holds Inv-loop μ-loop
+unfolding at
+loop-holds c = (search needs, refl, gathered-begin _)
+
+mul-one-if : tie.Need-mul-one-if Inv-loop μ-loop
+mul-one-if c = search needs
+
+element-copy-out-one-if : tie.Need-element-copy-out-one-if Inv-loop μ-loop
+element-copy-out-one-if c = search needs
+
+one-if-requires : tie.Need-one-if-requires Inv-loop μ-loop
+one-if-requires c κs = search needs
+
+add-x : tie.Need-add-x Inv-loop μ-loop
+add-x c = search needs
+
+loop-less : tie.Need-loop-less Inv-loop μ-loop
+loop-less c = search needs
+
+loop-again : tie.Need-loop-again Inv-loop μ-loop
+unfolding at
+loop-again c = (search needs, refl, gathered-turn _ _ _ _ (c .before .before .before .loop .inv .2) (c .one-if .ensures))
+
+returns : tie.Need-returns Inv-loop μ-loop
+returns c = gathered-end _ _ _ _ (omega (arith, c .before .loop .inv .1)) (omega (arith, c .before .loop .inv .1)) (c .before .loop .inv .2)
+
+pub variables-of-spec : {M : Type 1} → statement M
+variables-of-spec =
+    tie.close
+    (tie.spec
+    Inv-loop
+    μ-loop
+    element-copy-out-n
+    loop-holds
+    mul-one-if
+    element-copy-out-one-if
+    one-if-requires
+    add-x
+    loop-less
+    loop-again
+    returns)

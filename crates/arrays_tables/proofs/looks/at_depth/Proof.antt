@@ -1,0 +1,96 @@
+-- The constraints that are looked up at a depth, one after another. Assumes nothing.
+use mathlib.Core.Path.{_≡_, refl}
+use Prim.Native.Nat.{_+_, _-_, _*_, _≤_}
+use native.Mathlib.Omega.{arith}
+use borrow.Author.Needs.{needs}
+use Rattle.model.specs.Lists.{at}
+use Rattle.model.specs.Filling.{Gathered}
+use Rattle.model.proofs.Members.{has-0}
+use Rattle.model.proofs.Filling.{gathered-begin, gathered-turn, gathered-end}
+use Rattle.arrays.specs.Places.{CONSTRAINTS}
+use Rattle.arrays_tables.proofs.LookScopes.{isLook, look-scopes}
+use Rattle.arrays_tables.proofs.looks.at_depth.Statement.{statement}
+use Rattle.arrays_tables.proofs.looks.at_depth.Tie as tie
+
+abbrev Inv-loop : tie.InvT-loop
+Inv-loop numbers k c key all₀ i₀ all i = (i ≤ c) × (c ≡ at numbers CONSTRAINTS) × (key ≡ 3 + 256 * k) × Gathered (isLook numbers k) i all
+
+abbrev μ-loop : tie.MeasureT-loop
+μ-loop numbers k c key all₀ i₀ all i = c - i
+
+element-copy-out-if1 : tie.Need-element-copy-out-if1 Inv-loop μ-loop
+element-copy-out-if1 c = search needs
+
+returns : tie.Need-returns Inv-loop μ-loop
+returns c = λ i t. absurd (has-0 i t)
+
+element-copy-out-c : tie.Need-element-copy-out-c Inv-loop μ-loop
+element-copy-out-c c = search needs
+
+mul-key : tie.Need-mul-key Inv-loop μ-loop
+mul-key c = search needs
+
+add-key : tie.Need-add-key Inv-loop μ-loop
+add-key c = search needs
+
+loop-holds : tie.Need-loop-holds Inv-loop μ-loop
+unfolding at
+loop-holds c = (search needs, refl, refl, gathered-begin _)
+
+add-w : tie.Need-add-w Inv-loop μ-loop
+add-w c = search needs
+
+mul-w : tie.Need-mul-w Inv-loop μ-loop
+mul-w c = search needs
+
+element-copy-out-w : tie.Need-element-copy-out-w Inv-loop μ-loop
+element-copy-out-w c = search needs
+
+add-one-if : tie.Need-add-one-if Inv-loop μ-loop
+add-one-if c = search needs
+
+mul-one-if : tie.Need-mul-one-if Inv-loop μ-loop
+mul-one-if c = search needs
+
+add-one-if-2 : tie.Need-add-one-if-2 Inv-loop μ-loop
+add-one-if-2 c = search needs
+
+one-if-requires : tie.Need-one-if-requires Inv-loop μ-loop
+one-if-requires c κs = search needs
+
+add-i : tie.Need-add-i Inv-loop μ-loop
+add-i c = search needs
+
+loop-less : tie.Need-loop-less Inv-loop μ-loop
+loop-less c = search needs
+
+loop-again : tie.Need-loop-again Inv-loop μ-loop
+unfolding at
+loop-again c = (search needs, c .before .before .before .loop .inv .1, c .before .before .before .loop .inv .2, gathered-turn _ _ _ _ (c .before .before .before .loop .inv .3) (c .one-if .ensures))
+
+returns-2 : tie.Need-returns-2 Inv-loop μ-loop
+returns-2 c = look-scopes _ _ _ (gathered-end _ _ _ _ (omega (arith, c .before .loop .inv .1)) (omega (arith, c .before .loop .inv .1)) (c .before .loop .inv .3))
+
+pub at-depth-spec : {M : Type 1} → statement M
+at-depth-spec =
+    tie.close
+    (tie.spec
+    Inv-loop
+    μ-loop
+    element-copy-out-if1
+    returns
+    element-copy-out-c
+    mul-key
+    add-key
+    loop-holds
+    add-w
+    mul-w
+    element-copy-out-w
+    add-one-if
+    mul-one-if
+    add-one-if-2
+    one-if-requires
+    add-i
+    loop-less
+    loop-again
+    returns-2)

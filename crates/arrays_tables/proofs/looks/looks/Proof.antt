@@ -1,0 +1,61 @@
+-- The constraints that are looked up, depth by depth. Assumes nothing.
+use mathlib.Core.Path.{refl}
+use Prim.Native.Nat.{_+_, _-_, _≤_}
+use native.Mathlib.Omega.{arith}
+use borrow.Author.Needs.{needs}
+use Rattle.model.specs.Filling.{Filled}
+use Rattle.model.proofs.Filling.{filled-begin, filled-turn, filled-end}
+use Rattle.arrays.specs.Places.{CONSTRAINTS, LOOKS}
+use Rattle.arrays_tables.specs.Steps.{LookScopes}
+use Rattle.arrays_tables.proofs.LookScopes.{look-scopes-from}
+use Rattle.arrays_tables.proofs.looks.looks.Statement.{statement}
+use Rattle.arrays_tables.proofs.looks.looks.Tie as tie
+
+abbrev Inv-loop : tie.InvT-loop
+Inv-loop numbers₀ k₀ numbers k = (k ≤ 13) × Filled (λ i. LOOKS + i) (LookScopes numbers₀) k numbers₀ numbers
+
+abbrev μ-loop : tie.MeasureT-loop
+μ-loop numbers₀ k₀ numbers k = 13 - k
+
+loop-holds : tie.Need-loop-holds Inv-loop μ-loop
+loop-holds c = (search needs, filled-begin _ _ _)
+
+at-depth-requires : tie.Need-at-depth-requires Inv-loop μ-loop
+at-depth-requires c κs = (omega (arith, c .before .before .loop .inv .1 .other CONSTRAINTS (λ v l e. omega arith)), search needs)
+
+add-numbers : tie.Need-add-numbers Inv-loop μ-loop
+add-numbers c = search needs
+
+mul-numbers : tie.Need-mul-numbers Inv-loop μ-loop
+mul-numbers c = search needs
+
+element-write-numbers : tie.Need-element-write-numbers Inv-loop μ-loop
+element-write-numbers c = search needs
+
+add-k : tie.Need-add-k Inv-loop μ-loop
+add-k c = search needs
+
+loop-less : tie.Need-loop-less Inv-loop μ-loop
+loop-less c = search needs
+
+loop-again : tie.Need-loop-again Inv-loop μ-loop
+loop-again c = (search needs, filled-turn _ _ _ _ _ _ _ (c .before .before .before .loop .inv .1) refl (omega arith) (λ v l e. omega arith) (look-scopes-from _ _ _ _ (λ j l. c .before .before .before .loop .inv .1 .other j (λ v m e. omega arith)) (search needs) (c .at-depth .ensures)))
+
+returns : tie.Need-returns Inv-loop μ-loop
+returns c = filled-end _ _ _ _ _ _ (search needs) (search needs) (c .before .loop .inv .1)
+
+pub looks-spec : {M : Type 1} → statement M
+looks-spec =
+    tie.close
+    (tie.spec
+    Inv-loop
+    μ-loop
+    loop-holds
+    at-depth-requires
+    add-numbers
+    mul-numbers
+    element-write-numbers
+    add-k
+    loop-less
+    loop-again
+    returns)

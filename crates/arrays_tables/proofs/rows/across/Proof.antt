@@ -1,0 +1,72 @@
+-- Support sets go into rows. Assumes nothing.
+use mathlib.Core.Path.{_≡_, refl}
+use Prim.Native.Nat.{_+_, _*_, _-_, _≤_}
+use native.Mathlib.Omega.{arith}
+use borrow.Author.Needs.{needs}
+use Rattle.model.specs.Lists.{at}
+use Rattle.model.specs.Filling.{Filled}
+use Rattle.model.proofs.Filling.{filled-begin, filled-turn, filled-end}
+use Rattle.arrays_tables.proofs.rows.across.Statement.{statement}
+use Rattle.arrays_tables.proofs.rows.across.Tie as tie
+
+abbrev Inv-loop : tie.InvT-loop
+Inv-loop supports base from tables₀ v₀ tables v = (v ≤ 16) × Filled (λ u. from + 16 * u) (λ u r. r ≡ at supports (base + u)) v tables₀ tables
+
+abbrev μ-loop : tie.MeasureT-loop
+μ-loop supports base from tables₀ v₀ tables v = 16 - v
+
+loop-holds : tie.Need-loop-holds Inv-loop μ-loop
+loop-holds c = (search needs, filled-begin _ _ _)
+
+add-tables : tie.Need-add-tables Inv-loop μ-loop
+add-tables c = search needs
+
+mul-tables : tie.Need-mul-tables Inv-loop μ-loop
+mul-tables c = search needs
+
+element-copy-out-tables : tie.Need-element-copy-out-tables Inv-loop μ-loop
+element-copy-out-tables c = search needs
+
+mul-tables-2 : tie.Need-mul-tables-2 Inv-loop μ-loop
+mul-tables-2 c = search needs
+
+add-tables-2 : tie.Need-add-tables-2 Inv-loop μ-loop
+add-tables-2 c = search needs
+
+mul-tables-3 : tie.Need-mul-tables-3 Inv-loop μ-loop
+mul-tables-3 c = search needs
+
+element-write-tables : tie.Need-element-write-tables Inv-loop μ-loop
+element-write-tables c = search needs
+
+add-v : tie.Need-add-v Inv-loop μ-loop
+add-v c = search needs
+
+loop-less : tie.Need-loop-less Inv-loop μ-loop
+loop-less c = search needs
+
+loop-again : tie.Need-loop-again Inv-loop μ-loop
+unfolding at
+loop-again c = (search needs, filled-turn _ _ _ _ _ _ _ (c .before .before .loop .inv .1) refl (omega arith) (λ v l e. omega arith) refl)
+
+returns : tie.Need-returns Inv-loop μ-loop
+returns c = filled-end _ _ _ _ _ _ (search needs) (search needs) (c .before .loop .inv .1)
+
+pub across-spec : {M : Type 1} → statement M
+across-spec =
+    tie.close
+    (tie.spec
+    Inv-loop
+    μ-loop
+    loop-holds
+    add-tables
+    mul-tables
+    element-copy-out-tables
+    mul-tables-2
+    add-tables-2
+    mul-tables-3
+    element-write-tables
+    add-v
+    loop-less
+    loop-again
+    returns)

@@ -1,0 +1,68 @@
+-- Columns go into rows. Assumes nothing.
+use mathlib.Core.Path.{_≡_, refl}
+use Prim.Native.Nat.{_+_, _*_, _-_, _≤_}
+use native.Mathlib.Omega.{arith}
+use borrow.Author.Needs.{needs}
+use Rattle.model.specs.Lists.{at}
+use Rattle.model.specs.ValueSets.{has, maskOf}
+use Rattle.model.specs.Filling.{Filled}
+use Rattle.model.proofs.Filling.{filled-begin, filled-turn, filled-end}
+use Rattle.arrays_tables.proofs.rows.back.Statement.{statement}
+use Rattle.arrays_tables.proofs.rows.back.Tie as tie
+
+abbrev Inv-loop : tie.InvT-loop
+Inv-loop supports base from tables₀ w₀ tables w = (w ≤ 16) × Filled (λ u. from + 16 * u) (λ u r. r ≡ maskOf (λ v. has (at supports (base + v)) u)) w tables₀ tables
+
+abbrev μ-loop : tie.MeasureT-loop
+μ-loop supports base from tables₀ w₀ tables w = 16 - w
+
+loop-holds : tie.Need-loop-holds Inv-loop μ-loop
+loop-holds c = (search needs, filled-begin _ _ _)
+
+cast-column : tie.Need-cast-column Inv-loop μ-loop
+cast-column c = search needs
+
+column-requires : tie.Need-column-requires Inv-loop μ-loop
+column-requires c κs = search needs
+
+mul-tables : tie.Need-mul-tables Inv-loop μ-loop
+mul-tables c = search needs
+
+add-tables : tie.Need-add-tables Inv-loop μ-loop
+add-tables c = search needs
+
+mul-tables-2 : tie.Need-mul-tables-2 Inv-loop μ-loop
+mul-tables-2 c = search needs
+
+element-write-tables : tie.Need-element-write-tables Inv-loop μ-loop
+element-write-tables c = search needs
+
+add-w : tie.Need-add-w Inv-loop μ-loop
+add-w c = search needs
+
+loop-less : tie.Need-loop-less Inv-loop μ-loop
+loop-less c = search needs
+
+loop-again : tie.Need-loop-again Inv-loop μ-loop
+loop-again c = (search needs, filled-turn _ _ _ _ _ _ _ (c .before .before .loop .inv .1) refl (omega arith) (λ v l e. omega arith) (c .column .ensures))
+
+returns : tie.Need-returns Inv-loop μ-loop
+returns c = filled-end _ _ _ _ _ _ (search needs) (search needs) (c .before .loop .inv .1)
+
+pub back-spec : {M : Type 1} → statement M
+back-spec =
+    tie.close
+    (tie.spec
+    Inv-loop
+    μ-loop
+    loop-holds
+    cast-column
+    column-requires
+    mul-tables
+    add-tables
+    mul-tables-2
+    element-write-tables
+    add-w
+    loop-less
+    loop-again
+    returns)

@@ -1,0 +1,67 @@
+-- The unions of one constraint after another. Assumes nothing.
+use mathlib.Core.Path.{refl, sym, ap, _∙_, subst}
+use mathlib.Core.Logic.{⊎-elim}
+use Prim.Native.Nat.{ℕ, _+_, _-_, _%_, _≤_}
+use native.Mathlib.Omega.{arith}
+use borrow.Author.Needs.{needs}
+use Rattle.model.specs.Lists.{at}
+use Rattle.arrays.specs.Places.{SCOPES}
+use Rattle.arrays_tables.specs.Steps.{Unions}
+use Rattle.arrays_tables.proofs.UnionTables.{unions-begin, unions-turn, unions-end}
+use Rattle.arrays_tables.proofs.unions.unions.Statement.{statement}
+use Rattle.arrays_tables.proofs.unions.unions.Tie as tie
+
+abbrev Inv-loop : tie.InvT-loop
+Inv-loop supports numbers₀ k₀ numbers k = (k ≤ 32) × Unions supports k numbers₀ numbers
+
+abbrev μ-loop : tie.MeasureT-loop
+μ-loop supports numbers₀ k₀ numbers k = 32 - k
+
+loop-holds : tie.Need-loop-holds Inv-loop μ-loop
+loop-holds c = (search needs, unions-begin _ _)
+
+add-if1 : tie.Need-add-if1 Inv-loop μ-loop
+add-if1 c = search needs
+
+mul-if1 : tie.Need-mul-if1 Inv-loop μ-loop
+mul-if1 c = search needs
+
+element-copy-out-if1 : tie.Need-element-copy-out-if1 Inv-loop μ-loop
+element-copy-out-if1 c = search needs
+
+unite-requires : tie.Need-unite-requires Inv-loop μ-loop
+unite-requires c κs = search needs
+
+add-k : tie.Need-add-k Inv-loop μ-loop
+add-k c = search needs
+
+loop-less : tie.Need-loop-less Inv-loop μ-loop
+loop-less c = search needs
+
+loop-again : tie.Need-loop-again Inv-loop μ-loop
+unfolding at
+loop-again c =
+    let r = c .before .before .before .loop .inv .1 in (
+      search needs,
+      ⊎-elim (λ q. subst (Unions _ _ _) (sym (q .3)) (unions-turn _ _ _ _ _ r (q .2 .ensures .size) (λ j h. q .2 .ensures .other j (λ v l e. omega arith)) (λ t. q .2 .ensures .here)))
+          (λ q. subst (Unions _ _ _) (sym (q .1)) (unions-turn _ _ _ _ _ r refl (λ j h. refl) (λ t. absurd (q .0 .left (ap (λ (n : ℕ). n % 256) (r .kept (SCOPES + c .before .before .before .loop .k) (omega arith)) ∙ t))))) (c .if1 .came),
+    )
+
+returns : tie.Need-returns Inv-loop μ-loop
+returns c = unions-end _ _ _ _ (search needs) (search needs) (c .before .loop .inv .1)
+
+pub unions-spec : {M : Type 1} → statement M
+unions-spec =
+    tie.close
+    (tie.spec
+    Inv-loop
+    μ-loop
+    loop-holds
+    add-if1
+    mul-if1
+    element-copy-out-if1
+    unite-requires
+    add-k
+    loop-less
+    loop-again
+    returns)

@@ -1,0 +1,76 @@
+-- Eight sets go into one number, the last first. Assumes nothing.
+use Prim.Native.Nat.{_+_, _-_, _*_}
+use native.Mathlib.Omega.{arith}
+use lib.ListN.{getD}
+use borrow.Author.Needs.{needs}
+use Rattle.model.specs.Lists.{at}
+use Rattle.model.proofs.Masks.{byte-lt}
+use Rattle.arrays_tables.proofs.Lanes.{LanesSoFar, lanes-begin, lanes-fit, lanes-turn, lanes-end, step-fits}
+use Rattle.arrays_tables.proofs.words.lanes.Statement.{statement}
+use Rattle.arrays_tables.proofs.words.lanes.Tie as tie
+
+abbrev Inv-loop : tie.InvT-loop
+Inv-loop supports base step all₀ t₀ all t = LanesSoFar (λ v. at supports (base + step * v)) t all
+
+abbrev μ-loop : tie.MeasureT-loop
+μ-loop supports base step all₀ t₀ all t = 8 - t
+
+loop-holds : tie.Need-loop-holds Inv-loop μ-loop
+loop-holds c = lanes-begin _
+
+mul-all : tie.Need-mul-all Inv-loop μ-loop
+mul-all c = record { fits = omega (arith, lanes-fit _ _ _ 0 (c .before .loop .inv) (c .loop-test .taken)) }
+
+sub-all : tie.Need-sub-all Inv-loop μ-loop
+sub-all c = search needs
+
+mul-all-2 : tie.Need-mul-all-2 Inv-loop μ-loop
+mul-all-2 c = record { fits = omega (arith, step-fits (c .before .before .args .step) (c .before .loop .t) (c .before .before .pre .1)) }
+
+add-all : tie.Need-add-all Inv-loop μ-loop
+add-all c = record { fits = omega (arith, step-fits (c .before .before .args .step) (c .before .loop .t) (c .before .before .pre .1)) }
+
+mul-all-3 : tie.Need-mul-all-3 Inv-loop μ-loop
+mul-all-3 c = record { fits = omega (arith, step-fits (c .before .before .args .step) (c .before .loop .t) (c .before .before .pre .1)) }
+
+element-copy-out-all : tie.Need-element-copy-out-all Inv-loop μ-loop
+element-copy-out-all c = omega (arith, step-fits (c .before .before .args .step) (c .before .loop .t) (c .before .before .pre .1))
+
+cast-all : tie.Need-cast-all Inv-loop μ-loop
+cast-all c = record { fits = omega (arith, byte-lt (getD (c .before .before .before .args .supports .now) (c .before .before .before .args .base + c .before .before .before .args .step * (7 - c .before .before .loop .t)) 0)) }
+
+add-all-2 : tie.Need-add-all-2 Inv-loop μ-loop
+add-all-2 c = record { fits = lanes-fit _ _ _ (getD (c .before .before .before .args .supports .now) (c .before .before .before .args .base + c .before .before .before .args .step * (7 - c .before .before .loop .t)) 0) (c .before .before .loop .inv) (c .before .loop-test .taken) }
+
+add-t : tie.Need-add-t Inv-loop μ-loop
+add-t c = search needs
+
+loop-less : tie.Need-loop-less Inv-loop μ-loop
+loop-less c = search needs
+
+loop-again : tie.Need-loop-again Inv-loop μ-loop
+unfolding at
+loop-again c = lanes-turn _ _ _ (c .before .before .loop .inv) (c .before .loop-test .taken)
+
+returns : tie.Need-returns Inv-loop μ-loop
+returns c = lanes-end _ _ _ (search needs) (c .before .loop .inv)
+
+pub lanes-spec : {M : Type 1} → statement M
+lanes-spec =
+    tie.close
+    (tie.spec
+    Inv-loop
+    μ-loop
+    loop-holds
+    mul-all
+    sub-all
+    mul-all-2
+    add-all
+    mul-all-3
+    element-copy-out-all
+    cast-all
+    add-all-2
+    add-t
+    loop-less
+    loop-again
+    returns)

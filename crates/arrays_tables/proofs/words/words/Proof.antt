@@ -1,0 +1,55 @@
+-- The sixteen numbers of a constraint, one after another. Assumes nothing.
+use mathlib.Core.Path.{refl}
+use Prim.Native.Nat.{_-_, _≤_}
+use native.Mathlib.Omega.{arith}
+use borrow.Author.Needs.{needs}
+use Rattle.model.specs.Filling.{Filled}
+use Rattle.model.proofs.Filling.{filled-begin, filled-turn, filled-end}
+use Rattle.arrays_tables.specs.Steps.{Word}
+use Rattle.arrays_tables.proofs.words.words.Statement.{statement}
+use Rattle.arrays_tables.proofs.words.words.Tie as tie
+
+abbrev Inv-loop : tie.InvT-loop
+Inv-loop supports k made₀ n₀ made n = (n ≤ 16) × Filled (λ i. i) (Word supports k) n made₀ made
+
+abbrev μ-loop : tie.MeasureT-loop
+μ-loop supports k made₀ n₀ made n = 16 - n
+
+loop-holds : tie.Need-loop-holds Inv-loop μ-loop
+loop-holds c = (search needs, filled-begin _ _ _)
+
+word-requires : tie.Need-word-requires Inv-loop μ-loop
+word-requires c κs = search needs
+
+mul-made : tie.Need-mul-made Inv-loop μ-loop
+mul-made c = search needs
+
+element-write-made : tie.Need-element-write-made Inv-loop μ-loop
+element-write-made c = search needs
+
+add-n : tie.Need-add-n Inv-loop μ-loop
+add-n c = search needs
+
+loop-less : tie.Need-loop-less Inv-loop μ-loop
+loop-less c = search needs
+
+loop-again : tie.Need-loop-again Inv-loop μ-loop
+loop-again c = (search needs, filled-turn _ _ _ _ _ _ _ (c .before .before .loop .inv .1) refl (omega arith) (λ v l e. omega arith) (c .word .ensures))
+
+returns : tie.Need-returns Inv-loop μ-loop
+returns c = filled-end _ _ _ _ _ _ (search needs) (search needs) (c .before .loop .inv .1)
+
+pub words-spec : {M : Type 1} → statement M
+words-spec =
+    tie.close
+    (tie.spec
+    Inv-loop
+    μ-loop
+    loop-holds
+    word-requires
+    mul-made
+    element-write-made
+    add-n
+    loop-less
+    loop-again
+    returns)

@@ -1,0 +1,23 @@
+-- `seat_if`: one bit, or none. Assumes nothing.
+use mathlib.Core.Bool.{Bool}
+use mathlib.Core.Path.{sym, ap, _∙_}
+use Rattle.model.specs.ValueSets.{oneIf}
+use Rattle.model.proofs.Members.{one-bit}
+use borrow.Author.Needs.{needs}
+use Rattle.desk_turns.proofs.seats.seat_if.Statement.{statement}
+use Rattle.desk_turns.proofs.seats.seat_if.Tie as tie
+
+cast-result : tie.Need-cast-result
+cast-result c = search needs
+
+shl-result : tie.Need-shl-result
+shl-result c = search needs
+
+returns : tie.Need-returns
+returns c = one-bit 16 _ (search needs) ∙ ap (λ (b : Bool). oneIf b (c .before .args .k)) (sym (c .if1 .taken))
+
+returns-2 : tie.Need-returns-2
+returns-2 c = search needs
+
+pub seat-if-spec : {M : Type 1} → statement M
+seat-if-spec = tie.close (tie.spec cast-result shl-result returns returns-2)

@@ -1,0 +1,124 @@
+-- `put_counts`: after x turns of the loop the first x counts are put. Assumes nothing.
+use mathlib.Core.Path.{_≡_, refl, sym, ap, _∙_}
+use Prim.Native.Nat.{_+_, _-_, _≤_}
+use native.Mathlib.Omega.{arith}
+use lib.ListN.{length, take}
+use Rattle.model.specs.Lists.{at}
+use Rattle.model.specs.Bytes.{fourBytes}
+use Rattle.model.specs.Written.{placed}
+use Rattle.run_cut.specs.Parts.{added}
+use Rattle.run_cut.proofs.Counts.{length-added, at-added}
+use Rattle.desk.specs.Places.{COUNTS}
+use Rattle.desk.specs.Layout.{countBytes}
+use Rattle.desk_turns.proofs.Counting.{counts-begin, counts-turn, counts-end}
+use borrow.Author.Needs.{needs}
+use Rattle.desk_turns.proofs.serve.put_counts.Statement.{statement}
+use Rattle.desk_turns.proofs.serve.put_counts.Tie as tie
+
+abbrev Inv-loop : tie.InvT-loop
+Inv-loop desk₀ p before more x₀ desk x = (x ≤ 12) × (length desk ≡ length desk₀) × (desk ≡ placed desk₀ (p + COUNTS) (countBytes (take x (added before more))))
+
+abbrev μ-loop : tie.MeasureT-loop
+μ-loop desk₀ p before more x₀ desk x = 12 - x
+
+loop-holds : tie.Need-loop-holds Inv-loop μ-loop
+loop-holds c = let a = c .before .args in (omega arith, refl, counts-begin (a .desk .now) (added (a .t3) (a .t4)) (a .p + COUNTS))
+
+mul-k : tie.Need-mul-k Inv-loop μ-loop
+mul-k c = search needs
+
+array-read-k : tie.Need-array-read-k Inv-loop μ-loop
+array-read-k c = search needs
+
+mul-k-2 : tie.Need-mul-k-2 Inv-loop μ-loop
+mul-k-2 c = search needs
+
+array-read-k-2 : tie.Need-array-read-k-2 Inv-loop μ-loop
+array-read-k-2 c = search needs
+
+add-k : tie.Need-add-k Inv-loop μ-loop
+unfolding at
+add-k c = search (needs, c .before .before .before .pre .3 (c .before .loop .x))
+
+cast-t19 : tie.Need-cast-t19 Inv-loop μ-loop
+cast-t19 c = search needs
+
+cast-t21 : tie.Need-cast-t21 Inv-loop μ-loop
+cast-t21 c = search needs
+
+cast-t24 : tie.Need-cast-t24 Inv-loop μ-loop
+cast-t24 c = search needs
+
+cast-t26 : tie.Need-cast-t26 Inv-loop μ-loop
+unfolding at
+cast-t26 c = search (needs, c .before .before .before .pre .3 (c .before .loop .x))
+
+slice-aggregate-place : tie.Need-slice-aggregate-place Inv-loop μ-loop
+slice-aggregate-place c = search needs
+
+add-place : tie.Need-add-place Inv-loop μ-loop
+add-place c = search needs
+
+mul-place : tie.Need-mul-place Inv-loop μ-loop
+mul-place c = search needs
+
+add-place-2 : tie.Need-add-place-2 Inv-loop μ-loop
+add-place-2 c = search needs
+
+place-requires : tie.Need-place-requires Inv-loop μ-loop
+place-requires c κs = search needs
+
+add-x : tie.Need-add-x Inv-loop μ-loop
+add-x c = search needs
+
+loop-less : tie.Need-loop-less Inv-loop μ-loop
+loop-less c = search needs
+
+loop-again : tie.Need-loop-again Inv-loop μ-loop
+unfolding at fourBytes
+loop-again c =
+    let l = c .before .before .before .before .before .before in
+    let a = l .before .before in
+    let t = c .before .before .before .before .before .loop-test .taken in
+    let n = length-added (a .args .t3) (a .args .t4) in (
+      omega (arith, t),
+      c .before .before .place .kept .1 .0 ∙ l .loop .inv .1,
+      counts-turn (a .args .desk .now) (added (a .args .t3) (a .args .t4)) (a .args .p + COUNTS) (l .loop .x) _ _ _ (omega (arith, n, t)) (omega (arith, n, a .pre .0)) (l .loop .inv .2)
+          (ap fourBytes (sym (at-added (a .args .t3) (a .args .t4) (l .loop .x) (omega (arith, t))))) (c .before .before .place .ensures),
+    )
+
+same-length : tie.Need-same-length Inv-loop μ-loop
+same-length c = c .before .loop .inv .1
+
+returns : tie.Need-returns Inv-loop μ-loop
+returns c =
+    let l = c .before in
+    let a = l .before .before in
+    counts-end (a .args .desk .now) (added (a .args .t3) (a .args .t4)) (a .args .p + COUNTS) (l .loop .x) _ (omega (arith, c .loop-test .left, length-added (a .args .t3) (a .args .t4))) (l .loop .inv .2)
+
+pub put-counts-spec : {M : Type 1} → statement M
+put-counts-spec =
+    tie.close
+    (tie.spec
+    Inv-loop
+    μ-loop
+    loop-holds
+    mul-k
+    array-read-k
+    mul-k-2
+    array-read-k-2
+    add-k
+    cast-t19
+    cast-t21
+    cast-t24
+    cast-t26
+    slice-aggregate-place
+    add-place
+    mul-place
+    add-place-2
+    place-requires
+    add-x
+    loop-less
+    loop-again
+    same-length
+    returns)

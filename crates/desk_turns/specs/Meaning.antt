@@ -1,0 +1,8 @@
+-- What the answer to rounds means.
+use Rattle.desk.specs.Desk.{RoundsReply, not-given, gave}
+use Rattle.desk_turns.specs.declared.Reply.{Reply}
+use Rattle.desk_turns.specs.declared.Reply.the-variants.{Given, Refused}
+
+abbrev pub meansRounds : Reply → RoundsReply
+meansRounds (Given ended going) = gave ended going
+meansRounds (Refused number item) = not-given number item

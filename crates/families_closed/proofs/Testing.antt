@@ -1,0 +1,117 @@
+-- The test of a run that is lent a sheet, pairs and a block: its arrays, and its answer. Assumes nothing.
+use mathlib.Core.Path.{_≡_, refl, sym, ap, ap₂, _∙_, subst₂}
+use mathlib.Core.Bool.{Bool, true, false}
+use mathlib.Core.List.{List, [], _∷_}
+use Prim.Native.Nat.{ℕ, _*_, _/_, _%_, _≤_, _<_}
+use native.Mathlib.Omega.{arith}
+use lib.Dec.{T}
+use lib.ListN.{length, getD, length-append}
+use borrow.Author.Tests.{lt-ltb, le-ltb}
+use Rattle.model.specs.Lists.{at}
+use Rattle.model.specs.Problem.{Problem}
+use Rattle.model.specs.Verdict.{Verdict, accepted, refused, isAccepted}
+use Rattle.model.specs.Sheet.{problemOf}
+use Rattle.model.specs.WellFormed.{WellFormed}
+use Rattle.model.proofs.Lists.{length-below}
+use Rattle.model.proofs.Accepted.{constraints-are, symmetries-are}
+use Rattle.sheet.specs.Meaning as sheet
+use Rattle.sheet.specs.declared.Answer.{Answer}
+use Rattle.sheet.specs.declared.Answer.the-variants.{Accepted}
+use Rattle.block.specs.Block.{factorial, orderingTable, blockTables, tablesLent, blockLent, withLent}
+use Rattle.block.proofs.Orderings.{factorial-le}
+use Rattle.block.proofs.Block.{block-e}
+use Rattle.block.proofs.BlockLent.{is-accepted}
+use Rattle.arrays_block.specs.Asked.{Imaged, PutOn}
+use Rattle.run_input.specs.Lent.{verdictLent, problemWith}
+use Rattle.run_input.specs.Compile.{AskedLent}
+use Rattle.run_input.proofs.Lent.{passed-all, lent-passed, well-sheet, well-lent}
+use Rattle.families_closed.specs.Open.{firstMissing, none, two, firstOpen}
+use Rattle.families_closed.specs.Held.{Held, Passed}
+use Rattle.families_closed.proofs.Open.{open-first}
+use Rattle.families_closed.specs.Lent.{Told, told, toldFor, closedLent}
+
+-- ---- the first two from their number
+module _ (p : Problem) (n k : ℕ) (e : n ≡ length (p .symmetries)) (f : k ≡ firstMissing p) where
+  pub open-two : k < n * n → told (two (k / n) (k % n)) ≡ told (firstOpen p)
+  unfolding firstOpen
+  open-two l =
+      let g = length (p .symmetries) in
+      let h : firstMissing p < g * g = subst₂ (λ (i j : ℕ). i < j * j) f e l in
+      ap₂ (λ (i j : ℕ). told (two (j / i) (j % i))) e f ∙ ap told (sym (ap (λ (t : Bool). elim t [ true ↦ two (firstMissing p / g) (firstMissing p % g) | false ↦ none ]) (lt-ltb (firstMissing p) (g * g) h)))
+
+  pub open-no : n * n ≤ k → told none ≡ told (firstOpen p)
+  unfolding firstOpen
+  open-no l =
+      let g = length (p .symmetries) in
+      let h : g * g ≤ firstMissing p = subst₂ (λ (i j : ℕ). j * j ≤ i) f e l in
+      ap told (sym (ap (λ (t : Bool). elim t [ true ↦ two (firstMissing p / g) (firstMissing p % g) | false ↦ none ]) (le-ltb (firstMissing p) (g * g) h)))
+
+-- ---- the arrays
+module _ (b pairs block numbers images : List ℕ) (h : Passed b pairs block numbers images) where
+  good : T (isAccepted (verdictLent b pairs block))
+  good = passed-all (verdictLent b pairs block) (h .verdict)
+
+  pub imaged-of : Imaged (problemOf b) numbers images
+  imaged-of =
+      let w = well-sheet b pairs block good in
+      let x = lent-passed b pairs block good .sheet .header in
+      let l = constraints-are b in
+      let m = symmetries-are b in
+      let f = x .constraints in
+      let g = x .symmetries in
+      record {
+        wellFormed = w;
+        framed = record {
+          stated = record { few = w .few; one = w .one; sixteen = w .sixteen; narrow = w .narrow; most = omega arith; constrained = w .constrained };
+          numbered = h .numbered;
+        };
+        symmetries = omega arith;
+        imaged = h .imaged;
+        sized = h .sized;
+      }
+
+  pub block-passed : blockLent (problemOf b) block ≡ accepted
+  block-passed = is-accepted (blockLent (problemOf b) block) (lent-passed b pairs block good .blocked)
+
+  pub held-of : (images′ : List ℕ) (n : ℕ) → PutOn (withLent block (problemOf b)) images images′ n → Held (problemWith b block) images′ (getD numbers 64 0) (getD numbers 65 0)
+  unfolding at
+  held-of images′ n t = record {
+    good = well-lent b pairs block good;
+    some = let e = t .put .all in let l = t .put .few in omega arith;
+    imaged = t .put .imaged;
+    variables-is = h .numbered .variables;
+    values-is = h .numbered .values;
+  }
+
+-- ---- the answer
+module _ (b pairs block numbers supports images order : List ℕ) (r : Answer) (a : AskedLent b pairs block numbers supports images order r) where
+  pub passed-of : r ≡ Accepted → Passed b pairs block numbers images
+  passed-of e = record { verdict = sym (a .answers) ∙ ap sheet.means e; numbered = a .compiled e .numbered; imaged = a .compiled e .imaged; sized = a .sizes e .images-length }
+
+  pub told-for : (v : Verdict) (t : Told) → sheet.means r ≡ v → t ≡ toldFor v (problemWith b block) → t ≡ closedLent b pairs block
+  unfolding closedLent
+  told-for v t e q = q ∙ ap (λ (u : Verdict). toldFor u (problemWith b block)) (sym e ∙ a .answers)
+
+-- ---- its numbers are below 136
+tables-few : (p : Problem) → WellFormed p → (block : List ℕ) → blockLent p block ≡ accepted → length (tablesLent p block) ≤ 120
+unfolding tablesLent blockLent blockTables
+tables-few p w [] e = omega arith
+tables-few p w (first ∷ []) e = omega arith
+tables-few p w (first ∷ m ∷ []) e = let n = length-below (orderingTable p first m) (factorial m) in let l = factorial-le m (block-e p w first m e .few) in omega arith
+tables-few p w (first ∷ m ∷ x ∷ more) e = omega arith
+
+pub told-few : (b pairs block : List ℕ) (first second : ℕ) → told (two first second) ≡ closedLent b pairs block → (first < 136) × (second < 136)
+unfolding closedLent
+told-few b pairs block first second e = go (verdictLent b pairs block) refl e
+  where
+    go : (v : Verdict) → verdictLent b pairs block ≡ v → told (two first second) ≡ toldFor v (problemWith b block) → (first < 136) × (second < 136)
+    go accepted q t =
+        let good = passed-all (verdictLent b pairs block) q in
+        let x = lent-passed b pairs block good in
+        let o = open-first (problemWith b block) first second (let z : firstOpen (problemWith b block) ≡ two first second = cc in z) in
+        let l = length-append (problemOf b .symmetries) (tablesLent (problemOf b) block) in
+        let m = symmetries-are b in
+        let g = x .sheet .header .symmetries in
+        let n = tables-few (problemOf b) (well-sheet b pairs block good) block (is-accepted (blockLent (problemOf b) block) (x .blocked)) in
+        (omega (arith, o .first), omega (arith, o .second))
+    go (refused number item) q t = absurd (let z : _≡_ {A = ℕ} 0 1 = cc in omega arith)

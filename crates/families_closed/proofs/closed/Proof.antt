@@ -1,0 +1,37 @@
+-- The questions, then the test. Assumes nothing.
+use mathlib.Core.Path.{refl, ap}
+use borrow.Author.Needs.{needs}
+use Rattle.model.specs.Verdict.{accepted, refused}
+use Rattle.arrays.specs.Places.{NUMBERS, SUPPORTS}
+use Rattle.sheet.specs.Meaning.{means}
+use Rattle.sheet.proofs.Whole.{zeros}
+use Rattle.families_closed.proofs.Testing.{passed-of, told-for}
+use Rattle.families_closed.proofs.closed.Statement.{statement}
+use Rattle.families_closed.proofs.closed.Tie as tie
+
+ask-requires : tie.Need-ask-requires
+ask-requires c κs = (zeros NUMBERS, zeros SUPPORTS, refl, refl)
+
+enum-known-asked : tie.Need-enum-known-asked
+enum-known-asked c = search needs
+
+enum-told : tie.Need-enum-told
+enum-told c = search needs
+
+test-requires : tie.Need-test-requires
+test-requires c κs = (_, _, passed-of _ _ _ _ _ _ _ _ (c .before .before .before .before .ask .ensures) (c .before .before .enum-told .given .1))
+
+returns : tie.Need-returns
+returns c =
+    let g = c .before .asked .given in
+    told-for _ _ _ _ _ _ _ _ (c .before .before .before .ask .ensures) (refused (g .0 .0) (g .0 .1 .0)) _ (ap means (g .1)) refl
+
+returns-2 : tie.Need-returns-2
+returns-2 c =
+    let a = c .before .before .before .before .before .ask .ensures in
+    let e = c .before .before .before .enum-told .given .1 in
+    told-for _ _ _ _ _ _ _ _ a accepted _ (ap means e) (c .test .ensures _ _ (passed-of _ _ _ _ _ _ _ _ a e))
+
+pub closed-spec : {M : Type 1} → statement M
+closed-spec =
+    tie.close (tie.spec ask-requires enum-known-asked enum-told test-requires returns returns-2)

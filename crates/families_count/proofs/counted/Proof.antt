@@ -1,0 +1,57 @@
+-- Room for the plans of as many variables as the numbers say. Assumes nothing.
+use mathlib.Core.Path.{sym}
+use Prim.Native.Nat.{_*_}
+use native.Mathlib.Omega.{arith}
+use lib.Seq.{length-take-le}
+use borrow.Author.Needs.{needs}
+use Rattle.model.specs.Lists.{at}
+use Rattle.arrays.specs.Places.{VARIABLES}
+use Rattle.families_count.proofs.Bare.{room-long, whole-few, whole-roomy, counted-so}
+use Rattle.families_count.proofs.counted.Statement.{statement}
+use Rattle.families_count.proofs.counted.Tie as tie
+
+element-copy-out-n : tie.Need-element-copy-out-n
+element-copy-out-n c = search needs
+
+mul-used : tie.Need-mul-used
+unfolding at
+mul-used c = omega (arith, whole-few _ _ _ _ _ _ _ _ _ _ (c .before .pre .3))
+
+plan-room-requires : tie.Need-plan-room-requires
+plan-room-requires c κs = search needs
+
+array-borrow-prefix-list : tie.Need-array-borrow-prefix-list
+unfolding at
+array-borrow-prefix-list c = let p = c .before .before .before .before in omega (arith, whole-few _ _ _ _ _ _ _ _ _ _ (p .before .before .pre .3), room-long _ (p .plan-room .ensures))
+
+slice-aggregate-figure : tie.Need-slice-aggregate-figure
+unfolding at
+slice-aggregate-figure c = let p = c .before .before .before .before .before in sym (length-take-le _ _ (omega (arith, whole-few _ _ _ _ _ _ _ _ _ _ (p .before .before .pre .3), room-long _ (p .plan-room .ensures))))
+
+figure-requires : tie.Need-figure-requires
+unfolding at
+figure-requires c κs =
+    let p = c .before .before .before .before .before in
+    let h = p .before .before .pre .3 in
+    (_, _, _, h, whole-roomy _ _ _ _ _ _ _ _ _ _ h _ (length-take-le _ _ (omega (arith, whole-few _ _ _ _ _ _ _ _ _ _ h, room-long _ (p .plan-room .ensures)))))
+
+returns : tie.Need-returns
+unfolding at
+returns c = λ b pairs block h.
+    let p = c .before .before .before .before .before .before .before in
+    let n = at (p .before .before .args .numbers .now) VARIABLES in
+    let l = length-take-le (4096 * n) (p .plan-room .result) (omega (arith, whole-few _ _ _ _ _ _ _ _ _ _ h, room-long _ (p .plan-room .ensures))) in
+    let r = whole-roomy _ _ _ _ _ _ _ _ _ _ h _ l in
+    counted-so _ _ _ _ _ _ _ _ _ _ h _ _ r _ _ (c .before .figure .ensures _ _ _ h r)
+
+pub counted-spec : {M : Type 1} → statement M
+counted-spec =
+    tie.close
+    (tie.spec
+    element-copy-out-n
+    mul-used
+    plan-room-requires
+    array-borrow-prefix-list
+    slice-aggregate-figure
+    figure-requires
+    returns)

@@ -1,0 +1,53 @@
+-- All questions once; the images and the count where there is no "no". Assumes nothing.
+use mathlib.Core.Path.{sym, ap, _∙_}
+use borrow.Author.Needs.{needs}
+use Rattle.model.specs.Lists.{at}
+use Rattle.arrays.specs.Places.{IMAGES, NUMBERS, SUPPORTS}
+use Rattle.sheet.specs.Meaning.{means}
+use Rattle.sheet.proofs.Whole.{zeros}
+use Rattle.families_count.proofs.Images.{asked-so}
+use Rattle.families_count.proofs.Bare.{new-whole, counted-refused}
+use Rattle.families_count.proofs.families.Statement.{statement}
+use Rattle.families_count.proofs.families.Tie as tie
+
+ask-requires : tie.Need-ask-requires
+ask-requires c κs = (zeros NUMBERS, zeros SUPPORTS, zeros IMAGES .sized, zeros 16 .sized)
+
+enum-told : tie.Need-enum-told
+enum-told c = search needs
+
+put-images-requires : tie.Need-put-images-requires
+unfolding at
+put-images-requires c κs = let t = c .before .before .before .before in (_, asked-so _ _ _ _ _ _ _ _ (t .enum-told .given .1) (t .before .before .ask .ensures))
+
+counted-requires : tie.Need-counted-requires
+unfolding at
+counted-requires c κs =
+    let p = c .before .before .before .before .before .before in
+    let t = p .before .before .before .before .before in
+    (_, _, _, new-whole _ _ _ _ _ _ _ (p .put-images .ensures _ (asked-so _ _ _ _ _ _ _ _ (t .enum-told .given .1) (t .before .before .ask .ensures))))
+
+enum-known-verdict : tie.Need-enum-known-verdict
+enum-known-verdict c = search needs
+
+returns : tie.Need-returns
+unfolding at
+returns c =
+    let p = c .before .before .before .before .before .before .before in
+    let t = p .before .before .before .before .before in
+    c .counted .ensures _ _ _ (new-whole _ _ _ _ _ _ _ (p .put-images .ensures _ (asked-so _ _ _ _ _ _ _ _ (t .enum-told .given .1) (t .before .before .ask .ensures))))
+
+returns-2 : tie.Need-returns-2
+returns-2 c = counted-refused _ _ _ _ _ _ (sym (ap means (c .before .verdict .given .1)) ∙ c .before .before .before .ask .ensures .answers)
+
+pub families-spec : {M : Type 1} → statement M
+families-spec =
+    tie.close
+    (tie.spec
+    ask-requires
+    enum-told
+    put-images-requires
+    counted-requires
+    enum-known-verdict
+    returns
+    returns-2)

@@ -1,0 +1,54 @@
+-- `filter::clear` meets its contract. The sets before `i` are 0. Assumes nothing.
+use mathlib.Core.Path.{_≡_, refl}
+use Prim.Native.Nat.{_-_}
+use lib.ListN.{length}
+use borrow.Author.Needs.{needs}
+use Rattle.model.proofs.Filling.{filled-begin}
+use Rattle.filter.proofs.Copies.{Front, front-more, front-zeros}
+use Rattle.filter.proofs.clear.Statement.{statement}
+use Rattle.filter.proofs.clear.Tie as tie
+
+abbrev Inv-loop : tie.InvT-loop
+Inv-loop sets₀ i₀ sets i = Front (λ k s. s ≡ 0) i sets₀ sets
+
+abbrev μ-loop : tie.MeasureT-loop
+μ-loop sets₀ i₀ sets i = length sets₀ - i
+
+loop-holds : tie.Need-loop-holds Inv-loop μ-loop
+loop-holds c = filled-begin (λ k. k) (λ k s. s ≡ 0) (c .args .sets .now)
+
+mul-sets : tie.Need-mul-sets Inv-loop μ-loop
+mul-sets c = search needs
+
+slice-write-sets : tie.Need-slice-write-sets Inv-loop μ-loop
+slice-write-sets c = search needs
+
+add-i : tie.Need-add-i Inv-loop μ-loop
+add-i c = search needs
+
+loop-less : tie.Need-loop-less Inv-loop μ-loop
+loop-less c = search needs
+
+loop-again : tie.Need-loop-again Inv-loop μ-loop
+loop-again c = front-more (λ k s. s ≡ 0) (c .before .before .args .sets .now) (c .before .loop .sets) (c .before .loop .i) 0 (c .before .loop .inv) (c .loop-test .taken) refl
+
+same-length : tie.Need-same-length Inv-loop μ-loop
+same-length c = c .before .loop .inv .size
+
+returns : tie.Need-returns Inv-loop μ-loop
+returns c = front-zeros (c .before .before .args .sets .now) (c .before .loop .sets) (c .before .loop .i) (c .before .loop .inv) (c .loop-test .left)
+
+pub clear-spec : {M : Type 1} → statement M
+clear-spec =
+    tie.close
+    (tie.spec
+    Inv-loop
+    μ-loop
+    loop-holds
+    mul-sets
+    slice-write-sets
+    add-i
+    loop-less
+    loop-again
+    same-length
+    returns)

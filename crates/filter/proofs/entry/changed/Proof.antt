@@ -1,0 +1,61 @@
+-- `filter::entry::changed` meets its contract. The sets before `y` are compared. Assumes nothing.
+use Prim.Native.Nat.{_-_, _≤_}
+use native.Mathlib.Nat.{not-suc-le-zero}
+use borrow.Author.Needs.{needs}
+use Rattle.model.specs.Lists.{at}
+use Rattle.filter.proofs.Steps.{Compared, compared-next, compared-all}
+use Rattle.filter.proofs.entry.changed.Statement.{statement}
+use Rattle.filter.proofs.entry.changed.Tie as tie
+
+abbrev Inv-loop : tie.InvT-loop
+Inv-loop old new other₀ y₀ other y = (y ≤ 16) × Compared other y old new
+
+abbrev μ-loop : tie.MeasureT-loop
+μ-loop old new other₀ y₀ other y = 16 - y
+
+loop-holds : tie.Need-loop-holds Inv-loop μ-loop
+loop-holds c = (search needs, λ z l. absurd (not-suc-le-zero l))
+
+mul-other : tie.Need-mul-other Inv-loop μ-loop
+mul-other c = search needs
+
+element-copy-out-other : tie.Need-element-copy-out-other Inv-loop μ-loop
+element-copy-out-other c = search needs
+
+mul-other-2 : tie.Need-mul-other-2 Inv-loop μ-loop
+mul-other-2 c = search needs
+
+element-copy-out-other-2 : tie.Need-element-copy-out-other-2 Inv-loop μ-loop
+element-copy-out-other-2 c = search needs
+
+add-y : tie.Need-add-y Inv-loop μ-loop
+add-y c = search needs
+
+loop-less : tie.Need-loop-less Inv-loop μ-loop
+loop-less c = search needs
+
+loop-again : tie.Need-loop-again Inv-loop μ-loop
+unfolding at
+loop-again c =
+    let a = c .before .before .before .before .args in
+    let l = c .before .before .before .loop in
+    (search needs, compared-next (a .old .now) (a .new .now) (l .other) (l .y) (l .inv .1))
+
+returns : tie.Need-returns Inv-loop μ-loop
+returns c = compared-all (c .before .before .args .old .now) (c .before .before .args .new .now) (c .before .loop .other) (c .before .loop .y) (c .loop-test .left) (c .before .loop .inv .0) (c .before .loop .inv .1)
+
+pub changed-spec : {M : Type 1} → statement M
+changed-spec =
+    tie.close
+    (tie.spec
+    Inv-loop
+    μ-loop
+    loop-holds
+    mul-other
+    element-copy-out-other
+    mul-other-2
+    element-copy-out-other-2
+    add-y
+    loop-less
+    loop-again
+    returns)

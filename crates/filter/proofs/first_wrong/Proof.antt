@@ -1,0 +1,77 @@
+-- `filter::first_wrong` meets its contract. The entries before `i` are right. Assumes nothing.
+use mathlib.Core.Bool.{true}
+use mathlib.Core.Path.{_≡_, sym, _∙_}
+use Prim.Native.Nat.{ℕ, _≤_, _<_, _-_}
+use native.Mathlib.Nat.{not-suc-le-zero}
+use lib.ListN.{length}
+use borrow.Author.Count.{below-more}
+use borrow.Author.Needs.{needs}
+use borrow.Author.Tests.{not-true, not-false}
+use Rattle.model.specs.Lists.{at}
+use Rattle.filter.proofs.Questions.{okAt, wrong-at, wrong-none}
+use Rattle.filter.proofs.first_wrong.Statement.{statement}
+use Rattle.filter.proofs.first_wrong.Tie as tie
+
+abbrev Inv-loop : tie.InvT-loop
+Inv-loop n index equal not-equal i₀ i = (i ≤ length index) × ((k : ℕ) → k < i → okAt n index equal not-equal k ≡ true)
+
+abbrev μ-loop : tie.MeasureT-loop
+μ-loop n index equal not-equal i₀ i = length index - i
+
+loop-holds : tie.Need-loop-holds Inv-loop μ-loop
+loop-holds c = (search needs, λ k l. absurd (not-suc-le-zero l))
+
+shared-slice-read-right : tie.Need-shared-slice-read-right Inv-loop μ-loop
+shared-slice-read-right c = search needs
+
+shared-slice-read-right-2 : tie.Need-shared-slice-read-right-2 Inv-loop μ-loop
+shared-slice-read-right-2 c = search needs
+
+shared-slice-read-right-3 : tie.Need-shared-slice-read-right-3 Inv-loop μ-loop
+shared-slice-read-right-3 c = search needs
+
+right-requires : tie.Need-right-requires Inv-loop μ-loop
+right-requires c κs = search needs
+
+returns : tie.Need-returns Inv-loop μ-loop
+unfolding at
+returns c =
+    let a = c .before .before .before .before .before .before .before .before .before .before .args in
+    let l = c .before .before .before .before .before .before .loop in
+    wrong-at (a .n) (a .index .now) (a .equal .now) (a .not-equal .now) (l .i) (c .before .before .before .before .before .loop-test .taken) (l .inv .1) (sym (c .before .right .ensures) ∙ not-true (c .before .right .result) (c .if1 .taken))
+
+add-i : tie.Need-add-i Inv-loop μ-loop
+add-i c = search needs
+
+loop-less : tie.Need-loop-less Inv-loop μ-loop
+loop-less c = search needs
+
+loop-again : tie.Need-loop-again Inv-loop μ-loop
+unfolding at
+loop-again c =
+    let a = c .before .before .before .before .before .before .before .before .before .before .args in
+    let l = c .before .before .before .before .before .before .loop in
+    (search needs, below-more (λ k. okAt (a .n) (a .index .now) (a .equal .now) (a .not-equal .now) k ≡ true) (l .i) (l .inv .1) (sym (c .before .right .ensures) ∙ not-false (c .before .right .result) (c .if1 .left)))
+
+returns-2 : tie.Need-returns-2 Inv-loop μ-loop
+returns-2 c =
+    let a = c .before .before .before .before .before .args in
+    let l = c .before .loop in
+    wrong-none (a .n) (a .index .now) (a .equal .now) (a .not-equal .now) (l .i) (c .loop-test .left) (l .inv .0) (l .inv .1)
+
+pub first-wrong-spec : {M : Type 1} → statement M
+first-wrong-spec =
+    tie.close
+    (tie.spec
+    Inv-loop
+    μ-loop
+    loop-holds
+    shared-slice-read-right
+    shared-slice-read-right-2
+    shared-slice-read-right-3
+    right-requires
+    returns
+    add-i
+    loop-less
+    loop-again
+    returns-2)

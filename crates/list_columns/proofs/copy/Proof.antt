@@ -1,0 +1,87 @@
+-- `copy`: after i turns the first i cells are copied. Assumes nothing.
+use mathlib.Core.Path.{_≡_, refl, subst}
+use Prim.Native.Nat.{ℕ, _+_, _*_, _-_, _≤_, _<_}
+use native.Mathlib.Nat.{le-antisymm}
+use native.Mathlib.Omega.{arith}
+use borrow.Author.Needs.{needs}
+use lib.ListN.{length, length-set}
+use Rattle.model.specs.Lists.{at}
+use Rattle.list_columns.specs.Steps.{Copied}
+use Rattle.list_columns.proofs.Copying.{copied-none, copied-turn}
+use Rattle.list_columns.proofs.copy.Statement.{statement}
+use Rattle.list_columns.proofs.copy.Tie as tie
+
+abbrev Inv-loop : tie.InvT-loop
+Inv-loop out₀ at step cells from stride count i₀ out i = (i ≤ count) × (length out ≡ length out₀) × Copied out₀ at step cells from stride i out
+
+abbrev μ-loop : tie.MeasureT-loop
+μ-loop out₀ at step cells from stride count i₀ out i = count - i
+
+-- at a turn: both indexes lie inside
+inside : (c : tie.In-loop Inv-loop μ-loop) → (c .before .before .args .at + c .before .loop .i * c .before .before .args .step < length (c .before .before .args .out .now)) × (c .before .before .args .from + c .before .loop .i * c .before .before .args .stride < length (c .before .before .args .cells .now))
+inside c =
+    let s = c .before .before in
+    (s .pre .1 (c .before .loop .i) (c .loop-test .taken), s .pre .2 (c .before .loop .i) (c .loop-test .taken))
+
+loop-holds : tie.Need-loop-holds Inv-loop μ-loop
+loop-holds c =
+    let a = c .args in
+    (search needs, refl, copied-none (a .out .now) (a .at) (a .step) (a .cells .now) (a .from) (a .stride))
+
+mul-out : tie.Need-mul-out Inv-loop μ-loop
+mul-out c = omega (arith, inside c .1)
+
+add-out : tie.Need-add-out Inv-loop μ-loop
+add-out c = omega (arith, inside c .1)
+
+shared-slice-read-out : tie.Need-shared-slice-read-out Inv-loop μ-loop
+shared-slice-read-out c = inside (c .before) .1
+
+mul-out-2 : tie.Need-mul-out-2 Inv-loop μ-loop
+mul-out-2 c = omega (arith, inside (c .before) .0)
+
+add-out-2 : tie.Need-add-out-2 Inv-loop μ-loop
+add-out-2 c = omega (arith, inside (c .before) .0)
+
+slice-write-out : tie.Need-slice-write-out Inv-loop μ-loop
+slice-write-out c = omega (arith, inside (c .before) .0)
+
+add-i : tie.Need-add-i Inv-loop μ-loop
+add-i c = search needs
+
+loop-less : tie.Need-loop-less Inv-loop μ-loop
+loop-less c = search needs
+
+loop-again : tie.Need-loop-again Inv-loop μ-loop
+unfolding at
+loop-again c =
+    let l = c .before .before in
+    (search needs, simp length-set (l .loop .inv .1), copied-turn (l .before .pre .0) (omega (arith, inside (c .before) .0)) (l .loop .inv .2))
+
+same-length : tie.Need-same-length Inv-loop μ-loop
+same-length c = c .before .loop .inv .1
+
+returns : tie.Need-returns Inv-loop μ-loop
+returns c =
+    let l = c .before in
+    let a = l .before .args in
+    subst (λ (k : ℕ). Copied (a .out .now) (a .at) (a .step) (a .cells .now) (a .from) (a .stride) k (l .loop .out)) (le-antisymm (l .loop .inv .0) (c .loop-test .left)) (l .loop .inv .2)
+
+pub copy-spec : {M : Type 1} → statement M
+copy-spec =
+    tie.close
+    (tie.spec
+    Inv-loop
+    μ-loop
+    loop-holds
+    mul-out
+    add-out
+    shared-slice-read-out
+    mul-out-2
+    add-out-2
+    slice-write-out
+    add-i
+    loop-less
+    loop-again
+    same-length
+    returns)

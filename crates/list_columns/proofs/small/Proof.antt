@@ -1,0 +1,52 @@
+-- `small`: no value before i is above `most`, which is below 16 where they all are. Assumes nothing.
+use mathlib.Core.Logic.{⊎-elim}
+use Prim.Native.Nat.{_≤_, _-_}
+use native.Mathlib.Omega.{arith}
+use borrow.Author.Needs.{needs}
+use lib.ListN.{length}
+use Rattle.list_columns.proofs.Asking.{Most, most-turn, small-is}
+use Rattle.list_columns.proofs.small.Statement.{statement}
+use Rattle.list_columns.proofs.small.Tie as tie
+
+abbrev Inv-loop : tie.InvT-loop
+Inv-loop bytes most₀ i₀ most i = (i ≤ length bytes) × Most bytes i most
+
+abbrev μ-loop : tie.MeasureT-loop
+μ-loop bytes most₀ i₀ most i = length bytes - i
+
+loop-holds : tie.Need-loop-holds Inv-loop μ-loop
+loop-holds c = (search needs, ((λ k l. absurd (omega arith)), λ f. omega arith))
+
+shared-slice-read-if1 : tie.Need-shared-slice-read-if1 Inv-loop μ-loop
+shared-slice-read-if1 c = search needs
+
+shared-slice-read-most : tie.Need-shared-slice-read-most Inv-loop μ-loop
+shared-slice-read-most c = search needs
+
+add-i : tie.Need-add-i Inv-loop μ-loop
+add-i c = search needs
+
+loop-less : tie.Need-loop-less Inv-loop μ-loop
+loop-less c = search needs
+
+loop-again : tie.Need-loop-again Inv-loop μ-loop
+loop-again c =
+    let l = c .before .before .before in
+    (search needs, most-turn (l .before .args .bytes .now) (l .loop .i) (l .loop .most) (c .if1 .most) (⊎-elim (λ w. omega arith) (λ w. omega arith) (c .if1 .came)) (⊎-elim (λ w. omega arith) (λ w. omega arith) (c .if1 .came)) (λ a b. ⊎-elim (λ w. omega arith) (λ w. omega arith) (c .if1 .came)) (l .loop .inv .1))
+
+returns : tie.Need-returns Inv-loop μ-loop
+returns c = small-is (c .before .before .args .bytes .now) (c .before .loop .most) (c .before .loop .i) (omega arith) (c .before .loop .inv .1)
+
+pub small-spec : {M : Type 1} → statement M
+small-spec =
+    tie.close
+    (tie.spec
+    Inv-loop
+    μ-loop
+    loop-holds
+    shared-slice-read-if1
+    shared-slice-read-most
+    add-i
+    loop-less
+    loop-again
+    returns)

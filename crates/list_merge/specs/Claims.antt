@@ -1,0 +1,42 @@
+-- The claims of paper 02, #106, as statements about the definitions; proofs/Claimed has the proofs. That the merge of two runs' lists has the plans of
+-- either, promises says of what callers hold.
+use mathlib.Core.Path.{_≡_}
+use mathlib.Core.Logic.{_⊎_, _↔_}
+use mathlib.Core.List.{List, [], List·Memᴰ}
+use Prim.Native.Nat.{ℕ}
+use lib.Dec.{T}
+use Rattle.model.specs.Lists.{below, rowsAscend}
+use Rattle.model.specs.Verdict.{accepted}
+use Rattle.model.specs.Room.{rowsIn}
+use Rattle.order.specs.Order.{settlingOrder}
+use Rattle.list_merge.specs.Merge.{ascends, mergedBy, merged, mergeVerdict}
+
+-- the merged list holds exactly the rows of either
+abbrev pub Holds : Type 0
+Holds =
+    (n : ℕ) (pairs a b : List ℕ) (room : ℕ) → mergeVerdict n pairs a b room ≡ accepted → (r : List ℕ) →
+    List·Memᴰ r (rowsIn n (merged n pairs a b)) ↔ (List·Memᴰ r (rowsIn n a) ⊎ List·Memᴰ r (rowsIn n b))
+
+-- it ascends strictly in the order, so each row stands in it once
+abbrev pub Ascends : Type 0
+Ascends =
+    (n : ℕ) (pairs a b : List ℕ) (room : ℕ) → mergeVerdict n pairs a b room ≡ accepted → T (ascends (settlingOrder n pairs) (rowsIn n (merged n pairs a b)))
+
+-- merging a list with itself gives the list, and with an empty list the other; the order of the two lists does not matter
+abbrev pub Itself : Type 0
+Itself = (n : ℕ) (pairs a : List ℕ) (room : ℕ) → mergeVerdict n pairs a a room ≡ accepted → merged n pairs a a ≡ a
+
+abbrev pub Empty : Type 0
+Empty = (n : ℕ) (pairs a : List ℕ) (room : ℕ) → mergeVerdict n pairs a [] room ≡ accepted → (merged n pairs a [] ≡ a) × (merged n pairs [] a ≡ a)
+
+abbrev pub Swapped : Type 0
+Swapped = (n : ℕ) (pairs a b : List ℕ) (room : ℕ) → mergeVerdict n pairs a b room ≡ accepted → merged n pairs b a ≡ merged n pairs a b
+
+-- without pairs rows are compared by variable, and to ascend is what paper 01 asks of rows
+pub record NothingLent (n : ℕ) (a b : List ℕ) : Type 0 where
+  pub bytes : merged n [] a b ≡ mergedBy n (below n) a b
+  pub order : settlingOrder n [] ≡ below n
+  pub ascend : ascends (below n) (rowsIn n a) ≡ rowsAscend (rowsIn n a)
+
+abbrev pub Nothing-lent : Type 0
+Nothing-lent = (n : ℕ) (a b : List ℕ) → NothingLent n a b

@@ -1,0 +1,55 @@
+-- What the arrays of a problem say of one of its constraints: its scope and its table. Assumes nothing.
+use mathlib.Core.Path.{_≡_, refl, sym, ap, _∙_, subst}
+use mathlib.Core.List.{List, [], _∷_, List·Memᴰ, List·Memᴰ·head, List·Memᴰ·tail}
+use Prim.Native.Nat.{ℕ, _+_, _/_, _%_, _<_}
+use native.Mathlib.Omega.{arith}
+use lib.Dec.{T}
+use lib.ListN.{length}
+use Rattle.model.specs.Lists.{at, ascending}
+use Rattle.model.specs.Problem.{Problem}
+use Rattle.model.proofs.Lists.{list-1, list-2, list-3}
+use Rattle.arrays.specs.Places.{SCOPES}
+use Rattle.arrays.specs.Layout.{constraintAt}
+use Rattle.arrays.proofs.Links.{good}
+use Rattle.prune_constraints.specs.Steps.{ConstraintsHeld, Scoped}
+
+-- the scope of three variables that a number holds
+abbrev pub scope3 : ℕ → List ℕ
+scope3 w = w / 256 % 256 ∷ w / 65536 % 256 ∷ w / 16777216 % 256 ∷ []
+
+-- what holds of each variable of such a scope
+pub of-three : {P : ℕ → Type 0} {scope : List ℕ} {x y z : ℕ} → scope ≡ x ∷ y ∷ z ∷ [] → ((i : ℕ) → List·Memᴰ i scope → P i) → P x × P y × P z
+of-three {scope = scope} {x} {y} {z} e f = (f _ (here (List·Memᴰ·head refl)), f _ (here (List·Memᴰ·tail (List·Memᴰ·head refl))), f _ (here (List·Memᴰ·tail (List·Memᴰ·tail (List·Memᴰ·head refl)))))
+  where
+    here : {i : ℕ} → List·Memᴰ i (x ∷ y ∷ z ∷ []) → List·Memᴰ i scope
+    here {i} m = subst (λ (l : List ℕ). List·Memᴰ i l) (sym e) m
+
+module _ {p : Problem} {numbers supports : List ℕ} (g : ConstraintsHeld p numbers supports) (k : ℕ) (h : k < length (p .constraints)) where
+  -- the scope as the code reads it
+  abbrev word : ℕ
+  word = at numbers (SCOPES + k)
+
+  scoped : (scope : List ℕ) → constraintAt p k .scope ≡ scope → Scoped (constraintAt p k) supports k scope
+  scoped scope e = record {
+    is = e;
+    inside = λ x m. let i = good (g .wellFormed) k h .inside x (subst (λ (z : List ℕ). List·Memᴰ x z) (sym e) m) in omega (arith, g .wellFormed .few);
+    ordered = subst (λ (z : List ℕ). T (ascending z)) e (good (g .wellFormed) k h .ordered);
+    room = omega (arith, g .constraints);
+    table = λ vs l b. g .tabled k h vs (l ∙ ap length (sym e)) b;
+  }
+
+  pub scoped-3 : word % 256 ≡ 3 → Scoped (constraintAt p k) supports k (scope3 (at numbers (SCOPES + k)))
+  scoped-3 e =
+      let l = sym (g .numbered .arity k h) ∙ e in
+      scoped _ (list-3 (constraintAt p k .scope) _ _ _ l (sym (g .numbered .scope k 0 h (omega (arith, l)))) (sym (g .numbered .scope k 1 h (omega (arith, l)))) (sym (g .numbered .scope k 2 h (omega (arith, l)))))
+
+  pub scoped-2 : word % 256 ≡ 2 → Scoped (constraintAt p k) supports k (word / 256 % 256 ∷ word / 65536 % 256 ∷ [])
+  scoped-2 e =
+      let l = sym (g .numbered .arity k h) ∙ e in
+      scoped _ (list-2 (constraintAt p k .scope) _ _ l (sym (g .numbered .scope k 0 h (omega (arith, l)))) (sym (g .numbered .scope k 1 h (omega (arith, l)))))
+
+  pub scoped-1 : (word % 256 ≡ 3 → ⊥) → (word % 256 ≡ 2 → ⊥) → Scoped (constraintAt p k) supports k (word / 256 % 256 ∷ [])
+  scoped-1 a b =
+      let e = g .numbered .arity k h in
+      let l : length (constraintAt p k .scope) ≡ 1 = omega (arith, good (g .wellFormed) k h .some, good (g .wellFormed) k h .few) in
+      scoped _ (list-1 (constraintAt p k .scope) _ l (sym (g .numbered .scope k 0 h (omega (arith, l)))))

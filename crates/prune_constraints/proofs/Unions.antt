@@ -1,0 +1,280 @@
+-- The loops that run through the members of a set and unite what each of them gives. Assumes nothing.
+use mathlib.Core.Path.{_≡_, refl, sym, ap, _∙_, subst}
+use mathlib.Core.Bool.{Bool, true, not}
+use mathlib.Core.Logic.{_⊎_, inl, inr, ⊎-elim}
+use mathlib.Core.List.{List}
+use Prim.Native.Nat.{ℕ, _+_, _*_, _/_, _%_, _^_, _<_}
+use native.Mathlib.Nat.{lt-of-le-of-lt}
+use native.Mathlib.Omega.{arith}
+use lib.Dec.{T, eqb}
+use lib.Bits.{bitAnd, bitOr, and-le-r}
+use lib.Count.{trailingZeros}
+use borrow.Author.Tests.{eqb-true, eq-eqb, ne-eqb}
+use Rattle.model.specs.Lists.{at}
+use Rattle.model.specs.ValueSets.{has, maskOf, withoutMask, unionMask, lowestOf, oneIf}
+use Rattle.model.proofs.Lists.{T-of, both-i, both-l, both-r}
+use Rattle.model.proofs.Sets.{has-lt, mask-lt, member}
+use Rattle.model.proofs.Members.{low-has, rest-i, without-lowest-op, Rest, rest-begin, has-0, Union, union-begin, union-end, lowest-left, others-left, others-union, and-i, and-e}
+use Rattle.arrays.specs.Places.{OTHERS}
+use Rattle.prune_constraints.specs.Steps.{OneValue, Together, Joined, Together3, Joined3, Touched}
+use Rattle.prune_constraints.specs.Lanes.{FullLanes, LaneUnion, InLanes}
+use Rattle.prune_constraints.proofs.Bits.{one-small}
+use Rattle.model.proofs.Masks.{has-oneIf, lowest-op, union-op}
+
+-- the member itself where some set is not empty
+pub one-i : (s u : ℕ) → (v : ℕ) → T (has s v) → T (has (oneIf (not (eqb s 0)) u) u)
+one-i s u v t =
+    subst T (sym (has-oneIf (not (eqb s 0)) u u)) (both-i (not (eqb s 0)) (eqb u u) (T-of (not (eqb s 0)) (ap not (ne-eqb s 0 (λ e. has-0 v (subst (λ (n : ℕ). T (has n v)) e t))))) (lib.Dec.eqb-refl u))
+
+pub one-e : (k s u w : ℕ) → s < 2 ^ k → T (has (oneIf (not (eqb s 0)) u) w) → (w ≡ u) × ((v : ℕ) × T (has s v))
+one-e k s u w h t =
+    let q = subst T (has-oneIf (not (eqb s 0)) u w) t in
+    let n : s ≡ 0 → ⊥ = λ e. subst T (ap not (eq-eqb s 0 e)) (both-l (not (eqb s 0)) (eqb w u) q) in
+    (lib.Dec.eqb→eq w u (both-r (not (eqb s 0)) (eqb w u) q), (trailingZeros k s, low-has k s (omega arith) h .0))
+
+one-lt : (s : ℕ) (b : Bool) (v : ℕ) → s ≡ oneIf b v → v < 16 → s < 2 ^ 16
+one-lt s b v e h = subst (λ (z : ℕ). z < 2 ^ 16) (sym e) (one-small b v h)
+
+pub small : (f : ℕ → Bool) (r : ℕ) → r ≡ maskOf f → r < 2 ^ 16
+small f r e = subst (λ (z : ℕ). z < 2 ^ 16) (sym e) (mask-lt 16 f)
+
+-- a set that is empty without its lowest value
+pub one-value : (a r : ℕ) (b : Bool) → a < 2 ^ 16 → (a ≡ 0 → ⊥) → r ≡ withoutMask a (lowestOf a) → b ≡ eqb r 0 → b ≡ true → OneValue a
+one-value a r b h n e q t = record { some = n; only = λ u v i j. low u i ∙ sym (low v j) }
+  where
+    low : (v : ℕ) → T (has a v) → v ≡ trailingZeros 16 a
+    low v i = ⊎-elim (λ j. absurd (has-0 v (subst (λ (z : ℕ). T (has z v)) (without-lowest-op a h ∙ sym e ∙ eqb-true r 0 (sym q ∙ t)) j))) (λ j. j) (rest-i 16 a (omega arith) h v i)
+
+-- the one value of a set
+pub single : (a : ℕ) → a < 2 ^ 16 → OneValue a → (v : ℕ) → T (has a v) → v ≡ lowestOf a
+single a h o v t = o .only v (lowestOf a) t (lowest-left a a _ (rest-begin 16 a h) (o .some) refl .0)
+
+-- ---- two sets by sixteen sets of a table
+module _ (t : List ℕ) (base a b : ℕ) where
+  -- v gives itself where its set meets b, and the values of b that its set has
+  abbrev Meets : ℕ → ℕ → Type 0
+  Meets v u = (u ≡ v) × ((w : ℕ) × T (has b w) × T (has (at t (base + v)) w))
+
+  abbrev Gives : ℕ → ℕ → Type 0
+  Gives v w = T (has b w) × T (has (at t (base + v)) w)
+
+  pub record Joining (m first last : ℕ) : Type 0 where
+    pub rest : Rest 16 a m
+    pub narrow : first < 2 ^ 16
+    pub firsts : Union Meets a m first
+    pub lasts : Union Gives a m last
+
+  pub joining-begin : a < 2 ^ 16 → Joining a 0 0
+  joining-begin h = record { rest = rest-begin 16 a h; narrow = omega arith; firsts = union-begin Meets a; lasts = union-begin Gives a }
+
+  -- the lowest value v of those left
+  pub joining-turn : (k m v m′ : ℕ) {first s first′ last last′ : ℕ} → Joining m first last → (m ≡ 0 → ⊥) → v ≡ lowestOf m → m′ ≡ withoutMask m (lowestOf m) → b < 2 ^ k →
+      s ≡ oneIf (not (eqb (bitAnd (at t (base + v)) b) 0)) v → first′ ≡ unionMask first s → last′ ≡ bitOr last (bitAnd (at t (base + v)) b) → Joining m′ first′ last′
+  joining-turn k m v m′ {first} {s} {first′} {last} {last′} j n low less h e f l = record {
+    rest = others-left a m v (j .rest) n low m′ less;
+    narrow = small _ first′ f;
+    firsts =
+        others-union a m v (j .rest) n low m′ less Meets first s first′ (j .firsts) (f ∙ sym (union-op first s (j .narrow) (one-lt s (not (eqb x 0)) v e (lowest-left a m v (j .rest) n low .1))))
+        (λ u q. subst (λ (z : ℕ). T (has z u)) (sym e) (subst (λ (z : ℕ). T (has (oneIf (not (eqb x 0)) v) z)) (sym (q .0)) (one-i x v (q .1 .0) (and-i (at t (base + v)) b (q .1 .0) (q .1 .2) (q .1 .1)))))
+        (λ u q. let r = one-e k x v u (lt-of-le-of-lt (and-le-r (at t (base + v)) b) h) (subst (λ (z : ℕ). T (has z u)) e q) in let d = and-e (at t (base + v)) b (r .1 .0) (r .1 .1) in (r .0, (r .1 .0, d .1, d .0)));
+    lasts =
+        others-union a m v (j .rest) n low m′ less Gives last x last′ (j .lasts) l
+        (λ w q. and-i (at t (base + v)) b w (q .1) (q .0))
+        (λ w q. let d = and-e (at t (base + v)) b w q in (d .1, d .0));
+  }
+    where
+      x : ℕ
+      x = bitAnd (at t (base + v)) b
+
+  pub joining-end : (m first last : ℕ) → m ≡ 0 → Joining m first last → Joined t base a b first last
+  joining-end m first last e j = record {
+    first-i = λ v w q. union-end Meets a m first e (j .firsts) v v (q .0) (refl, (w, q .1, q .2));
+    first-e = λ v q. let r = j .firsts .got v q in (r .2 .1 .0, (subst (λ (z : ℕ). T (has a z)) (sym (r .2 .0)) (r .1), r .2 .1 .1, subst (λ (z : ℕ). T (has (at t (base + z)) (r .2 .1 .0))) (sym (r .2 .0)) (r .2 .1 .2)));
+    last-i = λ v w q. union-end Gives a m last e (j .lasts) v w (q .0) (q .1, q .2);
+    last-e = λ w q. let r = j .lasts .got w q in (r .0, (r .1, r .2 .0, r .2 .1));
+  }
+
+  -- v gives something
+  some-given : (k v : ℕ) → b < 2 ^ k → (bitAnd (at t (base + v)) b ≡ 0 → ⊥) → (w : ℕ) × Gives v w
+  some-given k v h n =
+      let x = bitAnd (at t (base + v)) b in
+      let d = and-e (at t (base + v)) b (trailingZeros k x) (low-has k x (omega arith) (lt-of-le-of-lt (and-le-r (at t (base + v)) b) h) .0) in
+      (trailingZeros k x, (d .1, d .0))
+
+  -- each value passed gives something
+  pub record Passing (m all : ℕ) : Type 0 where
+    pub rest : Rest 16 a m
+    pub firsts : (v : ℕ) → T (has a v) → ((w : ℕ) × Gives v w) ⊎ T (has m v)
+    pub lasts : Union Gives a m all
+
+  pub passing-begin : a < 2 ^ 16 → Passing a 0
+  passing-begin h = record { rest = rest-begin 16 a h; firsts = λ v q. inr q; lasts = union-begin Gives a }
+
+  pub passing-turn : (k m v m′ : ℕ) {all all′ : ℕ} → Passing m all → (m ≡ 0 → ⊥) → v ≡ lowestOf m → m′ ≡ withoutMask m (lowestOf m) → b < 2 ^ k →
+      (bitAnd (at t (base + v)) b ≡ 0 → ⊥) → all′ ≡ bitOr all (bitAnd (at t (base + v)) b) → Passing m′ all′
+  passing-turn k m v m′ {all} {all′} j n low less h z l = record {
+    rest = others-left a m v (j .rest) n low m′ less;
+    firsts = λ u q. ⊎-elim inl (λ r. ⊎-elim (λ o. inr o) (λ o. inl (subst (λ (i : ℕ). (w : ℕ) × Gives i w) (sym o) (some-given k v h z))) (passed-i u r)) (j .firsts u q);
+    lasts = others-union a m v (j .rest) n low m′ less Gives all x all′ (j .lasts) l (λ w q. and-i (at t (base + v)) b w (q .1) (q .0)) (λ w q. let d = and-e (at t (base + v)) b w q in (d .1, d .0));
+  }
+    where
+      x : ℕ
+      x = bitAnd (at t (base + v)) b
+
+      passed-i : (u : ℕ) → T (has m u) → T (has m′ u) ⊎ (u ≡ v)
+      passed-i u r = ⊎-elim (λ o. inl (subst (λ (i : ℕ). T (has i u)) (without-lowest-op m (j .rest .0) ∙ sym less) o)) (λ o. inr (o ∙ lowest-op 16 m ∙ sym low)) (rest-i 16 m (omega arith) (j .rest .0) u r)
+
+  pub passing-end : (m all : ℕ) → m ≡ 0 → Passing m all → Joined t base a b a all
+  passing-end m all e j = record {
+    first-i = λ v w q. q .0;
+    first-e = λ v q. ⊎-elim (λ r. (r .0, (q, r .1 .0, r .1 .1))) (λ r. absurd (has-0 v (subst (λ (n : ℕ). T (has n v)) e r))) (j .firsts v q);
+    last-i = λ v w q. union-end Gives a m all e (j .lasts) v w (q .0) (q .1, q .2);
+    last-e = λ w q. let r = j .lasts .got w q in (r .0, (r .1, r .2 .0, r .2 .1));
+  }
+
+-- ---- three sets by 256 sets of a table
+module _ (t : List ℕ) (base a b e : ℕ) where
+  abbrev Firsts : ℕ → ℕ → Type 0
+  Firsts u x = (x ≡ u) × ((v : ℕ) × ((w : ℕ) × Together t (base + 16 * u) b e v w))
+
+  abbrev Seconds : ℕ → ℕ → Type 0
+  Seconds u v = (w : ℕ) × Together t (base + 16 * u) b e v w
+
+  abbrev Lasts : ℕ → ℕ → Type 0
+  Lasts u w = (v : ℕ) × Together t (base + 16 * u) b e v w
+
+  pub record Joining3 (m first second last : ℕ) : Type 0 where
+    pub rest : Rest 16 a m
+    pub narrow : (first < 2 ^ 16) × (second < 2 ^ 16) × (last < 2 ^ 16)
+    pub firsts : Union Firsts a m first
+    pub seconds : Union Seconds a m second
+    pub lasts : Union Lasts a m last
+
+  pub joining3-begin : a < 2 ^ 16 → Joining3 a 0 0 0
+  joining3-begin h = record { rest = rest-begin 16 a h; narrow = (omega arith, omega arith, omega arith); firsts = union-begin Firsts a; seconds = union-begin Seconds a; lasts = union-begin Lasts a }
+
+  pub joining3-turn : (m u m′ : ℕ) {first s first′ second x second′ last y last′ : ℕ} → Joining3 m first second last → (m ≡ 0 → ⊥) → u ≡ lowestOf m → m′ ≡ withoutMask m (lowestOf m) →
+      x < 2 ^ 16 → y < 2 ^ 16 → Joined t (base + 16 * u) b e x y → s ≡ oneIf (not (eqb x 0)) u → first′ ≡ unionMask first s → second′ ≡ unionMask second x → last′ ≡ unionMask last y → Joining3 m′ first′ second′ last′
+  joining3-turn m u m′ {first} {s} {first′} {second} {x} {second′} {last} {y} {last′} j n low less h i r q f g l = record {
+    rest = others-left a m u (j .rest) n low m′ less;
+    narrow = (small _ first′ f, small _ second′ g, small _ last′ l);
+    firsts =
+        others-union a m u (j .rest) n low m′ less Firsts first s first′ (j .firsts) (f ∙ sym (union-op first s (j .narrow .0) (one-lt s (not (eqb x 0)) u q (lowest-left a m u (j .rest) n low .1))))
+        (λ z i. subst (λ (c : ℕ). T (has c z)) (sym q) (subst (λ (c : ℕ). T (has (oneIf (not (eqb x 0)) u) c)) (sym (i .0)) (one-i x u (i .1 .0) (r .first-i (i .1 .0) (i .1 .1 .0) (i .1 .1 .1)))))
+        (λ z i. let k = one-e 16 x u z h (subst (λ (c : ℕ). T (has c z)) q i) in (k .0, (k .1 .0, r .first-e (k .1 .0) (k .1 .1))));
+    seconds = others-union a m u (j .rest) n low m′ less Seconds second x second′ (j .seconds) (g ∙ sym (union-op second x (j .narrow .1) h)) (λ v i. r .first-i v (i .0) (i .1)) (λ v i. r .first-e v i);
+    lasts = others-union a m u (j .rest) n low m′ less Lasts last y last′ (j .lasts) (l ∙ sym (union-op last y (j .narrow .2) i)) (λ w i. r .last-i (i .0) w (i .1)) (λ w i. r .last-e w i);
+  }
+
+  pub joining3-end : (m first second last : ℕ) → m ≡ 0 → Joining3 m first second last → Joined3 (Together3 t base a b e) first second last
+  joining3-end m first second last z j = record {
+    first-i = λ u v w q. union-end Firsts a m first z (j .firsts) u u (q .0) (refl, (v, (w, q .1)));
+    first-e = λ u q. let r = j .firsts .got u q in
+        (r .2 .1 .0, (r .2 .1 .1 .0, (subst (λ (y : ℕ). T (has a y)) (sym (r .2 .0)) (r .1), subst (λ (y : ℕ). Together t (base + 16 * y) b e (r .2 .1 .0) (r .2 .1 .1 .0)) (sym (r .2 .0)) (r .2 .1 .1 .1))));
+    second-i = λ u v w q. union-end Seconds a m second z (j .seconds) u v (q .0) (w, q .1);
+    second-e = λ v q. let r = j .seconds .got v q in (r .0, (r .2 .0, (r .1, r .2 .1)));
+    last-i = λ u v w q. union-end Lasts a m last z (j .lasts) u w (q .0) (v, q .1);
+    last-e = λ w q. let r = j .lasts .got w q in (r .0, (r .2 .0, (r .1, r .2 .1)));
+  }
+
+  -- where a has one value u, what goes together by the sixteen sets for u
+  pub joined3-one : (u : ℕ) {second last : ℕ} → a < 2 ^ 16 → OneValue a → u ≡ lowestOf a → second < 2 ^ 16 → (second ≡ 0 → ⊥) → Joined t (base + 16 * u) b e second last → Joined3 (Together3 t base a b e) a second last
+  joined3-one u {second} h o low l n j = record {
+    first-i = λ i v w q. q .0;
+    first-e = λ i q. let m = member second l n in let r = j .first-e (m .0) (m .2) in (m .0, (r .0, (q, subst (λ (c : ℕ). Together t (base + 16 * c) b e (m .0) (r .0)) (sym (is-u i q)) (r .1))));
+    second-i = λ i v w q. j .first-i v w (here i v w q);
+    second-e = λ v q. let r = j .first-e v q in (u, (r .0, (u-has, r .1)));
+    last-i = λ i v w q. j .last-i v w (here i v w q);
+    last-e = λ w q. let r = j .last-e w q in (u, (r .0, (u-has, r .1)));
+  }
+    where
+      u-has : T (has a u)
+      u-has = lowest-left a a u (rest-begin 16 a h) (o .some) low .0
+
+      is-u : (i : ℕ) → T (has a i) → i ≡ u
+      is-u i q = o .only i u q u-has
+
+      here : (i v w : ℕ) → Together3 t base a b e i v w → Together t (base + 16 * u) b e v w
+      here i v w q = subst (λ (c : ℕ). Together t (base + 16 * c) b e v w) (is-u i (q .0)) (q .1)
+
+-- nothing goes together
+pub joined3-none : {M : ℕ → ℕ → ℕ → Type 0} → ((u v w : ℕ) → M u v w → ⊥) → Joined3 M 0 0 0
+joined3-none never = record {
+  first-i = λ u v w q. absurd (never u v w q);
+  first-e = λ u q. absurd (has-0 u q);
+  second-i = λ u v w q. absurd (never u v w q);
+  second-e = λ v q. absurd (has-0 v q);
+  last-i = λ u v w q. absurd (never u v w q);
+  last-e = λ w q. absurd (has-0 w q);
+}
+
+-- ---- three sets of values below 8 by numbers of eight lanes
+-- a number that is not empty has a lane with a value
+some-lane : (x : ℕ) → x < 2 ^ 64 → (x ≡ 0 → ⊥) → (j : ℕ) × (w : ℕ) × (j < 8) × (w < 8) × T (has x (8 * j + w))
+some-lane x h n =
+    let q = low-has 64 x (omega arith) h in
+    let i = trailingZeros 64 x in
+    let f : i ≡ 8 * (i / 8) + i % 8 = omega arith in
+    (i / 8, i % 8, omega arith, omega arith, subst (λ (z : ℕ). T (has x z)) f (q .0))
+
+pub lane-some : {x r : ℕ} → x < 2 ^ 64 → (x ≡ 0 → ⊥) → LaneUnion x r → r ≡ 0 → ⊥
+lane-some {x} {r} h n l e = let q = some-lane x h n in has-0 (q .1) (subst (λ (z : ℕ). T (has z (q .1))) e (l .union-i (q .0) (q .1) (q .2) (q .3) (q .4)))
+
+-- the support sets of constraint k: those of a value u of the first variable in lanes by the second, and those of a value v of the second in lanes by
+-- the first
+abbrev pub of-first : List ℕ → ℕ → ℕ → ℕ → ℕ
+of-first supports k u v = at supports (256 * k + 16 * u + v)
+
+abbrev pub of-second : List ℕ → ℕ → ℕ → ℕ → ℕ
+of-second supports k v u = at supports (256 * k + 16 * u + v)
+
+-- x has what goes together in lanes by the second variable
+module _ (supports : List ℕ) (k a b e : ℕ) {x : ℕ} (m : b < 2 ^ 8) (l : e < 2 ^ 8) (s : InLanes a b e (of-first supports k) x) where
+  abbrev M : ℕ → ℕ → ℕ → Type 0
+  M = Together3 supports (256 * k) a b e
+
+  to : (u v w : ℕ) → M u v w → (v < 8) × (w < 8) × T (has x (8 * v + w))
+  to u v w q = (has-lt 8 b v m (q .1 .0), has-lt 8 e w l (q .1 .1), s .lanes-i u v w (q .0) (q .1 .0) (q .1 .1) (q .1 .2))
+
+  from : (v w : ℕ) → v < 8 → w < 8 → T (has x (8 * v + w)) → (u : ℕ) × M u v w
+  from v w g h q = let r = s .lanes-e v w g h q in (r .0, (r .1, (r .2, r .3, r .4)))
+
+  -- nothing goes together
+  pub union-none : x ≡ 0 → Joined3 (Together3 supports (256 * k) a b e) 0 0 0
+  union-none z = joined3-none (λ u v w q. let r = to u v w q in has-0 (8 * v + w) (subst (λ (n : ℕ). T (has n (8 * v + w))) z (r .2)))
+
+  module _ {second last : ℕ} (f : FullLanes x second) (g : LaneUnion x last) where
+    -- the second and the third set, where the first is known
+    union-second : (first : ℕ) → ((u v w : ℕ) → M u v w → T (has first u)) → ((u : ℕ) → T (has first u) → (v : ℕ) × ((w : ℕ) × M u v w)) → Joined3 M first second last
+    union-second first i j = record {
+      first-i = i;
+      first-e = j;
+      second-i = λ u v w q. let r = to u v w q in f .full-i v w (r .0) (r .1) (r .2);
+      second-e = λ v q. let r = f .full-e v q in let o = from v (r .1 .0) (r .0) (r .1 .1) (r .1 .2) in (o .0, (r .1 .0, o .1));
+      last-i = λ u v w q. let r = to u v w q in g .union-i v w (r .0) (r .1) (r .2);
+      last-e = λ w q. let r = g .union-e w q in let o = from (r .1 .0) w (r .1 .1) (r .0) (r .1 .2) in (o .0, (r .1 .0, o .1));
+    }
+
+    -- the first set has one value
+    pub union-one : x < 2 ^ 64 → (x ≡ 0 → ⊥) → OneValue a → Joined3 (Together3 supports (256 * k) a b e) a second last
+    union-one h n o =
+        let q = some-lane x h n in
+        let r = from (q .0) (q .1) (q .2) (q .3) (q .4) in
+        union-second a (λ u v w i. i .0) (λ u i. (q .0, (q .1, subst (λ (z : ℕ). M z (q .0) (q .1)) (o .only (r .0) u (r .1 .0) i) (r .1))))
+
+    -- y has it in lanes by the first variable
+    pub union-both : {y first : ℕ} → a < 2 ^ 8 → InLanes b a e (of-second supports k) y → FullLanes y first → Joined3 (Together3 supports (256 * k) a b e) first second last
+    union-both {first = first} h c d =
+        union-second first
+        (λ u v w q. d .full-i u w (has-lt 8 a u h (q .0)) (has-lt 8 e w l (q .1 .1)) (c .lanes-i v u w (q .1 .0) (q .0) (q .1 .1) (q .1 .2)))
+        (λ u q. let r = d .full-e u q in let o = c .lanes-e u (r .1 .0) (r .0) (r .1 .1) (r .1 .2) in (o .0, (r .1 .0, (o .2, (o .1, o .3, o .4)))))
+
+-- ---- the numbers at the members of a set
+abbrev pub Touches : List ℕ → ℕ → ℕ → Type 0
+Touches numbers x k = T (has (at numbers (OTHERS + x)) k)
+
+pub touched-all : (numbers : List ℕ) (a m all : ℕ) → m ≡ 0 → Union (Touches numbers) a m all → Touched numbers a all
+touched-all numbers a m all e u = record {
+  touched-i = λ x k t q. union-end (Touches numbers) a m all e u x k t q;
+  touched-e = λ k t. u .got k t;
+}

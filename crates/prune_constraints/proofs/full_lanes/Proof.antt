@@ -1,0 +1,14 @@
+-- The lanes that are not empty. Assumes nothing.
+use borrow.Author.Needs.{needs}
+use Rattle.prune_constraints.proofs.Lanes.{full-lanes, byte-fits}
+use Rattle.prune_constraints.proofs.full_lanes.Statement.{statement}
+use Rattle.prune_constraints.proofs.full_lanes.Tie as tie
+
+cast-t10 : tie.Need-cast-t10
+cast-t10 c = search (needs, byte-fits)
+
+returns : tie.Need-returns
+returns c = full-lanes _
+
+pub full-lanes-spec : {M : Type 1} → statement M
+full-lanes-spec = tie.close (tie.spec cast-t10 returns)

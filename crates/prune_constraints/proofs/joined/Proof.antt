@@ -1,0 +1,113 @@
+-- The loop: the values passed of a, and what of b goes together with them. The measure is the set of the values left, as a number. Assumes nothing.
+use mathlib.Core.Path.{_≡_, sym, ap, _∙_}
+use mathlib.Core.Bool.{Bool, not}
+use Prim.Native.Nat.{ℕ, _+_, _^_, _<_}
+use native.Mathlib.Omega.{arith}
+use lib.Dec.{eqb}
+use lib.Bits.{bitAnd, bitOr}
+use borrow.Author.Needs.{needs}
+use borrow.Author.Tests.{eqb-true, eqb-false, not-true, not-false}
+use Rattle.model.specs.Lists.{at}
+use Rattle.model.specs.ValueSets.{oneIf}
+use Rattle.model.proofs.Masks.{union-op}
+use Rattle.model.proofs.Members.{common-op-r, lowest-left, others-less}
+use Rattle.prune_constraints.proofs.Unions.{small, Joining, joining-begin, joining-turn, joining-end}
+use Rattle.prune_constraints.proofs.joined.Statement.{statement}
+use Rattle.prune_constraints.proofs.joined.Tie as tie
+
+abbrev Inv-loop : tie.InvT-loop
+Inv-loop supports base b first₀ last₀ left₀ first last left = (last .bits < 2 ^ 16) × Joining supports base (left₀ .bits) (b .bits) (left .bits) (first .bits) (last .bits)
+
+abbrev μ-loop : tie.MeasureT-loop
+μ-loop supports base b first₀ last₀ left₀ first last left = left .bits
+
+some : (c : tie.Then1 Inv-loop μ-loop) → c .before .before .loop .left .bits ≡ 0 → ⊥
+some c = eqb-false _ 0 (sym (c .before .is-empty .ensures) ∙ not-true _ (c .if1 .taken))
+
+low : (c : tie.After-lowest Inv-loop μ-loop) → c .lowest .result < 16
+low c = lowest-left _ _ _ (c .before .before .before .loop .inv .1 .rest) (some (c .before)) (c .lowest .ensures) .1
+
+-- what of b goes together with the lowest value
+support-is : (c : tie.After-common Inv-loop μ-loop) → let d = c .before .before .before .before .before .before .args in c .common .result .bits ≡ bitAnd (at (d .supports .now) (d .base + c .before .before .lowest .result)) (d .b .bits)
+unfolding at
+support-is c = c .common .ensures ∙ sym (common-op-r _ _ (search needs))
+
+loop-holds : tie.Need-loop-holds Inv-loop μ-loop
+loop-holds c = (omega arith, joining-begin _ _ _ _ (search needs))
+
+is-empty-requires : tie.Need-is-empty-requires Inv-loop μ-loop
+is-empty-requires c κs = search needs
+
+lowest-requires : tie.Need-lowest-requires Inv-loop μ-loop
+lowest-requires c κs = search needs
+
+cast-t13 : tie.Need-cast-t13 Inv-loop μ-loop
+cast-t13 c = omega (arith, low c)
+
+add-t14 : tie.Need-add-t14 Inv-loop μ-loop
+add-t14 c = omega (arith, low c)
+
+mul-t15 : tie.Need-mul-t15 Inv-loop μ-loop
+mul-t15 c = omega (arith, low c)
+
+element-copy-out-t18 : tie.Need-element-copy-out-t18 Inv-loop μ-loop
+element-copy-out-t18 c = omega (arith, low c)
+
+common-requires : tie.Need-common-requires Inv-loop μ-loop
+common-requires c κs = search needs
+
+is-empty-requires-2 : tie.Need-is-empty-requires-2 Inv-loop μ-loop
+is-empty-requires-2 c κs = search needs
+
+one-if-requires : tie.Need-one-if-requires Inv-loop μ-loop
+one-if-requires c κs = low (c .before .before .before)
+
+union-requires : tie.Need-union-requires Inv-loop μ-loop
+union-requires c κs = search needs
+
+union-requires-2 : tie.Need-union-requires-2 Inv-loop μ-loop
+union-requires-2 c κs = search needs
+
+without-lowest-requires : tie.Need-without-lowest-requires Inv-loop μ-loop
+without-lowest-requires c κs = search needs
+
+loop-less : tie.Need-loop-less Inv-loop μ-loop
+loop-less c = others-less _ _ (search needs) (some (c .before .before .before .before .before .before .before .before)) (c .without-lowest .ensures)
+
+loop-again : tie.Need-loop-again Inv-loop μ-loop
+unfolding at
+loop-again c =
+    let l = c .before .before .before .before .before .before .before in
+    let x = support-is (c .before .before .before .before .before) in
+    let i = l .before .before .before .loop .inv in (
+      small _ _ (c .before .union2 .ensures),
+      joining-turn _ _ _ _ 16 _ _ _ (i .1) (some (l .before)) (l .lowest .ensures) (c .without-lowest .ensures) (search needs)
+          (c .before .before .before .one-if .ensures ∙ ap (λ (z : Bool). oneIf (not z) (l .lowest .result)) (c .before .before .before .before .is-empty2 .ensures ∙ ap (λ (n : ℕ). eqb n 0) x))
+          (c .before .before .union .ensures) (c .before .union2 .ensures ∙ sym (union-op _ _ (i .0) (search needs)) ∙ ap (bitOr (l .before .before .before .loop .last .bits)) x),
+    )
+
+returns : tie.Need-returns Inv-loop μ-loop
+returns c = joining-end _ _ _ _ _ _ _ (eqb-true _ 0 (sym (c .before .is-empty .ensures) ∙ not-false _ (c .if1 .left))) (c .before .before .loop .inv .1)
+
+pub joined-spec : {M : Type 1} → statement M
+joined-spec =
+    tie.close
+    (tie.spec
+    Inv-loop
+    μ-loop
+    loop-holds
+    is-empty-requires
+    lowest-requires
+    cast-t13
+    add-t14
+    mul-t15
+    element-copy-out-t18
+    common-requires
+    is-empty-requires-2
+    one-if-requires
+    union-requires
+    union-requires-2
+    without-lowest-requires
+    loop-less
+    loop-again
+    returns)

@@ -1,0 +1,84 @@
+-- The loop: each value passed of b goes together with something of e, and what goes together with them. The measure is the set of the values left, as
+-- a number. Assumes nothing.
+use mathlib.Core.Path.{_≡_, refl, sym, _∙_, subst}
+use Prim.Native.Nat.{_<_}
+use native.Mathlib.Omega.{arith}
+use borrow.Author.Needs.{needs}
+use borrow.Author.Tests.{eqb-true, eqb-false, not-true, not-false}
+use lib.Dec.{T}
+use Rattle.model.specs.Lists.{at}
+use Rattle.model.proofs.Members.{lowest-left, others-less}
+use Rattle.prune_constraints.specs.Steps.{Joined}
+use Rattle.prune_constraints.proofs.Unions.{Passing, passing-begin, passing-turn, passing-end}
+use Rattle.prune_constraints.proofs.quiet16.Statement.{statement}
+use Rattle.prune_constraints.proofs.quiet16.Tie as tie
+
+abbrev Inv-loop : tie.InvT-loop
+Inv-loop supports base e all₀ left₀ all left = Passing supports base (left₀ .bits) (e .bits) (left .bits) all
+
+abbrev μ-loop : tie.MeasureT-loop
+μ-loop supports base e all₀ left₀ all left = left .bits
+
+some : (c : tie.Then1 Inv-loop μ-loop) → c .before .before .loop .left .bits ≡ 0 → ⊥
+some c = eqb-false _ 0 (sym (c .before .is-empty .ensures) ∙ not-true _ (c .if1 .taken))
+
+low : (c : tie.After-lowest Inv-loop μ-loop) → c .lowest .result < 16
+low c = lowest-left _ _ _ (c .before .before .before .loop .inv .rest) (some (c .before)) (c .lowest .ensures) .1
+
+loop-holds : tie.Need-loop-holds Inv-loop μ-loop
+loop-holds c = passing-begin _ _ _ _ (search needs)
+
+is-empty-requires : tie.Need-is-empty-requires Inv-loop μ-loop
+is-empty-requires c κs = search needs
+
+lowest-requires : tie.Need-lowest-requires Inv-loop μ-loop
+lowest-requires c κs = search needs
+
+cast-t : tie.Need-cast-t Inv-loop μ-loop
+cast-t c = omega (arith, low c)
+
+add-t : tie.Need-add-t Inv-loop μ-loop
+add-t c = omega (arith, low c)
+
+mul-t : tie.Need-mul-t Inv-loop μ-loop
+mul-t c = omega (arith, low c)
+
+element-copy-out-t : tie.Need-element-copy-out-t Inv-loop μ-loop
+element-copy-out-t c = omega (arith, low c)
+
+returns : tie.Need-returns Inv-loop μ-loop
+returns c = λ q. absurd (subst T (sym q) tt)
+
+without-lowest-requires : tie.Need-without-lowest-requires Inv-loop μ-loop
+without-lowest-requires c κs = search needs
+
+loop-less : tie.Need-loop-less Inv-loop μ-loop
+loop-less c = others-less _ _ (search needs) (some (c .before .before .before .before .before)) (c .without-lowest .ensures)
+
+loop-again : tie.Need-loop-again Inv-loop μ-loop
+unfolding at
+loop-again c =
+    let l = c .before .before .before .before in
+    passing-turn _ _ _ _ 16 _ _ _ (l .before .before .before .loop .inv) (some (l .before)) (l .lowest .ensures) (c .without-lowest .ensures) (search needs) (c .before .if2 .left) refl
+
+returns-2 : tie.Need-returns-2 Inv-loop μ-loop
+returns-2 c = λ q. subst (Joined _ _ _ _ _) (eqb-true _ _ q) (passing-end _ _ _ _ _ _ (eqb-true _ 0 (sym (c .before .before .is-empty .ensures) ∙ not-false _ (c .before .if1 .left))) (c .before .before .before .loop .inv))
+
+pub quiet16-spec : {M : Type 1} → statement M
+quiet16-spec =
+    tie.close
+    (tie.spec
+    Inv-loop
+    μ-loop
+    loop-holds
+    is-empty-requires
+    lowest-requires
+    cast-t
+    add-t
+    mul-t
+    element-copy-out-t
+    returns
+    without-lowest-requires
+    loop-less
+    loop-again
+    returns-2)

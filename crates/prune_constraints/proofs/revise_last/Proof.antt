@@ -1,0 +1,94 @@
+-- Two sets of one value leave a cut of the third. Assumes nothing.
+use mathlib.Core.Path.{refl, ap₂}
+use mathlib.Core.List.{List·Memᴰ·head, List·Memᴰ·tail}
+use Prim.Native.Nat.{ℕ, _+_, _*_, _<_}
+use native.Mathlib.Omega.{arith}
+use borrow.Author.Needs.{needs}
+use Rattle.model.specs.Lists.{at}
+use Rattle.prune_constraints.proofs.Stores.{three-last, u-has, v-has}
+use Rattle.prune_constraints.proofs.revise_last.Statement.{statement}
+use Rattle.prune_constraints.proofs.revise_last.Tie as tie
+
+x-lt : (c : tie.Start) → c .args .x < 16
+x-lt c = c .pre .1 .1 .1 .inside _ (List·Memᴰ·head refl)
+
+y-lt : (c : tie.Start) → c .args .y < 16
+y-lt c = c .pre .1 .1 .1 .inside _ (List·Memᴰ·tail (List·Memᴰ·head refl))
+
+z-lt : (c : tie.Start) → c .args .z < 16
+z-lt c = c .pre .1 .1 .1 .inside _ (List·Memᴰ·tail (List·Memᴰ·tail (List·Memᴰ·head refl)))
+
+-- the values are below 16
+u-lt : (c : tie.After-lowest) → c .lowest .result < 16
+unfolding at
+u-lt c = let d = c .before .before in omega (arith, c .lowest .ensures, u-has (d .pre .1 .1 .1) (d .args .sets .now) (d .pre .0) (d .pre .1 .0 .0) (d .pre .1 .0 .1) .1)
+
+v-lt : (c : tie.After-lowest2) → c .lowest2 .result < 16
+unfolding at
+v-lt c = let d = c .before .before .before .before in omega (arith, c .lowest2 .ensures, v-has (d .pre .1 .1 .1) (d .args .sets .now) (d .pre .0) (d .pre .1 .0 .0) (d .pre .1 .0 .1) .1)
+
+mul-t10 : tie.Need-mul-t10
+mul-t10 c = omega (arith, x-lt c)
+
+element-copy-out-t13 : tie.Need-element-copy-out-t13
+element-copy-out-t13 c = x-lt c
+
+lowest-requires : tie.Need-lowest-requires
+lowest-requires c κs = search needs
+
+cast-u : tie.Need-cast-u
+cast-u c = search needs
+
+mul-t10-2 : tie.Need-mul-t10-2
+mul-t10-2 c = omega (arith, y-lt (c .before .before))
+
+element-copy-out-t13-2 : tie.Need-element-copy-out-t13-2
+element-copy-out-t13-2 c = y-lt (c .before .before)
+
+lowest-requires-2 : tie.Need-lowest-requires-2
+lowest-requires-2 c κs = search needs
+
+cast-v : tie.Need-cast-v
+cast-v c = search needs
+
+mul-revise-one : tie.Need-mul-revise-one
+mul-revise-one c = search needs
+
+mul-revise-one-2 : tie.Need-mul-revise-one-2
+mul-revise-one-2 c = search needs
+
+add-revise-one : tie.Need-add-revise-one
+add-revise-one c = search needs
+
+add-revise-one-2 : tie.Need-add-revise-one-2
+add-revise-one-2 c = search needs
+
+revise-one-requires : tie.Need-revise-one-requires
+unfolding at
+revise-one-requires c κs = let d = c .before .before .before .before .before in (d .pre .0, (z-lt d, omega (arith, u-lt (c .before .before .before), v-lt (c .before), d .pre .1 .1 .1 .room)))
+
+returns : tie.Need-returns
+unfolding at
+returns c =
+    let v = c .before .before in
+    let d = v .before .before .before .before in λ e q.
+    three-last q _ (d .pre .0) (d .pre .1 .0 .0) (d .pre .1 .0 .1) _ (ap₂ (λ (u v : ℕ). 256 * d .args .k + 16 * u + v) (v .before .before .lowest .ensures) (v .lowest2 .ensures)) _ _ (c .revise-one .ensures)
+
+pub revise-last-spec : {M : Type 1} → statement M
+revise-last-spec =
+    tie.close
+    (tie.spec
+    mul-t10
+    element-copy-out-t13
+    lowest-requires
+    cast-u
+    mul-t10-2
+    element-copy-out-t13-2
+    lowest-requires-2
+    cast-v
+    mul-revise-one
+    mul-revise-one-2
+    add-revise-one
+    add-revise-one-2
+    revise-one-requires
+    returns)

@@ -1,0 +1,94 @@
+-- Both sets are cut to the values that go together, if there are any. Assumes nothing.
+use mathlib.Core.Path.{refl, sym, _∙_}
+use mathlib.Core.List.{List·Memᴰ·head, List·Memᴰ·tail}
+use Prim.Native.Nat.{_^_, _<_}
+use native.Mathlib.Omega.{arith}
+use borrow.Author.Needs.{needs}
+use borrow.Author.Tests.{eqb-true, eqb-false}
+use Rattle.model.specs.Lists.{at}
+use Rattle.prune_constraints.proofs.Stores.{two, two-dead}
+use Rattle.prune_constraints.proofs.revise_two.Statement.{statement}
+use Rattle.prune_constraints.proofs.revise_two.Tie as tie
+
+x-lt : (c : tie.Start) → c .args .x < 16
+x-lt c = c .pre .1 .1 .inside _ (List·Memᴰ·head refl)
+
+y-lt : (c : tie.Start) → c .args .y < 16
+y-lt c = c .pre .1 .1 .inside _ (List·Memᴰ·tail (List·Memᴰ·head refl))
+
+narrow : (c : tie.After-joined) → (c .joined .result .first .bits < 2 ^ 16) × (c .joined .result .last .bits < 2 ^ 16)
+narrow c = (search needs, search needs)
+
+mul-t11 : tie.Need-mul-t11
+mul-t11 c = omega (arith, x-lt c)
+
+element-copy-out-t14 : tie.Need-element-copy-out-t14
+element-copy-out-t14 c = x-lt c
+
+mul-t11-2 : tie.Need-mul-t11-2
+mul-t11-2 c = omega (arith, y-lt (c .before))
+
+element-copy-out-t14-2 : tie.Need-element-copy-out-t14-2
+element-copy-out-t14-2 c = y-lt (c .before)
+
+mul-joined : tie.Need-mul-joined
+mul-joined c = search needs
+
+joined-requires : tie.Need-joined-requires
+joined-requires c κs = search needs
+
+is-empty-requires : tie.Need-is-empty-requires
+is-empty-requires c κs = search needs
+
+returns : tie.Need-returns
+unfolding at
+returns c =
+    let j = c .before .before .before .before in
+    let s = j .before .before .before in λ d q.
+    two-dead q _ (s .pre .0) _ _ (narrow j .0) (narrow j .1) (j .joined .ensures) (eqb-true _ 0 (sym (c .before .is-empty .ensures) ∙ c .if1 .taken))
+
+mul-sets : tie.Need-mul-sets
+mul-sets c = omega (arith, x-lt (c .before .before .before .before .before .before .before))
+
+element-write-sets : tie.Need-element-write-sets
+element-write-sets c = x-lt (c .before .before .before .before .before .before .before)
+
+mul-sets-2 : tie.Need-mul-sets-2
+mul-sets-2 c = omega (arith, y-lt (c .before .before .before .before .before .before .before))
+
+element-write-sets-2 : tie.Need-element-write-sets-2
+element-write-sets-2 c = y-lt (c .before .before .before .before .before .before .before)
+
+moved-requires : tie.Need-moved-requires
+moved-requires c κs = x-lt (c .before .before .before .before .before .before .before)
+
+moved-requires-2 : tie.Need-moved-requires-2
+moved-requires-2 c κs = y-lt (c .before .before .before .before .before .before .before .before)
+
+returns-2 : tie.Need-returns-2
+unfolding at
+returns-2 c =
+    let i = c .before .before .before in
+    let j = i .before .before .before in
+    let s = j .before .before .before in λ d q.
+    two q _ (s .pre .0) _ _ (narrow j .0) (narrow j .1) (j .joined .ensures) _ _ (c .before .moved .ensures) (c .moved2 .ensures) (eqb-false _ 0 (sym (i .is-empty .ensures) ∙ c .before .before .if1 .left))
+
+pub revise-two-spec : {M : Type 1} → statement M
+revise-two-spec =
+    tie.close
+    (tie.spec
+    mul-t11
+    element-copy-out-t14
+    mul-t11-2
+    element-copy-out-t14-2
+    mul-joined
+    joined-requires
+    is-empty-requires
+    returns
+    mul-sets
+    element-write-sets
+    mul-sets-2
+    element-write-sets-2
+    moved-requires
+    moved-requires-2
+    returns-2)

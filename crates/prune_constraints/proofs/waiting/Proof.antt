@@ -1,0 +1,47 @@
+-- Those touched, without number k and those left. Assumes nothing.
+use mathlib.Core.Path.{_≡_, refl, sym, ap, subst}
+use mathlib.Core.Bool.{Bool, true, false, not}
+use mathlib.Core.Logic.{_⊎_, inl, inr, ⊎-elim}
+use mathlib.Core.List.{List}
+use Prim.Native.Nat.{ℕ, _-_, _*_, _%_, _^_, _<_}
+use lib.Dec.{T, eqb→eq}
+use lib.Bits.{bitAnd, bitOr, or-lt}
+use lib.Pow.{pow-lt}
+use borrow.Author.Needs.{needs}
+use Rattle.model.specs.ValueSets.{has}
+use Rattle.model.proofs.Lists.{T-of, both-i}
+use Rattle.model.proofs.Sets.{has-lt}
+use Rattle.model.proofs.Members.{one-bit, one-has, or-e, and-e}
+use Rattle.prune_constraints.specs.Steps.{Touched, Waiting}
+use Rattle.prune_constraints.proofs.Bits.{without-has}
+use Rattle.prune_constraints.proofs.waiting.Statement.{statement}
+use Rattle.prune_constraints.proofs.waiting.Tie as tie
+
+module _ (k left g : ℕ) (h : k < 64) (i : left < 2 ^ 64) (w : g < 2 ^ 64) where
+  abbrev done : ℕ
+  done = bitOr (1 * 2 ^ k % 2 ^ 64) left
+
+  done-lt : bitOr (1 * 2 ^ k % 2 ^ 64) left < 2 ^ 64
+  done-lt = or-lt 64 (1 * 2 ^ k % 2 ^ 64) left (subst (λ (z : ℕ). z < 2 ^ 64) (sym (one-bit 64 k h)) (pow-lt h)) i
+
+  new : (j : ℕ) → T (has g j) → T (has (bitAnd g ((2 ^ 64 - 1) - bitOr (1 * 2 ^ k % 2 ^ 64) left)) j) ⊎ (T (has left j) ⊎ (j ≡ k))
+  new j q = go (has done j) refl
+    where
+      go : (b : Bool) → has done j ≡ b → T (has (bitAnd g ((2 ^ 64 - 1) - done)) j) ⊎ (T (has left j) ⊎ (j ≡ k))
+      go true e = inr (⊎-elim (λ o. inr (eqb→eq j k (subst T (one-has 64 k j h) o))) inl (or-e (1 * 2 ^ k % 2 ^ 64) left j (T-of (has done j) e)))
+      go false e = inl (subst T (sym (without-has 64 g done j done-lt (has-lt 64 g j w q))) (both-i (has g j) (not (has done j)) q (T-of (not (has done j)) (ap not e))))
+
+  waits : {numbers : List ℕ} {changed : ℕ} → Touched numbers changed g → Waiting numbers changed k left (bitAnd g ((2 ^ 64 - 1) - bitOr (1 * 2 ^ k % 2 ^ 64) left))
+  waits u = record { waiting-i = λ x j q o. new j (u .touched-i x j q o); waiting-e = λ j q. u .touched-e j (and-e g ((2 ^ 64 - 1) - done) j q .0) }
+
+touched-requires : tie.Need-touched-requires
+touched-requires c κs = search needs
+
+shl-result : tie.Need-shl-result
+shl-result c = search needs
+
+returns : tie.Need-returns
+returns c = waits _ _ _ (search needs) (search needs) (search needs) (c .touched .ensures)
+
+pub waiting-spec : {M : Type 1} → statement M
+waiting-spec = tie.close (tie.spec touched-requires shl-result returns)

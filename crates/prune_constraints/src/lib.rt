@@ -1,0 +1,551 @@
+// Pruning by single constraints (paper 01, "The search"), over the arrays of the compiled problem.
+use arrays::DEAD;
+use arrays::Numbers;
+use arrays::OTHERS;
+use arrays::SCOPES;
+use arrays::SPREAD;
+use arrays::Supports;
+use arrays::UNIONS;
+use arrays::VALUES;
+use model::ValueSet;
+ghost use mathlib.Core.Path.{_≡_};
+ghost use mathlib.Core.Bool.{true, not};
+ghost use mathlib.Core.List.{List, [], _∷_};
+ghost use Prim.Native.Nat.{ℕ, _+_, _*_, _%_, _≤_, _<_};
+ghost use lib.Dec.{eqb};
+ghost use lib.Bits.{bitAnd};
+ghost use lib.ListN.{length};
+ghost use Rattle.model.specs.Lists.{at};
+ghost use Rattle.model.specs.ValueSets.{oneIf};
+ghost use Rattle.model.specs.Problem.{Problem, Constraint};
+ghost use Rattle.model.specs.Pruning.{Sets};
+ghost use Rattle.arrays.specs.Places.{SCOPES, VALUES, NUMBERS, SUPPORTS};
+ghost use Rattle.arrays.specs.Layout.{constraintAt};
+ghost use Rattle.arrays.specs.Tables.{Words};
+ghost use Rattle.prune_constraints.specs.Revised.{Revision, ConstraintsPending, Constrained};
+ghost use Rattle.prune_constraints.specs.Steps.{OneValue, Joined, Together3, Joined3, Scoped, Nonempty, Narrow, ConstraintsHeld, SetCut, Touched, Waiting, Round};
+ghost use Rattle.prune_constraints.specs.LookUps.{LookUp, LookUpsPending, LookedUp};
+ghost use Rattle.prune_constraints.specs.Lanes.{FullLanes, LaneUnion, FullHeads, Halves, InLanes};
+
+// Bits of a number of eight lanes: the first of each lane, the first two of each second, the first four of each fourth.
+const ONES: u64 = 72340172838076673;
+
+const PAIRS: u64 = 844437815230467;
+
+const FOURS: u64 = 64424509455;
+
+struct Two {
+    first: ValueSet,
+    last: ValueSet,
+}
+
+struct Three {
+    first: ValueSet,
+    second: ValueSet,
+    last: ValueSet,
+}
+
+// The set of v, or the empty set.
+fn one_if(b: bool, v: u32) -> ValueSet
+    requires { ⌜ v < 16 ⌝ }
+    ensures { λ r. ⌜ r .bits ≡ oneIf b v ⌝ }
+{
+    if b {
+        ValueSet::full(16).only(v as u16)
+    } else {
+        ValueSet::EMPTY
+    }
+}
+
+// The set of x where the sets a and b differ.
+pub fn moved(a: ValueSet, b: ValueSet, x: usize) -> u64
+    requires { ⌜ x < 16 ⌝ }
+    ensures { λ r. ⌜ r ≡ oneIf (not (eqb (b .bits) (a .bits))) x ⌝ }
+{
+    if b.bits != a.bits { 1u64 << x } else { 0 }
+}
+
+// The values of a and of b that go together with one of the other set, by the sixteen sets of the table from a base on.
+fn joined(supports: &Supports, base: usize, a: ValueSet, b: ValueSet) -> Two
+    requires { ⌜ base + 16 ≤ SUPPORTS ⌝ }
+    ensures { λ r. ⌜ Joined (now (supports .entry)) base (a .bits) (b .bits) (r .first .bits) (r .last .bits) ⌝ }
+{
+    let mut first = ValueSet::EMPTY;
+    let mut last = ValueSet::EMPTY;
+    let mut left = a;
+    while !left.is_empty() {
+        let v = left.lowest();
+        let support = ValueSet {
+            bits: supports[base + (v as usize)],
+        };
+        let t = support.common(b);
+        first = first.union(one_if(!t.is_empty(), v));
+        last = last.union(t);
+        left = left.without_lowest();
+    }
+    Two { first, last }
+}
+
+// The same for three sets, by 256 sets of the table.
+fn joined3(supports: &Supports, base: usize, a: ValueSet, b: ValueSet, e: ValueSet) -> Three
+    requires { ⌜ base + 256 ≤ SUPPORTS ⌝ }
+    ensures { λ r. ⌜ Joined3 (Together3 (now (supports .entry)) base (a .bits) (b .bits) (e .bits)) (r .first .bits) (r .second .bits) (r .last .bits) ⌝ }
+{
+    let mut first = ValueSet::EMPTY;
+    let mut second = ValueSet::EMPTY;
+    let mut last = ValueSet::EMPTY;
+    let mut left = a;
+    while !left.is_empty() {
+        let u = left.lowest();
+        let r = joined(supports, base + 16 * (u as usize), b, e);
+        let t = r.first;
+        let s = r.last;
+        first = first.union(one_if(!t.is_empty(), u));
+        second = second.union(t);
+        last = last.union(s);
+        left = left.without_lowest();
+    }
+    Three {
+        first,
+        second,
+        last,
+    }
+}
+
+// The lanes that are not empty.
+fn full_lanes(w: u64) -> ValueSet
+    ensures { λ r. ⌜ FullLanes w (r .bits) ⌝ }
+{
+    let a = w | (w >> 4);
+    let b = a | (a >> 2);
+    let c = (b | (b >> 1)) & ONES;
+    let d = (c | (c >> 7)) & PAIRS;
+    let e = (d | (d >> 14)) & FOURS;
+    ValueSet {
+        bits: ((e | (e >> 28)) & 255) as u16,
+    }
+}
+
+// The union of the lanes.
+fn union_of(w: u64) -> ValueSet
+    ensures { λ r. ⌜ LaneUnion w (r .bits) ⌝ }
+{
+    let a = w | (w >> 32);
+    let b = a | (a >> 16);
+    ValueSet {
+        bits: ((b | (b >> 8)) & 255) as u16,
+    }
+}
+
+// The first bit of every lane that is not empty.
+fn heads(w: u64) -> u64
+    ensures { λ r. ⌜ FullHeads w r ⌝ }
+{
+    let a = w | (w >> 4);
+    let b = a | (a >> 2);
+    (b | (b >> 1)) & ONES
+}
+
+// In each lane of b the values of e that go together with that lane's value and some value of a, by the unions from a base on: those of the lower four
+// values and those of the upper four.
+fn in_lanes(numbers: &Numbers, base: usize, a: ValueSet, b: ValueSet, e: ValueSet) -> u64
+    requires { ⌜ base + 32 ≤ NUMBERS ⌝ }
+    requires { ⌜ (a .bits < 256) × (b .bits < 256) × (e .bits < 256) ⌝ }
+    requires { ⌜ ((supports : List ℕ) × Words (now numbers) supports) ⌝ }
+    ensures { λ r. ⌜ ((lane : ℕ → ℕ → ℕ) → Halves (now (numbers .entry)) base lane → InLanes (a .bits) (b .bits) (e .bits) lane r) ⌝ }
+{
+    let lower = numbers[base + ((a.bits & 15) as usize)];
+    let upper = numbers[base + 16 + ((a.bits >> 4) as usize)];
+    (lower | upper) & numbers[SPREAD + (b.bits as usize)] & ((e.bits as u64) * ONES)
+}
+
+// Whether the lanes that are not empty are those of b.
+fn fills(numbers: &Numbers, w: u64, b: ValueSet) -> bool
+    requires { ⌜ b .bits < 256 ⌝ }
+    requires { ⌜ ((supports : List ℕ) × Words (now numbers) supports) ⌝ }
+    ensures { λ r. ⌜ (r ≡ true → FullLanes w (b .bits)) ⌝ }
+{
+    heads(w) == (numbers[SPREAD + (b.bits as usize)] & ONES)
+}
+
+// Whether every value of two sets goes together with some of the other, by the sixteen sets of the table from a base on.
+fn quiet16(supports: &Supports, base: usize, b: ValueSet, e: ValueSet) -> bool
+    requires { ⌜ base + 16 ≤ SUPPORTS ⌝ }
+    ensures { λ r. ⌜ (r ≡ true → Joined (now (supports .entry)) base (b .bits) (e .bits) (b .bits) (e .bits)) ⌝ }
+{
+    let mut all = 0u16;
+    let mut left = b;
+    while !left.is_empty() {
+        let t = supports[base + (left.lowest() as usize)] & e.bits;
+        if t == 0 {
+            return false;
+        }
+        all = all | t;
+        left = left.without_lowest();
+    }
+    all == e.bits
+}
+
+// Prunes one set by a set of the table.
+fn revise_one(sets: &mut [u16; 16], supports: &Supports, offset: usize, x: usize) -> u64
+    requires { ⌜ Sets 16 (now sets) ⌝ }
+    requires { ⌜ x < 16 ⌝ }
+    requires { ⌜ offset < SUPPORTS ⌝ }
+    ensures { λ r. ⌜ SetCut (now (sets .entry)) (now (sets .exit)) x (bitAnd (at (now (sets .entry)) x) (at (now (supports .entry)) offset)) r ⌝ }
+{
+    let a = ValueSet { bits: sets[x] };
+    let support = ValueSet {
+        bits: supports[offset],
+    };
+    let b = a.common(support);
+    if b.is_empty() {
+        return DEAD;
+    }
+    sets[x] = b.bits;
+    moved(a, b, x)
+}
+
+fn revise_two(sets: &mut [u16; 16], supports: &Supports, k: usize, x: usize, y: usize) -> u64
+    requires { ⌜ Sets 16 (now sets) ⌝ }
+    requires { ⌜ ((c : Constraint) × Scoped c (now supports) k (x ∷ y ∷ [])) ⌝ }
+    ensures { λ r. ⌜ ((c : Constraint) → Scoped c (now (supports .entry)) k (x ∷ y ∷ []) → Revision c (now (sets .entry)) (now (sets .exit)) r) ⌝ }
+{
+    let a = ValueSet { bits: sets[x] };
+    let b = ValueSet { bits: sets[y] };
+    let r = joined(supports, 256 * k, a, b);
+    let first = r.first;
+    let last = r.last;
+    if last.is_empty() {
+        return DEAD;
+    }
+    sets[x] = first.bits;
+    sets[y] = last.bits;
+    moved(a, first, x) | moved(b, last, y)
+}
+
+// Prunes by constraint number k, whose first set has one value: both ways along the lanes by the second variable.
+fn along(sets: &mut [u16; 16], numbers: &Numbers, k: usize, x: usize, y: usize, z: usize) -> u64
+    requires { ⌜ Sets 16 (now sets) ⌝ }
+    requires { ⌜ ((supports : List ℕ) × Words (now numbers) supports × (at (now numbers) (SCOPES + k) % 256 ≡ 3) × (c : Constraint) × Scoped c supports k (x ∷ y ∷ z ∷ [])) ⌝ }
+    requires { ⌜ OneValue (at (now sets) x) ⌝ }
+    requires { ⌜ (at (now sets) x < 256) × (at (now sets) y < 256) × (at (now sets) z < 256) ⌝ }
+    ensures { λ r. ⌜ ((c : Constraint) (supports : List ℕ) → Words (now (numbers .entry)) supports → Scoped c supports k (x ∷ y ∷ z ∷ []) → Revision c (now (sets .entry)) (now (sets .exit)) r) ⌝ }
+{
+    let a = ValueSet { bits: sets[x] };
+    let b = ValueSet { bits: sets[y] };
+    let e = ValueSet { bits: sets[z] };
+    let w = in_lanes(numbers, UNIONS + 64 * k, a, b, e);
+    if w == 0 {
+        return DEAD;
+    }
+    let last = union_of(w);
+    if last.bits == e.bits {
+        if fills(numbers, w, b) {
+            return 0;
+        }
+    }
+    let second = full_lanes(w);
+    sets[y] = second.bits;
+    sets[z] = last.bits;
+    moved(b, second, y) | moved(e, last, z)
+}
+
+// Prunes by constraint number k, whose first two sets have one value each: one set of the table cuts the third.
+fn revise_last(
+    sets: &mut [u16; 16],
+    supports: &Supports,
+    k: usize,
+    x: usize,
+    y: usize,
+    z: usize,
+) -> u64
+    requires { ⌜ Sets 16 (now sets) ⌝ }
+    requires { ⌜ OneValue (at (now sets) x) × OneValue (at (now sets) y) ⌝ }
+    requires { ⌜ ((c : Constraint) × Scoped c (now supports) k (x ∷ y ∷ z ∷ [])) ⌝ }
+    ensures { λ r. ⌜ ((c : Constraint) → Scoped c (now (supports .entry)) k (x ∷ y ∷ z ∷ []) → Revision c (now (sets .entry)) (now (sets .exit)) r) ⌝ }
+{
+    let u = ValueSet { bits: sets[x] }.lowest() as usize;
+    let v = ValueSet { bits: sets[y] }.lowest() as usize;
+    revise_one(sets, supports, 256 * k + 16 * u + v, z)
+}
+
+// Leaves of each of three sets the values t that go together with some of the other two.
+fn leave(sets: &mut [u16; 16], x: usize, y: usize, z: usize, t: Three) -> u64
+    requires { ⌜ Sets 16 (now sets) ⌝ }
+    requires { ⌜ (x < 16) × (y < 16) × (z < 16) ⌝ }
+    ensures { λ r. ⌜ ((c : Constraint) (supports : List ℕ) (k : ℕ) → Scoped c supports k (x ∷ y ∷ z ∷ []) → Joined3 (Together3 supports (256 * k) (at (now (sets .entry)) x) (at (now (sets .entry)) y) (at (now (sets .entry)) z)) (t .first .bits) (t .second .bits) (t .last .bits) → Revision c (now (sets .entry)) (now (sets .exit)) r) ⌝ }
+{
+    let a = ValueSet { bits: sets[x] };
+    let b = ValueSet { bits: sets[y] };
+    let e = ValueSet { bits: sets[z] };
+    let first = t.first;
+    let second = t.second;
+    let last = t.last;
+    if last.is_empty() {
+        return DEAD;
+    }
+    if ((first.bits ^ a.bits) | (second.bits ^ b.bits) | (last.bits ^ e.bits)) == 0 {
+        return 0;
+    }
+    sets[x] = first.bits;
+    sets[y] = second.bits;
+    sets[z] = last.bits;
+    moved(a, first, x) | moved(b, second, y) | moved(e, last, z)
+}
+
+// Prunes by constraint number k: the first set along the lanes by its variable, the others along those by the second.
+fn across(sets: &mut [u16; 16], numbers: &Numbers, k: usize, x: usize, y: usize, z: usize) -> u64
+    requires { ⌜ Sets 16 (now sets) ⌝ }
+    requires { ⌜ ((supports : List ℕ) × Words (now numbers) supports × (at (now numbers) (SCOPES + k) % 256 ≡ 3) × (c : Constraint) × Scoped c supports k (x ∷ y ∷ z ∷ [])) ⌝ }
+    requires { ⌜ (at (now sets) z ≡ 0 → ⊥) ⌝ }
+    requires { ⌜ (at (now sets) x < 256) × (at (now sets) y < 256) × (at (now sets) z < 256) ⌝ }
+    ensures { λ r. ⌜ ((c : Constraint) (supports : List ℕ) → Words (now (numbers .entry)) supports → Scoped c supports k (x ∷ y ∷ z ∷ []) → Revision c (now (sets .entry)) (now (sets .exit)) r) ⌝ }
+{
+    let a = ValueSet { bits: sets[x] };
+    let b = ValueSet { bits: sets[y] };
+    let e = ValueSet { bits: sets[z] };
+    let first_lanes = in_lanes(numbers, UNIONS + 64 * k + 32, b, a, e);
+    let second_lanes = in_lanes(numbers, UNIONS + 64 * k, a, b, e);
+    let last = union_of(second_lanes);
+    if fills(numbers, first_lanes, a) {
+        if fills(numbers, second_lanes, b) {
+            if last.bits == e.bits {
+                return 0;
+            }
+        }
+    }
+    let t = Three {
+        first: full_lanes(first_lanes),
+        second: full_lanes(second_lanes),
+        last,
+    };
+    leave(sets, x, y, z, t)
+}
+
+// Prunes by constraint number k, on one or two variables.
+fn revise_few(sets: &mut [u16; 16], numbers: &Numbers, supports: &Supports, k: usize) -> u64
+    requires { ⌜ Sets 16 (now sets) ⌝ }
+    requires { ⌜ (at (now numbers) (SCOPES + k) % 256 ≡ 3 → ⊥) ⌝ }
+    requires { ⌜ ((p : Problem) × ConstraintsHeld p (now numbers) (now supports) × (k < length (p .constraints))) ⌝ }
+    ensures { λ r. ⌜ ((p : Problem) → ConstraintsHeld p (now (numbers .entry)) (now (supports .entry)) → k < length (p .constraints) → Revision (constraintAt p k) (now (sets .entry)) (now (sets .exit)) r) ⌝ }
+{
+    let w = numbers[SCOPES + k];
+    let x = (w / 256 % 256) as usize;
+    if w % 256 == 2 {
+        let y = (w / 65536 % 256) as usize;
+        return revise_two(sets, supports, k, x, y);
+    }
+    revise_one(sets, supports, 256 * k, x)
+}
+
+// Prunes by constraint number k: DEAD where a set would be empty, else the set of the variables whose sets changed.
+fn revise16(sets: &mut [u16; 16], numbers: &Numbers, supports: &Supports, k: usize) -> u64
+    requires { ⌜ Sets 16 (now sets) ⌝ }
+    requires { ⌜ ((p : Problem) × ConstraintsHeld p (now numbers) (now supports) × (k < length (p .constraints)) × Nonempty (constraintAt p k .scope) (now sets)) ⌝ }
+    ensures { λ r. ⌜ ((p : Problem) → ConstraintsHeld p (now (numbers .entry)) (now (supports .entry)) → k < length (p .constraints) → Revision (constraintAt p k) (now (sets .entry)) (now (sets .exit)) r) ⌝ }
+{
+    let w = numbers[SCOPES + k];
+    if w % 256 != 3 {
+        return revise_few(sets, numbers, supports, k);
+    }
+    let x = (w / 256 % 256) as usize;
+    let y = (w / 65536 % 256) as usize;
+    let z = (w / 16777216 % 256) as usize;
+    let a = ValueSet { bits: sets[x] };
+    let b = ValueSet { bits: sets[y] };
+    let e = ValueSet { bits: sets[z] };
+    if a.without_lowest().is_empty() {
+        if b.without_lowest().is_empty() {
+            return revise_last(sets, supports, k, x, y, z);
+        }
+        if quiet16(supports, 256 * k + 16 * (a.lowest() as usize), b, e) {
+            return 0;
+        }
+    }
+    let t = joined3(supports, 256 * k, a, b, e);
+    leave(sets, x, y, z, t)
+}
+
+// The same for sets of values below 8, by numbers of lanes: one where the first set has one value, else two; and no store where nothing is lost.
+fn revise8(sets: &mut [u16; 16], numbers: &Numbers, supports: &Supports, k: usize) -> u64
+    requires { ⌜ Sets 16 (now sets) ⌝ }
+    requires { ⌜ ((p : Problem) × ConstraintsHeld p (now numbers) (now supports) × (k < length (p .constraints)) × Nonempty (constraintAt p k .scope) (now sets) × Narrow (constraintAt p k .scope) (now sets)) ⌝ }
+    ensures { λ r. ⌜ ((p : Problem) → ConstraintsHeld p (now (numbers .entry)) (now (supports .entry)) → k < length (p .constraints) → Revision (constraintAt p k) (now (sets .entry)) (now (sets .exit)) r) ⌝ }
+{
+    let w = numbers[SCOPES + k];
+    if w % 256 != 3 {
+        return revise_few(sets, numbers, supports, k);
+    }
+    let x = (w / 256 % 256) as usize;
+    let y = (w / 65536 % 256) as usize;
+    let z = (w / 16777216 % 256) as usize;
+    let a = ValueSet { bits: sets[x] };
+    let b = ValueSet { bits: sets[y] };
+    if a.without_lowest().is_empty() {
+        if b.without_lowest().is_empty() {
+            return revise_last(sets, supports, k, x, y, z);
+        }
+        return along(sets, numbers, k, x, y, z);
+    }
+    across(sets, numbers, k, x, y, z)
+}
+
+// The constraints, but those pruned by variable, that have one of the changed variables in their scope.
+pub fn touched(numbers: &Numbers, changed: u64) -> u64
+    ensures { λ r. ⌜ Touched (now (numbers .entry)) changed r ⌝ }
+{
+    let mut all = 0u64;
+    let mut m = changed;
+    while m != 0 {
+        all = all | numbers[OTHERS + (u64::trailing_zeros(m) as usize)];
+        m = m & (m - 1);
+    }
+    all
+}
+
+// The constraints that have one of the changed variables in their scope and wait for the next round: not number k, nor those left of this one.
+fn waiting(numbers: &Numbers, changed: u64, k: u32, left: u64) -> u64
+    requires { ⌜ k < 64 ⌝ }
+    ensures { λ r. ⌜ Waiting (now (numbers .entry)) changed k left r ⌝ }
+{
+    touched(numbers, changed) & !((1u64 << k) | left)
+}
+
+// The constraints of the next round: those of `soon` among all that are due, or all.
+fn round(due: u64, soon: u64) -> u64
+    requires { ⌜ (due ≡ 0 → ⊥) ⌝ }
+    ensures { λ r. ⌜ Round due r ⌝ }
+{
+    let first = due & soon;
+    if first != 0 { first } else { due }
+}
+
+// Prunes by the constraints of todo, and again by those that have a changed variable in their scope, until nothing moves.
+// One that must be pruned by again waits for the next round.
+fn constrain16(sets: &mut [u16; 16], numbers: &Numbers, supports: &Supports, todo: u64) -> u64
+    requires { ⌜ ((p : Problem) × ConstraintsPending p (now numbers) (now supports) (now sets) todo) ⌝ }
+    ensures { λ r. ⌜ ((p : Problem) → ConstraintsPending p (now (numbers .entry)) (now (supports .entry)) (now (sets .entry)) todo → Constrained p (now (sets .entry)) (now (sets .exit)) r) ⌝ }
+{
+    let mut left = todo;
+    let mut next = 0u64;
+    let mut all = 0u64;
+    loop {
+        if left == 0 {
+            if next == 0 {
+                return all;
+            }
+            left = next;
+            next = 0;
+        }
+        let k = u64::trailing_zeros(left);
+        let changed = revise16(sets, numbers, supports, k as usize);
+        if changed == DEAD {
+            return DEAD;
+        }
+        left = left & (left - 1);
+        if changed != 0 {
+            all = all | changed;
+            next = next | waiting(numbers, changed, k, left);
+        }
+    }
+}
+
+// The same for values below 8. A constraint that has none of the settled variables waits for those that have one: scopes ascend, so their first is settled.
+fn constrain8(
+    sets: &mut [u16; 16],
+    numbers: &Numbers,
+    supports: &Supports,
+    todo: u64,
+    settled: u64,
+) -> u64
+    requires { ⌜ at (now numbers) VALUES < 9 ⌝ }
+    requires { ⌜ ((p : Problem) × ConstraintsPending p (now numbers) (now supports) (now sets) todo) ⌝ }
+    ensures { λ r. ⌜ ((p : Problem) → ConstraintsPending p (now (numbers .entry)) (now (supports .entry)) (now (sets .entry)) todo → Constrained p (now (sets .entry)) (now (sets .exit)) r) ⌝ }
+{
+    let mut soon = 0u64;
+    let mut left = todo;
+    let mut next = 0u64;
+    let mut all = 0u64;
+    loop {
+        if left == 0 {
+            if next == 0 {
+                return all;
+            }
+            if soon == 0 {
+                soon = touched(numbers, settled);
+            }
+            left = round(next, soon);
+            next = next & !left;
+        }
+        let k = u64::trailing_zeros(left);
+        let changed = revise8(sets, numbers, supports, k as usize);
+        if changed == DEAD {
+            return DEAD;
+        }
+        left = left & (left - 1);
+        if changed != 0 {
+            all = all | changed;
+            next = next | waiting(numbers, changed, k, left);
+        }
+    }
+}
+
+// Prunes by the constraints of todo until nothing moves. The settled variables say which come first, where the values are below 8.
+pub fn constrain(
+    sets: &mut [u16; 16],
+    numbers: &Numbers,
+    supports: &Supports,
+    todo: u64,
+    settled: u64,
+) -> u64
+    requires { ⌜ ((p : Problem) × ConstraintsPending p (now numbers) (now supports) (now sets) todo) ⌝ }
+    ensures { λ r. ⌜ ((p : Problem) → ConstraintsPending p (now (numbers .entry)) (now (supports .entry)) (now (sets .entry)) todo → Constrained p (now (sets .entry)) (now (sets .exit)) r) ⌝ }
+{
+    if numbers[VALUES] < 9 {
+        return constrain8(sets, numbers, supports, todo, settled);
+    }
+    constrain16(sets, numbers, supports, todo)
+}
+
+// Prunes by constraint number k on three variables, whose first two sets have one value each, the second the value v.
+fn look_up(sets: &mut [u16; 16], numbers: &Numbers, supports: &Supports, k: usize, v: usize) -> u64
+    requires { ⌜ Sets 16 (now sets) ⌝ }
+    requires { ⌜ ((p : Problem) × ConstraintsHeld p (now numbers) (now supports) × LookUp p (now sets) k v) ⌝ }
+    ensures { λ r. ⌜ ((p : Problem) → ConstraintsHeld p (now (numbers .entry)) (now (supports .entry)) → LookUp p (now (sets .entry)) k v → Revision (constraintAt p k) (now (sets .entry)) (now (sets .exit)) r) ⌝ }
+{
+    let w = numbers[SCOPES + k];
+    let x = (w / 256 % 256) as usize;
+    let z = (w / 16777216 % 256) as usize;
+    let first = ValueSet { bits: sets[x] }.lowest() as usize;
+    revise_one(sets, supports, 256 * k + 16 * first + v, z)
+}
+
+// The same for each constraint of `some`, once: DEAD where a set would be empty, else the set of the variables whose sets changed.
+pub fn look_ups(
+    sets: &mut [u16; 16],
+    numbers: &Numbers,
+    supports: &Supports,
+    some: u64,
+    v: usize,
+) -> u64
+    requires { ⌜ ((p : Problem) × (todo : ℕ) × LookUpsPending p (now numbers) (now supports) (now sets) todo some v) ⌝ }
+    ensures { λ r. ⌜ ((p : Problem) (todo : ℕ) → LookUpsPending p (now (numbers .entry)) (now (supports .entry)) (now (sets .entry)) todo some v → LookedUp p (now (numbers .entry)) (now (supports .entry)) (now (sets .entry)) (now (sets .exit)) todo some r) ⌝ }
+{
+    let mut all = 0u64;
+    let mut left = some;
+    while left != 0 {
+        let changed = look_up(
+            sets,
+            numbers,
+            supports,
+            u64::trailing_zeros(left) as usize,
+            v,
+        );
+        if changed == DEAD {
+            return DEAD;
+        }
+        all = all | changed;
+        left = left & (left - 1);
+    }
+    all
+}

@@ -1,0 +1,177 @@
+-- A whole run: its answer, list and tally, of what the search leaves. Assumes nothing.
+use mathlib.Core.Path.{_≡_, refl, sym, ap, ap₂, _∙_}
+use mathlib.Core.Bool.{Bool, true, false}
+use mathlib.Core.List.{List, [], _∷_, map}
+use Prim.Native.Nat.{ℕ, zero, suc, _*_, _-_, _≤_, _<_}
+use native.Mathlib.Omega.{arith}
+use lib.Dec.{eqb}
+use borrow.Author.Tests.{eqb-true, eqb-false}
+use lib.ListN.{length, set, replicate, length-set}
+use Rattle.model.specs.Lists.{flat, at, choose}
+use Rattle.model.specs.Problem.{Problem}
+use Rattle.model.specs.Search.{nodes}
+use Rattle.model.specs.Verdict.{Verdict, accepted, refused}
+use Rattle.model.specs.Run.{finished, spent, full, refusal, ended, Result, resultOf, written, Tally, plansIn, nodesIn}
+use Rattle.model.specs.Run as Run
+use Rattle.model.specs.Sheet.{problemOf}
+use Rattle.model.proofs.Lists.{at-set, at-set-other}
+use Rattle.model.proofs.Runs.{rows-fit}
+use Rattle.order.specs.Reordered.{write}
+use Rattle.order.specs.RunBy.{resultBy, placeCounts}
+use Rattle.run_input.specs.Lent.{verdictLent, orderLent, problemLent, answerLentFor, answerLent, listLentFor, listLent, tallyLentFor, tallyLent}
+use Rattle.run_input.proofs.Lent.{passed-all, well-sheet}
+use Rattle.arrays.specs.Places.{PLANS, ALL, SPENT, REFUSED, NUMBERS, STACK, SUPPORTS, TABLES, WORK, WANTED}
+use Rattle.sheet.proofs.Whole.{zeros}
+use Rattle.run_state.specs.Walk.{kept, stopIn, tallyBy}
+use Rattle.run.specs.Meaning.{means}
+use Rattle.run_search.specs.Prepared.{bytesFor, Blank}
+use Rattle.run_search.specs.Explored.{resultFor, Explored}
+use Rattle.run.specs.Whole.{Stopped, Answered, Wanted}
+use Rattle.run.specs.declared.Answer.{Answer}
+use Rattle.run_state.proofs.Outcome.{kept-none, kept-over}
+
+-- ---- the answer
+pub stopped : (task b pairs block : List ℕ) (limit : ℕ) (list : List ℕ) (tally : Tally) (work′ list′ : List ℕ) (tally′ : Tally) (stop : ℕ) → Explored task b pairs block limit list tally work′ list′ tally′ stop → Stopped work′ stop
+stopped task b pairs block limit list tally work′ list′ tally′ stop h = record { number = λ z. h .refused z .0 .number; known = h .known }
+
+-- an ending is known by its figures and how it stopped
+abbrev endingBy : ℕ → ℕ → ℕ → Run.Ending
+endingBy plans made stop = choose (eqb stop ALL) (finished plans made) (choose (eqb stop SPENT) (spent plans made) (full plans made))
+
+ending-by : (e : Run.Ending) → endingBy (plansIn e) (nodesIn e) (stopIn e) ≡ e
+ending-by (finished k u) = refl
+ending-by (spent k u) = refl
+ending-by (full k u) = refl
+
+pub ended-same : (e x : Run.Ending) → plansIn e ≡ plansIn x → nodesIn e ≡ nodesIn x → stopIn e ≡ stopIn x → e ≡ x
+ended-same e x p n s = sym (ending-by e) ∙ ap₂ (λ (i j : ℕ). endingBy i j (stopIn e)) p n ∙ ap (endingBy (plansIn x) (nodesIn x)) s ∙ ending-by x
+
+-- a verdict is one
+refused-not : {number item : ℕ} → refused number item ≡ accepted → ⊥
+refused-not e = let z : _≡_ {A = ℕ} 0 1 = cc in omega arith
+
+refused-same : {number item number′ item′ : ℕ} → refused number item ≡ refused number′ item′ → (number ≡ number′) × (item ≡ item′)
+refused-same e = (cc, cc)
+
+-- what is known of a run that carried out a task
+pub record Ran (task b pairs block : List ℕ) (limit : ℕ) (list : List ℕ) (tally : Tally) (list′ : List ℕ) (tally′ : Tally) (r : Answer) : Type 0 where
+  pub refused : (number item : ℕ) → verdictLent b pairs block ≡ refused number item → (means r ≡ refusal number item) × (list′ ≡ list) × (tally′ ≡ tally)
+  pub ended : verdictLent b pairs block ≡ accepted →
+      (means r ≡ ended (resultFor task b pairs block limit (length list) .ending))
+      × (list′ ≡ kept (map (write (orderLent b pairs)) (resultFor task b pairs block limit (length list) .rows)) list)
+      × (tally′ ≡ tallyBy (orderLent b pairs) (nodes (problemLent b pairs block)) (nodesIn (resultFor task b pairs block limit (length list) .ending)))
+
+module _ (task b pairs block : List ℕ) (limit : ℕ) (list : List ℕ) (tally : Tally) (work′ list′ : List ℕ) (tally′ : Tally) (stop : ℕ) (h : Explored task b pairs block limit list tally work′ list′ tally′ stop) (made : ℕ) (is : made ≡ tally′ .nodes) (r : Answer) (a : Answered work′ made stop r) where
+  abbrev x : Result
+  x = resultFor task b pairs block limit (length list)
+
+  same-ending : (stop ≡ REFUSED → ⊥) → means r ≡ ended (x .ending)
+  unfolding tallyBy
+  same-ending n =
+      let f = a .ended n in
+      let o = h .ended n in
+      f .1 ∙ ap ended (ended-same (f .0) (x .ending) (f .2 ∙ o .plans) (f .3 ∙ is ∙ ap (λ (t : Tally). t .nodes) (o .tally)) (f .4 ∙ o .stopped))
+
+  pub ran-so : Ran task b pairs block limit list tally list′ tally′ r
+  ran-so = go (eqb stop REFUSED) refl
+    where
+      go : (c : Bool) → eqb stop REFUSED ≡ c → Ran task b pairs block limit list tally list′ tally′ r
+      go true e =
+          let z = eqb-true stop REFUSED e in
+          let f = h .refused z in
+          record {
+            refused = λ number item v. let w = refused-same (sym (f .0 .verdict) ∙ v) in (a .refused z ∙ ap₂ refusal (w .0) (w .1), f .1, f .2);
+            ended = λ v. absurd (refused-not (sym (f .0 .verdict) ∙ v));
+          }
+      go false e =
+          let n = eqb-false stop REFUSED e in
+          let o = h .ended n in
+          record {
+            refused = λ number item v. absurd (refused-not (sym v ∙ h .accepted n));
+            ended = λ v. (same-ending n, o .wrote, o .tally);
+          }
+
+-- ---- a run that lists
+-- what its contract says
+pub record Said (b pairs block : List ℕ) (limit : ℕ) (list : List ℕ) (tally : Tally) (list′ : List ℕ) (tally′ : Tally) (r : Answer) : Type 0 where
+  pub answer : means r ≡ answerLent b pairs block limit list
+  pub lists : list′ ≡ listLent b pairs block limit list
+  pub counts : tally′ ≡ tallyLent b pairs block limit list tally
+
+-- in a list of no byte there are no rows
+no-rows : (p : Problem) (limit : ℕ) → 0 < p .variables → resultOf p limit 0 .rows ≡ []
+no-rows p limit s = none-of (resultOf p limit 0 .rows) (nothing-of (length (resultOf p limit 0 .rows)) (rows-fit p limit 0))
+  where
+    nothing-of : (k : ℕ) → k * p .variables ≤ 0 → k ≡ 0
+    nothing-of zero l = refl
+    nothing-of (suc k) l = absurd (omega arith)
+
+    none-of : {A : Type 0} (l : List A) → length l ≡ 0 → l ≡ []
+    none-of [] e = refl
+    none-of (y ∷ l) e = absurd (omega arith)
+
+pub kept-listed : (p : Problem) (order : List ℕ) (limit : ℕ) (list : List ℕ) → 0 < p .variables →
+    kept (map (write order) (resultOf p limit (length list) .rows)) list ≡ written (map (write order) (resultOf p limit (length list) .rows)) list
+unfolding written flat
+kept-listed p order limit list s = go (eqb (length list) 0) refl
+  where
+    go : (c : Bool) → eqb (length list) 0 ≡ c → kept (map (write order) (resultOf p limit (length list) .rows)) list ≡ written (map (write order) (resultOf p limit (length list) .rows)) list
+    go true e =
+        let z = eqb-true (length list) 0 e in
+        kept-none (map (write order) (resultOf p limit (length list) .rows)) list z
+        ∙ sym (ap (λ (rows : List (List ℕ)). written (map (write order) rows) list) (ap (λ (k : ℕ). resultOf p limit k .rows) z ∙ no-rows p limit s))
+    go false e = kept-over (map (write order) (resultOf p limit (length list) .rows)) list (eqb-false (length list) 0 e)
+
+module _ (task b pairs block : List ℕ) (limit : ℕ) (list : List ℕ) (tally : Tally) (list′ : List ℕ) (tally′ : Tally) (r : Answer) (h : Ran task b pairs block limit list tally list′ tally′ r) (lists : at task WANTED ≡ 0) where
+  abbrev y : Result
+  y = resultOf (problemLent b pairs block) limit (length list)
+
+  same-result : resultFor task b pairs block limit (length list) ≡ y
+  same-result = ap (λ (j : ℕ). resultOf (problemLent b pairs block) limit (bytesFor j (problemOf b .variables) (length list))) lists
+
+  abbrev Told : Verdict → Type 0
+  Told v = (means r ≡ answerLentFor v b pairs block limit (length list)) × (list′ ≡ listLentFor v b pairs block limit list) × (tally′ ≡ tallyLentFor (answerLentFor v b pairs block limit (length list)) b pairs block tally)
+
+  told : (v : Verdict) → verdictLent b pairs block ≡ v → Told v
+  unfolding answerLentFor listLentFor resultBy placeCounts tallyBy
+  told (refused number item) v = h .refused number item v
+  told accepted v =
+      let f = h .ended v in
+      let some = well-sheet b pairs block (passed-all (verdictLent b pairs block) v) .some in (
+        f .0 ∙ ap (λ (z : Result). ended (z .ending)) same-result,
+        f .1 ∙ ap (λ (z : Result). kept (map (write (orderLent b pairs)) (z .rows)) list) same-result ∙ kept-listed (problemLent b pairs block) (orderLent b pairs) limit list some,
+        f .2 ∙ ap (λ (z : Result). tallyBy (orderLent b pairs) (nodes (problemLent b pairs block)) (nodesIn (z .ending))) same-result,
+      )
+
+  pub said : Said b pairs block limit list tally list′ tally′ r
+  unfolding answerLent listLent tallyLent
+  said = let t = told (verdictLent b pairs block) refl in record { answer = t .0; lists = t .1; counts = t .2 }
+
+-- ---- a run that counts up to one plan less than are asked for
+module _ (wanted : ℕ) (some : wanted ≡ 0 → ⊥) where
+  abbrev task : List ℕ
+  task = set (replicate WORK 0) WANTED wanted
+
+  at-wanted : at (set (replicate WORK 0) WANTED wanted) WANTED ≡ wanted
+  at-wanted = at-set (replicate WORK 0) WANTED wanted (let l = zeros WORK .sized in omega arith)
+
+  pub wanted-blank : Blank (replicate STACK 0) (set (replicate WORK 0) WANTED wanted) (replicate SUPPORTS 0) (replicate TABLES 0) (replicate NUMBERS 0) 0
+  wanted-blank = record {
+    stack-length = zeros STACK .sized;
+    work-length = length-set (replicate WORK 0) WANTED wanted ∙ zeros WORK .sized;
+    none-listed = at-set-other (replicate WORK 0) WANTED wanted PLANS (λ e. omega arith) ∙ zeros WORK .blank PLANS;
+    supports-blank = zeros SUPPORTS;
+    tables-length = zeros TABLES .sized;
+    numbers-blank = zeros NUMBERS;
+    unlisted = λ n. refl;
+  }
+
+  pub wanted-so : (b pairs block : List ℕ) (limit : ℕ) (list : List ℕ) (tally : Tally) (list′ : List ℕ) (tally′ : Tally) (r : Answer) → Ran (set (replicate WORK 0) WANTED wanted) b pairs block limit list tally list′ tally′ r → Wanted wanted b pairs block limit r
+  wanted-so b pairs block limit list tally list′ tally′ r h = record {
+    refused = λ number item v. h .refused number item v .0;
+    ended = λ v. h .ended v .0 ∙ ap (λ (k : ℕ). ended (resultOf (problemLent b pairs block) limit k .ending)) (bytes (eqb (at task WANTED) 0) refl ∙ ap (λ (w : ℕ). (w - 1) * problemOf b .variables) at-wanted);
+  }
+    where
+      bytes : (c : Bool) → eqb (at (set (replicate WORK 0) WANTED wanted) WANTED) 0 ≡ c → choose c (length list) ((at (set (replicate WORK 0) WANTED wanted) WANTED - 1) * problemOf b .variables) ≡ (at (set (replicate WORK 0) WANTED wanted) WANTED - 1) * problemOf b .variables
+      bytes true e = absurd (some (sym at-wanted ∙ eqb-true (at task WANTED) 0 e))
+      bytes false e = refl

@@ -1,0 +1,37 @@
+-- The sheet's questions, then the lendings'. Assumes nothing.
+use borrow.Author.Needs.{needs}
+use Rattle.run_input.proofs.Compiling.{sheet-refused, held, sheet-accepted}
+use Rattle.run_input.proofs.ask.Statement.{statement}
+use Rattle.run_input.proofs.ask.Tie as tie
+
+compile-requires : tie.Need-compile-requires
+compile-requires c κs = search needs
+
+enum-told : tie.Need-enum-told
+enum-told c = search needs
+
+enum-told-2 : tie.Need-enum-told-2
+enum-told-2 c = search needs
+
+returns : tie.Need-returns
+returns c = sheet-refused _ _ _ _ _ (c .before .before .compile .ensures) _ _ _ _ _ (c .enum-told2 .given .1) (search needs)
+
+lendings-requires : tie.Need-lendings-requires
+lendings-requires c κs = ((_, held _ _ _ _ _ (c .before .before .before .before .before .compile .ensures) (c .before .before .before .enum-told .given .1)), search needs)
+
+returns-2 : tie.Need-returns-2
+returns-2 c =
+    let h = c .before .before .before .before .before .before .compile .ensures in
+    let e = c .before .before .before .before .enum-told .given .1 in
+    sheet-accepted _ _ _ _ _ h e _ _ _ _ (c .lendings .ensures _ (held _ _ _ _ _ h e))
+
+pub ask-spec : {M : Type 1} → statement M
+ask-spec =
+    tie.close
+    (tie.spec
+    compile-requires
+    enum-told
+    enum-told-2
+    returns
+    lendings-requires
+    returns-2)

@@ -1,0 +1,60 @@
+-- `all_shaped`: after k turns the first k are. Assumes nothing.
+use mathlib.Core.Path.{_≡_, sym, _∙_}
+use mathlib.Core.Bool.{true}
+use Prim.Native.Nat.{ℕ, _-_, _≤_, _<_}
+use native.Mathlib.Omega.{arith}
+use borrow.Author.Count.{below-more}
+use borrow.Author.Needs.{needs}
+use borrow.Author.Tests.{not-true, not-false}
+use Rattle.run_join.specs.Join.{headShaped}
+use Rattle.run_join.proofs.Questions.{tested-all, tested-no}
+use Rattle.run_join.proofs.heads.all_shaped.Statement.{statement}
+use Rattle.run_join.proofs.heads.all_shaped.Tie as tie
+
+abbrev Inv-loop : tie.InvT-loop
+Inv-loop l n k₀ k = (k ≤ n) × ((j : ℕ) → j < k → headShaped l j ≡ true)
+
+abbrev μ-loop : tie.MeasureT-loop
+μ-loop l n k₀ k = n - k
+
+loop-holds : tie.Need-loop-holds Inv-loop μ-loop
+loop-holds c = (omega arith, λ j h. absurd (omega arith))
+
+head-shaped-requires : tie.Need-head-shaped-requires Inv-loop μ-loop
+head-shaped-requires c κs = search needs
+
+returns : tie.Need-returns Inv-loop μ-loop
+returns c =
+    let f = c .before in
+    let l = f .before .before in
+    let a = l .before .before .args in
+    tested-no (headShaped (a .l .now)) (a .n) (l .loop .k) (f .before .loop-test .taken) (sym (f .head-shaped .ensures) ∙ not-true (f .head-shaped .result) (c .if1 .taken))
+
+add-k : tie.Need-add-k Inv-loop μ-loop
+add-k c = omega arith
+
+loop-less : tie.Need-loop-less Inv-loop μ-loop
+loop-less c = omega arith
+
+loop-again : tie.Need-loop-again Inv-loop μ-loop
+loop-again c =
+    let f = c .before in
+    let l = f .before .before in
+    (omega arith, below-more _ _ (l .loop .inv .1) (sym (f .head-shaped .ensures) ∙ not-false (f .head-shaped .result) (c .if1 .left)))
+
+returns-2 : tie.Need-returns-2 Inv-loop μ-loop
+returns-2 c = let l = c .before in let a = l .before .before .args in tested-all (headShaped (a .l .now)) (a .n) (l .loop .k) (c .loop-test .left) (l .loop .inv .1)
+
+pub all-shaped-spec : {M : Type 1} → statement M
+all-shaped-spec =
+    tie.close
+    (tie.spec
+    Inv-loop
+    μ-loop
+    loop-holds
+    head-shaped-requires
+    returns
+    add-k
+    loop-less
+    loop-again
+    returns-2)

@@ -1,0 +1,63 @@
+-- `pending`: those passed are not pending. Assumes nothing.
+use mathlib.Core.Path.{_≡_, sym, _∙_}
+use mathlib.Core.Bool.{false, not}
+use Prim.Native.Nat.{ℕ, _-_, _≤_, _<_}
+use native.Mathlib.Omega.{arith}
+use borrow.Author.Count.{below-more}
+use Rattle.model.specs.Lists.{both}
+use Rattle.run_join.specs.Inner.{marked}
+use Rattle.run_join.proofs.Bits.{pending-one, pending-none}
+use Rattle.run_join.proofs.marks.pending.Statement.{statement}
+use Rattle.run_join.proofs.marks.pending.Tie as tie
+
+abbrev Inv-loop : tie.InvT-loop
+Inv-loop marks done n k₀ k = (k ≤ n) × ((j : ℕ) → j < k → both (marked marks j) (not (marked done j)) ≡ false)
+
+abbrev μ-loop : tie.MeasureT-loop
+μ-loop marks done n k₀ k = n - k
+
+loop-holds : tie.Need-loop-holds Inv-loop μ-loop
+loop-holds c = (omega arith, λ j h. absurd (omega arith))
+
+is-pending-requires : tie.Need-is-pending-requires Inv-loop μ-loop
+is-pending-requires c κs = omega arith
+
+add-result : tie.Need-add-result Inv-loop μ-loop
+add-result c = omega arith
+
+returns : tie.Need-returns Inv-loop μ-loop
+returns c =
+    let f = c .before in
+    let l = f .before .before in
+    let a = l .before .args in
+    pending-one (a .marks .now) (a .done .now) (a .n) (l .loop .k) (f .before .loop-test .taken) (sym (f .is-pending .ensures) ∙ c .if1 .taken)
+
+add-k : tie.Need-add-k Inv-loop μ-loop
+add-k c = omega arith
+
+loop-less : tie.Need-loop-less Inv-loop μ-loop
+loop-less c = omega arith
+
+loop-again : tie.Need-loop-again Inv-loop μ-loop
+loop-again c = let f = c .before in (omega arith, below-more _ _ (f .before .before .loop .inv .1) (sym (f .is-pending .ensures) ∙ c .if1 .left))
+
+returns-2 : tie.Need-returns-2 Inv-loop μ-loop
+returns-2 c =
+    let l = c .before in
+    let a = l .before .args in
+    pending-none (a .marks .now) (a .done .now) (a .n) (l .loop .k) (omega arith) (l .loop .inv .1)
+
+pub pending-spec : {M : Type 1} → statement M
+pending-spec =
+    tie.close
+    (tie.spec
+    Inv-loop
+    μ-loop
+    loop-holds
+    is-pending-requires
+    add-result
+    returns
+    add-k
+    loop-less
+    loop-again
+    returns-2)

@@ -1,0 +1,61 @@
+-- `any_first`: those passed are not. Assumes nothing.
+use mathlib.Core.Path.{_≡_, sym, _∙_}
+use mathlib.Core.Bool.{false}
+use Prim.Native.Nat.{ℕ, _-_, _≤_, _<_}
+use native.Mathlib.Omega.{arith}
+use borrow.Author.Count.{below-more}
+use mathlib.Core.List.{[]}
+use Rattle.model.specs.Lists.{both, same}
+use Rattle.run_join.specs.Join.{fromAt}
+use Rattle.run_join.specs.Inner.{marked}
+use Rattle.run_join.proofs.Leads.{first-one, first-none}
+use Rattle.run_join.proofs.ways.any_first.Statement.{statement}
+use Rattle.run_join.proofs.ways.any_first.Tie as tie
+
+abbrev Inv-loop : tie.InvT-loop
+Inv-loop l n marks k₀ k = (k ≤ n) × ((j : ℕ) → j < k → both (marked marks j) (same (fromAt l j) []) ≡ false)
+
+abbrev μ-loop : tie.MeasureT-loop
+μ-loop l n marks k₀ k = n - k
+
+loop-holds : tie.Need-loop-holds Inv-loop μ-loop
+loop-holds c = (omega arith, λ j h. absurd (omega arith))
+
+is-first-requires : tie.Need-is-first-requires Inv-loop μ-loop
+is-first-requires c κs = (c .before .before .before .pre, omega arith)
+
+returns : tie.Need-returns Inv-loop μ-loop
+returns c =
+    let f = c .before in
+    let l = f .before .before in
+    let a = l .before .before .args in
+    first-one _ (a .n) (l .loop .k) (f .before .loop-test .taken) (sym (f .is-first .ensures) ∙ c .if1 .taken)
+
+add-k : tie.Need-add-k Inv-loop μ-loop
+add-k c = omega arith
+
+loop-less : tie.Need-loop-less Inv-loop μ-loop
+loop-less c = omega arith
+
+loop-again : tie.Need-loop-again Inv-loop μ-loop
+loop-again c = let f = c .before in (omega arith, below-more _ _ (f .before .before .loop .inv .1) (sym (f .is-first .ensures) ∙ c .if1 .left))
+
+returns-2 : tie.Need-returns-2 Inv-loop μ-loop
+returns-2 c =
+    let l = c .before in
+    let a = l .before .before .args in
+    first-none _ (a .n) (l .loop .k) (omega arith) (l .loop .inv .1)
+
+pub any-first-spec : {M : Type 1} → statement M
+any-first-spec =
+    tie.close
+    (tie.spec
+    Inv-loop
+    μ-loop
+    loop-holds
+    is-first-requires
+    returns
+    add-k
+    loop-less
+    loop-again
+    returns-2)

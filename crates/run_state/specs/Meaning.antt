@@ -1,0 +1,16 @@
+-- What a tally and an ending mean in the words of model's definitions.
+use Rattle.model.specs.Run.{finished, spent, full}
+use Rattle.model.specs.Run as Run
+use Rattle.run_state.specs.declared.Tally.{Tally}
+use Rattle.run_state.specs.declared.Ending.{Ending}
+use Rattle.run_state.specs.declared.Ending.the-variants.{Finished, Spent, Full}
+
+-- a tally has the nodes made and twelve counts of them
+abbrev pub tallyIn : Tally → Run.Tally
+tallyIn t = record { nodes = t .nodes; counts = t .counts }
+
+-- an ending carries the plans listed and the nodes made
+abbrev pub endingOf : Ending → Run.Ending
+endingOf (Finished plans nodes) = finished plans nodes
+endingOf (Spent plans nodes) = spent plans nodes
+endingOf (Full plans nodes) = full plans nodes

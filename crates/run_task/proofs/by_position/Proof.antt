@@ -1,0 +1,42 @@
+-- `run_task::by_position` meets its contract: after k turns the first k numbers are put. Assumes nothing.
+use mathlib.Core.Path.{_≡_, _∙_}
+use Prim.Native.Nat.{ℕ, _-_, _≤_, _<_}
+use native.Mathlib.Nat.{not-suc-le-zero}
+use native.Mathlib.Omega.{arith}
+use lib.ListN.{length, length-set}
+use Rattle.model.specs.Lists.{at}
+use Rattle.run_task.proofs.Task.{placed-next}
+use Rattle.run_task.proofs.by_position.Statement.{statement}
+use Rattle.run_task.proofs.by_position.Tie as tie
+
+abbrev Inv-loop : tie.InvT-loop
+Inv-loop order₀ k₀ order k = (k ≤ 16) × (length order ≡ 16) × ((j : ℕ) → j < k → at order j ≡ j)
+
+abbrev μ-loop : tie.MeasureT-loop
+μ-loop order₀ k₀ order k = 16 - k
+
+loop-holds : tie.Need-loop-holds Inv-loop μ-loop
+loop-holds c = (omega arith, c .pre, λ j l. absurd (not-suc-le-zero l))
+
+cast-order : tie.Need-cast-order Inv-loop μ-loop
+cast-order c = omega arith
+
+element-write-order : tie.Need-element-write-order Inv-loop μ-loop
+element-write-order c = omega arith
+
+add-k : tie.Need-add-k Inv-loop μ-loop
+add-k c = omega arith
+
+loop-less : tie.Need-loop-less Inv-loop μ-loop
+loop-less c = omega arith
+
+loop-again : tie.Need-loop-again Inv-loop μ-loop
+loop-again c =
+    let l = c .before .loop in
+    (omega arith, length-set {A = ℕ} (l .order) (l .k) (l .k) ∙ l .inv .1, placed-next (l .k) (l .order) (omega arith) (l .inv .2))
+
+returns : tie.Need-returns Inv-loop μ-loop
+returns c = let l = c .before .loop in (l .inv .1, λ k m. l .inv .2 k (omega arith))
+
+pub by-position-spec : {M : Type 1} → statement M
+by-position-spec = tie.close (tie.spec Inv-loop μ-loop loop-holds cast-order element-write-order add-k loop-less loop-again returns)

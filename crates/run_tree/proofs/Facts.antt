@@ -1,0 +1,93 @@
+-- The facts that the walks of `settle` and `try_value` need at each call, and what the tests of the code say of numbers. Assumes nothing.
+use mathlib.Core.Path.{_≡_, sym, ap, _∙_, subst}
+use mathlib.Core.Bool.{not}
+use mathlib.Core.List.{List}
+use Prim.Native.Nat.{ℕ, zero, suc, _+_, _*_, _^_, _<_}
+use native.Mathlib.Nat.{zero-lt-suc}
+use native.Mathlib.Omega.{arith}
+use lib.Dec.{T, T-not, eqb, eqb→eq, eqb-refl}
+use denote.Ref.{RefT, at-last}
+use Rattle.model.specs.Lists.{at}
+use Rattle.model.specs.ValueSets.{withoutMask, lowestOf}
+use Rattle.model.specs.Problem.{Problem}
+use Rattle.model.specs.Run.{Tally}
+use Rattle.arrays.specs.Places.{ALL, DEEPER}
+use Rattle.run_state.specs.Walk.{withNode}
+use Rattle.run_state.specs.Pair.{settling, Countable, Counted, AtValues, AtValue, Walked, Entered, tried, lowestTried}
+use Rattle.loans.specs.Slices.{SameSlice}
+use Rattle.run_state.proofs.Written.{settling-inside}
+use Rattle.run_tree.proofs.Turns.{turn-asks, turn-goes, values-ask, μ-settle, rest-falls}
+
+-- ---- tests
+pub pos : (n : ℕ) → T (not (eqb n 0)) → 0 < n
+pos zero z = absurd z
+pos (suc m) z = zero-lt-suc m
+
+pub ne-of : (m n : ℕ) → T (not (eqb m n)) → m ≡ n → ⊥
+ne-of m n z e = T-not (eqb m n) z (subst (λ (k : ℕ). T (eqb m k)) e (eqb-refl m))
+
+pub eq-of : (m n : ℕ) → T (not (not (eqb m n))) → m ≡ n
+eq-of m n z = eqb→eq m n (not-not (eqb m n) z)
+  where
+    not-not : (b : mathlib.Core.Bool.Bool) → T (not (not b)) → T b
+    not-not mathlib.Core.Bool.true z = tt
+    not-not mathlib.Core.Bool.false z = absurd z
+
+-- ---- `settle`: the values but the lowest are j
+module _ (p : Problem) (stack work supports tables numbers list : List ℕ) (tally : Tally) (k m : ℕ) (h : AtValues p stack work supports tables numbers list tally k m) (some : 0 < m) (small : m < 2 ^ 16)
+    (stack′ work′ list′ : List ℕ) (tally′ : Tally) (stop : ℕ) (d : Walked p (lowestTried p work k m) stack work numbers list tally k stack′ work′ list′ tally′ stop) (j : ℕ) (is : j ≡ withoutMask m (lowestOf m)) where
+  pub rest-asks : AtValues p stack′ work′ supports tables numbers list′ tally′ k j
+  rest-asks = subst (AtValues p stack′ work′ supports tables numbers list′ tally′ k) (sym is) (turn-asks p stack work supports tables numbers list tally k m h some small stack′ work′ list′ tally′ stop d)
+
+  pub rest-goes : stop ≡ ALL → (stack″ work″ list″ : List ℕ) (tally″ : Tally) (stop″ : ℕ) → Walked p (tried p work′ k j) stack′ work′ numbers list′ tally′ k stack″ work″ list″ tally″ stop″ →
+      Walked p (tried p work k m) stack work numbers list tally k stack″ work″ list″ tally″ stop″
+  rest-goes g stack″ work″ list″ tally″ stop″ w =
+      turn-goes p stack work supports tables numbers list tally k m h some small stack′ work′ list′ tally′ stop d g stack″ work″ list″ tally″ stop″
+      (subst (λ (i : ℕ). Walked p (tried p work′ k i) stack′ work′ numbers list′ tally′ k stack″ work″ list″ tally″ stop″) is w)
+
+pub others-fall : (k m j : ℕ) → 0 < m → m < 2 ^ 16 → j ≡ withoutMask m (lowestOf m) → μ-settle k j < μ-settle k m
+others-fall k m j some small is = subst (λ (i : ℕ). μ-settle k i < μ-settle k m) (sym is) (rest-falls k m some small)
+
+-- ---- `try_value`: x is the variable of its depth, the tally has one node of it more, and `enter` has answered
+module _ (p : Problem) (stack work supports tables numbers list : List ℕ) (tally : Tally) (k m : ℕ) (g : AtValue p stack work supports tables numbers list tally k m) where
+  pub variable-few : k < 12
+  variable-few = let i = g .values .prefix .inner in let f = g .values .prefix .ready .wellFormed .few in omega arith
+
+  module _ (x : ℕ) (at-x : x ≡ settling numbers k) where
+    pub node-counts : Countable x tally
+    node-counts = record {
+      few = let f = g .values .prefix .ready .wellFormed .few in let i = settling-inside numbers (p .variables) k (g .values .prefix .order) (g .values .prefix .inner) in omega arith;
+      summed = g .values .prefix .summed;
+      fits = let a = g .values .prefix .allowed in let d = g .due in let l = g .values .prefix .limited in omega arith;
+    }
+
+    module _ (stack′ work′ list′ : List ℕ) (step : ℕ) (w : Entered p stack work supports tables numbers list tally k m stack′ work′ list′ step) (tally′ : Tally) (one : Counted x tally tally′) where
+      abbrev next : Tally
+      next = withNode (settling numbers k) tally
+
+      is-next : tally′ ≡ next
+      is-next = one .is ∙ ap (λ (y : ℕ). withNode y tally) at-x
+
+      pub entered-stops : (step ≡ DEEPER → ⊥) → Walked p (lowestTried p work k m) stack work numbers list tally k stack′ work′ list′ tally′ step
+      entered-stops n = subst (λ (t : Tally). Walked p (lowestTried p work k m) stack work numbers list tally k stack′ work′ list′ t step) (sym is-next) (w .walked n)
+
+      module _ (e : step ≡ DEEPER) where
+        pub next-few : k + 1 < 12
+        next-few = let i = w .next e .inner in let f = g .values .prefix .ready .wellFormed .few in omega arith
+
+        module _ (values : ℕ) (all : values ≡ at stack′ (17 * (k + 1))) where
+          pub next-asks : AtValues p stack′ work′ supports tables numbers list′ tally′ (k + 1) values
+          next-asks =
+              subst (λ (t : Tally). AtValues p stack′ work′ supports tables numbers list′ t (k + 1) values) (sym is-next)
+              (subst (AtValues p stack′ work′ supports tables numbers list′ next (k + 1)) (sym all) (values-ask p stack′ work′ supports tables numbers list′ next (k + 1) (w .next e)))
+
+          pub next-goes : (stack″ work″ list″ : List ℕ) (tally″ : Tally) (stop : ℕ) → Walked p (tried p work′ (k + 1) values) stack′ work′ numbers list′ tally′ (k + 1) stack″ work″ list″ tally″ stop →
+              Walked p (lowestTried p work k m) stack work numbers list tally k stack″ work″ list″ tally″ stop
+          next-goes stack″ work″ list″ tally″ stop v =
+              w .then e stack″ work″ list″ tally″ stop
+              (subst (λ (t : Tally). Walked p (tried p work′ (k + 1) (at stack′ (17 * (k + 1)))) stack′ work′ numbers list′ t (k + 1) stack″ work″ list″ tally″ stop) is-next
+              (subst (λ (i : ℕ). Walked p (tried p work′ (k + 1) i) stack′ work′ numbers list′ tally′ (k + 1) stack″ work″ list″ tally″ stop) all v))
+
+-- a slice that stays the same slice twice
+pub same-on : (x y z : RefT (List ℕ)) → SameSlice x y → SameSlice y z → SameSlice x z
+same-on x y z e f = (f .0 ∙ ap (λ (u : RefT (List ℕ)). at-last u (z .now)) (e .0), f .1 ∙ e .1)

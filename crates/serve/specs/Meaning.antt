@@ -1,8 +1,0 @@
--- What the answer to rounds means.
-use Rattle.desk.specs.Desk.{RoundsReply, not-given, gave}
-use Rattle.serve.specs.declared.Reply.{Reply}
-use Rattle.serve.specs.declared.Reply.the-variants.{Given, Refused}
-
-abbrev pub meansRounds : Reply → RoundsReply
-meansRounds (Given ended going) = gave ended going
-meansRounds (Refused number item) = not-given number item

@@ -1,0 +1,34 @@
+-- What callers need of an outcome: a refusal's item is 0, and no more than 52 bytes are written. Assumes nothing.
+use mathlib.Core.Path.{_≡_, refl}
+use mathlib.Core.Bool.{Bool, true, false}
+use mathlib.Core.List.{List}
+use Prim.Native.Nat.{ℕ, _≤_}
+use native.Mathlib.Omega.{arith}
+use lib.Dec.{ltb, leb}
+use lib.ListN.{length}
+use borrow.Author.Tests.{ltb-true}
+use Rattle.model.specs.Verdict.{accepted, ask}
+use Rattle.model.specs.Room.{wrote, refusal, outcomeOf}
+use Rattle.sheet_small.specs.Small.{smallSheets}
+use Rattle.sheet_small.specs.Answers.{sheetAt, positionVerdict, smallOutcome}
+use Rattle.sheet_small.proofs.Claims.{room-enough}
+
+pub refusal-item : (k : ℕ) (room : List ℕ) (number item : ℕ) → refusal number item ≡ smallOutcome k room → item ≡ 0
+unfolding smallOutcome positionVerdict
+refusal-item k room number item = go (ltb k (length smallSheets)) (leb 52 (length room))
+  where
+    go : (a b : Bool) → refusal number item ≡ outcomeOf (ask a 39 0 (ask b 40 0 accepted)) (sheetAt k) → item ≡ 0
+    go true true e = absurd (let z : _≡_ {A = ℕ} 0 1 = cc in omega arith)
+    go true false e = cc
+    go false b e = cc
+
+pub wrote-few : (k : ℕ) (room : List ℕ) (n : ℕ) → wrote n ≡ smallOutcome k room → n ≤ 52
+unfolding smallOutcome positionVerdict sheetAt
+wrote-few k room n = go (ltb k (length smallSheets)) refl (leb 52 (length room))
+  where
+    go : (a : Bool) → ltb k (length smallSheets) ≡ a → (b : Bool) → wrote n ≡ outcomeOf (ask a 39 0 (ask b 40 0 accepted)) (sheetAt k) → n ≤ 52
+    go true h true e =
+        let l : n ≡ length (sheetAt k) = cc in
+        omega (arith, room-enough (sheetAt k) k (ltb-true k (length smallSheets) h, refl))
+    go true h false e = absurd (let z : _≡_ {A = ℕ} 0 1 = cc in omega arith)
+    go false h b e = absurd (let z : _≡_ {A = ℕ} 0 1 = cc in omega arith)

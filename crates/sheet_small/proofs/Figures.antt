@@ -1,0 +1,44 @@
+-- The number of small sheets, computed. Assumes nothing.
+use mathlib.Core.Path.{_≡_, refl, ap, ap₂, _∙_}
+use mathlib.Core.List.{List, [], _∷_, map}
+use Prim.Native.Nat.{ℕ, _+_, _/_, _%_}
+use native.Mathlib.Omega.{arith}
+use lib.ListN.{length, length-append, length-map}
+use Rattle.model.specs.Lists.{all, any, keep, flat, upFrom, below, at, same, earlier, ascending, rowsAscend}
+use Rattle.model.specs.ValueSets.{has, members}
+use Rattle.model.specs.Problem.{assignments, pair, isPair, within, doubled, pairsAt, excluded, forbidden, respects}
+use Rattle.model.specs.Sheet.{word, words, headerOf, scopeAt, rowsAt, afterAt, constraintsFrom, tableAt, problemOf, setsVerdict, constraintsVerdict, distinct, permutesPairs, symmetriesVerdict, verdictOf, constraintVerdict, headerVerdict, formVerdict}
+use Rattle.model.proofs.Lists.{keep-ext, below-e}
+use Rattle.sheet_small.specs.Claims.{Figures}
+use Rattle.sheet_small.specs.Small.{shapes, tables, rowsOf, frontOf, sheetOf, isSheet, plainSheets, symmetricSheets, smallSheets}
+use Rattle.sheet_small.specs.Inner.{shapeNo, tableNo}
+use Rattle.sheet_small.proofs.Lists.{keep-map}
+use Rattle.sheet_small.proofs.Stating.{stated, tableVerdict, tableFits, table-fits}
+
+plain : length plainSheets ≡ 144
+unfolding plainSheets shapes sheetOf frontOf rowsOf isSheet all keep flat upFrom below at earlier ascending rowsAscend has members word words headerOf scopeAt rowsAt afterAt constraintsFrom tableAt problemOf setsVerdict constraintVerdict constraintsVerdict symmetriesVerdict headerVerdict formVerdict verdictOf
+plain = refl
+
+-- ---- with one table
+tabled : ℕ → List ℕ
+tabled m = sheetOf (shapeNo (m / 24)) (tableNo (m % 24) ∷ [])
+
+numbered : flat (map (λ s. map (λ g. sheetOf s (g ∷ [])) tables) shapes) ≡ map tabled (below 3456)
+unfolding tabled shapes tables shapeNo any keep flat upFrom below has members assignments distinct
+numbered = refl
+
+fitting : length (keep (λ m. tableFits (m / 24) (m % 24)) (below 3456)) ≡ 400
+unfolding tableFits tableVerdict stated shapeNo rowsOf all any keep flat upFrom below at same has members assignments pair isPair within doubled pairsAt excluded forbidden respects distinct permutesPairs symmetriesVerdict
+fitting = refl
+
+symmetric : length symmetricSheets ≡ 400
+unfolding symmetricSheets tabled
+symmetric =
+    ap (λ (l : List (List ℕ)). length (keep isSheet l)) numbered
+    ∙ ap length (keep-map isSheet tabled (below 3456)) ∙ length-map (keep (λ m. isSheet (tabled m)) (below 3456)) tabled
+    ∙ ap length (keep-ext (λ m. isSheet (tabled m)) (λ m. tableFits (m / 24) (m % 24)) (below 3456) (λ m k. table-fits (m / 24) (m % 24) (omega (arith, below-e 3456 m k))))
+    ∙ fitting
+
+pub figures : Figures
+unfolding smallSheets
+figures = record { plain = plain; symmetric = symmetric; whole = length-append plainSheets symmetricSheets ∙ ap₂ (λ (x y : ℕ). x + y) plain symmetric }

@@ -1,0 +1,59 @@
+-- From what the code finds to the answer to questions 15 and 16. Assumes nothing.
+use mathlib.Core.Path.{_≡_, refl, sym, ap, ap₂, _∙_}
+use mathlib.Core.Bool.{Bool, true, false}
+use mathlib.Core.List.{List, []}
+use Prim.Native.Nat.{ℕ, _*_, _/_, _%_, _<_}
+use native.Mathlib.Omega.{arith}
+use lib.Dec.{T, eqb}
+use Rattle.model.specs.Lists.{all, at, below, both}
+use Rattle.model.specs.ValueSets.{members}
+use Rattle.model.specs.Problem.{Problem, isPair, respects}
+use Rattle.model.specs.Sheet.{permutesPairs, distinct}
+use Rattle.model.proofs.Lists.{T-of, both-r}
+use Rattle.model.proofs.Counting.{distinct-at}
+use Rattle.arrays.specs.Layout.{pairCode}
+use Rattle.sheet_symmetries.specs.Table.{TableAt, Asked, tableOf, answerOf, tableAnswer}
+use Rattle.sheet_symmetries.specs.Forbidden.{Decoded, Coded, Apart, Moved, Lent, keeps, doublings}
+use Rattle.sheet_symmetries.proofs.Codes.{decoded-coded, code-inj, div-small, mod-small, pair-of}
+use Rattle.sheet_symmetries.proofs.Scans.{table-length}
+use Rattle.sheet_symmetries.proofs.Respects.{respects-are}
+
+module _ (p : Problem) (sheet : List ℕ) (offset : ℕ) (numbers supports : List ℕ) (a : Asked p sheet offset numbers supports) where
+  pub asked-table : TableAt p sheet offset numbers
+  asked-table = record { framed = a .ready .framed; whole = a .whole }
+
+  -- 15 where the table does not permute the pairs
+  pub answer-15 : permutesPairs p (tableOf p sheet offset) ≡ false → 15 ≡ tableAnswer p sheet offset
+  answer-15 e = ap (λ (b : Bool). answerOf b (respects p (tableOf p sheet offset))) (sym e)
+
+  module _ (t : permutesPairs p (tableOf p sheet offset) ≡ true) (codes : List ℕ) (d : Decoded p (tableOf p sheet offset) codes) where
+    permutes : T (permutesPairs p (tableOf p sheet offset))
+    permutes = T-of (permutesPairs p (tableOf p sheet offset)) t
+
+    pub asked-coded : Coded p codes
+    asked-coded = decoded-coded p (a .ready .framed .stated) (tableOf p sheet offset) permutes codes d
+
+    pub asked-lent : (moves : List ℕ) → Moved p codes moves → Lent p numbers supports codes moves
+    asked-lent moves m = record { ready = a .ready; coded = asked-coded; moved = m }
+
+    -- no two numbers have one image
+    pub asked-apart : Apart p codes
+    unfolding permutesPairs
+    asked-apart i j h l e =
+        let w = a .ready .framed .stated in
+        let g = tableOf p sheet offset in
+        let n = table-length p sheet offset in
+        let image : (q : ℕ) → q < p .variables * p .values → at codes (pairCode (p .values) q) ≡ pairCode (p .values) (at g q) = λ q k. d (q / p .values) (q % p .values) (div-small p w q k) (mod-small p w q) ∙ ap (λ (m : ℕ). pairCode (p .values) (at g m)) (pair-of p w q) in
+        distinct-at g (both-r (all (λ q. elim (isPair p q) [ true ↦ isPair p (at g q) | false ↦ eqb (at g q) q ]) (below (p .variables * p .values))) (distinct g) permutes) i j (omega (arith, n)) (omega (arith, n)) (code-inj (at g i) (at g j) (p .values) (w .one) (w .sixteen) (sym (image i h) ∙ e ∙ image j l))
+
+    module _ (v : Bool) (ev : v ≡ all (λ x. doublings p codes x (members (at (p .initial) x))) (below (p .variables))) where
+      after : (c : Bool) → c ≡ all (λ c. keeps p codes c (c .scope) []) (p .constraints) → answerOf true (both v c) ≡ tableAnswer p sheet offset
+      after c ec = ap₂ answerOf (sym t) (ap₂ both ev ec ∙ respects-are p (a .ready .framed .stated) (tableOf p sheet offset) permutes codes d)
+
+      -- 16 where the image of two pairs of a variable holds no forbidden set
+      pub answer-16 : v ≡ false → 16 ≡ tableAnswer p sheet offset
+      answer-16 f = ap (λ (b : Bool). answerOf true (both b (all (λ c. keeps p codes c (c .scope) []) (p .constraints)))) (sym f) ∙ after _ refl
+
+      -- else by the constraints' forbidden sets
+      pub answer-last : (c r : Bool) → v ≡ true → c ≡ all (λ c. keeps p codes c (c .scope) []) (p .constraints) → c ≡ r → answerOf true r ≡ tableAnswer p sheet offset
+      answer-last c r f ec e = ap₂ (λ (x y : Bool). answerOf true (both x y)) (sym f) (sym e) ∙ after c ec

@@ -1,0 +1,189 @@
+-- The loops over a table, one number further: whether it permutes the pairs, and the codes of its images. Assumes nothing.
+use mathlib.Core.Path.{_≡_, refl, sym, ap, ap₂, _∙_, subst}
+use mathlib.Core.Bool.{Bool, true, false}
+use mathlib.Core.List.{List}
+use Prim.Native.Nat.{ℕ, _+_, _*_, _≤_, _<_}
+use native.Mathlib.Nat.{not-suc-le-zero, mul-le-mul, mul-le-mul-right, lt-of-lt-of-le}
+use native.Mathlib.Omega.{arith}
+use lib.Dec.{T, eqb, eqb→eq}
+use lib.ListN.{length, set}
+use borrow.Author.Tests.{eqb-true, eqb-false, eq-eqb, ne-eqb}
+use Rattle.model.specs.Lists.{all, below, at}
+use Rattle.model.specs.Problem.{Problem, isPair, pair}
+use Rattle.model.specs.Sheet.{word, permutesPairs, distinct}
+use Rattle.model.proofs.Lists.{T-of, of-T, not-of, of-not, both-i, both-l, both-r, all-i, all-e, below-i, below-e, at-set, at-set-other}
+use Rattle.model.proofs.Counting.{distinct-at}
+use Rattle.model.proofs.Accepted.{length-words, at-words}
+use Rattle.arrays.specs.Layout.{pairCode}
+use Rattle.sheet_symmetries.specs.Table.{Stated, tableOf}
+use Rattle.sheet_symmetries.specs.Forbidden.{Decoded}
+use Rattle.sheet_symmetries.specs.Scan.{fits, Seen, DecodedTo}
+use Rattle.sheet_symmetries.proofs.Codes.{code-inj, image-lt, pair-div, pair-mod, pair-lt}
+use Rattle.sheet_symmetries.proofs.Laws.{distinct-of}
+
+-- ---- the words of a table
+pub table-at : (p : Problem) (sheet : List ℕ) (offset q : ℕ) → q < p .variables * p .values → at (tableOf p sheet offset) q ≡ word sheet (offset + 2 * q)
+table-at p sheet offset q h = at-words sheet offset (p .variables * p .values) q h
+
+pub table-length : (p : Problem) (sheet : List ℕ) (offset : ℕ) → length (tableOf p sheet offset) ≡ p .variables * p .values
+table-length p sheet offset = length-words sheet offset (p .variables * p .values)
+
+pub table-small : (p : Problem) → Stated p → p .variables * p .values ≤ 192
+table-small p w = mul-le-mul (w .few) (w .sixteen)
+
+-- ---- whether a table permutes the pairs
+case-true : (b c d : Bool) → b ≡ true → elim b [ true ↦ c | false ↦ d ] ≡ c
+case-true true c d e = refl
+case-true false c d e = absurd (subst T (sym e) tt)
+
+case-false : (b c d : Bool) → b ≡ false → elim b [ true ↦ c | false ↦ d ] ≡ d
+case-false true c d e = absurd (subst T e tt)
+case-false false c d e = refl
+
+pub seen-none : (p : Problem) (g : List ℕ) (seen : List ℕ) → ((y : ℕ) → at seen y ≡ 0) → Seen p g seen 0
+seen-none p g seen z =
+    record {
+      fitting = λ j h. absurd (not-suc-le-zero h);
+      marked = λ j h. absurd (not-suc-le-zero h);
+      reached = λ y e. absurd (let f : _≡_ {A = ℕ} 0 1 = sym (z y) ∙ e in omega arith);
+      apart = λ i j l h. absurd (not-suc-le-zero h);
+    }
+
+module _ (p : Problem) (g seen : List ℕ) (q : ℕ) (s : Seen p g seen q) where
+  here : (P : ℕ → Type 0) → P q → ((j : ℕ) → j < q → P j) → (j : ℕ) → j < q + 1 → P j
+  here P h f j l = go (eqb j q) refl
+    where
+      go : (b : Bool) → eqb j q ≡ b → P j
+      go true e = subst P (sym (eqb-true j q e)) h
+      go false e = let n : j ≡ q → ⊥ = eqb-false j q e in f j (omega arith)
+
+  -- a number that is no pair stands for itself
+  pub seen-same : isPair p q ≡ false → at g q ≡ q → Seen p g seen (q + 1)
+  seen-same e i =
+      let no : T (isPair p q) → ⊥ = of-not (isPair p q) e in
+      record {
+        fitting = here (λ (j : ℕ). T (fits p g j)) (T-of (fits p g q) (case-false (isPair p q) (isPair p (at g q)) (eqb (at g q) q) e ∙ eq-eqb (at g q) q i)) (s .fitting);
+        marked = here (λ (j : ℕ). T (isPair p j) → at seen (at g j) ≡ 1) (λ t. absurd (no t)) (s .marked);
+        reached = λ y m. let r = s .reached y m in (r .0, omega (arith, r .1), r .2, r .3);
+        apart = λ a b l h. here (λ (j : ℕ). a < j → T (isPair p a) → T (isPair p j) → at g a ≡ at g j → ⊥) (λ l t u. absurd (no u)) (λ j h l. s .apart a j l h) b h l;
+      }
+
+  -- a pair goes to one that none went to
+  pub seen-more : isPair p q ≡ true → isPair p (at g q) ≡ true → at g q < length seen → (at seen (at g q) ≡ 1 → ⊥) → Seen p g (set seen (at g q) 1) (q + 1)
+  seen-more e i l n =
+      record {
+        fitting = here (λ (j : ℕ). T (fits p g j)) (T-of (fits p g q) (case-true (isPair p q) (isPair p (at g q)) (eqb (at g q) q) e ∙ i)) (s .fitting);
+        marked = here (λ (j : ℕ). T (isPair p j) → at (set seen (at g q) 1) (at g j) ≡ 1) (λ t. at-set seen (at g q) 1 l) (λ j h t. kept (at g j) (s .marked j h t));
+        reached = λ y m. found y m (eqb y (at g q)) refl;
+        apart = λ a b k h. here (λ (j : ℕ). a < j → T (isPair p a) → T (isPair p j) → at g a ≡ at g j → ⊥)
+            (λ k t u f. n (ap (at seen) (sym f) ∙ s .marked a k t)) (λ j h k. s .apart a j k h) b h k;
+      }
+    where
+      kept : (y : ℕ) → at seen y ≡ 1 → at (set seen (at g q) 1) y ≡ 1
+      kept y m = at-set-other seen (at g q) 1 y (λ f. n (ap (at seen) (sym f) ∙ m)) ∙ m
+
+      found : (y : ℕ) → at (set seen (at g q) 1) y ≡ 1 → (b : Bool) → eqb y (at g q) ≡ b → (j : ℕ) × (j < q + 1) × T (isPair p j) × (at g j ≡ y)
+      found y m true f = (q, omega arith, T-of (isPair p q) e, sym (eqb-true y (at g q) f))
+      found y m false f = let r = s .reached y (sym (at-set-other seen (at g q) 1 y (eqb-false y (at g q) f)) ∙ m) in (r .0, omega (arith, r .1), r .2, r .3)
+
+  -- what stops the loop
+  module _ (h : q < p .variables * p .values) where
+    unfit : fits p g q ≡ false → false ≡ permutesPairs p g
+    unfolding permutesPairs
+    unfit e =
+        sym (not-of (permutesPairs p g)
+        (λ t. of-not (fits p g q) e (all-e (fits p g) (below (p .variables * p .values)) (both-l (all (fits p g) (below (p .variables * p .values))) (distinct g) t) q (below-i (p .variables * p .values) q h))))
+
+    pub seen-moved : isPair p q ≡ false → (at g q ≡ q → ⊥) → false ≡ permutesPairs p g
+    seen-moved e n = unfit (case-false (isPair p q) (isPair p (at g q)) (eqb (at g q) q) e ∙ ne-eqb (at g q) q n)
+
+    pub seen-out : isPair p q ≡ true → isPair p (at g q) ≡ false → false ≡ permutesPairs p g
+    seen-out e i = unfit (case-true (isPair p q) (isPair p (at g q)) (eqb (at g q) q) e ∙ i)
+
+    pub seen-twice : length g ≡ p .variables * p .values → at seen (at g q) ≡ 1 → false ≡ permutesPairs p g
+    unfolding permutesPairs
+    seen-twice z m =
+        let r = s .reached (at g q) m in
+        sym (not-of (permutesPairs p g)
+        (λ t. let f = distinct-at g (both-r (all (fits p g) (below (p .variables * p .values))) (distinct g) t) (r .0) q (omega (arith, r .1, z)) (omega (arith, z)) (r .3) in omega (arith, r .1, f)))
+
+-- after the last number
+pub seen-all : (p : Problem) (g seen : List ℕ) → Seen p g seen (p .variables * p .values) → length g ≡ p .variables * p .values → true ≡ permutesPairs p g
+unfolding permutesPairs
+seen-all p g seen s z =
+    sym (of-T (permutesPairs p g)
+    (both-i (all (fits p g) (below (p .variables * p .values))) (distinct g) (all-i (fits p g) (below (p .variables * p .values)) (λ j m. s .fitting j (below-e (p .variables * p .values) j m)))
+    (distinct-of g (λ i j l h e. two i j l (subst (λ (n : ℕ). j < n) z h) e (isPair p i) refl (isPair p j) refl))))
+  where
+    pair-to : (j : ℕ) → j < p .variables * p .values → isPair p j ≡ true → T (isPair p (at g j))
+    pair-to j h e = subst T (case-true (isPair p j) (isPair p (at g j)) (eqb (at g j) j) e) (s .fitting j h)
+
+    same-to : (j : ℕ) → j < p .variables * p .values → isPair p j ≡ false → at g j ≡ j
+    same-to j h e = eqb→eq (at g j) j (subst T (case-false (isPair p j) (isPair p (at g j)) (eqb (at g j) j) e) (s .fitting j h))
+
+    two : (i j : ℕ) → i < j → j < p .variables * p .values → at g i ≡ at g j → (b : Bool) → isPair p i ≡ b → (c : Bool) → isPair p j ≡ c → ⊥
+    two i j l h e true b true c = s .apart i j l h (T-of (isPair p i) b) (T-of (isPair p j) c) e
+    two i j l h e true b false c = of-not (isPair p j) c (subst (λ (y : ℕ). T (isPair p y)) (e ∙ same-to j h c) (pair-to i (omega arith) b))
+    two i j l h e false b true c = of-not (isPair p i) b (subst (λ (y : ℕ). T (isPair p y)) (sym e ∙ same-to i (omega arith) b) (pair-to j h c))
+    two i j l h e false b false c = let f : i ≡ j = sym (same-to i (omega arith) b) ∙ e ∙ same-to j h c in omega arith
+
+-- as the code reads a table: y is the number at q
+module _ (p : Problem) (sheet : List ℕ) (offset : ℕ) (seen : List ℕ) (q y : ℕ) (s : Seen p (tableOf p sheet offset) seen q) (h : q < p .variables * p .values) (e : y ≡ word sheet (offset + 2 * q)) where
+  is : at (tableOf p sheet offset) q ≡ y
+  is = table-at p sheet offset q h ∙ sym e
+
+  pub read-out : isPair p q ≡ true → isPair p y ≡ false → false ≡ permutesPairs p (tableOf p sheet offset)
+  read-out t f = seen-out p _ seen q s h t (ap (isPair p) is ∙ f)
+
+  pub read-twice : at seen y ≡ 1 → false ≡ permutesPairs p (tableOf p sheet offset)
+  read-twice m = seen-twice p _ seen q s h (table-length p sheet offset) (ap (at seen) is ∙ m)
+
+  pub read-moved : isPair p q ≡ false → (y ≡ q → ⊥) → false ≡ permutesPairs p (tableOf p sheet offset)
+  read-moved t n = seen-moved p _ seen q s h t (λ i. n (sym is ∙ i))
+
+  -- `new` is what the code then has for `seen`
+  pub read-same : (new : List ℕ) → new ≡ seen → isPair p q ≡ false → y ≡ q → Seen p (tableOf p sheet offset) new (q + 1)
+  read-same new z t i = subst (λ (l : List ℕ). Seen p (tableOf p sheet offset) l (q + 1)) (sym z) (seen-same p _ seen q s t (is ∙ i))
+
+  pub read-more : (new : List ℕ) → new ≡ set seen y 1 → isPair p q ≡ true → isPair p y ≡ true → y < length seen → (at seen y ≡ 1 → ⊥) → Seen p (tableOf p sheet offset) new (q + 1)
+  read-more new z t f l n =
+      subst (λ (r : List ℕ). Seen p (tableOf p sheet offset) r (q + 1)) (sym (z ∙ ap (λ (u : ℕ). set seen u 1) (sym is)))
+      (seen-more p _ seen q s t (ap (isPair p) is ∙ f) (subst (λ (u : ℕ). u < length seen) (sym is) l) (λ m. n (sym (ap (at seen) is) ∙ m)))
+
+-- ---- the codes of a table's images
+pub decoded-none : (p : Problem) (g codes : List ℕ) → DecodedTo p g codes 0
+decoded-none p g codes j h = absurd (not-suc-le-zero h)
+
+module _ (p : Problem) (w : Stated p) (g codes : List ℕ) where
+  pub decoded-more : (q : ℕ) → pairCode (p .values) q < length codes → DecodedTo p g codes q → DecodedTo p g (set codes (pairCode (p .values) q) (pairCode (p .values) (at g q))) (q + 1)
+  decoded-more q l d j h = go (eqb j q) refl
+    where
+      new : List ℕ
+      new = set codes (pairCode (p .values) q) (pairCode (p .values) (at g q))
+
+      go : (b : Bool) → eqb j q ≡ b → at new (pairCode (p .values) j) ≡ pairCode (p .values) (at g j)
+      go true e = subst (λ (i : ℕ). at new (pairCode (p .values) i) ≡ pairCode (p .values) (at g i)) (sym (eqb-true j q e)) (at-set codes _ _ l)
+      go false e = let n : j ≡ q → ⊥ = eqb-false j q e in at-set-other codes _ _ _ (λ f. n (code-inj j q (p .values) (w .one) (w .sixteen) f)) ∙ d j (omega arith)
+
+  pub decoded-all : DecodedTo p g codes (p .variables * p .values) → Decoded p g codes
+  decoded-all d x v h l =
+      ap₂ (λ (y u : ℕ). at codes (16 * y + u)) (sym (pair-div p w x v l)) (sym (pair-mod p w x v l)) ∙ d (pair p x v) (pair-lt p w x v h l)
+
+-- as the code reads a table and its numbers: a number of the table among d values, and y, the number at q
+pub number-lt : (p : Problem) → Stated p → (d : ℕ) → d ≡ p .values → (z : ℕ) → z < p .variables * p .values → z < 12 * d
+number-lt p w d i z l = subst (λ (n : ℕ). z < 12 * n) (sym i) (lt-of-lt-of-le l (mul-le-mul-right (p .values) (w .few)))
+
+module _ (p : Problem) (w : Stated p) (sheet : List ℕ) (offset q y : ℕ) (h : q < p .variables * p .values) (e : y ≡ word sheet (offset + 2 * q)) where
+  here-is : at (tableOf p sheet offset) q ≡ y
+  here-is = table-at p sheet offset q h ∙ sym e
+
+  pub image-number : T (permutesPairs p (tableOf p sheet offset)) → y < p .variables * p .values
+  image-number t = subst (λ (z : ℕ). z < p .variables * p .values) here-is (image-lt p w (tableOf p sheet offset) t q h)
+
+  -- `spot` and `code` are the codes of q and of y
+  pub read-code : (codes : List ℕ) (d : ℕ) → d ≡ p .values → (spot code : ℕ) → (spot ≡ pairCode d q) × (spot < 192) → code ≡ pairCode d y → length codes ≡ 256 → DecodedTo p (tableOf p sheet offset) codes q →
+      DecodedTo p (tableOf p sheet offset) (set codes spot code) (q + 1)
+  read-code codes d i spot code s c z t =
+      let es : spot ≡ pairCode (p .values) q = s .0 ∙ ap (λ (n : ℕ). pairCode n q) i in
+      let ec : code ≡ pairCode (p .values) (at (tableOf p sheet offset) q) = c ∙ ap₂ pairCode i (sym here-is) in
+      subst (λ (l : List ℕ). DecodedTo p (tableOf p sheet offset) l (q + 1)) (ap₂ (set codes) (sym es) (sym ec)) (decoded-more p w (tableOf p sheet offset) codes q (omega (arith, es, s .1, z)) t)

@@ -1,0 +1,24 @@
+-- What the loops over a table have found of its first numbers.
+use mathlib.Core.Path.{_≡_}
+use mathlib.Core.Bool.{Bool, true, false}
+use mathlib.Core.List.{List}
+use Prim.Native.Nat.{ℕ, _<_}
+use lib.Dec.{T, eqb}
+use Rattle.model.specs.Lists.{at}
+use Rattle.model.specs.Problem.{Problem, isPair}
+use Rattle.arrays.specs.Layout.{pairCode}
+
+-- a pair goes to a pair, any other number stands for itself
+abbrev pub fits : Problem → List ℕ → ℕ → Bool
+fits p g q = elim (isPair p q) [ true ↦ isPair p (at g q) | false ↦ eqb (at g q) q ]
+
+-- the numbers below q are so, no two pairs of them go to one, and `seen` marks where they go
+pub record Seen (p : Problem) (g seen : List ℕ) (q : ℕ) : Type 0 where
+  pub fitting : (j : ℕ) → j < q → T (fits p g j)
+  pub marked : (j : ℕ) → j < q → T (isPair p j) → at seen (at g j) ≡ 1
+  pub reached : (y : ℕ) → at seen y ≡ 1 → (j : ℕ) × (j < q) × T (isPair p j) × (at g j ≡ y)
+  pub apart : (i j : ℕ) → i < j → j < q → T (isPair p i) → T (isPair p j) → at g i ≡ at g j → ⊥
+
+-- the codes of the images of the numbers below q
+abbrev pub DecodedTo : Problem → List ℕ → List ℕ → ℕ → Type 0
+DecodedTo p g codes q = (j : ℕ) → j < q → at codes (pairCode (p .values) j) ≡ pairCode (p .values) (at g j)
