@@ -4,21 +4,7 @@
 //! too.
 
 use crate::{number, Refusal};
-
-mod exported {
-    extern "C" {
-        pub fn planner_closed(
-            sheet: *const u8,
-            sheet_len: usize,
-            pairs: *const u8,
-            pairs_len: usize,
-            block: *const u8,
-            block_len: usize,
-            answer: *mut u8,
-            answer_len: usize,
-        ) -> u32;
-    }
-}
+use planner_sys::planner_closed;
 
 /// Whether any two exchanges (or one twice), one after the other, make one of them or the exchange that moves nothing.
 #[derive(Clone, Copy, Debug, PartialEq, Eq)]
@@ -33,18 +19,7 @@ pub enum Closed {
 /// Are the exchanges of a run closed?
 pub fn closed(sheet: &[u8], pairs: &[u8], block: &[u8]) -> Result<Closed, Refusal> {
     let mut answer = [0; 12];
-    Refusal::from_code(unsafe {
-        exported::planner_closed(
-            sheet.as_ptr(),
-            sheet.len(),
-            pairs.as_ptr(),
-            pairs.len(),
-            block.as_ptr(),
-            block.len(),
-            answer.as_mut_ptr(),
-            answer.len(),
-        )
-    })?;
+    Refusal::from_code(planner_closed(sheet, pairs, block, &mut answer))?;
     Ok(match number(&answer, 0) {
         1 => Closed::Yes,
         _ => Closed::Missing { first: number(&answer, 1), second: number(&answer, 2) },

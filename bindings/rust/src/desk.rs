@@ -1,6 +1,9 @@
 //! The desk for eight halls (paper 02, #113).
 
 use crate::{number, Ending, Refusal};
+use planner_sys::{
+    planner_desk_leave, planner_desk_look, planner_desk_rounds, planner_desk_sit, planner_desk_turn,
+};
 
 /// A desk's size in bytes.
 pub const DESK_BYTES: usize = 839_065;
@@ -8,44 +11,6 @@ pub const DESK_BYTES: usize = 839_065;
 pub const SEATS: u32 = 8;
 /// A seat's list has room for so many plans.
 pub const SEAT_PLANS: usize = 4_096;
-
-mod exported {
-    extern "C" {
-        pub fn planner_desk_sit(
-            desk: *mut u8,
-            desk_len: usize,
-            sheet: *const u8,
-            sheet_len: usize,
-            node_limit: u32,
-            answer: *mut u8,
-            answer_len: usize,
-        ) -> u32;
-        pub fn planner_desk_turn(desk: *mut u8, desk_len: usize, answer: *mut u8, answer_len: usize) -> u32;
-        pub fn planner_desk_rounds(
-            desk: *mut u8,
-            desk_len: usize,
-            rounds: u32,
-            answer: *mut u8,
-            answer_len: usize,
-        ) -> u32;
-        pub fn planner_desk_look(
-            desk: *const u8,
-            desk_len: usize,
-            seat: u32,
-            answer: *mut u8,
-            answer_len: usize,
-        ) -> u32;
-        pub fn planner_desk_leave(
-            desk: *mut u8,
-            desk_len: usize,
-            seat: u32,
-            out: *mut u8,
-            out_len: usize,
-            answer: *mut u8,
-            answer_len: usize,
-        ) -> u32;
-    }
-}
 
 /// No run was waiting for a turn.
 const NONE: u32 = 0;
@@ -112,17 +77,7 @@ impl Desk {
     /// Seats a newcomer at the lowest free seat, and answers its number.
     pub fn sit(&mut self, sheet: &[u8], node_limit: u32) -> Result<u32, Refusal> {
         let mut answer = [0; 12];
-        Refusal::from_code(unsafe {
-            exported::planner_desk_sit(
-                self.bytes.as_mut_ptr(),
-                DESK_BYTES,
-                sheet.as_ptr(),
-                sheet.len(),
-                node_limit,
-                answer.as_mut_ptr(),
-                answer.len(),
-            )
-        })?;
+        Refusal::from_code(planner_desk_sit(&mut self.bytes, sheet, node_limit, &mut answer))?;
         Ok(number(&answer, 1))
     }
 
@@ -130,14 +85,7 @@ impl Desk {
     /// then, or `None` if there is no such seat.
     pub fn turn(&mut self) -> Option<Standing> {
         let mut answer = [0; 16];
-        let code = unsafe {
-            exported::planner_desk_turn(
-                self.bytes.as_mut_ptr(),
-                DESK_BYTES,
-                answer.as_mut_ptr(),
-                answer.len(),
-            )
-        };
+        let code = planner_desk_turn(&mut self.bytes, &mut answer);
         assert_eq!(code, 0, "a turn refuses nothing");
         Standing::from_answer(&answer)
     }
@@ -146,15 +94,7 @@ impl Desk {
     /// prepared once.
     pub fn rounds(&mut self, rounds: u32) -> Rounds {
         let mut answer = [0; 12];
-        let code = unsafe {
-            exported::planner_desk_rounds(
-                self.bytes.as_mut_ptr(),
-                DESK_BYTES,
-                rounds,
-                answer.as_mut_ptr(),
-                answer.len(),
-            )
-        };
+        let code = planner_desk_rounds(&mut self.bytes, rounds, &mut answer);
         assert_eq!(code, 0, "rounds refuse nothing");
         let [ended, going_on] =
             [1, 2].map(|i| (0..SEATS).filter(|seat| number(&answer, i) >> seat & 1 == 1).collect());
@@ -164,15 +104,7 @@ impl Desk {
     /// How a seat stands.
     pub fn look(&self, seat: u32) -> Result<Look, Refusal> {
         let mut answer = [0; 64];
-        Refusal::from_code(unsafe {
-            exported::planner_desk_look(
-                self.bytes.as_ptr(),
-                DESK_BYTES,
-                seat,
-                answer.as_mut_ptr(),
-                answer.len(),
-            )
-        })?;
+        Refusal::from_code(planner_desk_look(&self.bytes, seat, &mut answer))?;
         let standing = Standing::from_answer(&answer).expect("a seat that somebody holds");
         Ok(Look { standing, counts: std::array::from_fn(|place| number(&answer, 4 + place)) })
     }
@@ -180,17 +112,7 @@ impl Desk {
     /// Frees a seat: the plans listed so far go to the front of the room; the answer is their length in bytes.
     pub fn leave(&mut self, seat: u32, room: &mut [u8]) -> Result<usize, Refusal> {
         let mut answer = [0; 12];
-        Refusal::from_code(unsafe {
-            exported::planner_desk_leave(
-                self.bytes.as_mut_ptr(),
-                DESK_BYTES,
-                seat,
-                room.as_mut_ptr(),
-                room.len(),
-                answer.as_mut_ptr(),
-                answer.len(),
-            )
-        })?;
+        Refusal::from_code(planner_desk_leave(&mut self.bytes, seat, room, &mut answer))?;
         Ok(number(&answer, 1) as usize)
     }
 }

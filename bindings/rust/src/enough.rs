@@ -1,23 +1,7 @@
 //! At least so many plans? (paper 02, #101)
 
 use crate::{number, Refusal};
-
-mod exported {
-    extern "C" {
-        pub fn planner_at_least(
-            sheet: *const u8,
-            sheet_len: usize,
-            pairs: *const u8,
-            pairs_len: usize,
-            block: *const u8,
-            block_len: usize,
-            plans: u32,
-            node_limit: u32,
-            answer: *mut u8,
-            answer_len: usize,
-        ) -> u32;
-    }
-}
+use planner_sys::planner_at_least;
 
 /// Whether there are as many plans as asked for, with the plans found and the trials made.
 #[derive(Clone, Copy, Debug, PartialEq, Eq)]
@@ -40,20 +24,7 @@ pub fn at_least(
     node_limit: u32,
 ) -> Result<Enough, Refusal> {
     let mut answer = [0; 12];
-    Refusal::from_code(unsafe {
-        exported::planner_at_least(
-            sheet.as_ptr(),
-            sheet.len(),
-            pairs.as_ptr(),
-            pairs.len(),
-            block.as_ptr(),
-            block.len(),
-            plans,
-            node_limit,
-            answer.as_mut_ptr(),
-            answer.len(),
-        )
-    })?;
+    Refusal::from_code(planner_at_least(sheet, pairs, block, plans, node_limit, &mut answer))?;
     let [kind, plans, nodes] = [0, 1, 2].map(|i| number(&answer, i));
     Ok(match kind {
         1 => Enough::Yes { plans, nodes },

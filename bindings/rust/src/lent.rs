@@ -5,33 +5,8 @@
 //! or two: the first of 2 to 5 neighbouring windows that are alike, and how many; all its orderings act as exchanges
 //! after the sheet's own.
 
-use crate::{number, Answer, Ending, Refusal};
-
-mod exported {
-    extern "C" {
-        pub fn planner_question_lent(
-            sheet: *const u8,
-            sheet_len: usize,
-            pairs: *const u8,
-            pairs_len: usize,
-            block: *const u8,
-            block_len: usize,
-        ) -> u32;
-        pub fn planner_run_lent(
-            sheet: *const u8,
-            sheet_len: usize,
-            pairs: *const u8,
-            pairs_len: usize,
-            block: *const u8,
-            block_len: usize,
-            node_limit: u32,
-            list: *mut u8,
-            list_len: usize,
-            answer: *mut u8,
-            answer_len: usize,
-        ) -> u32;
-    }
-}
+use crate::{number, Answer, Refusal};
+use planner_sys::{planner_question_lent, planner_run_lent};
 
 /// What a run answers, and its trials by the window that each settles, under the window's number: they add up to the
 /// trials made, and windows that the sheet hasn't have 0.
@@ -44,16 +19,7 @@ pub struct LentAnswer {
 /// Puts all questions that a run puts: 1 to 16 to the sheet, then 28 to 30 to the pairs, then 36 to the block, then 15
 /// and 16 to its orderings, with items that count on from the sheet's exchanges.
 pub fn question_lent(sheet: &[u8], pairs: &[u8], block: &[u8]) -> Result<(), Refusal> {
-    Refusal::from_code(unsafe {
-        exported::planner_question_lent(
-            sheet.as_ptr(),
-            sheet.len(),
-            pairs.as_ptr(),
-            pairs.len(),
-            block.as_ptr(),
-            block.len(),
-        )
-    })
+    Refusal::from_code(planner_question_lent(sheet, pairs, block))
 }
 
 /// As [`crate::run`], with the windows settled in the order of the pairs: the trials follow it, and so does the order
@@ -66,22 +32,7 @@ pub fn run_lent(
     list: &mut [u8],
 ) -> Result<LentAnswer, Refusal> {
     let mut answer = [0; 60];
-    Refusal::from_code(unsafe {
-        exported::planner_run_lent(
-            sheet.as_ptr(),
-            sheet.len(),
-            pairs.as_ptr(),
-            pairs.len(),
-            block.as_ptr(),
-            block.len(),
-            node_limit,
-            list.as_mut_ptr(),
-            list.len(),
-            answer.as_mut_ptr(),
-            answer.len(),
-        )
-    })?;
-    let [kind, plans, nodes] = [0, 1, 2].map(|i| number(&answer, i));
+    Refusal::from_code(planner_run_lent(sheet, pairs, block, node_limit, list, &mut answer))?;
     let counts = std::array::from_fn(|window| number(&answer, 3 + window));
-    Ok(LentAnswer { answer: Answer { ending: Ending::from_kind(kind), plans, nodes }, counts })
+    Ok(LentAnswer { answer: Answer::from_bytes(&answer), counts })
 }

@@ -3,6 +3,7 @@
 //! number of threads may call at once. A call takes up to [`STACK_BYTES`] of the thread's stack;
 //! [`with_stack`] makes it on a thread of its own.
 
+use planner_sys::{planner_filter, planner_question, planner_report, planner_run};
 use std::{fmt, io, panic, thread};
 
 mod closed;
@@ -30,39 +31,6 @@ pub use small::{small_sheet, small_sheets};
 pub use store::{Store, STORE_BYTES, TABLE_BYTES};
 pub use version::{version, Version, VERSION};
 pub use words::{item_words, words};
-
-mod exported {
-    extern "C" {
-        pub fn planner_question(sheet: *const u8, sheet_len: usize) -> u32;
-        pub fn planner_filter(
-            sets: *mut u8,
-            sets_len: usize,
-            index: *const u8,
-            index_len: usize,
-            equal: *const u8,
-            equal_len: usize,
-            not_equal: *const u8,
-            not_equal_len: usize,
-        ) -> u32;
-        pub fn planner_run(
-            sheet: *const u8,
-            sheet_len: usize,
-            node_limit: u32,
-            list: *mut u8,
-            list_len: usize,
-            answer: *mut u8,
-            answer_len: usize,
-        ) -> u32;
-        pub fn planner_report(
-            input: *const u8,
-            input_len: usize,
-            out: *mut u8,
-            out_len: usize,
-            answer: *mut u8,
-            answer_len: usize,
-        ) -> u32;
-    }
-}
 
 /// The mark for an absent value in a nogood list.
 pub const ABSENT: u8 = 255;
@@ -144,6 +112,14 @@ pub struct Answer {
     pub nodes: u32,
 }
 
+impl Answer {
+    /// What the first three numbers of an answer say.
+    fn from_bytes(answer: &[u8]) -> Answer {
+        let [kind, plans, nodes] = [0, 1, 2].map(|i| number(answer, i));
+        Answer { ending: Ending::from_kind(kind), plans, nodes }
+    }
+}
+
 /// Makes a call on a thread of its own that has enough stack, and waits for it. The error is that no thread
 /// could be made.
 pub fn with_stack<T: Send>(call: impl FnOnce() -> T + Send) -> io::Result<T> {
@@ -155,7 +131,7 @@ pub fn with_stack<T: Send>(call: impl FnOnce() -> T + Send) -> io::Result<T> {
 
 /// Puts questions 1 to 16 to a sheet.
 pub fn question(sheet: &[u8]) -> Result<(), Refusal> {
-    Refusal::from_code(unsafe { exported::planner_question(sheet.as_ptr(), sheet.len()) })
+    Refusal::from_code(planner_question(sheet))
 }
 
 /// Filters sets of values (bit v for value v) by nogoods in three lists of one length. Entry i speaks of the
@@ -169,18 +145,7 @@ pub fn filter(
     not_equal: &[u8],
 ) -> Result<FilterEnding, Refusal> {
     let mut bytes: Vec<u8> = sets.iter().flat_map(|set| set.to_le_bytes()).collect();
-    let code = unsafe {
-        exported::planner_filter(
-            bytes.as_mut_ptr(),
-            bytes.len(),
-            index.as_ptr(),
-            index.len(),
-            equal.as_ptr(),
-            equal.len(),
-            not_equal.as_ptr(),
-            not_equal.len(),
-        )
-    };
+    let code = planner_filter(&mut bytes, index, equal, not_equal);
     let ending = match code {
         0 => FilterEnding::Consistent,
         1 => FilterEnding::Entailed,
@@ -197,19 +162,8 @@ pub fn filter(
 /// The bytes after the listed plans are unchanged; after a refusal all are.
 pub fn run(sheet: &[u8], node_limit: u32, list: &mut [u8]) -> Result<Answer, Refusal> {
     let mut answer = [0; 12];
-    Refusal::from_code(unsafe {
-        exported::planner_run(
-            sheet.as_ptr(),
-            sheet.len(),
-            node_limit,
-            list.as_mut_ptr(),
-            list.len(),
-            answer.as_mut_ptr(),
-            answer.len(),
-        )
-    })?;
-    let [kind, plans, nodes] = [0, 1, 2].map(|i| number(&answer, i));
-    Ok(Answer { ending: Ending::from_kind(kind), plans, nodes })
+    Refusal::from_code(planner_run(sheet, node_limit, list, &mut answer))?;
+    Ok(Answer::from_bytes(&answer))
 }
 
 /// The i-th of an answer's 32-bit numbers, low byte first.
@@ -221,16 +175,7 @@ fn number(answer: &[u8], i: usize) -> u32 {
 pub fn report(input: &[u8]) -> String {
     let mut out = vec![0; REPORT_ROOM];
     let mut answer = [0; 12];
-    let code = unsafe {
-        exported::planner_report(
-            input.as_ptr(),
-            input.len(),
-            out.as_mut_ptr(),
-            out.len(),
-            answer.as_mut_ptr(),
-            answer.len(),
-        )
-    };
+    let code = planner_report(input, &mut out, &mut answer);
     assert_eq!(code, 0, "room for every report");
     out.truncate(number(&answer, 1) as usize);
     String::from_utf8(out).expect("a report is plain text")

@@ -4,30 +4,8 @@
 //! ([`END`]) after the last; otherwise a trial comes after a path that is the front of it, or that has the smaller value at the first
 //! difference. Parts that go on from each other, whatever their limits and lists, are together the run.
 
-use crate::{number, Answer, Ending, Refusal};
-
-mod exported {
-    extern "C" {
-        pub fn planner_run_part(
-            sheet: *const u8,
-            sheet_len: usize,
-            pairs: *const u8,
-            pairs_len: usize,
-            block: *const u8,
-            block_len: usize,
-            from: *const u8,
-            from_len: usize,
-            upto: *const u8,
-            upto_len: usize,
-            node_limit: u32,
-            list: *mut u8,
-            list_len: usize,
-            answer: *mut u8,
-            answer_len: usize,
-        ) -> u32;
-        pub fn planner_join(heads: *const u8, heads_len: usize, answer: *mut u8, answer_len: usize) -> u32;
-    }
-}
+use crate::{number, Answer, Refusal};
+use planner_sys::{planner_join, planner_run_part};
 
 /// The path before the first trial.
 pub const START: &[u8] = &[];
@@ -57,8 +35,7 @@ impl Head {
 
     /// The ending, the plans listed and the trials made.
     pub fn answer(&self) -> Answer {
-        let [kind, plans, nodes] = [0, 1, 2].map(|i| number(&self.bytes, i));
-        Answer { ending: Ending::from_kind(kind), plans, nodes }
+        Answer::from_bytes(&self.bytes)
     }
 
     /// The trials by the window that each settles.
@@ -104,25 +81,7 @@ pub fn run_part(
     list: &mut [u8],
 ) -> Result<Head, Refusal> {
     let mut bytes = [0; HEAD_BYTES];
-    Refusal::from_code(unsafe {
-        exported::planner_run_part(
-            sheet.as_ptr(),
-            sheet.len(),
-            pairs.as_ptr(),
-            pairs.len(),
-            block.as_ptr(),
-            block.len(),
-            from.as_ptr(),
-            from.len(),
-            upto.as_ptr(),
-            upto.len(),
-            node_limit,
-            list.as_mut_ptr(),
-            list.len(),
-            bytes.as_mut_ptr(),
-            bytes.len(),
-        )
-    })?;
+    Refusal::from_code(planner_run_part(sheet, pairs, block, from, upto, node_limit, list, &mut bytes))?;
     Ok(Head { bytes })
 }
 
@@ -150,9 +109,7 @@ pub enum Join {
 /// half head, at most 65,536 heads), 42 (each has the shape of a head), 43 (all are of one problem), 44 (none is full).
 pub fn join(heads: &[u8]) -> Result<Join, Refusal> {
     let mut answer = [0; 152];
-    Refusal::from_code(unsafe {
-        exported::planner_join(heads.as_ptr(), heads.len(), answer.as_mut_ptr(), answer.len())
-    })?;
+    Refusal::from_code(planner_join(heads, &mut answer))?;
     let sums = Sums {
         plans: wide(&answer, 1),
         nodes: wide(&answer, 2),

@@ -1,18 +1,7 @@
 //! Every small sheet (paper 02, #114): two windows and two duties, one rule on both, at most one exchange.
 
-use crate::Refusal;
-
-mod exported {
-    extern "C" {
-        pub fn planner_small_sheet(
-            k: u32,
-            out: *mut u8,
-            out_len: usize,
-            answer: *mut u8,
-            answer_len: usize,
-        ) -> u32;
-    }
-}
+use crate::{number, Refusal};
+use planner_sys::planner_small_sheet;
 
 /// The room that is asked for a small sheet.
 const ROOM: usize = 52;
@@ -21,16 +10,8 @@ const ROOM: usize = 52;
 /// (past the last) and 40 (under 52 bytes of room); after one `out` is as it came.
 pub fn small_sheet(position: u32, out: &mut [u8]) -> Result<usize, Refusal> {
     let mut answer = [0; 12];
-    Refusal::from_code(unsafe {
-        exported::planner_small_sheet(
-            position,
-            out.as_mut_ptr(),
-            out.len(),
-            answer.as_mut_ptr(),
-            answer.len(),
-        )
-    })?;
-    Ok(u32::from_le_bytes(answer[4..8].try_into().unwrap()) as usize)
+    Refusal::from_code(planner_small_sheet(position, out, &mut answer))?;
+    Ok(number(&answer, 1) as usize)
 }
 
 /// All small sheets, in the order of their positions.

@@ -1,10 +1,6 @@
 //! The version, by semantic versioning.
 
-mod exported {
-    extern "C" {
-        pub fn planner_version() -> u32;
-    }
-}
+use planner_sys::planner_version;
 
 /// The version of these functions.
 pub const VERSION: &str = env!("CARGO_PKG_VERSION");
@@ -25,6 +21,6 @@ impl std::fmt::Display for Version {
 
 /// The version of the library that is linked.
 pub fn version() -> Version {
-    let number = unsafe { exported::planner_version() };
+    let number = planner_version();
     Version { major: number >> 16, minor: number >> 8 & 255, patch: number & 255 }
 }

@@ -6,37 +6,14 @@ use crate::tally::{code, Guarded, Tally, WRONG_SIZE};
 use oracle::closed::{earliest, missing_product};
 use oracle::lent::question_lent;
 use oracle::Problem;
+use planner_sys::planner_closed;
 use sheets::{encode, Rng};
-
-extern "C" {
-    fn planner_closed(
-        sheet: *const u8,
-        sheet_len: usize,
-        pairs: *const u8,
-        pairs_len: usize,
-        block: *const u8,
-        block_len: usize,
-        answer: *mut u8,
-        answer_len: usize,
-    ) -> u32;
-}
 
 const ANSWER_BYTES: usize = 12;
 
 impl Lent {
     fn closed(&self, answer: &mut [u8]) -> u32 {
-        unsafe {
-            planner_closed(
-                self.sheet.as_ptr(),
-                self.sheet.len(),
-                self.pairs.as_ptr(),
-                self.pairs.len(),
-                self.block.as_ptr(),
-                self.block.len(),
-                answer.as_mut_ptr(),
-                answer.len(),
-            )
-        }
+        planner_closed(&self.sheet, &self.pairs, &self.block, answer)
     }
 }
 

@@ -2,27 +2,8 @@
 
 use crate::tally::{code, Guarded, Tally, WRONG_SIZE};
 use oracle::Refusal;
+use planner_sys::{planner_columns, planner_rows};
 use sheets::Rng;
-
-extern "C" {
-    fn planner_columns(
-        places: u32,
-        rows: *const u8,
-        rows_len: usize,
-        out: *mut u8,
-        out_len: usize,
-        answer: *mut u8,
-        answer_len: usize,
-    ) -> u32;
-    fn planner_rows(
-        store: *const u8,
-        store_len: usize,
-        out: *mut u8,
-        out_len: usize,
-        answer: *mut u8,
-        answer_len: usize,
-    ) -> u32;
-}
 
 /// A call: rows of some places to columns, or a store to rows.
 #[derive(Clone, Copy)]
@@ -33,14 +14,9 @@ enum Call {
 
 impl Call {
     fn planner(self, bytes: &[u8], out: &mut [u8], answer: &mut [u8]) -> u32 {
-        let (from, length) = (bytes.as_ptr(), bytes.len());
-        let (out, room) = (out.as_mut_ptr(), out.len());
-        let (answer, size) = (answer.as_mut_ptr(), answer.len());
-        unsafe {
-            match self {
-                Call::Columns(places) => planner_columns(places, from, length, out, room, answer, size),
-                Call::Rows => planner_rows(from, length, out, room, answer, size),
-            }
+        match self {
+            Call::Columns(places) => planner_columns(places, bytes, out, answer),
+            Call::Rows => planner_rows(bytes, out, answer),
         }
     }
 

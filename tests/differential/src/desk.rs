@@ -5,43 +5,10 @@ use crate::tally::{code, Guarded, Tally, WRONG_SIZE};
 use crate::visits::Visits;
 use oracle::desk::{self, Desk, Hall, DESK_BYTES, PLANS, SEATS, SEAT_BYTES, SHEET_BYTES};
 use oracle::{Ending, Problem, Refusal};
+use planner_sys::{
+    planner_desk_leave, planner_desk_look, planner_desk_rounds, planner_desk_sit, planner_desk_turn,
+};
 use sheets::{damaged, encode, problem, Rng};
-
-extern "C" {
-    fn planner_desk_sit(
-        desk: *mut u8,
-        desk_len: usize,
-        sheet: *const u8,
-        sheet_len: usize,
-        node_limit: u32,
-        answer: *mut u8,
-        answer_len: usize,
-    ) -> u32;
-    fn planner_desk_turn(desk: *mut u8, desk_len: usize, answer: *mut u8, answer_len: usize) -> u32;
-    fn planner_desk_rounds(
-        desk: *mut u8,
-        desk_len: usize,
-        rounds: u32,
-        answer: *mut u8,
-        answer_len: usize,
-    ) -> u32;
-    fn planner_desk_look(
-        desk: *const u8,
-        desk_len: usize,
-        seat: u32,
-        answer: *mut u8,
-        answer_len: usize,
-    ) -> u32;
-    fn planner_desk_leave(
-        desk: *mut u8,
-        desk_len: usize,
-        seat: u32,
-        out: *mut u8,
-        out_len: usize,
-        answer: *mut u8,
-        answer_len: usize,
-    ) -> u32;
-}
 
 /// Calls of one sequence.
 const CALLS: usize = 20;
@@ -80,21 +47,12 @@ pub type Reply = (u32, Guarded, Guarded);
 pub fn reply(call: &Call, desk: &mut [u8], answer_bytes: usize, pattern: u8) -> Reply {
     let mut answer = Guarded::new(answer_bytes, pattern);
     let mut room = Guarded::new(call.room_bytes(), pattern);
-    let (bytes, size, lent) = (desk.as_mut_ptr(), desk.len(), answer.lent());
-    let (to, length) = (lent.as_mut_ptr(), lent.len());
-    let status = unsafe {
-        match call {
-            Call::Sit(sheet, limit) => {
-                planner_desk_sit(bytes, size, sheet.as_ptr(), sheet.len(), *limit, to, length)
-            }
-            Call::Turn => planner_desk_turn(bytes, size, to, length),
-            Call::Rounds(rounds) => planner_desk_rounds(bytes, size, *rounds, to, length),
-            Call::Look(seat) => planner_desk_look(bytes, size, *seat, to, length),
-            Call::Leave(seat, _) => {
-                let out = room.lent();
-                planner_desk_leave(bytes, size, *seat, out.as_mut_ptr(), out.len(), to, length)
-            }
-        }
+    let status = match call {
+        Call::Sit(sheet, limit) => planner_desk_sit(desk, sheet, *limit, answer.lent()),
+        Call::Turn => planner_desk_turn(desk, answer.lent()),
+        Call::Rounds(rounds) => planner_desk_rounds(desk, *rounds, answer.lent()),
+        Call::Look(seat) => planner_desk_look(desk, *seat, answer.lent()),
+        Call::Leave(seat, _) => planner_desk_leave(desk, *seat, room.lent(), answer.lent()),
     };
     (status, answer, room)
 }

@@ -6,22 +6,8 @@ use crate::tally::{code, Guarded, Tally, WRONG_SIZE};
 use oracle::enough::{at_least, enough, Enough, Said};
 use oracle::lent::{question_lent, trials};
 use oracle::Refusal;
+use planner_sys::planner_at_least;
 use sheets::Rng;
-
-extern "C" {
-    fn planner_at_least(
-        sheet: *const u8,
-        sheet_len: usize,
-        pairs: *const u8,
-        pairs_len: usize,
-        block: *const u8,
-        block_len: usize,
-        plans: u32,
-        node_limit: u32,
-        answer: *mut u8,
-        answer_len: usize,
-    ) -> u32;
-}
 
 const ANSWER_BYTES: usize = 12;
 /// With up to so many plans every number is asked with the allowances around every plan; with more, with those around its own.
@@ -31,20 +17,7 @@ const MANY: usize = 60;
 
 impl Lent {
     pub fn at_least(&self, plans: u32, limit: u32, answer: &mut [u8]) -> u32 {
-        unsafe {
-            planner_at_least(
-                self.sheet.as_ptr(),
-                self.sheet.len(),
-                self.pairs.as_ptr(),
-                self.pairs.len(),
-                self.block.as_ptr(),
-                self.block.len(),
-                plans,
-                limit,
-                answer.as_mut_ptr(),
-                answer.len(),
-            )
-        }
+        planner_at_least(&self.sheet, &self.pairs, &self.block, plans, limit, answer)
     }
 }
 

@@ -9,39 +9,14 @@ use oracle::families::families;
 use oracle::lent::{question_lent, search_in};
 use oracle::sheet::Constraint;
 use oracle::{Ending, Problem, Refusal};
+use planner_sys::planner_families;
 use sheets::{encode, Rng};
-
-extern "C" {
-    fn planner_families(
-        sheet: *const u8,
-        sheet_len: usize,
-        pairs: *const u8,
-        pairs_len: usize,
-        block: *const u8,
-        block_len: usize,
-        node_limit: u32,
-        answer: *mut u8,
-        answer_len: usize,
-    ) -> u32;
-}
 
 const ANSWER_BYTES: usize = 12;
 
 impl Lent {
     pub fn families(&self, limit: u32, answer: &mut [u8]) -> u32 {
-        unsafe {
-            planner_families(
-                self.sheet.as_ptr(),
-                self.sheet.len(),
-                self.pairs.as_ptr(),
-                self.pairs.len(),
-                self.block.as_ptr(),
-                self.block.len(),
-                limit,
-                answer.as_mut_ptr(),
-                answer.len(),
-            )
-        }
+        planner_families(&self.sheet, &self.pairs, &self.block, limit, answer)
     }
 }
 

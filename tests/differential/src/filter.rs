@@ -1,7 +1,7 @@
 //! Part `filter`: sets and nogood lists, right and damaged.
 
-use crate::planner;
 use crate::tally::{code, ending_code, Guarded, Tally, WRONG_SIZE};
+use planner_sys::planner_filter;
 use sheets::{lists, Lists, Rng};
 
 pub fn case(rng: &mut Rng, tally: &mut Tally) {
@@ -38,7 +38,7 @@ fn filter(lists: &Lists, odd: bool, rng: &mut Rng, tally: &mut Tally) {
     let mut expected_room = room.clone();
     expected_room.lent().copy_from_slice(&after);
     let Lists { index, equal, not_equal, .. } = lists.clone();
-    let got = planner::filter(room.lent(), &index, &equal, &not_equal);
+    let got = planner_filter(room.lent(), &index, &equal, &not_equal);
     let lent = [&before[..], &index, &equal, &not_equal].concat();
     tally.same("filter's answer", got, expected, &lent);
     tally.same("sets after", &room.bytes, &expected_room.bytes, &lent);

@@ -2,38 +2,14 @@
 //! and blocks right and damaged, with node limits and rooms around the ends of the search; without them also beside
 //! the plain run.
 
-use crate::planner;
 use crate::run::{node_limit, room, words};
 use crate::tally::{code, Guarded, Tally, WRONG_SIZE};
 use oracle::lent::{question_lent, run_lent};
 use oracle::Problem;
+use planner_sys::{planner_question_lent, planner_run, planner_run_lent};
 use sheets::{alike_problem, block, damaged, encode, pairs, problem, Rng};
 use std::fs;
 use std::path::Path;
-
-extern "C" {
-    fn planner_question_lent(
-        sheet: *const u8,
-        sheet_len: usize,
-        pairs: *const u8,
-        pairs_len: usize,
-        block: *const u8,
-        block_len: usize,
-    ) -> u32;
-    fn planner_run_lent(
-        sheet: *const u8,
-        sheet_len: usize,
-        pairs: *const u8,
-        pairs_len: usize,
-        block: *const u8,
-        block_len: usize,
-        node_limit: u32,
-        list: *mut u8,
-        list_len: usize,
-        answer: *mut u8,
-        answer_len: usize,
-    ) -> u32;
-}
 
 /// Kind, plans, trials, and the trials of twelve places.
 pub const ANSWER_BYTES: usize = 60;
@@ -48,34 +24,11 @@ pub struct Lent {
 
 impl Lent {
     fn question(&self) -> u32 {
-        unsafe {
-            planner_question_lent(
-                self.sheet.as_ptr(),
-                self.sheet.len(),
-                self.pairs.as_ptr(),
-                self.pairs.len(),
-                self.block.as_ptr(),
-                self.block.len(),
-            )
-        }
+        planner_question_lent(&self.sheet, &self.pairs, &self.block)
     }
 
     pub fn run(&self, limit: u32, list: &mut [u8], answer: &mut [u8]) -> u32 {
-        unsafe {
-            planner_run_lent(
-                self.sheet.as_ptr(),
-                self.sheet.len(),
-                self.pairs.as_ptr(),
-                self.pairs.len(),
-                self.block.as_ptr(),
-                self.block.len(),
-                limit,
-                list.as_mut_ptr(),
-                list.len(),
-                answer.as_mut_ptr(),
-                answer.len(),
-            )
-        }
+        planner_run_lent(&self.sheet, &self.pairs, &self.block, limit, list, answer)
     }
 
     /// All that is lent, to be printed.
@@ -148,7 +101,7 @@ fn as_plain(sheet: &[u8], limit: u32, room: usize, rng: &mut Rng, tally: &mut Ta
     let mut answers = [ANSWER_BYTES, 12].map(|length| Guarded::new(length, pattern));
     let lent = Lent { sheet: sheet.to_vec(), pairs: Vec::new(), block: Vec::new() };
     let status = lent.run(limit, lists[0].lent(), answers[0].lent());
-    let plain = planner::run(sheet, limit, lists[1].lent(), answers[1].lent());
+    let plain = planner_run(sheet, limit, lists[1].lent(), answers[1].lent());
     tally.same("status without pairs", status, plain, sheet);
     tally.same("list without pairs", &lists[0].bytes, &lists[1].bytes, sheet);
     let [answer, plain] = answers.each_mut().map(Guarded::lent);

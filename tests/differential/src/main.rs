@@ -14,7 +14,6 @@ mod filter;
 mod lent;
 mod merge;
 mod parts;
-mod planner;
 mod question;
 mod report;
 mod retyped;

@@ -2,23 +2,8 @@
 
 use crate::tally::{code, Guarded, Tally, WRONG_SIZE};
 use oracle::order::settling_order;
+use planner_sys::planner_merge;
 use sheets::{pairs, Rng};
-
-extern "C" {
-    fn planner_merge(
-        places: u32,
-        pairs: *const u8,
-        pairs_len: usize,
-        first: *const u8,
-        first_len: usize,
-        second: *const u8,
-        second_len: usize,
-        out: *mut u8,
-        out_len: usize,
-        answer: *mut u8,
-        answer_len: usize,
-    ) -> u32;
-}
 
 /// What a merge is lent besides its room.
 #[derive(Clone, Debug, PartialEq, Eq)]
@@ -31,21 +16,7 @@ struct Lent {
 
 impl Lent {
     fn planner(&self, out: &mut [u8], answer: &mut [u8]) -> u32 {
-        unsafe {
-            planner_merge(
-                self.places,
-                self.pairs.as_ptr(),
-                self.pairs.len(),
-                self.first.as_ptr(),
-                self.first.len(),
-                self.second.as_ptr(),
-                self.second.len(),
-                out.as_mut_ptr(),
-                out.len(),
-                answer.as_mut_ptr(),
-                answer.len(),
-            )
-        }
+        planner_merge(self.places, &self.pairs, &self.first, &self.second, out, answer)
     }
 
     fn oracle(&self, out: &mut [u8]) -> Result<usize, oracle::Refusal> {

@@ -6,30 +6,10 @@ use crate::run::{node_limit, room};
 use crate::tally::{code, Guarded, Tally, WRONG_SIZE};
 use oracle::lent::run_lent;
 use oracle::parts::{join, paths, run_part, Range, END, HEAD_BYTES};
+use planner_sys::{planner_join, planner_run_part};
 use sheets::Rng;
 use std::fs;
 use std::path::Path;
-
-extern "C" {
-    fn planner_run_part(
-        sheet: *const u8,
-        sheet_len: usize,
-        pairs: *const u8,
-        pairs_len: usize,
-        block: *const u8,
-        block_len: usize,
-        from: *const u8,
-        from_len: usize,
-        upto: *const u8,
-        upto_len: usize,
-        node_limit: u32,
-        list: *mut u8,
-        list_len: usize,
-        answer: *mut u8,
-        answer_len: usize,
-    ) -> u32;
-    fn planner_join(heads: *const u8, heads_len: usize, answer: *mut u8, answer_len: usize) -> u32;
-}
 
 /// The bytes of a join's answer.
 const JOIN_BYTES: usize = 152;
@@ -40,25 +20,16 @@ const MOST_TRIALS: usize = 400;
 
 impl Lent {
     fn run_part(&self, range: Range, list: &mut [u8], answer: &mut [u8]) -> u32 {
-        unsafe {
-            planner_run_part(
-                self.sheet.as_ptr(),
-                self.sheet.len(),
-                self.pairs.as_ptr(),
-                self.pairs.len(),
-                self.block.as_ptr(),
-                self.block.len(),
-                range.from.as_ptr(),
-                range.from.len(),
-                range.upto.as_ptr(),
-                range.upto.len(),
-                range.node_limit,
-                list.as_mut_ptr(),
-                list.len(),
-                answer.as_mut_ptr(),
-                answer.len(),
-            )
-        }
+        planner_run_part(
+            &self.sheet,
+            &self.pairs,
+            &self.block,
+            range.from,
+            range.upto,
+            range.node_limit,
+            list,
+            answer,
+        )
     }
 }
 
@@ -221,7 +192,7 @@ fn joined(heads: &[u8], rng: &mut Rng, tally: &mut Tally) -> Option<[u64; 14]> {
     }
     let after = heads.to_vec();
     let bytes = answer.lent();
-    let status = unsafe { planner_join(after.as_ptr(), after.len(), bytes.as_mut_ptr(), bytes.len()) };
+    let status = planner_join(&after, bytes);
     tally.same("status of a join", status, code(&expected), heads);
     tally.same("answer of a join", &answer.bytes, &expected_answer.bytes, heads);
     tally.same("heads after", &after[..], heads, heads);
@@ -260,7 +231,7 @@ fn wrong_size(lent: &Lent, rng: &mut Rng, tally: &mut Tally) {
     tally.same("list untouched", &list.bytes, &list_before.bytes, &lent.bytes());
     tally.same("head untouched", &answer.bytes, &answer_before.bytes, &lent.bytes());
     let (heads, bytes) = ([0; HEAD_BYTES], answer.lent());
-    let status = unsafe { planner_join(heads.as_ptr(), heads.len(), bytes.as_mut_ptr(), bytes.len()) };
+    let status = planner_join(&heads, bytes);
     tally.same("status of a join", status, 256 * WRONG_SIZE, &heads);
     tally.same("answer untouched", &answer.bytes, &answer_before.bytes, &heads);
 }

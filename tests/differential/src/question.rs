@@ -1,7 +1,7 @@
 //! Part `question`: sheets right and damaged, small and at the limits.
 
-use crate::planner;
 use crate::tally::{code, Tally};
+use planner_sys::planner_question;
 use sheets::{damaged, encode, large_problem, problem, Rng};
 
 pub fn case(number: usize, rng: &mut Rng, tally: &mut Tally) {
@@ -20,7 +20,7 @@ pub fn case(number: usize, rng: &mut Rng, tally: &mut Tally) {
 fn ask(sheet: &[u8], tally: &mut Tally) {
     let expected = oracle::question(sheet);
     let lent = sheet.to_vec();
-    tally.same("answer", planner::question(&lent), code(&expected), sheet);
+    tally.same("answer", planner_question(&lent), code(&expected), sheet);
     tally.same("sheet after", &lent[..], sheet, sheet);
     tally.answer(&expected);
 }

@@ -1,9 +1,9 @@
 //! Part `report`: the text for random inputs, for the sheets of the repository's examples, and for the
 //! shared bench sheets if they stand beside the repository.
 
-use crate::planner;
 use crate::tally::{Guarded, Tally};
 use oracle::Problem;
+use planner_sys::planner_report;
 use sheets::{damaged, encode, problem, Rng};
 use std::fs;
 use std::path::Path;
@@ -58,7 +58,7 @@ fn report(input: &[u8], expected: &[u8], room: usize, tally: &mut Tally) {
         expected_answer.lent().copy_from_slice(&words);
     }
     let lent = input.to_vec();
-    let status = planner::report(&lent, out.lent(), answer.lent());
+    let status = planner_report(&lent, out.lent(), answer.lent());
     let [text, expected_text] = [&mut out, &mut expected_out]
         .map(|out| String::from_utf8_lossy(&out.lent()[..expected.len().min(room)]).to_string());
     tally.same("status", status, if fits { 0 } else { NO_ROOM }, input);
@@ -73,7 +73,7 @@ fn wrong_answer_room(input: &[u8], room: usize, rng: &mut Rng, tally: &mut Tally
     let mut out = Guarded::new(room, rng.word() as u8);
     let mut answer = Guarded::new(rng.pick(&[0, 1, 11, 13, 24]), rng.word() as u8);
     let (out_before, answer_before) = (out.clone(), answer.clone());
-    let status = planner::report(input, out.lent(), answer.lent());
+    let status = planner_report(input, out.lent(), answer.lent());
     tally.same("status", status, ANSWER_ROOM, input);
     tally.same("room untouched", &out.bytes, &out_before.bytes, input);
     tally.same("answer untouched", &answer.bytes, &answer_before.bytes, input);

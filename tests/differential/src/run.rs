@@ -1,8 +1,8 @@
 //! Part `run`: sheets right and damaged, with node limits and rooms around the ends of the search.
 
-use crate::planner;
 use crate::tally::{Guarded, Tally, WRONG_SIZE};
 use oracle::{Ending, Outcome};
+use planner_sys::planner_run;
 use sheets::{damaged, encode, problem, Rng};
 
 pub fn case(rng: &mut Rng, tally: &mut Tally) {
@@ -59,7 +59,7 @@ fn run(sheet: &[u8], limit: u32, room: usize, rng: &mut Rng, tally: &mut Tally) 
         }
     };
     let lent = sheet.to_vec();
-    let status = planner::run(&lent, limit, list.lent(), answer.lent());
+    let status = planner_run(&lent, limit, list.lent(), answer.lent());
     tally.same("status", status, expected_status, sheet);
     tally.same("answer", &answer.bytes, &expected_answer.bytes, sheet);
     tally.same("list after", &list.bytes, &expected_list.bytes, sheet);
@@ -81,7 +81,7 @@ fn wrong_answer_room(sheet: &[u8], rng: &mut Rng, tally: &mut Tally) {
     let mut list = Guarded::new(100, rng.word() as u8);
     let mut answer = Guarded::new(rng.pick(&[0, 1, 11, 13, 24]), rng.word() as u8);
     let (list_before, answer_before) = (list.clone(), answer.clone());
-    let status = planner::run(sheet, 100, list.lent(), answer.lent());
+    let status = planner_run(sheet, 100, list.lent(), answer.lent());
     tally.same("status", status, 256 * WRONG_SIZE, sheet);
     tally.same("list untouched", &list.bytes, &list_before.bytes, sheet);
     tally.same("answer untouched", &answer.bytes, &answer_before.bytes, sheet);

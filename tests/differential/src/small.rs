@@ -1,17 +1,13 @@
 //! Part `small`: every small sheet (paper 02, #114) by its position, then a run of each beside a listing by brute
 //! force; positions, rooms and answers of any size.
 
-use crate::planner;
 use crate::tally::{code, Guarded, Tally, WRONG_SIZE};
 use oracle::listing::{families, leaders, reached, solutions};
 use oracle::small::{small_sheet, small_sheets};
 use oracle::Problem;
+use planner_sys::{planner_run, planner_small_sheet};
 use sheets::Rng;
 use std::time::Instant;
-
-extern "C" {
-    fn planner_small_sheet(k: u32, out: *mut u8, out_len: usize, answer: *mut u8, answer_len: usize) -> u32;
-}
 
 /// One position and room, right or wrong.
 pub fn case(rng: &mut Rng, tally: &mut Tally) {
@@ -47,7 +43,7 @@ fn compare(position: u32, room: usize, rng: &mut Rng, tally: &mut Tally) {
 
 fn call(position: u32, out: &mut Guarded, answer: &mut Guarded) -> u32 {
     let (out, answer) = (out.lent(), answer.lent());
-    unsafe { planner_small_sheet(position, out.as_mut_ptr(), out.len(), answer.as_mut_ptr(), answer.len()) }
+    planner_small_sheet(position, out, answer)
 }
 
 /// With a room for the answer that isn't 12 bytes nothing is written.
@@ -97,7 +93,7 @@ fn run(sheet: &[u8], tally: &mut Tally) {
 /// The plans that the library lists; the run must be finished, with the oracle's trials.
 fn listed(sheet: &[u8], tally: &mut Tally) -> Vec<Vec<usize>> {
     let (mut list, mut answer) = ([0; 8], [0; 12]);
-    planner::run(sheet, 1_000_000, &mut list, &mut answer);
+    planner_run(sheet, 1_000_000, &mut list, &mut answer);
     let trials = oracle::run(sheet, 1_000_000, &mut [0; 8]).map(|outcome| outcome.nodes as u8);
     tally.same("finished", (answer[0], Ok(answer[8])), (1, trials), sheet);
     let count = answer[4] as usize;

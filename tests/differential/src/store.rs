@@ -4,41 +4,11 @@
 use crate::tally::{code, Guarded, Tally, WRONG_SIZE};
 use oracle::store::{self, Store, KEYS, OWNERS, SLOT_BYTES, STORE_BYTES, TABLE_BYTES};
 use oracle::Refusal;
+use planner_sys::{planner_store_drop, planner_store_fetch, planner_store_put};
 use sheets::Rng;
 
 /// Calls of one sequence.
 const CALLS: usize = 60;
-
-extern "C" {
-    fn planner_store_put(
-        store: *mut u8,
-        store_len: usize,
-        owner: u32,
-        key: u8,
-        table: *const u8,
-        table_len: usize,
-        answer: *mut u8,
-        answer_len: usize,
-    ) -> u32;
-    fn planner_store_fetch(
-        store: *const u8,
-        store_len: usize,
-        owner: u32,
-        key: u8,
-        out: *mut u8,
-        out_len: usize,
-        answer: *mut u8,
-        answer_len: usize,
-    ) -> u32;
-    fn planner_store_drop(
-        store: *mut u8,
-        store_len: usize,
-        owner: u32,
-        key: u8,
-        answer: *mut u8,
-        answer_len: usize,
-    ) -> u32;
-}
 
 #[derive(Clone, Debug)]
 enum Action {
@@ -63,33 +33,10 @@ fn reply(call: &Call, bytes: &mut [u8], answer_length: usize) -> Reply {
     let Call { owner, key, ref action } = *call;
     let mut answer = Guarded::new(answer_length, key);
     let mut room = Guarded::new(if let Action::Fetch(length) = action { *length } else { 0 }, key);
-    let (size, lent) = (bytes.len(), answer.lent());
-    let status = unsafe {
-        match action {
-            Action::Put(table) => planner_store_put(
-                bytes.as_mut_ptr(),
-                size,
-                owner,
-                key,
-                table.as_ptr(),
-                table.len(),
-                lent.as_mut_ptr(),
-                lent.len(),
-            ),
-            Action::Fetch(length) => planner_store_fetch(
-                bytes.as_ptr(),
-                size,
-                owner,
-                key,
-                room.lent().as_mut_ptr(),
-                *length,
-                lent.as_mut_ptr(),
-                lent.len(),
-            ),
-            Action::Remove => {
-                planner_store_drop(bytes.as_mut_ptr(), size, owner, key, lent.as_mut_ptr(), lent.len())
-            }
-        }
+    let status = match action {
+        Action::Put(table) => planner_store_put(bytes, owner, key, table, answer.lent()),
+        Action::Fetch(_) => planner_store_fetch(bytes, owner, key, room.lent(), answer.lent()),
+        Action::Remove => planner_store_drop(bytes, owner, key, answer.lent()),
     };
     (status, answer.bytes, room.bytes)
 }

@@ -5,7 +5,7 @@ use std::{env, process};
 
 fn main() {
     let here = env::var("CARGO_MANIFEST_DIR").unwrap();
-    let folder = env::var("PLANNER_LIB").unwrap_or(format!("{here}/../../target/staticlib"));
+    let folder = env::var("PLANNER_LIB").unwrap_or(format!("{here}/../../../target/staticlib"));
     println!("cargo:rerun-if-env-changed=PLANNER_LIB");
     println!("cargo:rerun-if-changed={folder}/libplanner.a");
     if !Path::new(&folder).join("libplanner.a").exists() {
