@@ -374,9 +374,11 @@ fn odd_names() {
     assert!(!said(&page.stdout).contains("<c>"));
 }
 
-/// The page's script is short, ends nowhere before its end, and makes no HTML of texts; names can't get into it.
+/// The page has the style sheet and the script. The script is short, ends nowhere before its end, and makes no HTML of texts;
+/// names can't get into either.
 #[test]
-fn script() {
+fn style_and_script() {
+    let style = include_str!("../src/page/page.css");
     let script = include_str!("../src/page/page.js");
     assert!(script.lines().count() <= 300);
     for word in
@@ -388,7 +390,7 @@ fn script() {
     let page = fed("page -", text);
     let page = said(&page.stdout);
     assert_eq!(["<script", "</script", "<style", "</style"].map(|tag| page.matches(tag).count()), [1; 4]);
-    assert!(page.contains(&format!("</style>\n<script>\n{script}</script>\n</head>\n")));
+    assert!(page.contains(&format!("<style>\n{style}</style>\n<script>\n{script}</script>\n</head>\n")));
     let none = fed("page -", b"windows a b\nduties x\ndifferent a b\n");
     assert!(!said(&none.stdout).contains("<script"), "nothing to choose from");
 }
