@@ -1,46 +1,44 @@
 /* calls CALL SHEET [BATCHES]: makes one call and writes the block lent, the answer and the output, for callgrind to count and for
  * `calls` to compare, or prints the best time per call of so many batches, in microseconds. Built over libplanner.a, and with
  * -DPLAIN over the shared plain C, whose planner_report returns the report's length. */
-#include <stdio.h>
-#include <stdlib.h>
 #include <string.h>
-#include <time.h>
 
+#include "common.h"
 #ifdef PLAIN
 #include "yardstick-02.h"
 #else
 #include "planner.h"
 #endif
 
-enum { MOST = 65536, PLANS = 4096, NODE_LIMIT = 1000000 };
 static const double BATCH_SECONDS = 0.001;
 
-static uint8_t sheet[MOST], out[PLANNER_REPORT_ROOM], answer[PLANNER_ANSWER_BYTES], pairs[22], block[2];
-static size_t length, pairs_len, block_len;
+static struct file sheet;
+static uint8_t out[PLANNER_REPORT_ROOM], answer[PLANNER_ANSWER_BYTES], pairs[22], block[2];
+static size_t pairs_len, block_len;
 
 static uint32_t question(void) {
-    return planner_question(sheet, length);
+    return planner_question(sheet.bytes, sheet.length);
 }
 
 static uint32_t question_lent(void) {
-    return planner_question_lent(sheet, length, pairs, pairs_len, block, block_len);
+    return planner_question_lent(sheet.bytes, sheet.length, pairs, pairs_len, block, block_len);
 }
 
 static uint32_t run(void) {
-    return planner_run(sheet, length, NODE_LIMIT, out, (size_t)PLANS * sheet[0], answer, sizeof answer);
+    return planner_run(sheet.bytes, sheet.length, NODE_LIMIT, out, (size_t)PLANS * sheet.bytes[0], answer, sizeof answer);
 }
 
 static uint32_t report(void) {
 #ifdef PLAIN
-    return planner_report(sheet, length, out, sizeof out) == 0;
+    return planner_report(sheet.bytes, sheet.length, out, sizeof out) == 0;
 #else
     uint8_t length_written[PLANNER_ANSWER_BYTES];
-    return planner_report(sheet, length, out, sizeof out, length_written, sizeof length_written);
+    return planner_report(sheet.bytes, sheet.length, out, sizeof out, length_written, sizeof length_written);
 #endif
 }
 
 static uint32_t families(void) {
-    return planner_families(sheet, length, pairs, 0, block, 0, NODE_LIMIT, answer, sizeof answer);
+    return planner_families(sheet.bytes, sheet.length, pairs, 0, block, 0, NODE_LIMIT, answer, sizeof answer);
 }
 
 static const struct call {
@@ -57,7 +55,7 @@ static const struct call *named(const char *name) {
 
 /* The windows settled in reverse. */
 static void lend_pairs(void) {
-    for (int place = sheet[0] - 1; place > 0; place--) {
+    for (int place = sheet.bytes[0] - 1; place > 0; place--) {
         pairs[pairs_len++] = (uint8_t)place;
         pairs[pairs_len++] = (uint8_t)(place - 1);
     }
@@ -69,17 +67,11 @@ static void lend_block(void) {
     for (int k = 0; k < 4 * 12; k++) {
         block[0] = (uint8_t)(k % 12);
         block[1] = (uint8_t)(5 - k / 12);
-        if (planner_at_least(sheet, length, pairs, pairs_len, block, sizeof block, 0, 0, answer, sizeof answer) == 0) {
+        if (planner_at_least(sheet.bytes, sheet.length, pairs, pairs_len, block, sizeof block, 0, 0, answer, sizeof answer) == 0) {
             block_len = sizeof block;
             return;
         }
     }
-}
-
-static double seconds(void) {
-    struct timespec now;
-    clock_gettime(CLOCK_PROCESS_CPUTIME_ID, &now);
-    return (double)now.tv_sec + 1e-9 * (double)now.tv_nsec;
 }
 
 static double batch(const struct call *call, long made) {
@@ -109,11 +101,9 @@ static double best(const struct call *call, int batches) {
 }
 
 int main(int count, char **words) {
-    FILE *from = count < 3 ? NULL : fopen(words[2], "rb");
-    if (!from)
+    if (count < 3)
         return 2;
-    length = fread(sheet, 1, MOST, from);
-    fclose(from);
+    read_file(&sheet, words[2]);
     const struct call *call = named(words[1]);
     lend_pairs();
     lend_block();

@@ -1,21 +1,14 @@
 /* desk ROUNDS SHEET ..: up to eight halls at one desk (paper 02, #113), each with an allowance of 1,000,000 and room for 4,096 plans, from
  * sitting down to the end of the last run: by turns one by one and by rounds of 1,024 turns, beside their plain runs one after the other.
  * Prints the trials and the turns in all, then the best time of each, in seconds, of so many rounds of measuring. */
-#include <stdio.h>
-#include <stdlib.h>
 #include <string.h>
-#include <time.h>
 
+#include "common.h"
 #include "planner.h"
 
-enum { MOST = 65536, PLANS = 4096, NODE_LIMIT = 1000000, TURNS_AT_ONCE = 1024 };
+enum { TURNS_AT_ONCE = 1024 };
 
 enum { PLAIN, TURNS, ROUNDS, WAYS };
-
-struct file {
-    uint8_t bytes[MOST];
-    size_t length;
-};
 
 struct figures {
     uint32_t kind, plans, trials;
@@ -27,10 +20,6 @@ static struct figures alone[PLANNER_SEATS];
 static uint32_t turns;
 static uint8_t desk[PLANNER_DESK_BYTES], list[12 * PLANS], answer[PLANNER_ANSWER_BYTES], seat_answer[PLANNER_TURN_BYTES], look_answer[PLANNER_LOOK_BYTES];
 
-static uint32_t number(const uint8_t *bytes) {
-    return bytes[0] | (uint32_t)bytes[1] << 8 | (uint32_t)bytes[2] << 16 | (uint32_t)bytes[3] << 24;
-}
-
 static void done(uint32_t status) {
     if (status != 0)
         exit(1);
@@ -40,7 +29,7 @@ static void run_plain(void) {
     for (int i = 0; i < count; i++) {
         done(planner_run(sheets[i].bytes, sheets[i].length, NODE_LIMIT, list, (size_t)PLANS * sheets[i].bytes[0], answer,
                          sizeof answer));
-        alone[i] = (struct figures){number(answer), number(answer + 4), number(answer + 8)};
+        alone[i] = (struct figures){number(answer, 0), number(answer, 1), number(answer, 2)};
     }
 }
 
@@ -52,12 +41,12 @@ static void run_at_desk(int way) {
     if (way == ROUNDS) {
         do
             done(planner_desk_rounds(desk, sizeof desk, TURNS_AT_ONCE, answer, sizeof answer));
-        while (number(answer + 8) != 0);
+        while (number(answer, 2) != 0);
         return;
     }
     for (;; turns++) {
         done(planner_desk_turn(desk, sizeof desk, seat_answer, sizeof seat_answer));
-        if (number(seat_answer) == PLANNER_NONE)
+        if (number(seat_answer, 0) == PLANNER_NONE)
             return;
     }
 }
@@ -66,16 +55,10 @@ static void run_at_desk(int way) {
 static void compare(void) {
     for (int i = 0; i < count; i++) {
         done(planner_desk_look(desk, sizeof desk, (uint32_t)i, look_answer, sizeof look_answer));
-        const struct figures stands = {number(look_answer), number(look_answer + 8), number(look_answer + 12)};
+        const struct figures stands = {number(look_answer, 0), number(look_answer, 2), number(look_answer, 3)};
         if (memcmp(&stands, &alone[i], sizeof stands) != 0)
             exit(1);
     }
-}
-
-static double seconds(void) {
-    struct timespec now;
-    clock_gettime(CLOCK_PROCESS_CPUTIME_ID, &now);
-    return (double)now.tv_sec + 1e-9 * (double)now.tv_nsec;
 }
 
 static double timed(int way) {
@@ -94,13 +77,8 @@ int main(int words, char **word) {
     count = words - 2;
     if (count < 1 || count > PLANNER_SEATS)
         return 2;
-    for (int i = 0; i < count; i++) {
-        FILE *from = fopen(word[i + 2], "rb");
-        if (!from)
-            return 3;
-        sheets[i].length = fread(sheets[i].bytes, 1, MOST, from);
-        fclose(from);
-    }
+    for (int i = 0; i < count; i++)
+        read_file(&sheets[i], word[i + 2]);
     double best[WAYS];
     uint32_t most = 0, trials = 0;
     for (int round = 0; round < atoi(word[1]); round++)

@@ -3,11 +3,9 @@
  * without exchanges, as planner_run makes it, is taken away. Prints the proved count's time and plain C's over it, with
  * exchanges of windows, which leave few families, and with exchanges of duties in one window each, which leave
  * more. The best of many rounds is taken of each. */
-#include <stdint.h>
-#include <stdio.h>
 #include <string.h>
-#include <time.h>
 
+#include "common.h"
 #include "planner.h"
 
 enum { ROWS = 4096, WIDTH = 12, VALUES = 2, PAIRS = WIDTH * VALUES, OWN = 16, ALL = 136, ROUNDS = 100 };
@@ -15,12 +13,6 @@ enum { ROWS = 4096, WIDTH = 12, VALUES = 2, PAIRS = WIDTH * VALUES, OWN = 16, AL
 static uint8_t rows[ROWS * WIDTH], list[ROWS * WIDTH];
 static uint16_t tables[ALL][PAIRS];
 static const uint8_t none[1], five[2] = {0, 5};
-
-static double seconds(void) {
-    struct timespec now;
-    clock_gettime(CLOCK_PROCESS_CPUTIME_ID, &now);
-    return (double)now.tv_sec + 1e-9 * (double)now.tv_nsec;
-}
 
 static size_t find(const uint8_t *row) {
     size_t low = 0, high = ROWS;
@@ -107,8 +99,6 @@ static size_t make(uint8_t *sheet, unsigned exchanges) {
     return at;
 }
 
-static uint32_t number(const uint8_t *bytes) { return bytes[0] | (uint32_t)bytes[1] << 8; }
-
 static double compare(int windows, size_t exchanges) {
     static uint8_t sheet[1024], bare[64];
     uint8_t answer[PLANNER_ANSWER_BYTES];
@@ -121,15 +111,15 @@ static double compare(int windows, size_t exchanges) {
         double start = seconds();
         count = plain(exchanges);
         double middle = seconds();
-        planner_run(bare, bare_length, 1000000, list, sizeof list, answer, sizeof answer);
+        planner_run(bare, bare_length, NODE_LIMIT, list, sizeof list, answer, sizeof answer);
         double later = seconds();
-        planner_families(sheet, length, none, 0, five, exchanges > OWN ? 2 : 0, 1000000, answer, sizeof answer);
+        planner_families(sheet, length, none, 0, five, exchanges > OWN ? 2 : 0, NODE_LIMIT, answer, sizeof answer);
         double end = seconds();
         best = middle - start < best ? middle - start : best;
         run = later - middle < run ? later - middle : run;
         whole = end - later < whole ? end - later : whole;
     }
-    if (number(answer) != PLANNER_COUNTED || number(answer + 4) != count)
+    if (number(answer, 0) != PLANNER_COUNTED || number(answer, 1) != count)
         return -1;
     double proved = whole - run;
     printf("%zu families of 4096 plans by %zu exchanges: %.2f ms, plain C / proved: %.2f\n", count, exchanges, 1e3 * proved,

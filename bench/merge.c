@@ -1,22 +1,14 @@
 /* One list from two (paper 02, #106) beside a plain C merge with memcmp that puts the same questions: two lists of
  * 4,096 rows of 12 bytes, half of the rows in both. Prints plain C's time over the proved function's, without pairs
  * and with them: 2.0 is twice as fast as plain C. The best of many rounds is taken of each. */
-#include <stdio.h>
-#include <stdlib.h>
 #include <string.h>
-#include <time.h>
 
+#include "common.h"
 #include "planner.h"
 
 enum { ROWS = 4096, WIDTH = 12, BYTES = ROWS * WIDTH, ROUNDS = 400 };
 
 static uint8_t first[BYTES], second[BYTES], out[2 * BYTES], expected[2 * BYTES];
-
-static double seconds(void) {
-    struct timespec now;
-    clock_gettime(CLOCK_PROCESS_CPUTIME_ID, &now);
-    return (double)now.tv_sec + 1e-9 * (double)now.tv_nsec;
-}
 
 static int ascends(const uint8_t *list, size_t length) {
     for (size_t i = WIDTH; i < length; i += WIDTH)

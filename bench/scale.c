@@ -1,12 +1,13 @@
 /* scale SHEET: runs the ranges of standard input, a line FROM UPTO each as `sheet split` prints them, and prints the trials of each. */
-#include "planner.h"
-#include <stdio.h>
-#include <stdlib.h>
 #include <string.h>
+
+#include "common.h"
+#include "planner.h"
 
 #define LIST_BYTES (12u << 20)
 
-static uint8_t sheet[65536], list[LIST_BYTES];
+static struct file sheet;
+static uint8_t list[LIST_BYTES];
 
 static void fail(const char *what)
 {
@@ -31,25 +32,18 @@ static size_t path(char *word, uint8_t *values)
     return length;
 }
 
-static uint32_t number(const uint8_t *answer, int i)
-{
-    answer += 4 * i;
-    return answer[0] | (uint32_t)answer[1] << 8 | (uint32_t)answer[2] << 16 | (uint32_t)answer[3] << 24;
-}
-
 int main(int argc, char **argv)
 {
-    FILE *file = argc == 2 ? fopen(argv[1], "rb") : NULL;
-    if (!file) {
+    if (argc != 2) {
         fail("takes a sheet");
     }
-    size_t length = fread(sheet, 1, sizeof sheet, file);
+    read_file(&sheet, argv[1]);
     char from_word[64], upto_word[64];
     uint8_t from[12], upto[12], answer[PLANNER_PART_BYTES];
     while (scanf("%63s %63s", from_word, upto_word) == 2) {
         size_t from_length = path(from_word, from), upto_length = path(upto_word, upto);
-        if (planner_run_part(sheet, length, NULL, 0, NULL, 0, from, from_length, upto, upto_length, UINT32_MAX, list, sizeof list,
-                             answer, sizeof answer)) {
+        if (planner_run_part(sheet.bytes, sheet.length, sheet.bytes, 0, sheet.bytes, 0, from, from_length, upto, upto_length, UINT32_MAX,
+                             list, sizeof list, answer, sizeof answer)) {
             fail("refused");
         }
         if (number(answer, 0) != PLANNER_FINISHED) {
