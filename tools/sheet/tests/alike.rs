@@ -8,11 +8,11 @@ use sheet::parse::parse;
 use sheet::runner::Manner;
 use sheet::watch::Watch;
 use sheets::Rng;
-use std::path::PathBuf;
-use std::process::{Command, Output};
 
 mod common;
+mod program;
 use common::enumerated;
+use program::{ended, folder, sheet};
 
 const ALL: Limits = Limits { trials: u32::MAX, plans: 10_000, first: false };
 
@@ -97,20 +97,6 @@ fn many_rules() {
     }
 }
 
-fn sheet(words: &[&str]) -> Output {
-    Command::new(env!("CARGO_BIN_EXE_sheet")).args(words).output().unwrap()
-}
-
-fn said(output: &Output) -> (Option<i32>, &str) {
-    (output.status.code(), std::str::from_utf8(&output.stderr).unwrap())
-}
-
-fn folder(name: &str) -> PathBuf {
-    let folder = PathBuf::from(env!("CARGO_TARGET_TMPDIR")).join(name);
-    std::fs::create_dir_all(&folder).unwrap();
-    folder
-}
-
 #[test]
 fn a_file_of_a_block() {
     let folder = folder("block");
@@ -119,21 +105,21 @@ fn a_file_of_a_block() {
     std::fs::write(&text, format!("{LINES}alike b c d e\nbefore e b\n")).unwrap();
     let made = sheet(&["make", &text, "--block", &block]);
     let note = "the sheet doesn't hold the `before` lines; --pairs FILE writes them beside it\n";
-    assert_eq!(said(&made), (Some(0), note));
+    assert_eq!(ended(&made), (Some(0), note));
     assert_eq!(std::fs::read(&block).unwrap(), [1, 4]);
     let without = sheet(&["make", &text]);
     let left_out =
         format!("{note}the sheet doesn't hold the `alike` line; --block FILE writes it beside it\n");
-    assert_eq!((said(&without), &without.stdout), ((Some(0), &left_out[..]), &made.stdout));
+    assert_eq!((ended(&without), &without.stdout), ((Some(0), &left_out[..]), &made.stdout));
     std::fs::write(&hall, made.stdout).unwrap();
     std::fs::write(&text, format!("{LINES}alike b c d e\n")).unwrap();
     let [of_text, of_sheet] =
         [sheet(&["plans", "--rows", &text]), sheet(&["plans", "--rows", &hall, "--block", &block])];
-    assert_eq!((said(&of_text), &of_text.stdout), (said(&of_sheet), &of_sheet.stdout));
+    assert_eq!((ended(&of_text), &of_text.stdout), (ended(&of_sheet), &of_sheet.stdout));
     assert!(of_text.stdout.len() < sheet(&["plans", "--rows", &hall]).stdout.len());
     let output = sheet(&["plans", &text, "--block", &block]);
     assert_eq!(
-        said(&output),
+        ended(&output),
         (Some(1), &format!("{text} has an `alike` line, and so takes no --block\n")[..])
     );
 }
@@ -160,7 +146,7 @@ fn files_refused() {
         std::fs::write(&block, bytes).unwrap();
         for command in ["plans", "why", "page"] {
             let output = sheet(&[command, &text, "--block", &block]);
-            assert_eq!(said(&output), (Some(1), &format!("{block}: {words}\n")[..]));
+            assert_eq!(ended(&output), (Some(1), &format!("{block}: {words}\n")[..]));
         }
     }
 }

@@ -7,7 +7,7 @@ use std::path::Path;
 use std::process::{Command, Output, Stdio};
 
 mod program;
-use program::root;
+use program::{root, said};
 
 /// The program at the repository's root, with words parted by spaces.
 fn sheet(words: &str) -> Command {
@@ -23,10 +23,6 @@ fn output(words: &str) -> Output {
 /// What the program prints for a text on standard input.
 fn fed(words: &str, input: &[u8]) -> Output {
     program::fed(&words.split(' ').collect::<Vec<_>>(), input)
-}
-
-fn said(bytes: &[u8]) -> &str {
-    std::str::from_utf8(bytes).unwrap()
 }
 
 /// Status, standard output and standard error.

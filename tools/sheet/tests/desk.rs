@@ -6,16 +6,12 @@ use std::process::Output;
 
 mod program;
 mod schema;
-use program::{fed, root};
+use program::{fed, root, said};
 use schema::{field, members, parse, Schema};
 
 /// The program with words parted by spaces.
 fn sheet(words: &str) -> Output {
     fed(&words.split_whitespace().collect::<Vec<_>>(), b"")
-}
-
-fn said(bytes: &[u8]) -> &str {
-    std::str::from_utf8(bytes).unwrap()
 }
 
 /// Writes a text of a test, and gives its name.

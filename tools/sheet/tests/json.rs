@@ -5,7 +5,7 @@ use std::process::Output;
 
 mod program;
 mod schema;
-use program::{fed, root};
+use program::{fed, root, said};
 use schema::{field, members, parse, Schema};
 
 fn schema() -> Schema {
@@ -16,10 +16,6 @@ fn schema() -> Schema {
 /// The program with words parted by spaces and a text on standard input.
 fn sheet(words: &str, text: &str) -> Output {
     fed(&words.split(' ').collect::<Vec<_>>(), text.as_bytes())
-}
-
-fn said(bytes: &[u8]) -> &str {
-    std::str::from_utf8(bytes).unwrap()
 }
 
 /// What the program answers, right by a definition of the schema and by the whole of it; its status is the answer's.

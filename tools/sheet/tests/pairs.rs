@@ -9,11 +9,11 @@ use sheet::parse::parse;
 use sheet::runner::Manner;
 use sheet::watch::Watch;
 use sheets::Rng;
-use std::path::PathBuf;
-use std::process::{Command, Output};
 
 mod common;
+mod program;
 use common::enumerated;
+use program::{ended, folder, said, sheet};
 
 const TEXT: &str =
     "windows a b c\nduties x y\ndifferent a c\nbefore c a\nexchange windows a c\nbefore b a\nbefore c a\n";
@@ -72,21 +72,6 @@ fn orders_and_circles() {
     assert!(rounds > 200, "{rounds}");
 }
 
-fn sheet(words: &[&str]) -> Output {
-    Command::new(env!("CARGO_BIN_EXE_sheet")).args(words).output().unwrap()
-}
-
-fn said(output: &Output) -> (Option<i32>, &str) {
-    (output.status.code(), std::str::from_utf8(&output.stderr).unwrap())
-}
-
-/// A folder of its own for a test's files.
-fn folder(name: &str) -> PathBuf {
-    let folder = PathBuf::from(env!("CARGO_TARGET_TMPDIR")).join(name);
-    std::fs::create_dir_all(&folder).unwrap();
-    folder
-}
-
 #[test]
 fn a_file_of_pairs() {
     let folder = folder("file");
@@ -94,16 +79,16 @@ fn a_file_of_pairs() {
         ["hall.txt", "hall.pairs"].map(|name| folder.join(name).to_str().unwrap().to_string());
     std::fs::write(&text, TEXT).unwrap();
     let made = sheet(&["make", &text, "--pairs", &pairs]);
-    assert_eq!((said(&made), &made.stdout), ((Some(0), ""), &make(TEXT).unwrap().sheet));
+    assert_eq!((ended(&made), &made.stdout), ((Some(0), ""), &make(TEXT).unwrap().sheet));
     assert_eq!(std::fs::read(&pairs).unwrap(), [2, 0, 1, 0, 2, 0]);
     let without = sheet(&["make", &text]);
     let note = "the sheet doesn't hold the `before` lines; --pairs FILE writes them beside it\n";
-    assert_eq!((said(&without), without.stdout.clone()), ((Some(0), note), made.stdout));
+    assert_eq!((ended(&without), without.stdout.clone()), ((Some(0), note), made.stdout));
     let none = sheet(&["make", &text, "--pairs=/none/hall.pairs"]);
     let error = "/none/hall.pairs: No such file or directory (os error 2)\n";
-    assert_eq!((said(&none), none.stdout.len()), ((Some(3), error), 0));
+    assert_eq!((ended(&none), none.stdout.len()), ((Some(3), error), 0));
     std::fs::write(&text, "windows a b\nduties x y\n").unwrap();
-    assert_eq!(said(&sheet(&["make", &text, "--pairs", &pairs])), (Some(0), ""));
+    assert_eq!(ended(&sheet(&["make", &text, "--pairs", &pairs])), (Some(0), ""));
     assert!(std::fs::read(&pairs).unwrap().is_empty());
 }
 
@@ -124,15 +109,15 @@ fn files_refused() {
         std::fs::write(&pairs, bytes).unwrap();
         for command in ["plans", "why", "page"] {
             let output = sheet(&[command, &text, "--pairs", &pairs]);
-            assert_eq!(said(&output), (Some(1), &format!("{pairs}: {words}\n")[..]));
+            assert_eq!(ended(&output), (Some(1), &format!("{pairs}: {words}\n")[..]));
         }
     }
     let output = sheet(&["plans", &text, "--pairs", "none.pairs"]);
-    assert_eq!(said(&output), (Some(3), "none.pairs: No such file or directory (os error 2)\n"));
+    assert_eq!(ended(&output), (Some(3), "none.pairs: No such file or directory (os error 2)\n"));
     std::fs::write(&text, TEXT).unwrap();
     let output = sheet(&["plans", &text, "--pairs", &pairs]);
     assert_eq!(
-        said(&output),
+        ended(&output),
         (Some(1), &format!("{text} has `before` lines, and so takes no --pairs\n")[..])
     );
 }
@@ -178,17 +163,13 @@ fn a_sheet_with_its_pairs() {
     std::fs::write(&hall, sheet(&["make", &text, "--pairs", &pairs]).stdout).unwrap();
     let [of_text, of_sheet] =
         [sheet(&["plans", "--rows", &text]), sheet(&["plans", "--rows", &hall, "--pairs", &pairs])];
-    assert_eq!((said(&of_text), &of_text.stdout), (said(&of_sheet), &of_sheet.stdout));
+    assert_eq!((ended(&of_text), &of_text.stdout), (ended(&of_sheet), &of_sheet.stdout));
     let without = sheet(&["plans", "--rows", &hall]);
     assert!(of_text.stdout != without.stdout);
     let table = sheet(&["plans", &hall, "--pairs", &pairs]);
-    assert!(said_out(&table).ends_with("(windows settled in the order w1 w2 w0)\n"));
+    assert!(said(&table.stdout).ends_with("(windows settled in the order w1 w2 w0)\n"));
     let why = sheet(&["why", &hall, "--pairs", &pairs]);
-    assert!(said_out(&why).starts_with("there is a plan:\n\nw0  w1  w2\n"));
+    assert!(said(&why.stdout).starts_with("there is a plan:\n\nw0  w1  w2\n"));
     let page = sheet(&["page", &hall, "--pairs", &pairs]);
-    assert!(said_out(&page).contains("Read in the order in which windows are settled: w1, w2, w0."));
-}
-
-fn said_out(output: &Output) -> &str {
-    std::str::from_utf8(&output.stdout).unwrap()
+    assert!(said(&page.stdout).contains("Read in the order in which windows are settled: w1, w2, w0."));
 }

@@ -23,19 +23,10 @@ const TEXTS: [&str; 9] = [
     "tools/sheet/tests/golden/order.txt",
 ];
 
+mod program;
 mod schema;
+use program::{root, said, sheet};
 use schema::{field, members, parse, Schema};
-
-/// Where the program is run: at the repository's root.
-const ROOT: &str = concat!(env!("CARGO_MANIFEST_DIR"), "/../..");
-
-fn sheet(words: &[&str]) -> Output {
-    Command::new(env!("CARGO_BIN_EXE_sheet")).current_dir(ROOT).args(words).output().unwrap()
-}
-
-fn said(bytes: &[u8]) -> &str {
-    std::str::from_utf8(bytes).unwrap()
-}
 
 fn is_silent(output: Output) {
     assert_eq!(said(&output.stderr), "");
@@ -222,7 +213,7 @@ fn missing_parts() {
     let lines = said(&short.stderr);
     assert_eq!(lines.lines().count(), 3, "{lines}");
     assert!(lines.lines().all(|line| line.contains(" part --range ")), "{lines}");
-    let shell = Command::new("sh").current_dir(ROOT).args(["-c", lines]).output().unwrap();
+    let shell = Command::new("sh").current_dir(root()).args(["-c", lines]).output().unwrap();
     is_silent(shell);
     files = folder.files().iter().map(|name| folder.file(name)).collect();
     assert_eq!(files.len(), 8);
@@ -242,7 +233,7 @@ fn missing_parts_as_json() {
     assert_eq!(short.status.code(), Some(2));
     assert_eq!(said(&short.stderr).lines().count(), 3);
     let answer = parse(said(&short.stdout)).unwrap();
-    let schema = fs::read_to_string(Path::new(ROOT).join("docs/schema/sheet.json")).unwrap();
+    let schema = fs::read_to_string(root().join("docs/schema/sheet.json")).unwrap();
     let schema = Schema(parse(&schema).unwrap());
     assert_eq!((schema.wrong("missing", &answer), schema.wrong_in_all(&answer)), (None, None));
     assert_eq!(members(field(&answer, "missing").unwrap()).len(), 2);
@@ -283,7 +274,7 @@ fn stopped_parts() {
     assert!(said(&short.stderr).starts_with("stopped short: start end, come to "), "{}", said(&short.stderr));
     let missing = join(text, &[file.clone()]);
     assert_eq!((missing.status.code(), said(&missing.stderr).lines().count()), (Some(2), 1));
-    is_silent(Command::new("sh").current_dir(ROOT).args(["-c", said(&missing.stderr)]).output().unwrap());
+    is_silent(Command::new("sh").current_dir(root()).args(["-c", said(&missing.stderr)]).output().unwrap());
     let gap = folder.files().into_iter().find(|name| name != "1.part").unwrap();
     is_whole(text, &[folder.file(gap), file.clone()]);
     assert_eq!(sheet(&words).status.code(), Some(2));
@@ -432,7 +423,7 @@ fn no_half_result() {
     let part = |before: &str| {
         let words =
             format!("{before} '{}' part --part 1/1 --out '{file}' {text}", env!("CARGO_BIN_EXE_sheet"));
-        Command::new("sh").current_dir(ROOT).args(["-c", &words]).output().unwrap()
+        Command::new("sh").current_dir(root()).args(["-c", &words]).output().unwrap()
     };
     // a file of at most 512 bytes: writing more fails, or kills the program where that isn't ignored
     let full = part("trap '' XFSZ; ulimit -f 1;");

@@ -5,21 +5,17 @@ use std::io::{BufRead, BufReader, Read};
 use std::path::PathBuf;
 use std::process::{Child, Command, Output, Stdio};
 
-/// Where the program is run: at the repository's root.
-const ROOT: &str = concat!(env!("CARGO_MANIFEST_DIR"), "/../..");
+mod program;
+use program::{root, said};
 
 fn sheet(words: &[&str]) -> Command {
     let mut command = Command::new(env!("CARGO_BIN_EXE_sheet"));
-    command.current_dir(ROOT).args(words).stdin(Stdio::null());
+    command.current_dir(root()).args(words).stdin(Stdio::null());
     command
 }
 
 fn output(words: &[&str]) -> Output {
     sheet(words).output().unwrap()
-}
-
-fn said(bytes: &[u8]) -> &str {
-    std::str::from_utf8(bytes).unwrap()
 }
 
 /// A hall in a file of its own: with four windows before its last seven it has a hundred million trials and 60,000 plans, with three a
@@ -59,7 +55,7 @@ const HEARS: [&str; 2] = ["--default-signal=INT,TERM", env!("CARGO_BIN_EXE_sheet
 /// Starts a run that says how far it has come, and sends it a signal once it has said so: what it answers, and the lines that it said.
 fn signalled(words: &[&str], signal: &str) -> (Output, Vec<String>) {
     let mut command = Command::new("env");
-    command.current_dir(ROOT).args(HEARS).args(words).args(["--every", "0"]).stdin(Stdio::null());
+    command.current_dir(root()).args(HEARS).args(words).args(["--every", "0"]).stdin(Stdio::null());
     let mut run = command.stdout(Stdio::piped()).stderr(Stdio::piped()).spawn().unwrap();
     let mut errors = BufReader::new(run.stderr.take().unwrap());
     let mut line = String::new();
