@@ -23,15 +23,6 @@ static uint32_t call(int which) {
                             (size_t)PLANS * sheet.bytes[0], answer, sizeof answer);
 }
 
-static double timed(int which) {
-    int repeat = which < KINDS ? 1 : REPEAT;
-    double start = seconds();
-    for (int i = 0; i < repeat; i++)
-        if (call(which) != 0)
-            exit(1);
-    return (seconds() - start) / repeat;
-}
-
 int main(int count, char **words) {
     if (count != 6)
         return 2;
@@ -43,13 +34,11 @@ int main(int count, char **words) {
     uint32_t made[CALLS];
     for (int round = 0; round < atoi(words[5]); round++)
         for (int which = 0; which < CALLS; which++) {
-            double took = timed(which);
+            double took = timed(call, which, which < KINDS ? 1 : REPEAT);
             best[which] = round == 0 || took < best[which] ? took : best[which];
             made[which] = number(answer, 2);
         }
     printf("%u %u %u", made[ALONE], made[BLOCK], made[TYPED]);
-    for (int which = 0; which < CALLS; which++)
-        printf(" %.9f", best[which]);
-    printf("\n");
+    print_times(best, CALLS);
     return 0;
 }

@@ -36,4 +36,20 @@ static inline uint32_t number(const uint8_t *answer, int i) {
     return at[0] | (uint32_t)at[1] << 8 | (uint32_t)at[2] << 16 | (uint32_t)at[3] << 24;
 }
 
+/* The time of a call, made so many times. */
+static inline double timed(uint32_t (*call)(int), int which, int repeat) {
+    double start = seconds();
+    for (int i = 0; i < repeat; i++)
+        if (call(which) != 0)
+            exit(1);
+    return (seconds() - start) / repeat;
+}
+
+/* Prints some times, in seconds, and ends the line. */
+static inline void print_times(const double *times, int count) {
+    for (int i = 0; i < count; i++)
+        printf(" %.9f", times[i]);
+    printf("\n");
+}
+
 #endif

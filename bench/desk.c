@@ -61,7 +61,7 @@ static void compare(void) {
     }
 }
 
-static double timed(int way) {
+static double timed_way(int way) {
     double start = seconds();
     if (way == PLAIN)
         run_plain();
@@ -83,15 +83,13 @@ int main(int words, char **word) {
     uint32_t most = 0, trials = 0;
     for (int round = 0; round < atoi(word[1]); round++)
         for (int way = 0; way < WAYS; way++) {
-            double took = timed(way);
+            double took = timed_way(way);
             best[way] = round == 0 || took < best[way] ? took : best[way];
             most = turns > most ? turns : most;
         }
     for (int i = 0; i < count; i++)
         trials += alone[i].trials;
     printf("%u %u", trials, most);
-    for (int way = 0; way < WAYS; way++)
-        printf(" %.9f", best[way]);
-    printf("\n");
+    print_times(best, WAYS);
     return 0;
 }

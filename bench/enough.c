@@ -20,7 +20,7 @@ static uint32_t call(int which) {
                        answer, sizeof answer);
 }
 
-static double timed(int which) {
+static double repeated(int which) {
     int made = 0;
     double start = seconds(), took;
     do {
@@ -42,14 +42,12 @@ int main(int count, char **words) {
     double best[CALLS];
     for (int round = 0; round < atoi(words[2]); round++)
         for (int which = 0; which < CALLS; which++) {
-            double took = timed(which);
+            double took = repeated(which);
             best[which] = round == 0 || took < best[which] ? took : best[which];
             if (which == STOPPED && number(answer, 2) != trials)
                 return 1;
         }
     printf("%u %u %u", trials, number(answer, 2), number(answer, 1));
-    for (int which = 0; which < CALLS; which++)
-        printf(" %.9f", best[which]);
-    printf("\n");
+    print_times(best, CALLS);
     return 0;
 }

@@ -24,15 +24,6 @@ static uint32_t call(int which) {
                             which < EMPTY_NO_TRIAL ? NODE_LIMIT : 0, list, room, answer, sizeof answer);
 }
 
-static double timed(int which) {
-    int repeat = which < EMPTY_NO_TRIAL ? 1 : REPEAT;
-    double start = seconds();
-    for (int i = 0; i < repeat; i++)
-        if (call(which) != 0)
-            exit(1);
-    return (seconds() - start) / repeat;
-}
-
 int main(int count, char **words) {
     if (count != 5)
         return 2;
@@ -43,15 +34,13 @@ int main(int count, char **words) {
     uint32_t made[CALLS];
     for (int round = 0; round < atoi(words[4]); round++)
         for (int which = 0; which < CALLS; which++) {
-            double took = timed(which);
+            double took = timed(call, which, which < EMPTY_NO_TRIAL ? 1 : REPEAT);
             best[which] = round == 0 || took < best[which] ? took : best[which];
             made[which] = number(answer, 2);
         }
     if (made[PLAIN] != made[EMPTY] || made[TYPED] != made[PAIRS])
         return 1;
     printf("%u %u", made[PLAIN], made[PAIRS]);
-    for (int which = 0; which < CALLS; which++)
-        printf(" %.9f", best[which]);
-    printf("\n");
+    print_times(best, CALLS);
     return 0;
 }
