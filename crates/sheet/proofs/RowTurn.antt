@@ -2,9 +2,9 @@
 use mathlib.Core.Path.{_≡_, refl, sym, ap, ap₂, _∙_, subst}
 use mathlib.Core.Bool.{Bool, true, false}
 use mathlib.Core.List.{List}
-use Prim.Native.Nat.{ℕ, zero, suc, _+_, _*_, _^_, _≤_, _<_}
+use Prim.Native.Nat.{ℕ, zero, suc, _+_, _*_, _≤_, _<_}
 use native.Mathlib.Omega.{arith}
-use native.Mathlib.Nat.{not-suc-le-zero, pow-suc, mul-le-mul-right, suc-mul}
+use native.Mathlib.Nat.{not-suc-le-zero, mul-le-mul-right, suc-mul}
 use native.Mathlib.Numerals.{add-one}
 use lib.Dec.{T, ltb, ltb→lt, lt→ltb, eqb}
 use borrow.Author.Tests.{eqb-true, eqb-false}
@@ -14,52 +14,55 @@ use Rattle.sheet.specs.Fill.{keyTo, rowKey, rowFits, leastKey, order, wi
 use Rattle.sheet.proofs.Words.{words-all-i, words-all-e}
 
 -- ---- one row
--- the key of the first i values, which are below d
-pub record KeyTo (b : List ℕ) (o d i key : ℕ) : Type 0 where
-  pub value : key ≡ keyTo b o i
-  pub small : key < 16 ^ i
-  pub fits : (j : ℕ) → j < i → word b (o + 2 * j) < d
+-- as the code reads it: a values, each below d
+row-good : (b : List ℕ) (o a d key n : ℕ) → a ≡ n → key < 4096 → key ≡ keyTo b o n → ((j : ℕ) → j < n → word b (o + 2 * j) < d) → RowRead b o a d key
+row-good b o a d key n e l k f =
+    subst (λ (m : ℕ). RowRead b o m d key) (sym e)
+    (record { good = λ _. (k, words-all-i (λ w. ltb w d) b o n (λ j h. lt→ltb (word b (o + 2 * j)) d (f j h))); bad = λ h. absurd (omega arith) })
 
-pub key-none : (b : List ℕ) (o d : ℕ) → KeyTo b o d 0 0
-unfolding keyTo
-key-none b o d = record { value = refl; small = omega arith; fits = λ j l. absurd (not-suc-le-zero l) }
+module _ (b : List ℕ) (o a d : ℕ) (small : d ≤ 16) (v : ℕ) (lv : v < d) (ev : v ≡ word b o) where
+  first : word b (o + 2 * 0) ≡ v
+  first = ap (word b) (let e : o + 2 * 0 ≡ o = omega arith in e) ∙ sym ev
 
-pub key-more : (b : List ℕ) (o d i key v : ℕ) → d ≤ 16 → v < d → v ≡ word b (o + 2 * i) → KeyTo b o d i key → KeyTo b o d (i + 1) (16 * key + v)
-unfolding keyTo
-key-more b o d i key v l m e k =
-    record {
-      value = ap₂ (λ (x y : ℕ). 16 * x + y) (k .value) e ∙ ap (keyTo b o) (sym (add-one i));
-      small = subst (λ (n : ℕ). 16 * key + v < n) (sym (ap (λ (n : ℕ). 16 ^ n) (add-one i) ∙ pow-suc 16 i)) (omega (arith, k .small));
-      fits = λ j h. below j h (eqb j i) refl;
-    }
-  where
-    below : (j : ℕ) → j < i + 1 → (t : Bool) → eqb j i ≡ t → word b (o + 2 * j) < d
-    below j h true q = subst (λ (n : ℕ). n < d) (e ∙ ap (λ (n : ℕ). word b (o + 2 * n)) (sym (eqb-true j i q))) m
-    below j h false q = let n : j ≡ i → ⊥ = eqb-false j i q in k .fits j (omega arith)
+  pub key-one : a ≡ 1 → RowRead b o a d v
+  unfolding keyTo
+  key-one e = row-good b o a d v 1 e (omega arith) (omega (arith, first)) fits
+    where
+      fits : (j : ℕ) → j < 1 → word b (o + 2 * j) < d
+      fits zero h = omega (arith, first)
+      fits (suc j) h = absurd (omega arith)
 
-three : (a : ℕ) → a ≤ 3 → 16 ^ a ≤ 4096
-three zero h = omega arith
-three (suc zero) h = omega arith
-three (suc (suc zero)) h = omega arith
-three (suc (suc (suc zero))) h = omega arith
-three (suc (suc (suc (suc a)))) h = absurd (omega arith)
+  module _ (w : ℕ) (lw : w < d) (ew : w ≡ word b (o + 2)) where
+    second : word b (o + 2 * 1) ≡ w
+    second = sym ew
 
-pub key-small : (b : List ℕ) (o d i key : ℕ) → i ≤ 3 → KeyTo b o d i key → key < 4096
-key-small b o d i key l k = let q : 16 ^ i ≤ 4096 = three i l in omega (arith, k .small)
+    pub key-two : a ≡ 2 → RowRead b o a d (16 * v + w)
+    unfolding keyTo
+    key-two e = row-good b o a d (16 * v + w) 2 e (omega arith) (omega (arith, first, second)) fits
+      where
+        fits : (j : ℕ) → j < 2 → word b (o + 2 * j) < d
+        fits zero h = omega (arith, first)
+        fits (suc zero) h = omega (arith, second)
+        fits (suc (suc j)) h = absurd (omega arith)
 
-pub key-end : (b : List ℕ) (o a d i key : ℕ) → a ≤ 3 → a ≤ i → i ≤ a → KeyTo b o d i key → RowRead b o a d key
-key-end b o a d i key l m n k =
-    let e : i ≡ a = omega arith in
-    record {
-      good = λ h. (k .value ∙ ap (keyTo b o) e, words-all-i (λ w. ltb w d) b o a (λ j q. lt→ltb (word b (o + 2 * j)) d (k .fits j (omega arith))));
-      bad = λ h. absurd (let q : 16 ^ i ≤ 4096 = three i (omega arith) in omega (arith, k .small));
-    }
+    pub key-three : (u : ℕ) → u < d → u ≡ word b (o + 4) → a ≡ 3 → RowRead b o a d (16 * (16 * v + w) + u)
+    unfolding keyTo
+    key-three u lu eu e = row-good b o a d (16 * (16 * v + w) + u) 3 e (omega arith) (omega (arith, first, second, third)) fits
+      where
+        third : word b (o + 2 * 2) ≡ u
+        third = sym eu
 
-pub key-bad : (b : List ℕ) (o a d i v : ℕ) → i < a → d ≤ v → v ≡ word b (o + 2 * i) → RowRead b o a d 4096
-key-bad b o a d i v l m e =
+        fits : (j : ℕ) → j < 3 → word b (o + 2 * j) < d
+        fits zero h = omega (arith, first)
+        fits (suc zero) h = omega (arith, second)
+        fits (suc (suc zero)) h = omega (arith, third)
+        fits (suc (suc (suc j))) h = absurd (omega arith)
+
+pub key-bad : (b : List ℕ) (o a d i v from : ℕ) → i < a → d ≤ v → from ≡ o + 2 * i → v ≡ word b from → RowRead b o a d 4096
+key-bad b o a d i v from l m f e =
     record {
       good = λ h. absurd (omega arith);
-      bad = λ h t. let q : word b (o + 2 * i) < d = ltb→lt (word b (o + 2 * i)) d (words-all-e (λ w. ltb w d) b o a t i l) in omega arith;
+      bad = λ h t. let q : word b (o + 2 * i) < d = ltb→lt (word b (o + 2 * i)) d (words-all-e (λ w. ltb w d) b o a t i l) in omega (arith, ap (word b) f);
     }
 
 -- ---- the rows

@@ -13,20 +13,28 @@ ghost use Rattle.arrays.specs.Places.{SUPPORTS};
 // The row of a values at an offset as one number, a hexadecimal digit for each value; 4096 where one is not below d.
 // Rows in their order have keys in theirs.
 fn key(sheet: &[u8], o: usize, a: usize, d: usize) -> usize
-    requires { ⌜ (a ≤ 3) × (d ≤ 16) × (o + 2 * a ≤ length (now sheet)) ⌝ }
+    requires { ⌜ (1 ≤ a) × (a ≤ 3) × (d ≤ 16) × (o + 2 * a ≤ length (now sheet)) ⌝ }
     ensures { λ r. ⌜ RowRead (now (sheet .entry)) o a d r ⌝ }
 {
-    let mut key = 0;
-    let mut i = 0;
-    while i < a {
-        let v = read_word(sheet, o + 2 * i);
-        if d <= v {
-            return 4096;
-        }
-        key = 16 * key + v;
-        i += 1;
+    let v = read_word(sheet, o);
+    if d <= v {
+        return 4096;
     }
-    key
+    if a == 1 {
+        return v;
+    }
+    let w = read_word(sheet, o + 2);
+    if d <= w {
+        return 4096;
+    }
+    if a == 2 {
+        return 16 * v + w;
+    }
+    let u = read_word(sheet, o + 4);
+    if d <= u {
+        return 4096;
+    }
+    16 * (16 * v + w) + u
 }
 
 // 13 where a key is below the least that it may be.

@@ -21,7 +21,9 @@ loop-holds c = (omega arith, rows-none _ _ _ _ _ _)
 
 -- src/rows.rt:63:13
 key-requires : tie.Need-key-requires Inv-loop μ-loop
-key-requires c κs = (c .before .before .before .pre .1, c .before .before .before .pre .3, omega (arith, room (c .before .loop .i) (c .before .before .before .args .n) (c .before .before .before .args .a) (c .loop-test .taken), c .before .loop .inv .1 .here, c .before .before .before .pre .4))
+key-requires c κs =
+    let s = c .before .before .before in
+    (s .pre .0, s .pre .1, s .pre .3, omega (arith, room (c .before .loop .i) (s .args .n) (s .args .a) (c .loop-test .taken), c .before .loop .inv .1 .here, s .pre .4))
 
 -- src/rows.rt:65:13
 returns : tie.Need-returns Inv-loop μ-loop
