@@ -2,20 +2,16 @@
 use mathlib.Core.Path.{_≡_, refl, sym, ap, ap₂, _∙_}
 use mathlib.Core.Bool.{Bool, true, false}
 use mathlib.Core.List.{List, []}
-use Prim.Native.Nat.{ℕ, _*_, _/_, _%_, _<_}
-use native.Mathlib.Omega.{arith}
-use lib.Dec.{T, eqb}
+use Prim.Native.Nat.{ℕ}
+use lib.Dec.{T}
 use Rattle.model.specs.Lists.{all, at, below, both}
 use Rattle.model.specs.ValueSets.{members}
-use Rattle.model.specs.Problem.{Problem, isPair, respects}
-use Rattle.model.specs.Sheet.{permutesPairs, distinct}
-use Rattle.model.proofs.Lists.{T-of, both-r}
-use Rattle.model.proofs.Counting.{distinct-at}
-use Rattle.arrays.specs.Layout.{pairCode}
+use Rattle.model.specs.Problem.{Problem, respects}
+use Rattle.model.specs.Sheet.{permutesPairs}
+use Rattle.model.proofs.Lists.{T-of}
 use Rattle.sheet_symmetries.specs.Table.{TableAt, Asked, tableOf, answerOf, tableAnswer}
-use Rattle.sheet_symmetries.specs.Forbidden.{Decoded, Coded, Apart, Moved, Lent, keeps, doublings}
-use Rattle.sheet_symmetries.proofs.Codes.{decoded-coded, code-inj, div-small, mod-small, pair-of}
-use Rattle.sheet_symmetries.proofs.Scans.{table-length}
+use Rattle.sheet_symmetries.specs.Forbidden.{Decoded, Coded, Moved, Lent, keeps, doublings}
+use Rattle.sheet_symmetries.proofs.Codes.{decoded-coded}
 use Rattle.sheet_symmetries.proofs.Respects.{respects-are}
 
 module _ (p : Problem) (sheet : List ℕ) (offset : ℕ) (numbers supports : List ℕ) (a : Asked p sheet offset numbers supports) where
@@ -35,16 +31,6 @@ module _ (p : Problem) (sheet : List ℕ) (offset : ℕ) (numbers supports : Lis
 
     pub asked-lent : (moves : List ℕ) → Moved p codes moves → Lent p numbers supports codes moves
     asked-lent moves m = record { ready = a .ready; coded = asked-coded; moved = m }
-
-    -- no two numbers have one image
-    pub asked-apart : Apart p codes
-    unfolding permutesPairs
-    asked-apart i j h l e =
-        let w = a .ready .framed .stated in
-        let g = tableOf p sheet offset in
-        let n = table-length p sheet offset in
-        let image : (q : ℕ) → q < p .variables * p .values → at codes (pairCode (p .values) q) ≡ pairCode (p .values) (at g q) = λ q k. d (q / p .values) (q % p .values) (div-small p w q k) (mod-small p w q) ∙ ap (λ (m : ℕ). pairCode (p .values) (at g m)) (pair-of p w q) in
-        distinct-at g (both-r (all (λ q. elim (isPair p q) [ true ↦ isPair p (at g q) | false ↦ eqb (at g q) q ]) (below (p .variables * p .values))) (distinct g) permutes) i j (omega (arith, n)) (omega (arith, n)) (code-inj (at g i) (at g j) (p .values) (w .one) (w .sixteen) (sym (image i h) ∙ e ∙ image j l))
 
     module _ (v : Bool) (ev : v ≡ all (λ x. doublings p codes x (members (at (p .initial) x))) (below (p .variables))) where
       after : (c : Bool) → c ≡ all (λ c. keeps p codes c (c .scope) []) (p .constraints) → answerOf true (both v c) ≡ tableAnswer p sheet offset

@@ -6,7 +6,7 @@ use mathlib.Core.Logic.{inl, inr}
 use Prim.Native.Nat.{ℕ, zero, suc, _+_, _*_, _/_, _%_, _^_, _≤_, _<_}
 use native.Mathlib.Nat.{mul-add-div-right, mul-add-mod-self-right, mod-eq-of-lt, div-eq-of-lt, div-add-mod', div-lt-iff-lt-mul, mod-lt, mul-le-mul-right, add-zero, not-suc-le-zero, le-of-suc-le-suc, lt-of-lt-of-le}
 use native.Mathlib.Omega.{arith}
-use lib.Dec.{T, eqb, ltb, eqb→eq, ltb→lt, lt→ltb}
+use lib.Dec.{T, eqb, ltb, ltb→lt, lt→ltb}
 use lib.ListN.{length, getD}
 use lib.Pow.{pow-mono}
 use Rattle.model.specs.Lists.{at, all, below}
@@ -135,24 +135,13 @@ module _ (p : Problem) (w : Stated p) where
         (all-e (λ q. elim (isPair p q) [ true ↦ isPair p (at g q) | false ↦ eqb (at g q) q ]) (below (p .variables * p .values))
         (both-l (all (λ q. elim (isPair p q) [ true ↦ isPair p (at g q) | false ↦ eqb (at g q) q ]) (below (p .variables * p .values))) (distinct g) t) q (below-i (p .variables * p .values) q (isPair-lt q h)))
 
-    fits-lt : (b : Bool) (q : ℕ) → q < p .variables * p .values → T (elim b [ true ↦ isPair p (at g q) | false ↦ eqb (at g q) q ]) → at g q < p .variables * p .values
-    fits-lt true q h i = isPair-lt (at g q) i
-    fits-lt false q h i = omega (arith, eqb→eq (at g q) q i)
-
-    pub image-lt : (q : ℕ) → q < p .variables * p .values → at g q < p .variables * p .values
-    unfolding permutesPairs
-    image-lt q h =
-        fits-lt (isPair p q) q h
-        (all-e (λ q. elim (isPair p q) [ true ↦ isPair p (at g q) | false ↦ eqb (at g q) q ]) (below (p .variables * p .values))
-        (both-l (all (λ q. elim (isPair p q) [ true ↦ isPair p (at g q) | false ↦ eqb (at g q) q ]) (below (p .variables * p .values))) (distinct g) t) q (below-i (p .variables * p .values) q h))
-
     -- the decoded images number the images
     module _ (codes : List ℕ) (d : Decoded p g codes) where
       whole : (x v : ℕ) → x < p .variables → T (has (at (p .initial) x) v) → (at codes (16 * x + v) / 16 ≡ at g (pair p x v) / p .values) × (at codes (16 * x + v) % 16 ≡ at g (pair p x v) % p .values)
       whole x v h i =
           let q = at g (pair p x v) in
           let small : q % p .values < 16 = omega (arith, mod-small q, w .sixteen) in
-          code-16 (at codes (16 * x + v)) (q / p .values) (q % p .values) (d x v h (init-lt x v h i)) small
+          code-16 (at codes (16 * x + v)) (q / p .values) (q % p .values) (d x v h i) small
 
       pub decoded-number : (x v : ℕ) → x < p .variables → T (has (at (p .initial) x) v) → numberOf p (at codes (16 * x + v)) ≡ at g (pair p x v)
       decoded-number x v h i = let r = whole x v h i in ap₂ (pair p) (r .0) (r .1) ∙ pair-of (at g (pair p x v))

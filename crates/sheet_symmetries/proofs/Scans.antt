@@ -2,23 +2,24 @@
 use mathlib.Core.Path.{_≡_, refl, sym, ap, ap₂, _∙_, subst}
 use mathlib.Core.Bool.{Bool, true, false}
 use mathlib.Core.List.{List}
-use Prim.Native.Nat.{ℕ, _+_, _*_, _≤_, _<_}
+use Prim.Native.Nat.{ℕ, _+_, _*_, _%_, _≤_, _<_}
 use native.Mathlib.Nat.{not-suc-le-zero, mul-le-mul, mul-le-mul-right, lt-of-lt-of-le}
 use native.Mathlib.Omega.{arith}
 use lib.Dec.{T, eqb, eqb→eq}
 use lib.ListN.{length, set}
 use borrow.Author.Tests.{eqb-true, eqb-false, eq-eqb, ne-eqb}
 use Rattle.model.specs.Lists.{all, below, at}
+use Rattle.model.specs.ValueSets.{has}
 use Rattle.model.specs.Problem.{Problem, isPair, pair}
 use Rattle.model.specs.Sheet.{word, permutesPairs, distinct}
 use Rattle.model.proofs.Lists.{T-of, of-T, not-of, of-not, both-i, both-l, both-r, all-i, all-e, below-i, below-e, at-set, at-set-other}
 use Rattle.model.proofs.Counting.{distinct-at}
 use Rattle.model.proofs.Accepted.{length-words, at-words}
-use Rattle.arrays.specs.Layout.{pairCode}
+use Rattle.arrays.specs.Layout.{imageCode, pairCode}
 use Rattle.sheet_symmetries.specs.Table.{Stated, tableOf}
-use Rattle.sheet_symmetries.specs.Forbidden.{Decoded}
-use Rattle.sheet_symmetries.specs.Scan.{fits, Seen, DecodedTo}
-use Rattle.sheet_symmetries.proofs.Codes.{code-inj, image-lt, pair-div, pair-mod, pair-lt}
+use Rattle.sheet_symmetries.specs.Forbidden.{Decoded, Back, Blank, Drawn}
+use Rattle.sheet_symmetries.specs.Scan.{fits, Seen, DrawnAt, DrawnTo}
+use Rattle.sheet_symmetries.proofs.Codes.{code-inj, init-lt, isPair-i, pair-div, pair-mod, pair-lt}
 use Rattle.sheet_symmetries.proofs.Laws.{distinct-of}
 
 -- ---- the words of a table
@@ -40,6 +41,14 @@ case-false : (b c d : Bool) → b ≡ false → elim b [ true ↦ c | false ↦ 
 case-false true c d e = absurd (subst T e tt)
 case-false false c d e = refl
 
+-- one number more
+here : (q : ℕ) (P : ℕ → Type 0) → P q → ((j : ℕ) → j < q → P j) → (j : ℕ) → j < q + 1 → P j
+here q P h f j l = go (eqb j q) refl
+  where
+    go : (b : Bool) → eqb j q ≡ b → P j
+    go true e = subst P (sym (eqb-true j q e)) h
+    go false e = let n : j ≡ q → ⊥ = eqb-false j q e in f j (omega arith)
+
 pub seen-none : (p : Problem) (g : List ℕ) (seen : List ℕ) → ((y : ℕ) → at seen y ≡ 0) → Seen p g seen 0
 seen-none p g seen z =
     record {
@@ -50,32 +59,25 @@ seen-none p g seen z =
     }
 
 module _ (p : Problem) (g seen : List ℕ) (q : ℕ) (s : Seen p g seen q) where
-  here : (P : ℕ → Type 0) → P q → ((j : ℕ) → j < q → P j) → (j : ℕ) → j < q + 1 → P j
-  here P h f j l = go (eqb j q) refl
-    where
-      go : (b : Bool) → eqb j q ≡ b → P j
-      go true e = subst P (sym (eqb-true j q e)) h
-      go false e = let n : j ≡ q → ⊥ = eqb-false j q e in f j (omega arith)
-
   -- a number that is no pair stands for itself
   pub seen-same : isPair p q ≡ false → at g q ≡ q → Seen p g seen (q + 1)
   seen-same e i =
       let no : T (isPair p q) → ⊥ = of-not (isPair p q) e in
       record {
-        fitting = here (λ (j : ℕ). T (fits p g j)) (T-of (fits p g q) (case-false (isPair p q) (isPair p (at g q)) (eqb (at g q) q) e ∙ eq-eqb (at g q) q i)) (s .fitting);
-        marked = here (λ (j : ℕ). T (isPair p j) → at seen (at g j) ≡ 1) (λ t. absurd (no t)) (s .marked);
+        fitting = here q (λ (j : ℕ). T (fits p g j)) (T-of (fits p g q) (case-false (isPair p q) (isPair p (at g q)) (eqb (at g q) q) e ∙ eq-eqb (at g q) q i)) (s .fitting);
+        marked = here q (λ (j : ℕ). T (isPair p j) → at seen (at g j) ≡ 1) (λ t. absurd (no t)) (s .marked);
         reached = λ y m. let r = s .reached y m in (r .0, omega (arith, r .1), r .2, r .3);
-        apart = λ a b l h. here (λ (j : ℕ). a < j → T (isPair p a) → T (isPair p j) → at g a ≡ at g j → ⊥) (λ l t u. absurd (no u)) (λ j h l. s .apart a j l h) b h l;
+        apart = λ a b l h. here q (λ (j : ℕ). a < j → T (isPair p a) → T (isPair p j) → at g a ≡ at g j → ⊥) (λ l t u. absurd (no u)) (λ j h l. s .apart a j l h) b h l;
       }
 
   -- a pair goes to one that none went to
   pub seen-more : isPair p q ≡ true → isPair p (at g q) ≡ true → at g q < length seen → (at seen (at g q) ≡ 1 → ⊥) → Seen p g (set seen (at g q) 1) (q + 1)
   seen-more e i l n =
       record {
-        fitting = here (λ (j : ℕ). T (fits p g j)) (T-of (fits p g q) (case-true (isPair p q) (isPair p (at g q)) (eqb (at g q) q) e ∙ i)) (s .fitting);
-        marked = here (λ (j : ℕ). T (isPair p j) → at (set seen (at g q) 1) (at g j) ≡ 1) (λ t. at-set seen (at g q) 1 l) (λ j h t. kept (at g j) (s .marked j h t));
+        fitting = here q (λ (j : ℕ). T (fits p g j)) (T-of (fits p g q) (case-true (isPair p q) (isPair p (at g q)) (eqb (at g q) q) e ∙ i)) (s .fitting);
+        marked = here q (λ (j : ℕ). T (isPair p j) → at (set seen (at g q) 1) (at g j) ≡ 1) (λ t. at-set seen (at g q) 1 l) (λ j h t. kept (at g j) (s .marked j h t));
         reached = λ y m. found y m (eqb y (at g q)) refl;
-        apart = λ a b k h. here (λ (j : ℕ). a < j → T (isPair p a) → T (isPair p j) → at g a ≡ at g j → ⊥)
+        apart = λ a b k h. here q (λ (j : ℕ). a < j → T (isPair p a) → T (isPair p j) → at g a ≡ at g j → ⊥)
             (λ k t u f. n (ap (at seen) (sym f) ∙ s .marked a k t)) (λ j h k. s .apart a j k h) b h k;
       }
     where
@@ -150,40 +152,68 @@ module _ (p : Problem) (sheet : List ℕ) (offset : ℕ) (seen : List ℕ) (q y 
       subst (λ (r : List ℕ). Seen p (tableOf p sheet offset) r (q + 1)) (sym (z ∙ ap (λ (u : ℕ). set seen u 1) (sym is)))
       (seen-more p _ seen q s t (ap (isPair p) is ∙ f) (subst (λ (u : ℕ). u < length seen) (sym is) l) (λ m. n (sym (ap (at seen) is) ∙ m)))
 
--- ---- the codes of a table's images
-pub decoded-none : (p : Problem) (g codes : List ℕ) → DecodedTo p g codes 0
-decoded-none p g codes j h = absurd (not-suc-le-zero h)
+-- ---- the codes of the images of pairs, and the values that they come from
+pub drawn-none : (p : Problem) (g codes moves : List ℕ) → DrawnTo p g codes moves 0
+drawn-none p g codes moves j h = absurd (not-suc-le-zero h)
 
-module _ (p : Problem) (w : Stated p) (g codes : List ℕ) where
-  pub decoded-more : (q : ℕ) → pairCode (p .values) q < length codes → DecodedTo p g codes q → DecodedTo p g (set codes (pairCode (p .values) q) (pairCode (p .values) (at g q))) (q + 1)
-  decoded-more q l d j h = go (eqb j q) refl
-    where
-      new : List ℕ
-      new = set codes (pairCode (p .values) q) (pairCode (p .values) (at g q))
+module _ (p : Problem) (w : Stated p) (g codes moves : List ℕ) where
+  -- as the code stores them
+  module _ (q : ℕ) (d : DrawnTo p g codes moves q) where
+    pub drawn-same : isPair p q ≡ false → (new back : List ℕ) → new ≡ codes → back ≡ moves → DrawnTo p g new back (q + 1)
+    drawn-same e new back en eb =
+        subst (λ (l : List ℕ). DrawnTo p g l back (q + 1)) (sym en) (subst (λ (l : List ℕ). DrawnTo p g codes l (q + 1)) (sym eb)
+        (here q (DrawnAt p g codes moves) (λ t. absurd (of-not (isPair p q) e t)) d))
 
-      go : (b : Bool) → eqb j q ≡ b → at new (pairCode (p .values) j) ≡ pairCode (p .values) (at g j)
-      go true e = subst (λ (i : ℕ). at new (pairCode (p .values) i) ≡ pairCode (p .values) (at g i)) (sym (eqb-true j q e)) (at-set codes _ _ l)
-      go false e = let n : j ≡ q → ⊥ = eqb-false j q e in at-set-other codes _ _ _ (λ f. n (code-inj j q (p .values) (w .one) (w .sixteen) f)) ∙ d j (omega arith)
+    pub drawn-more : (seen : List ℕ) → Seen p g seen q → (at seen (at g q) ≡ 1 → ⊥) → pairCode (p .values) q < length codes → pairCode (p .values) (at g q) < length moves →
+        DrawnTo p g (set codes (pairCode (p .values) q) (pairCode (p .values) (at g q))) (set moves (pairCode (p .values) (at g q)) (q % p .values)) (q + 1)
+    drawn-more seen s n lc lm =
+        here q (DrawnAt p g new back)
+        (λ t. (at-set codes _ _ lc, at-set moves _ _ lm))
+        (λ j h t. (
+          at-set-other codes _ _ _ (λ f. let e : j ≡ q = code-inj j q (p .values) (w .one) (w .sixteen) f in omega arith) ∙ d j h t .0,
+          at-set-other moves _ _ _ (λ f. n (ap (at seen) (sym (code-inj (at g j) (at g q) (p .values) (w .one) (w .sixteen) f)) ∙ s .marked j h t)) ∙ d j h t .1,
+        ))
+      where
+        new : List ℕ
+        new = set codes (pairCode (p .values) q) (pairCode (p .values) (at g q))
 
-  pub decoded-all : DecodedTo p g codes (p .variables * p .values) → Decoded p g codes
-  decoded-all d x v h l =
-      ap₂ (λ (y u : ℕ). at codes (16 * y + u)) (sym (pair-div p w x v l)) (sym (pair-mod p w x v l)) ∙ d (pair p x v) (pair-lt p w x v h l)
+        back : List ℕ
+        back = set moves (pairCode (p .values) (at g q)) (q % p .values)
 
--- as the code reads a table and its numbers: a number of the table among d values, and y, the number at q
+  module _ (d : DrawnTo p g codes moves (p .variables * p .values)) where
+    drawn : (x v : ℕ) → x < p .variables → T (has (at (p .initial) x) v) →
+        (at codes (pairCode (p .values) (pair p x v)) ≡ imageCode p g x v) × (at moves (imageCode p g x v) ≡ pair p x v % p .values)
+    drawn x v h t = d (pair p x v) (pair-lt p w x v h (init-lt p w x v h t)) (isPair-i p w x v h t)
+
+    pub drawn-decoded : Decoded p g codes
+    drawn-decoded x v h t =
+        let l = init-lt p w x v h t in
+        ap₂ (λ (y u : ℕ). at codes (16 * y + u)) (sym (pair-div p w x v l)) (sym (pair-mod p w x v l)) ∙ drawn x v h t .0
+
+    pub drawn-back : Back p codes moves
+    drawn-back x v h t = ap (at moves) (drawn-decoded x v h t) ∙ drawn x v h t .1 ∙ pair-mod p w x v (init-lt p w x v h t)
+
+-- a number of the table among d values
 pub number-lt : (p : Problem) → Stated p → (d : ℕ) → d ≡ p .values → (z : ℕ) → z < p .variables * p .values → z < 12 * d
 number-lt p w d i z l = subst (λ (n : ℕ). z < 12 * n) (sym i) (lt-of-lt-of-le l (mul-le-mul-right (p .values) (w .few)))
 
-module _ (p : Problem) (w : Stated p) (sheet : List ℕ) (offset q y : ℕ) (h : q < p .variables * p .values) (e : y ≡ word sheet (offset + 2 * q)) where
-  here-is : at (tableOf p sheet offset) q ≡ y
-  here-is = table-at p sheet offset q h ∙ sym e
+-- as the code reads a table: `spot` and `code` are the codes of q and of y, the number at q, and `new` and `back` what it then has
+module _ (p : Problem) (w : Stated p) (sheet : List ℕ) (offset : ℕ) (seen : List ℕ) (q y : ℕ) (s : Seen p (tableOf p sheet offset) seen q) (h : q < p .variables * p .values) where
+  pub read-drawn : y ≡ word sheet (offset + 2 * q) → (at seen y ≡ 1 → ⊥) → (codes moves : List ℕ) → Blank codes moves → (d spot code : ℕ) → d ≡ p .values → (spot ≡ pairCode d q) × (spot < 192) →
+      (code ≡ pairCode d y) × (code < 192) → (new back : List ℕ) → new ≡ set codes spot code → back ≡ set moves code (q % d) →
+      DrawnTo p (tableOf p sheet offset) codes moves q → DrawnTo p (tableOf p sheet offset) new back (q + 1)
+  read-drawn e n codes moves r d spot code i es ec new back en eb t =
+      let g = tableOf p sheet offset in
+      let is : at g q ≡ y = table-at p sheet offset q h ∙ sym e in
+      let here-is : spot ≡ pairCode (p .values) q = es .0 ∙ ap (λ (m : ℕ). pairCode m q) i in
+      let image-is : code ≡ pairCode (p .values) (at g q) = ec .0 ∙ ap₂ pairCode i (sym is) in
+      subst (λ (l : List ℕ). DrawnTo p g l back (q + 1)) (sym (en ∙ ap₂ (set codes) here-is image-is))
+      (subst (λ (l : List ℕ). DrawnTo p g (set codes (pairCode (p .values) q) (pairCode (p .values) (at g q))) l (q + 1)) (sym (eb ∙ ap₂ (set moves) image-is (ap (λ (m : ℕ). q % m) i)))
+      (drawn-more p w g codes moves q t seen s (λ m. n (sym (ap (at seen) is) ∙ m)) (omega (arith, here-is, es .1, r .codes-room)) (omega (arith, image-is, ec .1, r .moves-room))))
 
-  pub image-number : T (permutesPairs p (tableOf p sheet offset)) → y < p .variables * p .values
-  image-number t = subst (λ (z : ℕ). z < p .variables * p .values) here-is (image-lt p w (tableOf p sheet offset) t q h)
+-- what the code answers
+pub drawn-no : (p : Problem) (g codes moves : List ℕ) → false ≡ permutesPairs p g → Drawn p g codes moves false
+drawn-no p g codes moves e = record { answers = e; decoded = λ f. absurd (subst T (sym f) tt); back = λ f. absurd (subst T (sym f) tt) }
 
-  -- `spot` and `code` are the codes of q and of y
-  pub read-code : (codes : List ℕ) (d : ℕ) → d ≡ p .values → (spot code : ℕ) → (spot ≡ pairCode d q) × (spot < 192) → code ≡ pairCode d y → length codes ≡ 256 → DecodedTo p (tableOf p sheet offset) codes q →
-      DecodedTo p (tableOf p sheet offset) (set codes spot code) (q + 1)
-  read-code codes d i spot code s c z t =
-      let es : spot ≡ pairCode (p .values) q = s .0 ∙ ap (λ (n : ℕ). pairCode n q) i in
-      let ec : code ≡ pairCode (p .values) (at (tableOf p sheet offset) q) = c ∙ ap₂ pairCode i (sym here-is) in
-      subst (λ (l : List ℕ). DecodedTo p (tableOf p sheet offset) l (q + 1)) (ap₂ (set codes) (sym es) (sym ec)) (decoded-more p w (tableOf p sheet offset) codes q (omega (arith, es, s .1, z)) t)
+pub drawn-yes : (p : Problem) → Stated p → (g codes moves : List ℕ) → true ≡ permutesPairs p g → DrawnTo p g codes moves (p .variables * p .values) → Drawn p g codes moves true
+drawn-yes p w g codes moves e d = record { answers = e; decoded = λ _. drawn-decoded p w g codes moves d; back = λ _. drawn-back p w g codes moves d }

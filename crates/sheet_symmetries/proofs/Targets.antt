@@ -1,58 +1,43 @@
 -- Where a table takes the variables, and which values its images come from: one step further. Assumes nothing.
-use mathlib.Core.Path.{_≡_, refl, sym, ap, ap₂, _∙_, subst}
+use mathlib.Core.Path.{_≡_, refl, sym, _∙_, subst}
 use mathlib.Core.Bool.{Bool, true, false}
 use mathlib.Core.List.{List}
-use Prim.Native.Nat.{ℕ, _+_, _*_, _%_, _<_}
+use Prim.Native.Nat.{ℕ, _+_, _*_, _<_}
 use native.Mathlib.Nat.{not-suc-le-zero}
 use native.Mathlib.Omega.{arith}
-use lib.Dec.{T, eqb}
-use lib.ListN.{length, set}
+use lib.Dec.{eqb}
+use lib.ListN.{length, set, replicate, length-set}
 use borrow.Author.Tests.{eqb-true, eqb-false}
 use Rattle.model.specs.Lists.{at}
-use Rattle.model.specs.ValueSets.{has}
-use Rattle.model.specs.Problem.{Problem, pair}
-use Rattle.model.proofs.Lists.{at-set, at-set-other, set-each}
-use Rattle.arrays.specs.Layout.{pairCode}
+use Rattle.model.specs.Problem.{Problem}
+use Rattle.model.proofs.Lists.{at-replicate, at-set, at-set-other, set-each}
 use Rattle.sheet_symmetries.specs.Table.{Stated}
-use Rattle.sheet_symmetries.specs.Forbidden.{Coded, Apart, BackTo, Target, Moved}
-use Rattle.sheet_symmetries.proofs.Codes.{init-lt, pair-div, pair-mod, pair-lt}
+use Rattle.sheet_symmetries.specs.Forbidden.{Coded, Back, Blank, Target, Moved}
 
-pub small-more : (l : List ℕ) (i v : ℕ) → i < length l → v < 16 → ((j : ℕ) → at l j < 16) → (j : ℕ) → at (set l i v) j < 16
+small-more : (l : List ℕ) (i v : ℕ) → i < length l → v < 16 → ((j : ℕ) → at l j < 16) → (j : ℕ) → at (set l i v) j < 16
 small-more l i v h k s j = set-each (λ (_ u : ℕ). u < 16) l i v j h k (λ _. s j)
 
--- ---- the values that images come from
-pub back-none : (p : Problem) (codes back : List ℕ) → BackTo p codes back 0
-back-none p codes back j h = absurd (not-suc-le-zero h)
+-- ---- room for the codes and what is made of them
+pub blank-new : Blank (replicate 256 0) (replicate 256 0)
+blank-new = record { codes-room = refl; moves-room = refl; small = λ i. omega (arith, at-replicate 256 i) }
 
--- as the code stores the value v of number q among d values at the code of its image
-pub back-more : (p : Problem) (codes back : List ℕ) (d q code spot : ℕ) → Apart p codes → q < p .variables * p .values → d ≡ p .values → code ≡ pairCode d q → spot ≡ at codes code → spot < length back → BackTo p codes back q →
-    BackTo p codes (set back spot (q % d)) (q + 1)
-back-more p codes back d q code spot a l ed ec es h b j k = go (eqb j q) refl
-  where
-    place : spot ≡ at codes (pairCode (p .values) q)
-    place = es ∙ ap (at codes) (ec ∙ ap (λ (n : ℕ). pairCode n q) ed)
+pub blank-same : (codes moves new back : List ℕ) → Blank codes moves → new ≡ codes → back ≡ moves → Blank new back
+blank-same codes moves new back b en eb = subst (λ (l : List ℕ). Blank l back) (sym en) (subst (Blank codes) (sym eb) b)
 
-    go : (t : Bool) → eqb j q ≡ t → at (set back spot (q % d)) (at codes (pairCode (p .values) j)) ≡ j % p .values
-    go true e =
-        subst (λ (i : ℕ). at (set back spot (q % d)) (at codes (pairCode (p .values) i)) ≡ i % p .values) (sym (eqb-true j q e))
-        (ap (at (set back spot (q % d))) (sym place) ∙ at-set back spot (q % d) h ∙ ap (λ (n : ℕ). q % n) ed)
-    go false e =
-        let n : j ≡ q → ⊥ = eqb-false j q e in
-        at-set-other back spot (q % d) _ (λ f. n (a j q (omega arith) l (f ∙ place))) ∙ b j (omega arith)
+pub blank-moves : (codes moves : List ℕ) (i v : ℕ) → i < 256 → v < 16 → Blank codes moves → Blank codes (set moves i v)
+blank-moves codes moves i v h k b = record { codes-room = b .codes-room; moves-room = simp length-set (b .moves-room); small = small-more moves i v (omega (arith, b .moves-room)) k (b .small) }
+
+pub blank-codes : (codes moves : List ℕ) (i v : ℕ) → Blank codes moves → Blank (set codes i v) moves
+blank-codes codes moves i v b = record { codes-room = simp length-set (b .codes-room); moves-room = b .moves-room; small = b .small }
 
 -- ---- the variables that the pairs go to
 pub record Moving (p : Problem) (codes moves : List ℕ) (x : ℕ) : Type 0 where
-  pub back : (y v : ℕ) → y < p .variables → T (has (at (p .initial) y) v) → at moves (at codes (16 * y + v)) ≡ v
+  pub back : Back p codes moves
   pub to : (y : ℕ) → y < x → Target p codes y (at moves (192 + y))
 
 module _ (p : Problem) (w : Stated p) (codes moves : List ℕ) where
-  pub moving-none : BackTo p codes moves (p .variables * p .values) → Moving p codes moves 0
-  moving-none b =
-      record {
-        back = λ y v h t. (let l = init-lt p w y v h t in
-            ap₂ (λ (z u : ℕ). at moves (at codes (16 * z + u))) (sym (pair-div p w y v l)) (sym (pair-mod p w y v l)) ∙ b (pair p y v) (pair-lt p w y v h l) ∙ pair-mod p w y v l);
-        to = λ y h. absurd (not-suc-le-zero h);
-      }
+  pub moving-none : Back p codes moves → Moving p codes moves 0
+  moving-none b = record { back = b; to = λ y h. absurd (not-suc-le-zero h) }
 
   pub moving-more : (x y : ℕ) → Coded p codes → x < p .variables → length moves ≡ 256 → Target p codes x y → Moving p codes moves x → Moving p codes (set moves (192 + x) y) (x + 1)
   moving-more x y c h n t m =

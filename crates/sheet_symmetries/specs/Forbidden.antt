@@ -9,8 +9,9 @@ use lib.Dec.{T, eqb, ltb}
 use Rattle.model.specs.Lists.{all, any, at, same, both, either, choose}
 use Rattle.model.specs.ValueSets.{has, members}
 use Rattle.model.specs.Problem.{Problem, Constraint, pair, forbidden, within}
-use Rattle.arrays.specs.Layout.{constraintAt, imageCode, pairCode}
-use Rattle.sheet_symmetries.specs.Table.{Ready}
+use Rattle.model.specs.Sheet.{permutesPairs}
+use Rattle.arrays.specs.Layout.{constraintAt, imageCode}
+use Rattle.sheet_symmetries.specs.Table.{Framed, Ready, TableAt, tableOf}
 
 -- some forbidden set lies among the pairs
 unfoldable pub blocked : Problem → List ℕ → Bool
@@ -28,9 +29,9 @@ PairCode p code = (code / 16 < p .variables) × T (has (at (p .initial) (code / 
 abbrev pub MaybePair : Problem → ℕ → Type 0
 MaybePair p code = (code ≡ 255) ⊎ PairCode p code
 
--- `codes`: that of the image of (x, v) in a table at 16 x + v
+-- `codes`: that of the image of a pair (x, v) in a table at 16 x + v
 abbrev pub Decoded : Problem → List ℕ → List ℕ → Type 0
-Decoded p g codes = (x v : ℕ) → x < p .variables → v < p .values → at codes (16 * x + v) ≡ imageCode p g x v
+Decoded p g codes = (x v : ℕ) → x < p .variables → T (has (at (p .initial) x) v) → at codes (16 * x + v) ≡ imageCode p g x v
 
 -- the images of pairs are pairs
 abbrev pub Coded : Problem → List ℕ → Type 0
@@ -103,13 +104,25 @@ lastThree (a ∷ []) = 255 ∷ 255 ∷ a ∷ []
 lastThree (a ∷ b ∷ []) = 255 ∷ a ∷ b ∷ []
 lastThree (a ∷ b ∷ e ∷ r) = a ∷ b ∷ e ∷ []
 
--- no two numbers have one image
-abbrev pub Apart : Problem → List ℕ → Type 0
-Apart p codes = (i j : ℕ) → i < p .variables * p .values → j < p .variables * p .values → at codes (pairCode (p .values) i) ≡ at codes (pairCode (p .values) j) → i ≡ j
+-- at the code of the image of each pair its value
+abbrev pub Back : Problem → List ℕ → List ℕ → Type 0
+Back p codes moves = (x v : ℕ) → x < p .variables → T (has (at (p .initial) x) v) → at moves (at codes (16 * x + v)) ≡ v
 
--- at the code of the image of each of the first q numbers its value
-abbrev pub BackTo : Problem → List ℕ → List ℕ → ℕ → Type 0
-BackTo p codes back q = (j : ℕ) → j < q → at back (at codes (pairCode (p .values) j)) ≡ j % p .values
+-- room for both
+pub record Blank (codes moves : List ℕ) : Type 0 where
+  pub codes-room : length codes ≡ 256
+  pub moves-room : length moves ≡ 256
+  pub small : (i : ℕ) → at moves i < 16
+
+-- whether a table permutes the pairs, and what was made of it if it does
+pub record Drawn (p : Problem) (g codes moves : List ℕ) (r : Bool) : Type 0 where
+  pub answers : r ≡ permutesPairs p g
+  pub decoded : r ≡ true → Decoded p g codes
+  pub back : r ≡ true → Back p codes moves
+
+pub record Decoding (sheet : List ℕ) (offset : ℕ) (numbers codes moves : List ℕ) (r : Bool) : Type 0 where
+  pub room : Blank codes moves
+  pub drawn : (p : Problem) → TableAt p sheet offset numbers → Drawn p (tableOf p sheet offset) codes moves r
 
 -- all pairs of variable x go to variable y, unless that is 15
 abbrev pub Target : Problem → List ℕ → ℕ → ℕ → Type 0
@@ -118,8 +131,11 @@ Target p codes x y = (v : ℕ) → T (has (at (p .initial) x) v) → (y ≡ 15 �
 -- `moves`: at the code of the image of each pair its value; from 192 on, for each variable the one that all of its pairs go to, or 15
 pub record Moved (p : Problem) (codes moves : List ℕ) : Type 0 where
   pub small : (i : ℕ) → at moves i < 16
-  pub back : (x v : ℕ) → x < p .variables → T (has (at (p .initial) x) v) → at moves (at codes (16 * x + v)) ≡ v
+  pub back : Back p codes moves
   pub to : (x : ℕ) → x < p .variables → Target p codes x (at moves (192 + x))
+
+abbrev pub Targets : List ℕ → List ℕ → List ℕ → List ℕ → Type 0
+Targets numbers codes old new = (p : Problem) → Framed p numbers → Coded p codes → Back p codes old → Moved p codes new
 
 -- what the walks of the forbidden sets are lent
 pub record Lent (p : Problem) (numbers supports codes moves : List ℕ) : Type 0 where

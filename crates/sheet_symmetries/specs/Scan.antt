@@ -2,7 +2,7 @@
 use mathlib.Core.Path.{_≡_}
 use mathlib.Core.Bool.{Bool, true, false}
 use mathlib.Core.List.{List}
-use Prim.Native.Nat.{ℕ, _<_}
+use Prim.Native.Nat.{ℕ, _%_, _<_}
 use lib.Dec.{T, eqb}
 use Rattle.model.specs.Lists.{at}
 use Rattle.model.specs.Problem.{Problem, isPair}
@@ -19,6 +19,9 @@ pub record Seen (p : Problem) (g seen : List ℕ) (q : ℕ) : Type 0 where
   pub reached : (y : ℕ) → at seen y ≡ 1 → (j : ℕ) × (j < q) × T (isPair p j) × (at g j ≡ y)
   pub apart : (i j : ℕ) → i < j → j < q → T (isPair p i) → T (isPair p j) → at g i ≡ at g j → ⊥
 
--- the codes of the images of the numbers below q
-abbrev pub DecodedTo : Problem → List ℕ → List ℕ → ℕ → Type 0
-DecodedTo p g codes q = (j : ℕ) → j < q → at codes (pairCode (p .values) j) ≡ pairCode (p .values) (at g j)
+-- of a number, if it is a pair: the code of its image, and at that its value; the same for the numbers below q
+abbrev pub DrawnAt : Problem → List ℕ → List ℕ → List ℕ → ℕ → Type 0
+DrawnAt p g codes moves j = T (isPair p j) → (at codes (pairCode (p .values) j) ≡ pairCode (p .values) (at g j)) × (at moves (pairCode (p .values) (at g j)) ≡ j % p .values)
+
+abbrev pub DrawnTo : Problem → List ℕ → List ℕ → List ℕ → ℕ → Type 0
+DrawnTo p g codes moves q = (j : ℕ) → j < q → DrawnAt p g codes moves j

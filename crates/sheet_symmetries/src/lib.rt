@@ -37,7 +37,9 @@ pub fn permutes(sheet: &[u8], offset: usize, numbers: &Numbers) -> bool
     requires { ⌜ ((p : Problem) × TableAt p (now sheet) offset (now numbers)) ⌝ }
     ensures { λ r. ⌜ ((p : Problem) → TableAt p (now (sheet .entry)) offset (now (numbers .entry)) → r ≡ permutesPairs p (tableOf p (now (sheet .entry)) offset)) ⌝ }
 {
-    table::permutes(sheet, offset, numbers)
+    let mut codes = [0u8; 256];
+    let mut moves = [0u8; 256];
+    table::decode(sheet, offset, numbers, &mut codes, &mut moves)
 }
 
 // 0 where the table at an offset passes both questions, else the number of the first whose answer is no.
@@ -45,11 +47,12 @@ pub fn table_question(sheet: &[u8], offset: usize, numbers: &Numbers, supports: 
     requires { ⌜ ((p : Problem) × Asked p (now sheet) offset (now numbers) (now supports)) ⌝ }
     ensures { λ r. ⌜ ((p : Problem) → Asked p (now (sheet .entry)) offset (now (numbers .entry)) (now (supports .entry)) → r ≡ tableAnswer p (now (sheet .entry)) offset) ⌝ }
 {
-    if !table::permutes(sheet, offset, numbers) {
+    let mut codes = [0u8; 256];
+    let mut moves = [0u8; 256];
+    if !table::decode(sheet, offset, numbers, &mut codes, &mut moves) {
         return 15;
     }
-    let codes = table::decode(sheet, offset, numbers);
-    let moves = moves::moves(numbers, &codes);
+    moves::targets(numbers, &codes, &mut moves);
     if !walk::variables(numbers, supports, &codes, &moves) {
         return 16;
     }

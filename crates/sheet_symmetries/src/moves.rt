@@ -1,17 +1,14 @@
 // Where a table takes the variables, and which values its images come from.
 ghost use mathlib.Core.Path.{_≡_};
 ghost use Prim.Native.Nat.{ℕ, _+_, _*_, _<_};
-ghost use lib.ListN.{length};
 ghost use Rattle.model.specs.Lists.{at};
 ghost use Rattle.model.specs.Problem.{Problem};
 ghost use Rattle.sheet_symmetries.specs.Table.{Framed};
-ghost use Rattle.sheet_symmetries.specs.Forbidden.{Apart, BackTo, Coded, Moved, Target};
+ghost use Rattle.sheet_symmetries.specs.Forbidden.{Blank, Target, Targets};
 use super::table::initial;
 use super::table::number;
 use super::table::wide;
-use crate::pair_code;
 use arrays::Numbers;
-use arrays::VALUES;
 use arrays::VARIABLES;
 
 // From here on, for each variable the one that all of its pairs go to, or 15.
@@ -23,22 +20,6 @@ pub fn place(bytes: &[u8; 256], i: usize) -> usize
     ensures { λ r. ⌜ (r ≡ at (now (bytes .entry)) i) × (r < 256) ⌝ }
 {
     wide(bytes[i])
-}
-
-// At the code of the image of each pair the value of that pair.
-fn back(numbers: &Numbers, codes: &[u8; 256]) -> [u8; 256]
-    requires { ⌜ ((p : Problem) × Framed p (now numbers) × Apart p (now codes)) ⌝ }
-    ensures { λ r. ⌜ (length r ≡ 256) × ((i : ℕ) → at r i < 16) × ((p : Problem) → Framed p (now (numbers .entry)) → Apart p (now (codes .entry)) → BackTo p (now (codes .entry)) r (p .variables * p .values)) ⌝ }
-{
-    let d = number(numbers, VALUES);
-    let count = number(numbers, VARIABLES) * d;
-    let mut moves = [0u8; 256];
-    let mut q = 0;
-    while q < count {
-        moves[place(codes, pair_code(q, d))] = (q % d) as u8;
-        q += 1;
-    }
-    moves
 }
 
 // The variable that all pairs of variable x go to, 15 where they go to several.
@@ -58,17 +39,15 @@ fn goes_to(numbers: &Numbers, codes: &[u8; 256], x: usize) -> usize
     y
 }
 
-// Both.
-pub fn moves(numbers: &Numbers, codes: &[u8; 256]) -> [u8; 256]
-    requires { ⌜ ((p : Problem) × Framed p (now numbers) × Coded p (now codes) × Apart p (now codes)) ⌝ }
-    ensures { λ r. ⌜ ((p : Problem) → Framed p (now (numbers .entry)) → Coded p (now (codes .entry)) → Apart p (now (codes .entry)) → Moved p (now (codes .entry)) r) ⌝ }
+// The same for each variable, into `moves`, which has the values that images come from.
+pub fn targets(numbers: &Numbers, codes: &[u8; 256], moves: &mut [u8; 256])
+    requires { ⌜ ((p : Problem) × Framed p (now numbers)) × Blank (now codes) (now moves) ⌝ }
+    ensures { λ _. ⌜ Targets (now (numbers .entry)) (now (codes .entry)) (now (moves .entry)) (now (moves .exit)) ⌝ }
 {
     let n = number(numbers, VARIABLES);
-    let mut moves = back(numbers, codes);
     let mut x = 0;
     while x < n {
         moves[TO + x] = goes_to(numbers, codes, x) as u8;
         x += 1;
     }
-    moves
 }

@@ -1,13 +1,11 @@
 // A table of a sheet as its words stand there, and its images as codes.
 ghost use mathlib.Core.Path.{_≡_};
 ghost use Prim.Native.Nat.{_+_, _*_, _<_};
-ghost use lib.Dec.{T};
 ghost use Rattle.model.specs.Lists.{at};
 ghost use Rattle.model.specs.Problem.{Problem, isPair};
-ghost use Rattle.model.specs.Sheet.{permutesPairs};
 ghost use Rattle.arrays.specs.Places.{NUMBERS};
-ghost use Rattle.sheet_symmetries.specs.Table.{Framed, TableAt, tableOf};
-ghost use Rattle.sheet_symmetries.specs.Forbidden.{Decoded};
+ghost use Rattle.sheet_symmetries.specs.Table.{Framed, TableAt};
+ghost use Rattle.sheet_symmetries.specs.Forbidden.{Blank, Decoding};
 use crate::pair_code;
 use arrays::INITIAL;
 use arrays::Numbers;
@@ -54,12 +52,20 @@ pub fn is_pair(numbers: &Numbers, q: usize) -> bool
     }
 }
 
-// Whether each number that is no pair stands for itself, and the pairs are permuted among themselves.
-pub fn permutes(sheet: &[u8], offset: usize, numbers: &Numbers) -> bool
-    requires { ⌜ ((p : Problem) × TableAt p (now sheet) offset (now numbers)) ⌝ }
-    ensures { λ r. ⌜ ((p : Problem) → TableAt p (now (sheet .entry)) offset (now (numbers .entry)) → r ≡ permutesPairs p (tableOf p (now (sheet .entry)) offset)) ⌝ }
+// Whether each number that is no pair stands for itself, and the pairs are permuted among themselves. If so, `codes` has the codes
+// of the pairs' images, that of the image of (x, v) at 16 x + v, and `moves` at each of these codes the value v.
+pub fn decode(
+    sheet: &[u8],
+    offset: usize,
+    numbers: &Numbers,
+    codes: &mut [u8; 256],
+    moves: &mut [u8; 256],
+) -> bool
+    requires { ⌜ ((p : Problem) × TableAt p (now sheet) offset (now numbers)) × Blank (now codes) (now moves) ⌝ }
+    ensures { λ r. ⌜ Decoding (now (sheet .entry)) offset (now (numbers .entry)) (now (codes .exit)) (now (moves .exit)) r ⌝ }
 {
-    let count = number(numbers, VARIABLES) * number(numbers, VALUES);
+    let d = number(numbers, VALUES);
+    let count = number(numbers, VARIABLES) * d;
     let mut seen = [0u8; 192];
     let mut q = 0;
     while q < count {
@@ -72,6 +78,9 @@ pub fn permutes(sheet: &[u8], offset: usize, numbers: &Numbers) -> bool
                 return false;
             }
             seen[y] = 1;
+            let e = pair_code(y, d);
+            codes[pair_code(q, d)] = e as u8;
+            moves[e] = (q % d) as u8;
         } else {
             if y != q {
                 return false;
@@ -80,21 +89,4 @@ pub fn permutes(sheet: &[u8], offset: usize, numbers: &Numbers) -> bool
         q += 1;
     }
     true
-}
-
-// The codes of a table's images, that of the image of (x, v) at 16 x + v.
-pub fn decode(sheet: &[u8], offset: usize, numbers: &Numbers) -> [u8; 256]
-    requires { ⌜ ((p : Problem) × TableAt p (now sheet) offset (now numbers) × T (permutesPairs p (tableOf p (now sheet) offset))) ⌝ }
-    ensures { λ r. ⌜ ((p : Problem) → TableAt p (now (sheet .entry)) offset (now (numbers .entry)) → T (permutesPairs p (tableOf p (now (sheet .entry)) offset)) → Decoded p (tableOf p (now (sheet .entry)) offset) r) ⌝ }
-{
-    let d = number(numbers, VALUES);
-    let count = number(numbers, VARIABLES) * d;
-    let mut codes = [0u8; 256];
-    let mut q = 0;
-    while q < count {
-        let y = read_word(sheet, offset + 2 * q);
-        codes[pair_code(q, d)] = pair_code(y, d) as u8;
-        q += 1;
-    }
-    codes
 }
