@@ -16,8 +16,8 @@ use Rattle.model.proofs.Sets.{mask-i}
 use Rattle.arrays.specs.Layout.{constraintAt}
 use Rattle.arrays.specs.Places.{SUPPORTS}
 use Rattle.sheet_symmetries.specs.Table.{Stated, Ready}
-use Rattle.sheet_symmetries.specs.Forbidden.{blocked, numberOf, PairCode, MaybePair, On, Sure, Across, FromRow, FromRows, SetFrom, Walking, keeps, packed, packedOn}
-use Rattle.sheet_symmetries.proofs.Codes.{good, init-16, code-16, variable-lt}
+use Rattle.sheet_symmetries.specs.Forbidden.{blocked, numberOf, MaybePair, On, Sure, Across, FromRow, FromRows, SetFrom, Walking, keeps, packed, packedOn}
+use Rattle.sheet_symmetries.proofs.Codes.{good, init-16, code-16, code-pair, variable-lt}
 use Rattle.sheet_symmetries.proofs.Surely.{member, on-three-lt, on-three, after, on-turned, first-two-turned}
 use Rattle.sheet_symmetries.proofs.Keys.{Digits, begun-digits}
 use Rattle.sheet_symmetries.proofs.Walks.{walked-triple, carried-kept}
@@ -45,12 +45,6 @@ module _ (p : Problem) (numbers supports : List ℕ) (m a y z : ℕ) (x : Across
   pub across-few : (y < 12) × (z < 12) × (m < 32)
   across-few = (omega (arith, across-second, w .few), omega (arith, across-third, w .few), omega (arith, x .inside, w .most))
 
-  -- the pair of a variable with a value
-  pair-at : (u v : ℕ) → u < p .variables → T (has (at (p .initial) u) v) → PairCode p (16 * u + v)
-  pair-at u v h t =
-      let c = code-16 p w (16 * u + v) u v refl (init-16 p w u v h t) in
-      (subst (λ (n : ℕ). n < p .variables) (sym (c .0)) h, subst T (sym (ap₂ (λ (n k : ℕ). has (at (p .initial) n) k) (c .0) (c .1))) t)
-
   module _ (v : ℕ) (t : T (has (at (p .initial) y) v)) where
     pub across-on : On p numbers supports m a (16 * y + v) z
     across-on =
@@ -59,7 +53,7 @@ module _ (p : Problem) (numbers supports : List ℕ) (m a y z : ℕ) (x : Across
           ready = x .ready;
           inside = x .inside;
           first = x .first;
-          second = inr (pair-at y v across-second t);
+          second = inr (code-pair p w y v across-second t);
           has-first = x .has-first;
           has-second = subst (λ (u : ℕ). T (any (eqb u) (constraintAt p m .scope))) (sym (c .0)) (x .has-second);
           has-third = x .has-third;
@@ -76,7 +70,7 @@ module _ (p : Problem) (numbers supports : List ℕ) (m a y z : ℕ) (x : Across
         yes : T (has none u) → FromRow p supports moves from a (16 * y + v) (16 * z + u)
         yes q =
             let c = code-16 p w (16 * z + u) z u refl small in
-            inl (s (16 * z + u) (c .0) (pair-at z u across-third i) (subst (λ (n : ℕ). T (has none n)) (sym (c .1)) q))
+            inl (s (16 * z + u) (c .0) (code-pair p w z u across-third i) (subst (λ (n : ℕ). T (has none n)) (sym (c .1)) q))
 
         among : (T (has none u) → ⊥) → T (has free u)
         among q =
@@ -98,7 +92,7 @@ module _ (p : Problem) (numbers supports : List ℕ) (m a y z : ℕ) (x : Across
           no q =
               let c = code-16 p w (16 * z + u) z u refl (init-16 p w z u across-third i) in
               let spot : 256 * m + (16 * (a % 16) + (16 * y + v) % 16) ≡ 256 * m + 16 * (a % 16) + 1 * v = omega (arith, code .1) in
-              inl (after p numbers supports m a (16 * y + v) z across-on (omega (arith, code .0)) (16 * z + u) (c .0) (pair-at z u across-third i) (omega (arith, code .0)) (λ r. q (subst T (ap₂ (λ (n k : ℕ). has (at supports n) k) spot (c .1)) r)))
+              inl (after p numbers supports m a (16 * y + v) z across-on (omega (arith, code .0)) (16 * z + u) (c .0) (code-pair p w z u across-third i) (omega (arith, code .0)) (λ r. q (subst T (ap₂ (λ (n k : ℕ). has (at supports n) k) spot (c .1)) r)))
 
       pub across-between : y < a / 16 → SetFrom p supports moves from (256 * m + a % 16 + 16 * v) (16 * y + v) z → FromRows p supports moves from a (16 * y + v) z
       across-between l h u i = ⊎-elim {C = FromRow p supports moves from a (16 * y + v) (16 * z + u)} (λ q. inr (h u i q)) no (T-dec (has (at supports (256 * m + a % 16 + 16 * v)) u))
@@ -107,7 +101,7 @@ module _ (p : Problem) (numbers supports : List ℕ) (m a y z : ℕ) (x : Across
           no q =
               let c = code-16 p w (16 * z + u) z u refl (init-16 p w z u across-third i) in
               let spot : 256 * m + (16 * ((16 * y + v) % 16) + a % 16) ≡ 256 * m + a % 16 + 16 * v = omega (arith, code .1) in
-              inl (first-two-turned p _ _ _ (after p numbers supports m (16 * y + v) a z (on-turned p numbers supports m a (16 * y + v) z across-on) (omega (arith, code .0)) (16 * z + u) (c .0) (pair-at z u across-third i) la (λ r. q (subst T (ap₂ (λ (n k : ℕ). has (at supports n) k) spot (c .1)) r))))
+              inl (first-two-turned p _ _ _ (after p numbers supports m (16 * y + v) a z (on-turned p numbers supports m a (16 * y + v) z across-on) (omega (arith, code .0)) (16 * z + u) (c .0) (code-pair p w z u across-third i) la (λ r. q (subst T (ap₂ (λ (n k : ℕ). has (at supports n) k) spot (c .1)) r))))
 
 -- one of the constraints on the three variables
 pub across-of : (p : Problem) (numbers supports : List ℕ) → Ready p numbers supports → (a y z : ℕ) → MaybePair p a → y < 16 → z < 16 → (set m : ℕ) → set ≡ bitAnd (bitAnd (at numbers (a / 16)) (at numbers y)) (at numbers z) → T (has set m) →

@@ -122,6 +122,11 @@ module _ (p : Problem) (w : Stated p) where
   pub code-16 : (a x v : ℕ) → a ≡ 16 * x + v → v < 16 → (a / 16 ≡ x) × (a % 16 ≡ v)
   code-16 a x v e h = (omega arith, omega arith)
 
+  pub code-pair : (x v : ℕ) → x < p .variables → T (has (at (p .initial) x) v) → PairCode p (16 * x + v)
+  code-pair x v h t =
+      let c = code-16 (16 * x + v) x v refl (init-16 x v h t) in
+      (subst (λ (n : ℕ). n < p .variables) (sym (c .0)) h, subst T (sym (ap₂ (λ (n k : ℕ). has (at (p .initial) n) k) (c .0) (c .1))) t)
+
   -- ---- a table that permutes the pairs
   module _ (g : List ℕ) (t : T (permutesPairs p g)) where
     stays : (b : Bool) (q : ℕ) → T b → T (elim b [ true ↦ isPair p (at g q) | false ↦ eqb (at g q) q ]) → T (isPair p (at g q))

@@ -17,3 +17,4 @@ pub mod Surely
 pub mod Targets
 pub mod Triples
 pub mod Walks
+pub mod Wholes

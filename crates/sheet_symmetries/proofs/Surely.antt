@@ -129,7 +129,7 @@ module _ (p : Problem) (x y z : ℕ) where
       go q (List·Memᴰ·tail (List·Memᴰ·head e)) = List·Memᴰ·head e
       go q (List·Memᴰ·tail (List·Memᴰ·tail m)) = List·Memᴰ·tail (List·Memᴰ·tail m)
 
-  last-two-turned : T (blocked p (x ∷ y ∷ z ∷ [])) → T (blocked p (x ∷ z ∷ y ∷ []))
+  pub last-two-turned : T (blocked p (x ∷ y ∷ z ∷ [])) → T (blocked p (x ∷ z ∷ y ∷ []))
   last-two-turned = blocked-more p _ _ go
     where
       go : (q : ℕ) → List·Memᴰ q (x ∷ y ∷ z ∷ []) → List·Memᴰ q (x ∷ z ∷ y ∷ [])

@@ -131,7 +131,7 @@ module _ (p : Problem) (vs numbers supports codes moves : List ℕ) (k ahead key
   next-var n = g .inside _ (mem-at (constraintAt p k .scope) (length vs) (has-next n))
 
   -- one step further
-  further : (n : ahead ≡ 0 → ⊥) (v : ℕ) → T (has (at (p .initial) (at (constraintAt p k .scope) (length vs))) v) → (ahead ≡ 1 → any (same (vs ++ (v ∷ []))) (constraintAt p k .rows) ≡ false) →
+  pub further : (n : ahead ≡ 0 → ⊥) (v : ℕ) → T (has (at (p .initial) (at (constraintAt p k .scope) (length vs))) v) → (ahead ≡ 1 → any (same (vs ++ (v ∷ []))) (constraintAt p k .rows) ≡ false) →
       Walking p (vs ++ (v ∷ [])) numbers supports codes moves k (ahead - 1) (16 * key + v) b e (at codes (16 * at (constraintAt p k .scope) (length vs) + v))
   further n v t r =
       let c = constraintAt p k in
@@ -165,7 +165,7 @@ module _ (p : Problem) (vs codes numbers supports : List ℕ) (k ahead key : ℕ
   chosen-key : key < 256
   chosen-key = subst (λ (i : ℕ). i < 256) (sym (c .keyed)) (packed-lt vs (omega (arith, chosen-in, gc .few)) (begun-digits p st (constraintAt p k .scope) vs (gc .inside) (c .begun)))
 
-  keeps-here : keeps p codes (constraintAt p k) (drop (length vs) (constraintAt p k .scope)) vs
+  pub keeps-here : keeps p codes (constraintAt p k) (drop (length vs) (constraintAt p k .scope)) vs
       ≡ all (λ v. keeps p codes (constraintAt p k) (drop (suc (length vs)) (constraintAt p k .scope)) (vs ++ (v ∷ []))) (members (at (p .initial) (at (constraintAt p k .scope) (length vs))))
   unfolding keeps at
   keeps-here = ap (λ (l : List ℕ). keeps p codes (constraintAt p k) l vs) (drop-cons (constraintAt p k .scope) (length vs) 0 chosen-in)

@@ -204,6 +204,59 @@ FromRows p supports moves from a e z = (u : ℕ) → T (has (at (p .initial) z) 
 abbrev pub SetFrom : Problem → List ℕ → List ℕ → ℕ → ℕ → ℕ → ℕ → Type 0
 SetFrom p supports moves from i e z = (u : ℕ) → T (has (at (p .initial) z) u) → T (has (at supports i) u) → T (has (at supports (from + at moves e)) (at moves (16 * z + u)))
 
+-- ---- all three variables at once
+-- constraint m has the variables x, y and z
+pub record Three (p : Problem) (numbers supports : List ℕ) (m x y z : ℕ) : Type 0 where
+  pub ready : Ready p numbers supports
+  pub inside : m < length (p .constraints)
+  pub has-first : T (any (eqb x) (constraintAt p m .scope))
+  pub has-second : T (any (eqb y) (constraintAt p m .scope))
+  pub has-third : T (any (eqb z) (constraintAt p m .scope))
+
+abbrev pub Two : Problem → List ℕ → ℕ → ℕ → Type 0
+Two p numbers x z = Framed p numbers × (x < p .variables) × (z < p .variables)
+
+-- the values of x in the set at i come from values whose sets, every 16th from `from` on, have w
+abbrev pub FirstsFrom : Problem → List ℕ → List ℕ → ℕ → ℕ → ℕ → ℕ → Type 0
+FirstsFrom p supports moves from i x w = (t : ℕ) → T (has (at (p .initial) x) t) → T (has (at supports i) t) → T (has (at supports (from + 16 * at moves (16 * x + t))) w)
+
+-- the same for each value of z, and for each value of y
+abbrev pub ThirdsFrom : Problem → List ℕ → List ℕ → ℕ → ℕ → ℕ → ℕ → ℕ → Type 0
+ThirdsFrom p supports moves from base step x z = (u : ℕ) → T (has (at (p .initial) z) u) → FirstsFrom p supports moves from (base + step * u) x (at moves (16 * z + u))
+
+abbrev pub SecondsFrom : Problem → List ℕ → List ℕ → ℕ → ℕ → ℕ → ℕ → ℕ → ℕ → ℕ → Type 0
+SecondsFrom p supports moves k base step third x y z = (v : ℕ) → T (has (at (p .initial) y) v) → ThirdsFrom p supports moves (256 * k + at moves (16 * y + v)) (base + step * v) third x z
+
+-- three pairs are blocked, or the values that they come from are a row of constraint k
+abbrev pub WholeFrom : Problem → List ℕ → List ℕ → ℕ → ℕ → ℕ → ℕ → Type 0
+WholeFrom p supports moves k x y z = (t v : ℕ) → T (has (at (p .initial) x) t) → T (has (at (p .initial) y) v) →
+    FromRows p supports moves (256 * k + 16 * at moves (16 * x + t)) (16 * x + t) (16 * y + v) z
+
+abbrev pub Small : List ℕ → Type 0
+Small moves = (i : ℕ) → at moves i < 16
+
+-- constraint k is on three variables
+pub record Whole (p : Problem) (numbers supports codes moves : List ℕ) (k : ℕ) : Type 0 where
+  pub lent : Lent p numbers supports codes moves
+  pub inside : k < length (p .constraints)
+  pub three : length (constraintAt p k .scope) ≡ 3
+
+-- what the functions on them answer with true
+abbrev pub Firsts : List ℕ → List ℕ → ℕ → ℕ → ℕ → ℕ → Type 0
+Firsts supports moves from x set w = (t : ℕ) → T (has set t) → T (has (at supports (from + 16 * at moves (16 * x + t))) w)
+
+abbrev pub Thirds : List ℕ → List ℕ → List ℕ → ℕ → ℕ → ℕ → ℕ → ℕ → Type 0
+Thirds numbers supports moves from base step x z = (p : Problem) → Two p numbers x z → ThirdsFrom p supports moves from base step x z
+
+abbrev pub Seconds : List ℕ → List ℕ → List ℕ → ℕ → ℕ → ℕ → ℕ → ℕ → ℕ → ℕ → Type 0
+Seconds numbers supports moves k base step third x y z = (p : Problem) → Two p numbers x z → y < p .variables → SecondsFrom p supports moves k base step third x y z
+
+abbrev pub Wholes : List ℕ → List ℕ → List ℕ → ℕ → ℕ → ℕ → ℕ → ℕ → Type 0
+Wholes numbers supports moves k m x y z = (p : Problem) → Three p numbers supports m x y z → WholeFrom p supports moves k x y z
+
+abbrev pub Kept : List ℕ → List ℕ → List ℕ → ℕ → Type 0
+Kept numbers supports moves k = (p : Problem) (codes : List ℕ) → Whole p numbers supports codes moves k → true ≡ keeps p codes (constraintAt p k) (constraintAt p k .scope) []
+
 -- the image of each (x, v) is blocked with the pairs a and b
 abbrev pub allBlocked : Problem → List ℕ → ℕ → ℕ → ℕ → List ℕ → Bool
 allBlocked p codes x a b vs = all (λ v. blocked p (numberOf p a ∷ numberOf p b ∷ numberOf p (at codes (16 * x + v)) ∷ [])) vs

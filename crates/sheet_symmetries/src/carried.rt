@@ -22,6 +22,7 @@ use super::moves::place;
 use super::sure::refusing;
 use super::table::initial;
 use super::table::number;
+use super::turned::turned;
 use arrays::Numbers;
 use arrays::Supports;
 use model::ValueSet;
@@ -129,7 +130,7 @@ fn rows_from(
 }
 
 // A constraint of a set, k if it is one of them.
-fn pick(set: usize, k: usize) -> usize
+pub fn pick(set: usize, k: usize) -> usize
     requires { ⌜ (k < 64) × (set ≡ 0 → ⊥) ⌝ }
     ensures { λ r. ⌜ T (has set r) ⌝ }
 {
@@ -139,8 +140,8 @@ fn pick(set: usize, k: usize) -> usize
     usize::trailing_zeros(set) as usize
 }
 
-// True only where, for all choices for the last two variables of constraint k on three, they make a row or the image is blocked.
-// The key is the value of the first, whose pair has the image a.
+// True only where, for all choices for the last two or all three variables of constraint k, they make a row or the image is blocked.
+// Where two are left, the key is the value of the first, whose pair has the image a.
 pub fn carried(
     numbers: &Numbers,
     supports: &Supports,
@@ -153,6 +154,9 @@ pub fn carried(
     requires { ⌜ ((p : Problem) × (vs codes : List ℕ) × (z w : ℕ) × Walking p vs (now numbers) (now supports) codes (now moves) k ahead key z w a) ⌝ }
     ensures { λ r. ⌜ (r ≡ true → (p : Problem) (vs codes : List ℕ) (z w : ℕ) → Walking p vs (now (numbers .entry)) (now (supports .entry)) codes (now (moves .entry)) k ahead key z w a → true ≡ keeps p codes (constraintAt p k) (drop (length vs) (constraintAt p k .scope)) vs) ⌝ }
 {
+    if ahead == 3 {
+        return turned(numbers, supports, moves, k);
+    }
     if ahead != 2 {
         return false;
     }

@@ -4,6 +4,7 @@ mod forbidden;
 mod moves;
 mod sure;
 mod table;
+mod turned;
 mod two;
 mod walk;
 
