@@ -31,8 +31,8 @@ use Rattle.prune.proofs.FilterLoop.{kept-none}
 use Rattle.prune.proofs.FixpointLoop.{not-live, dead, same-at}
 use Rattle.prune.proofs.BlockCut.{after-take}
 
-module _ {p : Problem} {gs : List (List ℕ)} {supports tables numbers : List ℕ} (st : ArraysHold p supports tables numbers) (bl : Blocked p gs numbers) {work ds : List ℕ} {j todo dirty : ℕ}
-    (b : Startable p work numbers ds j todo dirty) (k v : ℕ) {cut : List ℕ} {changed : ℕ} (c : CutOr ds (cutAfter (blockOf numbers) k v ds) cut (at numbers BLOCK) changed) where
+module _ {p : Problem} {gs : List (List ℕ)} {supports tables numbers : List ℕ} (st : ArraysHold p supports tables numbers) (bl : Blocked p gs numbers) {ds : List ℕ}
+    (b : LiveSets p ds) (k v : ℕ) {cut : List ℕ} {changed : ℕ} (c : CutOr ds (cutAfter (blockOf numbers) k v ds) cut (at numbers BLOCK) changed) where
   n-16 : p .variables ≤ 16
   n-16 = omega (arith, st .wellFormed .few)
 
@@ -40,14 +40,14 @@ module _ {p : Problem} {gs : List (List ℕ)} {supports tables numbers : List �
   whole = cutAfter (blockOf numbers) k v ds
 
   whole-16 : Sets 16 whole
-  whole-16 = cut-sets (blockOf numbers) k v ds 16 (b .live .sixteen .0)
+  whole-16 = cut-sets (blockOf numbers) k v ds 16 (b .sixteen .0)
 
   pub whole-is : setsOf p whole ≡ cutAfter (blockOf numbers) k v (setsOf p ds)
-  whole-is = after-take (at numbers BLOCK) k v ds (b .live .sixteen) (p .variables) n-16
+  whole-is = after-take (at numbers BLOCK) k v ds (b .sixteen) (p .variables) n-16
 
   -- a set is empty: the prefix is dead
-  pub cut-dead : changed ≡ DEAD → Way (withSymmetries p gs) (take j work) (setsOf p whole) → (sets : List ℕ) → AfterFixpoint p gs j work work sets true
-  cut-dead e w sets =
+  pub cut-dead : {work : List ℕ} {j : ℕ} → changed ≡ DEAD → Way (withSymmetries p gs) (take j work) (setsOf p whole) → (sets : List ℕ) → AfterFixpoint p gs j work work sets true
+  cut-dead {work} {j} e w sets =
       let d = c .dead e in
       let h = bl .few (d .0) (d .1 .0) in
       dead p gs j work work sets (kept-none work j)
@@ -68,7 +68,7 @@ module _ {p : Problem} {gs : List (List ℕ)} {supports tables numbers : List �
     less x u t = cut-e (blockOf numbers) k v ds x u (subst (λ (l : List ℕ). T (has (at l x) u)) cut-is t) .0
 
     same : (x : ℕ) → x < 16 → has changed x ≡ false → at cut x ≡ at ds x
-    same = same-at ds cut (b .live .sixteen) cut-16 changed (c .differ alive)
+    same = same-at ds cut (b .sixteen) cut-16 changed (c .differ alive)
 
     -- outside of the block nothing changes
     outside : (x : ℕ) → has (at numbers BLOCK) x ≡ false → has changed x ≡ false
@@ -80,30 +80,30 @@ module _ {p : Problem} {gs : List (List ℕ)} {supports tables numbers : List �
       where
         kept : at cut x ≡ at ds x
         kept =
-            mask-ext 16 (at cut x) (at ds x) (cut-16 .1 x) (b .live .sixteen .1 x)
+            mask-ext 16 (at cut x) (at ds x) (cut-16 .1 x) (b .sixteen .1 x)
             (λ u l. T-ext (has (at cut x) u) (has (at ds x) u) (less x u) (λ t. subst (λ (l : List ℕ). T (has (at l x) u)) (sym cut-is) (cut-i (blockOf numbers) k v ds x u l t (λ f g i. absurd (omega arith)))))
 
     some : (x : ℕ) → x < p .variables → at cut x ≡ 0 → ⊥
-    some x h e = full-take (p .variables) ds (b .live .sixteen) n-16 (b .live .full) x h (go (has (at numbers BLOCK) x) refl)
+    some x h e = full-take (p .variables) ds (b .sixteen) n-16 (b .full) x h (go (has (at numbers BLOCK) x) refl)
       where
         go : (d : Bool) → has (at numbers BLOCK) x ≡ d → at ds x ≡ 0
         go true q = c .full alive x (T-of (has (at numbers BLOCK) x) q) e
         go false q = sym (same x (omega (arith, n-16)) (outside x q)) ∙ e
 
-    live : LiveSets p cut
-    live = record {
+    pub cut-live : LiveSets p cut
+    cut-live = record {
       sixteen = cut-16;
       full = take-full (p .variables) cut cut-16 n-16 some;
-      unused = λ x h l. same x l (outside x (not-of (has (at numbers BLOCK) x) (λ t. let q = bl .few x t in omega arith))) ∙ b .live .unused x h l;
+      unused = λ x h l. same x l (outside x (not-of (has (at numbers BLOCK) x) (λ t. let q = bl .few x t in omega arith))) ∙ b .unused x h l;
     }
 
-    inside : Inside (setsOf p cut) (setsOf p ds)
-    inside = take-less st ds cut (b .live .sixteen) cut-16 less
+    pub cut-inside : Inside (setsOf p cut) (setsOf p ds)
+    cut-inside = take-less st ds cut (b .sixteen) cut-16 less
 
-    given : Given p cut
-    given = record { sixteen = cut-16; full = live .full; inside = λ x u t. b .pending .given .inside x u (inside x u t) }
+    module _ {work : List ℕ} {j todo dirty left todo′ dirty′ : ℕ} (s : Startable p work numbers ds j todo dirty) (u : Touched numbers changed left) (t : todo′ ≡ bitOr todo left) (d : dirty′ ≡ bitOr dirty (bitAnd changed (at numbers LINKED))) where
+      given : Given p cut
+      given = record { sixteen = cut-16; full = cut-live .full; inside = λ x u t. s .pending .given .inside x u (cut-inside x u t) }
 
-    module _ {left todo′ dirty′ : ℕ} (u : Touched numbers changed left) (t : todo′ ≡ bitOr todo left) (d : dirty′ ≡ bitOr dirty (bitAnd changed (at numbers LINKED))) where
       has-todo : (i : ℕ) → has todo′ i ≡ either (has todo i) (has left i)
       has-todo i = ap (λ (n : ℕ). has n i) t ∙ has-or todo left i
 
@@ -118,22 +118,22 @@ module _ {p : Problem} {gs : List (List ℕ)} {supports tables numbers : List �
 
       cut-startable : Startable p work numbers cut j todo′ dirty′
       cut-startable = record {
-        prefix-held = b .prefix-held;
-        live = live;
+        prefix-held = s .prefix-held;
+        live = cut-live;
         pending = record {
           given = given;
-          known = λ i q. ⊎-elim {C = i < length (p .constraints)} (b .pending .known i) (touched-known st changed left u (c .differ alive .few) i) (either-e (has todo i) (has left i) (subst T (has-todo i) q));
+          known = λ i q. ⊎-elim {C = i < length (p .constraints)} (s .pending .known i) (touched-known st changed left u (c .differ alive .few) i) (either-e (has todo i) (has left i) (subst T (has-todo i) q));
           others = λ i h f r.
               let n = neither (has todo i) (has left i) (has todo′ i) (has-todo i) f in
-              still-fixed st ds cut changed left (b .live .sixteen) cut-16 same-x u i h (n .1) r (b .pending .others i h (n .0) r);
-          inner = λ x q. ⊎-elim {C = x < p .variables} (b .pending .inner x) (λ m. bl .few x (c .few alive x (both-l (has changed x) (has (at numbers LINKED) x) (subst T (has-and changed (at numbers LINKED) x) m)))) (either-e (has dirty x) (has (bitAnd changed (at numbers LINKED)) x) (subst T (has-dirty x) q));
+              still-fixed st ds cut changed left (b .sixteen) cut-16 same-x u i h (n .1) r (s .pending .others i h (n .0) r);
+          inner = λ x q. ⊎-elim {C = x < p .variables} (s .pending .inner x) (λ m. bl .few x (c .few alive x (both-l (has changed x) (has (at numbers LINKED) x) (subst T (has-and changed (at numbers LINKED) x) m)))) (either-e (has dirty x) (has (bitAnd changed (at numbers LINKED)) x) (subst T (has-dirty x) q));
           arcs = λ x h f.
               let n = neither (has dirty x) (has (bitAnd changed (at numbers LINKED)) x) (has dirty′ x) (has-dirty x) f in
-              still-arc st ds cut changed (bitAnd changed (at numbers LINKED)) (b .pending .given) given less same-x refl x h (n .1) (b .pending .arcs x h (n .0));
+              still-arc st ds cut changed (bitAnd changed (at numbers LINKED)) (s .pending .given) given less same-x refl x h (n .1) (s .pending .arcs x h (n .0));
         };
         marking = λ e h.
             mark-mono p (setsOf p ds) (setsOf p cut) (take j work) e (at work (16 * j + MARKS + e))
-            (take-sets (p .variables) cut cut-16 n-16 .0 ∙ sym (take-sets (p .variables) ds (b .live .sixteen) n-16 .0)) inside (b .marking e h);
+            (take-sets (p .variables) cut cut-16 n-16 .0 ∙ sym (take-sets (p .variables) ds (b .sixteen) n-16 .0)) cut-inside (s .marking e h);
       }
 
       -- variable k is settled last, to its value in the prefix, and no earlier one is dirty

@@ -7,3 +7,4 @@ pub mod FilterLoop
 pub mod Starts
 pub mod BlockCut
 pub mod ChildCut
+pub mod Descent

@@ -108,6 +108,14 @@ pub record BeforeFixpoint (p : Problem) (gs : List (List ℕ)) (work numbers set
   pub way : Way (withSymmetries p gs) (take k work) (setsOf p sets)
   pub ascends : Ascends (blockOf numbers) (take k work) (setsOf p sets)
 
+-- the same, where nothing is known yet: every constraint is due, and every filter from its first level on
+pub record Unpruned (p : Problem) (gs : List (List ℕ)) (work numbers sets : List ℕ) (k : ℕ) : Type 0 where
+  pub prefix-held : PrefixHeld p work k
+  pub live : LiveSets p sets
+  pub inside : Inside (setsOf p sets) (p .initial)
+  pub way : Way (withSymmetries p gs) (take k work) (setsOf p sets)
+  pub ascends : Ascends (blockOf numbers) (take k work) (setsOf p sets)
+
 -- of the first k variables the last is settled now, to v: those before it were settled at earlier depths, and none of them is dirty
 pub record LastSettled (work : List ℕ) (k v dirty : ℕ) : Type 0 where
   pub some : 1 ≤ k

@@ -29,7 +29,7 @@ ghost use Rattle.block.specs.BlockSets.{cutAfter};
 ghost use Rattle.arrays.specs.Places.{INITIAL, SYMMETRIES, STACK, WORK};
 ghost use Rattle.arrays.specs.Pruning.{setsOf};
 ghost use Rattle.prune.specs.Node.{Ready, MarksRight, AtNode, Reached, longer};
-ghost use Rattle.prune.specs.Steps.{ArraysHold, Blocked, Pending, AllConstrainedOr, PrefixHeld, LiveSets, AllFilteredOr, BeforeFixpoint, LastSettled, AfterFixpoint, Differ, cutBelow, CutOr, Loaded, Stored, MarksCopied};
+ghost use Rattle.prune.specs.Steps.{ArraysHold, Blocked, Pending, AllConstrainedOr, PrefixHeld, LiveSets, AllFilteredOr, BeforeFixpoint, LastSettled, Unpruned, AfterFixpoint, Differ, cutBelow, CutOr, Loaded, Stored, MarksCopied};
 
 // Prunes by the constraints until nothing moves, those by variable and the others by turns; true where a set is empty.
 fn constrain(
@@ -263,14 +263,14 @@ fn cut_later(sets: &mut [u16; 16], block: u64, k: usize, v: u16) -> u64
     0
 }
 
-// The marks of depth 0: nothing is known yet.
-fn clear_marks(work: &mut Work)
-    requires { ⌜ length (now work) ≡ WORK ⌝ }
-    ensures { λ _. ⌜ Stored (now (work .entry)) 1 (λ e. 0) (now (work .exit)) ⌝ }
+// The marks of depth k: nothing is known yet.
+fn clear_marks(work: &mut Work, k: usize)
+    requires { ⌜ (k < 13) × (length (now work) ≡ WORK) ⌝ }
+    ensures { λ _. ⌜ Stored (now (work .entry)) (k + 1) (λ e. 0) (now (work .exit)) ⌝ }
 {
     let mut e = 0;
     while e < 16 {
-        work[MARKS + e] = 0;
+        work[16 * k + MARKS + e] = 0;
         e += 1;
     }
 }
@@ -292,6 +292,34 @@ fn copy_marks(work: &mut Work, numbers: &Numbers, k: usize)
     }
 }
 
+// Prunes sets of which nothing is known by all constraints and filters, and puts the sets and marks at the prefix of k values at depth k; true where it is
+// dead.
+fn prune_all(
+    stack: &mut Stack,
+    work: &mut Work,
+    sets: &mut [u16; 16],
+    supports: &Supports,
+    tables: &Tables,
+    numbers: &Numbers,
+    k: usize,
+) -> bool
+    requires { ⌜ ((p : Problem) × (gs : List (List ℕ)) × Ready p gs (now stack) (now work) (now supports) (now tables) (now numbers) × Unpruned p gs (now work) (now numbers) (now sets) k) ⌝ }
+    ensures { λ r. ⌜ ((p : Problem) (gs : List (List ℕ)) → Ready p gs (now (stack .entry)) (now (work .entry)) (now (supports .entry)) (now (tables .entry)) (now (numbers .entry)) → Unpruned p gs (now (work .entry)) (now (numbers .entry)) (now (sets .entry)) k → Reached p gs (take k (now (work .entry))) k (now (stack .entry)) (now (work .entry)) (now (stack .exit)) (now (work .exit)) r) ⌝ }
+{
+    clear_marks(work, k);
+    let todo = prune_constraints::touched(numbers, (1u64 << numbers[VARIABLES]) - 1);
+    let linked = numbers[LINKED];
+    let settled = (1u64 << k) - 1;
+    if constrain(sets, supports, tables, numbers, todo, linked, settled) {
+        return true;
+    }
+    if alternate(sets, work, supports, tables, numbers, k) {
+        return true;
+    }
+    store(stack, k, sets);
+    false
+}
+
 // Puts the sets and marks at the empty prefix at depth 0; true where it is dead.
 pub fn root(
     stack: &mut Stack,
@@ -305,24 +333,7 @@ pub fn root(
 {
     let mut sets = [1u16; 16];
     initial(numbers, &mut sets);
-    clear_marks(work);
-    let todo = prune_constraints::touched(numbers, (1u64 << numbers[VARIABLES]) - 1);
-    if constrain(
-        &mut sets,
-        supports,
-        tables,
-        numbers,
-        todo,
-        numbers[LINKED],
-        0,
-    ) {
-        return true;
-    }
-    if alternate(&mut sets, work, supports, tables, numbers, 0) {
-        return true;
-    }
-    store(stack, 0, &sets);
-    false
+    prune_all(stack, work, &mut sets, supports, tables, numbers, 0)
 }
 
 // Puts the sets and marks at the prefix of work's first k + 1 values at depth k + 1, from those of the first k values at depth k; true where it is dead.
@@ -366,4 +377,28 @@ pub fn child(
     }
     store(stack, k + 1, &sets);
     false
+}
+
+// The same as `child`, where few prefixes are asked for, as along a path: so `child` has one caller, and is compiled into it.
+pub fn descend(
+    stack: &mut Stack,
+    work: &mut Work,
+    supports: &Supports,
+    tables: &Tables,
+    numbers: &Numbers,
+    k: usize,
+) -> bool
+    requires { ⌜ ((p : Problem) × (gs : List (List ℕ)) × AtNode p gs (now stack) (now work) (now supports) (now tables) (now numbers) k) ⌝ }
+    ensures { λ r. ⌜ ((p : Problem) (gs : List (List ℕ)) → AtNode p gs (now (stack .entry)) (now (work .entry)) (now (supports .entry)) (now (tables .entry)) (now (numbers .entry)) k → Reached p gs (longer (now (work .entry)) k) (k + 1) (now (stack .entry)) (now (work .entry)) (now (stack .exit)) (now (work .exit)) r) ⌝ }
+{
+    let mut sets = [1u16; 16];
+    load(stack, k, &mut sets);
+    let old = ValueSet { bits: sets[k] };
+    let v = (work[k] % 16) as u16;
+    let one = old.only(v);
+    sets[k] = one.bits;
+    if cut_later(&mut sets, numbers[BLOCK], k, v) == DEAD {
+        return true;
+    }
+    prune_all(stack, work, &mut sets, supports, tables, numbers, k + 1)
 }

@@ -1,4 +1,4 @@
--- The laws of marks: they hold at the root, and stay as the sets shrink and the prefix grows; nogoods that are not due take nothing. Assumes nothing.
+-- The laws of marks: 0 is one at every prefix, and they stay as the sets shrink and the prefix grows; nogoods that are not due take nothing. Assumes nothing.
 use mathlib.Core.Path.{_≡_, refl, sym, subst}
 use mathlib.Core.Bool.{Bool, true, false}
 use mathlib.Core.List.{List, [], _∷_, _++_}
@@ -22,9 +22,10 @@ use Rattle.filter.specs.Marks.{Vacuous, Skippable}
 use Rattle.filter.proofs.Marks.{vacuous-nil, vacuous-mono, skippable-mono, skippable-append, skipped-here}
 use Rattle.prune_symmetries.specs.Levels.{Mark, MarkBy, Resumes}
 
-pub mark-start : (p : Problem) (ds : List ℕ) (e : ℕ) → Mark p ds [] e 0
+pub mark-start : (p : Problem) (ds prefix : List ℕ) (e : ℕ) → Mark p ds prefix e 0
 unfolding nogoodsOf below upFrom flat obeysFrom
-mark-start p ds e = record { begun = omega arith; vacuous = vacuous-nil ds; below = omega arith; entailed = λ h a m. tt }
+mark-start p ds [] e = record { begun = omega arith; vacuous = vacuous-nil ds; below = omega arith; entailed = λ h a m. tt }
+mark-start p ds (v ∷ prefix) e = record { begun = omega arith; vacuous = vacuous-nil ds; below = omega arith; entailed = λ h. absurd (omega arith) }
 
 pub mark-mono : (p : Problem) (ds es prefix : List ℕ) (e m : ℕ) → length es ≡ length ds → Inside es ds → Mark p ds prefix e m → Mark p es prefix e m
 mark-mono p ds es prefix e m l h = go (eqb m OBEYED)

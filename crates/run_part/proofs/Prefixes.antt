@@ -1,4 +1,4 @@
--- `child` goes one value down: what it asks, and what is known of the next prefix then. Assumes nothing.
+-- `descend` goes one value down: what it asks, and what is known of the next prefix then. Assumes nothing.
 use mathlib.Core.Path.{_≡_, sym, ap, _∙_, subst}
 use mathlib.Core.Bool.{Bool, true, false}
 use mathlib.Core.List.{List, [], _∷_, _++_}
@@ -20,7 +20,7 @@ use Rattle.run_state.specs.Pair.{prefixOf, ownIn, ListRoom, AtPrefix}
 use Rattle.run_state.proofs.Prefix.{prefix-ext, prefix-take, prefix-snoc}
 use Rattle.run_tree.proofs.Turns.{ready-on}
 
--- ---- `child` at depth k
+-- ---- `descend` at depth k
 module _ (p : Problem) (stack work supports tables numbers list : List ℕ) (tally : Tally) (k : ℕ) (h : AtPrefix p stack work supports tables numbers list tally k) where
   few : k < 12
   few = let f = h .ready .wellFormed .few in let i = h .inner in omega arith

@@ -97,7 +97,7 @@ fn step(
         bits: stack[17 * k],
     };
     if set.contains(work[k] as u16) {
-        return !prune::child(stack, work, supports, tables, numbers, k);
+        return !prune::descend(stack, work, supports, tables, numbers, k);
     }
     false
 }
@@ -117,7 +117,7 @@ fn put_node(
 {
     work[k] = v as u64;
     work[LAST] = (k + 1) as u64;
-    !prune::child(stack, work, supports, tables, numbers, k)
+    !prune::descend(stack, work, supports, tables, numbers, k)
 }
 
 // Walks along the nodes below the value at depth k of the path in `work`, where the sets leave it, from the path's rest up to another.

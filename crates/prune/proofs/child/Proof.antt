@@ -76,7 +76,7 @@ unfolding at
 returns c =
     let f = c .before .before in λ p gs a.
     let s = (child-startable a _ (f .before .before .before .before .before .before .before .before .copy-marks .ensures) (f .before .before .before .before .before .before .before .before .before .before .load .last .1 .1 .0) (f .before .before .before .before .before .before .before .before .before .before .load .ensures) _ _ _ (f .before .before .before .before .before .before .only .ensures) (f .before .before .before .before .due .ensures) (f .before .before .due2 .ensures)) in
-    child-dead a _ (f .before .before .before .before .before .before .before .before .copy-marks .ensures) [] _ _ (cut-dead (arrays-hold (a .ready)) (blocked (a .ready)) s _ _ (c .before .cut-later .ensures) (c .if1 .taken) ((child-on-way a _ (f .before .before .before .before .before .before .before .before .copy-marks .ensures) (f .before .before .before .before .before .before .before .before .before .before .load .last .1 .1 .0) (f .before .before .before .before .before .before .before .before .before .before .load .ensures) _ _ _ (f .before .before .before .before .before .before .only .ensures) (f .before .before .before .before .due .ensures) (f .before .before .due2 .ensures) _ _ refl (whole-is (arrays-hold (a .ready)) (blocked (a .ready)) s _ _ (c .before .cut-later .ensures))) .0) []) refl
+    child-dead a _ (f .before .before .before .before .before .before .before .before .copy-marks .ensures) [] _ _ (cut-dead (arrays-hold (a .ready)) (blocked (a .ready)) (s .live) _ _ (c .before .cut-later .ensures) (c .if1 .taken) ((child-on-way a _ (f .before .before .before .before .before .before .before .before .copy-marks .ensures) (f .before .before .before .before .before .before .before .before .before .before .load .last .1 .1 .0) (f .before .before .before .before .before .before .before .before .before .before .load .ensures) _ _ _ (f .before .before .before .before .before .before .only .ensures) (f .before .before .before .before .due .ensures) (f .before .before .due2 .ensures) _ _ refl (whole-is (arrays-hold (a .ready)) (blocked (a .ready)) (s .live) _ _ (c .before .cut-later .ensures))) .0) []) refl
 
 add-fixpoint : tie.Need-add-fixpoint
 add-fixpoint c = search needs
@@ -96,9 +96,9 @@ fixpoint-requires c κs =
     let f = c .before .before .before .before .before .before in
     let a = f .before .before .before .before .before .before .before .before .before .before .before .before .before .pre .2 in
     let s = (child-startable a _ (f .before .before .before .before .before .before .before .before .copy-marks .ensures) (f .before .before .before .before .before .before .before .before .before .before .load .last .1 .1 .0) (f .before .before .before .before .before .before .before .before .before .before .load .ensures) _ _ _ (f .before .before .before .before .before .before .only .ensures) (f .before .before .before .before .due .ensures) (f .before .before .due2 .ensures)) in
-    let w = (child-on-way a _ (f .before .before .before .before .before .before .before .before .copy-marks .ensures) (f .before .before .before .before .before .before .before .before .before .before .load .last .1 .1 .0) (f .before .before .before .before .before .before .before .before .before .before .load .ensures) _ _ _ (f .before .before .before .before .before .before .only .ensures) (f .before .before .before .before .due .ensures) (f .before .before .due2 .ensures) _ _ refl (cut-sets-are (arrays-hold (a .ready)) (blocked (a .ready)) s _ _ (c .before .before .before .before .before .cut-later .ensures) (c .before .before .before .before .if1 .left))) in
-    let n = cut-before (arrays-hold (a .ready)) (blocked (a .ready)) s _ _ (c .before .before .before .before .before .cut-later .ensures) (c .before .before .before .before .if1 .left) (c .before .touched .ensures) refl refl w in
-    let l = cut-last (arrays-hold (a .ready)) (blocked (a .ready)) s _ _ (c .before .before .before .before .before .cut-later .ensures) (c .before .before .before .before .if1 .left) (c .before .touched .ensures) refl refl (value-small a _ (f .before .before .before .before .before .before .before .before .copy-marks .ensures))
+    let w = (child-on-way a _ (f .before .before .before .before .before .before .before .before .copy-marks .ensures) (f .before .before .before .before .before .before .before .before .before .before .load .last .1 .1 .0) (f .before .before .before .before .before .before .before .before .before .before .load .ensures) _ _ _ (f .before .before .before .before .before .before .only .ensures) (f .before .before .before .before .due .ensures) (f .before .before .due2 .ensures) _ _ refl (cut-sets-are (arrays-hold (a .ready)) (blocked (a .ready)) (s .live) _ _ (c .before .before .before .before .before .cut-later .ensures) (c .before .before .before .before .if1 .left))) in
+    let n = cut-before (arrays-hold (a .ready)) (blocked (a .ready)) (s .live) _ _ (c .before .before .before .before .before .cut-later .ensures) (c .before .before .before .before .if1 .left) s (c .before .touched .ensures) refl refl w in
+    let l = cut-last (arrays-hold (a .ready)) (blocked (a .ready)) (s .live) _ _ (c .before .before .before .before .before .cut-later .ensures) (c .before .before .before .before .if1 .left) s (c .before .touched .ensures) refl refl (value-small a _ (f .before .before .before .before .before .before .before .before .copy-marks .ensures))
     (child-later a _ (f .before .before .before .before .before .before .before .before .copy-marks .ensures) (f .before .before .before .before .before .before .before .before .before .before .load .last .1 .1 .0) (f .before .before .before .before .before .before .before .before .before .before .load .ensures) _ _ _ (f .before .before .before .before .before .before .only .ensures) (f .before .before .before .before .due .ensures) (f .before .before .due2 .ensures)) in
     (_, _, arrays-hold (a .ready), blocked (a .ready), n, l)
 
@@ -108,8 +108,8 @@ returns-2 c =
     let g = c .before .before in
     let f = g .before .before .before .before .before .before in λ p gs a.
     let s = (child-startable a _ (f .before .before .before .before .before .before .before .before .copy-marks .ensures) (f .before .before .before .before .before .before .before .before .before .before .load .last .1 .1 .0) (f .before .before .before .before .before .before .before .before .before .before .load .ensures) _ _ _ (f .before .before .before .before .before .before .only .ensures) (f .before .before .before .before .due .ensures) (f .before .before .due2 .ensures)) in
-    let w = (child-on-way a _ (f .before .before .before .before .before .before .before .before .copy-marks .ensures) (f .before .before .before .before .before .before .before .before .before .before .load .last .1 .1 .0) (f .before .before .before .before .before .before .before .before .before .before .load .ensures) _ _ _ (f .before .before .before .before .before .before .only .ensures) (f .before .before .before .before .due .ensures) (f .before .before .due2 .ensures) _ _ refl (cut-sets-are (arrays-hold (a .ready)) (blocked (a .ready)) s _ _ (g .before .before .before .before .before .cut-later .ensures) (g .before .before .before .before .if1 .left))) in
-    let n = cut-before (arrays-hold (a .ready)) (blocked (a .ready)) s _ _ (g .before .before .before .before .before .cut-later .ensures) (g .before .before .before .before .if1 .left) (g .before .touched .ensures) refl refl w in
+    let w = (child-on-way a _ (f .before .before .before .before .before .before .before .before .copy-marks .ensures) (f .before .before .before .before .before .before .before .before .before .before .load .last .1 .1 .0) (f .before .before .before .before .before .before .before .before .before .before .load .ensures) _ _ _ (f .before .before .before .before .before .before .only .ensures) (f .before .before .before .before .due .ensures) (f .before .before .due2 .ensures) _ _ refl (cut-sets-are (arrays-hold (a .ready)) (blocked (a .ready)) (s .live) _ _ (g .before .before .before .before .before .cut-later .ensures) (g .before .before .before .before .if1 .left))) in
+    let n = cut-before (arrays-hold (a .ready)) (blocked (a .ready)) (s .live) _ _ (g .before .before .before .before .before .cut-later .ensures) (g .before .before .before .before .if1 .left) s (g .before .touched .ensures) refl refl w in
     child-dead a _ (f .before .before .before .before .before .before .before .before .copy-marks .ensures) _ _ _ (c .before .fixpoint .ensures p gs (arrays-hold (a .ready)) (blocked (a .ready)) n) (c .if2 .taken)
 
 add-store : tie.Need-add-store
@@ -124,8 +124,8 @@ returns-3 c =
     let g = c .before .before .before .before .before in
     let f = g .before .before .before .before .before .before in λ p gs a.
     let s = (child-startable a _ (f .before .before .before .before .before .before .before .before .copy-marks .ensures) (f .before .before .before .before .before .before .before .before .before .before .load .last .1 .1 .0) (f .before .before .before .before .before .before .before .before .before .before .load .ensures) _ _ _ (f .before .before .before .before .before .before .only .ensures) (f .before .before .before .before .due .ensures) (f .before .before .due2 .ensures)) in
-    let w = (child-on-way a _ (f .before .before .before .before .before .before .before .before .copy-marks .ensures) (f .before .before .before .before .before .before .before .before .before .before .load .last .1 .1 .0) (f .before .before .before .before .before .before .before .before .before .before .load .ensures) _ _ _ (f .before .before .before .before .before .before .only .ensures) (f .before .before .before .before .due .ensures) (f .before .before .due2 .ensures) _ _ refl (cut-sets-are (arrays-hold (a .ready)) (blocked (a .ready)) s _ _ (g .before .before .before .before .before .cut-later .ensures) (g .before .before .before .before .if1 .left))) in
-    let n = cut-before (arrays-hold (a .ready)) (blocked (a .ready)) s _ _ (g .before .before .before .before .before .cut-later .ensures) (g .before .before .before .before .if1 .left) (g .before .touched .ensures) refl refl w in
+    let w = (child-on-way a _ (f .before .before .before .before .before .before .before .before .copy-marks .ensures) (f .before .before .before .before .before .before .before .before .before .before .load .last .1 .1 .0) (f .before .before .before .before .before .before .before .before .before .before .load .ensures) _ _ _ (f .before .before .before .before .before .before .only .ensures) (f .before .before .before .before .due .ensures) (f .before .before .due2 .ensures) _ _ refl (cut-sets-are (arrays-hold (a .ready)) (blocked (a .ready)) (s .live) _ _ (g .before .before .before .before .before .cut-later .ensures) (g .before .before .before .before .if1 .left))) in
+    let n = cut-before (arrays-hold (a .ready)) (blocked (a .ready)) (s .live) _ _ (g .before .before .before .before .before .cut-later .ensures) (g .before .before .before .before .if1 .left) s (g .before .touched .ensures) refl refl w in
     child-live a _ (f .before .before .before .before .before .before .before .before .copy-marks .ensures) _ _ _ _ (c .before .before .before .before .fixpoint .ensures p gs (arrays-hold (a .ready)) (blocked (a .ready)) n) (c .before .before .before .if2 .left) (c .store .ensures)
 
 pub child-spec : {M : Type 1} → statement M

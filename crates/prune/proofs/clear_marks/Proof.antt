@@ -1,6 +1,5 @@
 -- Sixteen marks are cleared, one after another. Assumes nothing.
-use mathlib.Core.Path.{refl}
-use Prim.Native.Nat.{_*_, _-_, _≤_}
+use Prim.Native.Nat.{_+_, _*_, _-_, _≤_}
 use native.Mathlib.Omega.{arith}
 use borrow.Author.Needs.{needs}
 use Rattle.prune.proofs.Copies.{Filled, filled-begin, filled-turn, stored}
@@ -8,19 +7,25 @@ use Rattle.prune.proofs.clear_marks.Statement.{statement}
 use Rattle.prune.proofs.clear_marks.Tie as tie
 
 abbrev Inv-loop : tie.InvT-loop
-Inv-loop work₀ e₀ work e = (e ≤ 16) × Filled (λ i. 0) (16 * 1) work₀ work e
+Inv-loop work₀ k e₀ work e = (e ≤ 16) × Filled (λ i. 0) (16 * (k + 1)) work₀ work e
 
 abbrev μ-loop : tie.MeasureT-loop
-μ-loop work₀ e₀ work e = 16 - e
+μ-loop work₀ k e₀ work e = 16 - e
 
 loop-holds : tie.Need-loop-holds Inv-loop μ-loop
 loop-holds c = (search needs, filled-begin _ _ _)
 
+mul-work : tie.Need-mul-work Inv-loop μ-loop
+mul-work c = search needs
+
 add-work : tie.Need-add-work Inv-loop μ-loop
 add-work c = search needs
 
-mul-work : tie.Need-mul-work Inv-loop μ-loop
-mul-work c = search needs
+add-work-2 : tie.Need-add-work-2 Inv-loop μ-loop
+add-work-2 c = search needs
+
+mul-work-2 : tie.Need-mul-work-2 Inv-loop μ-loop
+mul-work-2 c = search needs
 
 element-write-work : tie.Need-element-write-work Inv-loop μ-loop
 element-write-work c = search needs
@@ -32,7 +37,7 @@ loop-less : tie.Need-loop-less Inv-loop μ-loop
 loop-less c = search needs
 
 loop-again : tie.Need-loop-again Inv-loop μ-loop
-loop-again c = (search needs, filled-turn _ _ _ _ _ _ (c .before .loop .inv .1) refl (omega arith))
+loop-again c = (search needs, filled-turn _ _ _ _ _ _ (c .before .loop .inv .1) (omega arith) (omega arith))
 
 returns : tie.Need-returns Inv-loop μ-loop
 returns c = stored _ _ _ _ _ (search needs) (c .before .loop .inv .1)
@@ -44,8 +49,10 @@ clear-marks-spec =
     Inv-loop
     μ-loop
     loop-holds
-    add-work
     mul-work
+    add-work
+    add-work-2
+    mul-work-2
     element-write-work
     add-e
     loop-less

@@ -21,17 +21,17 @@ element-write-work-2 : tie.Need-element-write-work-2
 element-write-work-2 c = search needs
 
 -- src/lib.rt:104:6
-child-requires : tie.Need-child-requires
-child-requires c κs =
+descend-requires : tie.Need-descend-requires
+descend-requires c κs =
     let a = c .before .before in
     (_, _, put-asks (a .pre .0) _ _ _ _ _ (a .pre .1) (a .pre .2) _ _ (a .pre .3))
 
 -- src/lib.rt:90:1
 returns : tie.Need-returns
 returns c =
-    λ p list tally g. put-node p _ _ _ _ _ list tally _ _ g _ _ _ (c .child .ensures _ _ (put-asks p _ _ _ _ _ list tally _ _ g))
+    λ p list tally g. put-node p _ _ _ _ _ list tally _ _ g _ _ _ (c .descend .ensures _ _ (put-asks p _ _ _ _ _ list tally _ _ g))
 
 pub put-node-spec : {M : Type 1} → statement M
 put-node-spec =
     tie.close
-    (tie.spec mul-work element-write-work add-work element-write-work-2 child-requires returns)
+    (tie.spec mul-work element-write-work add-work element-write-work-2 descend-requires returns)

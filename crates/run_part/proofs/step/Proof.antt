@@ -38,9 +38,9 @@ contains-requires : tie.Need-contains-requires
 contains-requires c κs = search needs
 
 -- src/lib.rt:84:17
-child-requires : tie.Need-child-requires
+descend-requires : tie.Need-descend-requires
 unfolding at
-child-requires c κs =
+descend-requires c κs =
     let t = c .before .before in
     let a = t .before .before .before .before in
     (_, _, step-asks (a .pre .0) _ _ _ _ _ (a .pre .1) (a .pre .2) _ (a .pre .3) (T-of _ (sym (t .before .contains .ensures) ∙ t .if1 .taken)))
@@ -51,7 +51,7 @@ unfolding at
 returns c =
     let t = c .before .before .before in
     let i = T-of _ (sym (t .before .contains .ensures) ∙ t .if1 .taken) in λ p list tally h.
-    stepped-in p _ _ _ _ _ list tally _ h i _ _ _ (c .child .ensures _ _ (step-asks p _ _ _ _ _ list tally _ h i))
+    stepped-in p _ _ _ _ _ list tally _ h i _ _ _ (c .descend .ensures _ _ (step-asks p _ _ _ _ _ list tally _ h i))
 
 -- src/lib.rt:69:1
 returns-2 : tie.Need-returns-2
@@ -69,6 +69,6 @@ step-spec =
     element-copy-out-contains-2
     cast-contains
     contains-requires
-    child-requires
+    descend-requires
     returns
     returns-2)
