@@ -1,8 +1,8 @@
--- Keys: equal for equal rows, smaller for a row that reads earlier, and made digit by digit in any order. Assumes nothing.
+-- Keys: equal for equal rows alone, and made digit by digit in any order. Assumes nothing.
 use mathlib.Core.Path.{_≡_, refl, sym, ap, ap₂, _∙_, subst}
 use Prim.Native.Nat.{ℕ, zero, suc, _+_, _-_, _*_, _%_, _^_, _≤_, _<_}
 use native.Mathlib.Nat.{pow-succ', pow-le-pow-right, mul-left-comm, mul-le-mul, mod-eq-of-lt}
-use native.Mathlib.Decide.{ℕ-discrete, decLt}
+use native.Mathlib.Decide.{ℕ-discrete}
 use native.Mathlib.Omega.{arith}
 use Rattle.families.specs.Numbered.{keyOf}
 
@@ -51,26 +51,6 @@ key-same (suc n) f g df dg e x l = go (key-same n f g (λ y k. df y (omega arith
     go : (x < n → f x ≡ g x) → Dec (x ≡ n) → f x ≡ g x
     go ih (yes q) = subst (λ (z : ℕ). f z ≡ g z) (sym q) (parts .1)
     go ih (no q) = ih (omega arith)
-
--- the smaller key belongs to the row with the smaller value at the first difference
-pub key-less : (n : ℕ) (f g : ℕ → ℕ) → Digits n f → Digits n g → keyOf n f < keyOf n g → (j : ℕ) × (j < n) × ((i : ℕ) → i < j → f i ≡ g i) × (f j < g j)
-unfolding keyOf
-key-less zero f g df dg l = absurd (omega arith)
-key-less (suc n) f g df dg l = go (key-less n f g df′ dg′) (decLt (keyOf n f) (keyOf n g))
-  where
-    df′ : Digits n f
-    df′ x h = df x (omega arith)
-
-    dg′ : Digits n g
-    dg′ x h = dg x (omega arith)
-
-    go : (keyOf n f < keyOf n g → (j : ℕ) × (j < n) × ((i : ℕ) → i < j → f i ≡ g i) × (f j < g j)) → Dec (keyOf n f < keyOf n g) → (j : ℕ) × (j < suc n) × ((i : ℕ) → i < j → f i ≡ g i) × (f j < g j)
-    go ih (yes h) = let r = ih h in let k = r .1 in (r .0, omega arith, r .2, r .3)
-    go ih (no h) =
-        let a = df n (omega arith) in
-        let b = dg n (omega arith) in
-        let e : keyOf n f ≡ keyOf n g = omega arith in
-        (n, omega arith, key-same n f g df′ dg′ e, omega arith)
 
 -- ---- a digit put where there was 0
 four-bits : (k : ℕ) → 2 ^ (4 * suc k) ≡ 16 * 2 ^ (4 * k)

@@ -9,4 +9,5 @@ pub mod Numbers
 pub mod Walk
 pub mod Keys
 pub mod Rows
+pub mod Chains
 pub mod Turns

@@ -1,8 +1,8 @@
--- Solutions by their number: the number of an image, and how code finds it: the row that a symmetry makes, and a binary search for it. Assumes nothing.
+-- Solutions by their number: the number of an image, and the row that a symmetry makes. Assumes nothing.
 use mathlib.Core.Path.{_≡_, refl, sym, ap, ap₂, _∙_, subst}
 use mathlib.Core.Bool.{Bool}
 use mathlib.Core.List.{List, [], _∷_, _++_, List·Memᴰ, List·Memᴰ·head, List·Memᴰ·tail, Memᴰ·cast, append-assoc}
-use Prim.Native.Nat.{ℕ, zero, suc, _+_, _-_, _*_, _/_, _%_, _≤_, _<_}
+use Prim.Native.Nat.{ℕ, zero, suc, _+_, _-_, _*_, _/_, _%_, _<_}
 use native.Mathlib.Nat.{not-suc-le-zero, le-of-suc-le-suc}
 use native.Mathlib.Decide.{ℕ-discrete, decLt}
 use native.Mathlib.Omega.{arith}
@@ -12,7 +12,7 @@ use Rattle.model.specs.Lists.{flat, at, earlier}
 use Rattle.model.specs.Problem.{Problem, pair, takes, isSolution}
 use Rattle.arrays.specs.Layout.{symmetryAt}
 use Rattle.families.specs.Families.{solutionsOf}
-use Rattle.families.specs.Walk.{solutionAt, imageAt, Between}
+use Rattle.families.specs.Walk.{solutionAt, imageAt}
 use Rattle.model.specs.WellFormed.{WellFormed, Respected}
 use Rattle.model.proofs.Lists.{earlier-asym, at-append, at-skip, of-T, not-of, mem-getD, place-of, Sorted}
 use Rattle.model.proofs.Masks.{least-at}
@@ -151,26 +151,3 @@ module _ (p : Problem) (w : WellFormed p) (respected : Respected p) where
         let r = takes-on p (symmetryAt p k) (solutionAt p i) image (image-good k i lk li .1) (pair p y (at image y)) (P.pairs-i p image y ly) in
         let x = P.pairs-e p (solutionAt p i) (r .0) (r .1) in
         (x .0, x .1, ap (λ (z : ℕ). z / p .values) (ap (at (symmetryAt p k)) (sym (x .2)) ∙ r .2) ∙ P.pair-div p w y (at image y) (P.sol-lt p w image solves y ly))
-
-  -- ---- a binary search
-  pub between-begin : (s : List ℕ) → T (isSolution p s) → Between p s 0 (length (solutionsOf p))
-  between-begin s t = let r = number-of s t in record { number = r .0; least = omega arith; most = r .1; within = omega arith; is = r .2 }
-
-  module _ (s : List ℕ) (low high : ℕ) (b : Between p s low high) where
-    pub between-some : low < high
-    between-some = let c = b .least in let d = b .most in omega arith
-
-    module _ (mid : ℕ) (l : low ≤ mid) (h : mid < high) where
-      -- the solution in the middle reads earlier, later, or is it
-      pub between-upper : T (earlier (solutionAt p mid) s) → Between p s (mid + 1) high
-      between-upper e =
-          let c = b .within in
-          let d : mid < b .number = earlier-number mid (b .number) (omega arith) (subst (λ (z : List ℕ). T (earlier (solutionAt p mid) z)) (sym (b .is)) e) in
-          record { number = b .number; least = omega arith; most = b .most; within = b .within; is = b .is }
-
-      pub between-lower : T (earlier s (solutionAt p mid)) → Between p s low mid
-      between-lower e =
-          let c = b .within in
-          let f = b .most in
-          let d : b .number < mid = earlier-number (b .number) mid (omega arith) (subst (λ (z : List ℕ). T (earlier z (solutionAt p mid))) (sym (b .is)) e) in
-          record { number = b .number; least = b .least; most = d; within = omega arith; is = b .is }

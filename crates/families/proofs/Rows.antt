@@ -1,29 +1,26 @@
--- The rows' keys, the key of an image made pair by pair, and a key found. Assumes nothing.
+-- The rows' keys, and the key of an image made pair by pair. Assumes nothing.
 use mathlib.Core.Path.{_≡_, refl, sym, ap, ap₂, _∙_, subst}
-use mathlib.Core.Logic.{_⊎_, inl, inr}
 use mathlib.Core.List.{List, _++_}
 use Prim.Native.Nat.{ℕ, suc, _+_, _-_, _*_, _/_, _%_, _^_, _≤_, _<_}
 use native.Mathlib.Nat.{mul-le-mul-right}
-use native.Mathlib.Decide.{ℕ-discrete, decLt}
+use native.Mathlib.Decide.{ℕ-discrete}
 use native.Mathlib.Omega.{arith}
-use lib.Dec.{T}
 use lib.ListN.{length, set, length-set, length-append, replicate, length-replicate}
 use Rattle.model.specs.Lists.{at, flat}
-use Rattle.model.specs.Problem.{Problem, pair, isSolution}
+use Rattle.model.specs.Problem.{Problem, pair}
 use Rattle.model.specs.WellFormed.{WellFormed, Respected}
-use Rattle.model.proofs.Lists.{at-set, at-set-other, at-replicate, set-each, at-ext}
+use Rattle.model.proofs.Lists.{at-set, at-set-other, at-replicate, set-each}
 use Rattle.model.proofs.Tree.{solution-e}
-use Rattle.model.proofs.Obey.{first-i}
 use Rattle.model.proofs.Pairs as P
 use Rattle.model.proofs.Symmetry as S
 use Rattle.arrays.specs.Layout.{symmetryAt}
 use Rattle.arrays.specs.Places.{IMAGES}
 use Rattle.families.specs.Families.{solutionsOf}
-use Rattle.families.specs.Walk.{solutionAt, imageAt, Between}
-use Rattle.families.specs.Numbered.{keyOf, Keys, Listed, Imaging, Finding, Numbering}
+use Rattle.families.specs.Walk.{solutionAt, imageAt}
+use Rattle.families.specs.Numbered.{keyOf, Listed, Imaging, Finding, Numbering}
 use Rattle.families.proofs.FamilyCount.{in-solution}
-use Rattle.families.proofs.Numbers.{rows-length, at-solution, at-solutions, same-number, symmetry-among, image-good, image-pair, image-onto, between-begin, between-some, between-upper, between-lower}
-use Rattle.families.proofs.Keys.{Digits, key-ext, key-none, key-small, key-same, key-less, key-put}
+use Rattle.families.proofs.Numbers.{rows-length, at-solution, at-solutions, same-number, symmetry-among, image-good, image-pair, image-onto}
+use Rattle.families.proofs.Keys.{Digits, key-ext, key-none, key-small, key-put}
 
 -- ---- the keys of the rows
 module _ {p : Problem} {rows : List ℕ} {variables : ℕ} (a : Listed p rows variables) where
@@ -51,9 +48,6 @@ module _ {p : Problem} {rows : List ℕ} {variables : ℕ} (a : Listed p rows va
 
     pub listed-key : {k : ℕ} → k ≡ keyOf variables (λ x. at rows (i * variables + x)) → k ≡ keyOf (p .variables) (at (solutionAt p i))
     listed-key e = e ∙ key-ext variables (λ x. at rows (i * variables + x)) (at (solutionAt p i)) (λ x h. a .row i x l h) ∙ ap (λ (n : ℕ). keyOf n (at (solutionAt p i))) (a .named)
-
-    pub keys-turn : (keys : List ℕ) {k : ℕ} → i < length keys → Keys p keys i → k ≡ keyOf variables (λ x. at rows (i * variables + x)) → Keys p (set keys i k) (i + 1)
-    keys-turn keys {k} room old e j h = set-each (λ (j v : ℕ). v ≡ keyOf (p .variables) (at (solutionAt p j))) keys i k j room (listed-key e) (λ n. old j (omega arith))
 
 -- a list that begins with the solutions
 pub listed-solutions : (p : Problem) → WellFormed p → Respected p → length (solutionsOf p) ≤ 4096 → (rest : List ℕ) → Listed p (flat (solutionsOf p) ++ rest) (p .variables)
@@ -221,97 +215,8 @@ module _ {p : Problem} {rows images : List ℕ} {variables i k r x : ℕ} (c : C
           let d = b .1 in
           subst (λ (z : ℕ). at (c .out) z ≡ at (solutionAt p (imageAt p k i)) z) (b .2) (c .put (b .0) (omega arith) d)
 
--- ---- a key found
-module _ {p : Problem} {s keys : List ℕ} {key solutions : ℕ} (f : Finding p s keys key solutions) where
-  pub finding-begin : Between p s 0 (0 + solutions)
-  finding-begin = subst (Between p s 0) (let z : length (solutionsOf p) ≡ 0 + solutions = let e = f .every in omega arith in z) (between-begin p (f .good) (f .respected) s (f .solves))
-
-  digits : (t : List ℕ) → T (isSolution p t) → Digits (p .variables) (at t)
-  digits t st x h = let b = P.sol-lt p (f .good) t st x h in let c = f .good .sixteen in omega arith
-
-  module _ {low high : ℕ} (b : Between p s low high) where
-    pub finding-some : (low < high) × (high ≤ 4096)
-    finding-some = let c = between-some p (f .good) (f .respected) s low high b in let d = b .within in let e = f .few in (omega arith, omega arith)
-
-    pub finding-end : high ≤ low + 1 → (low < length (solutionsOf p)) × (solutionAt p low ≡ s)
-    finding-end l =
-        let c = b .least in
-        let d = b .most in
-        let e : b .number ≡ low = omega arith in
-        let g = b .within in
-        (omega arith, ap (solutionAt p) (sym e) ∙ b .is)
-
-    module _ (mid : ℕ) (l : low ≤ mid) (h : mid < high) where
-      number-lt : mid < length (solutionsOf p)
-      number-lt = let d = b .within in omega arith
-
-      middle : T (isSolution p (solutionAt p mid))
-      middle = at-solution p (f .good) (f .respected) mid number-lt
-
-      keyed : at keys mid ≡ keyOf (p .variables) (at (solutionAt p mid))
-      keyed = f .keyed mid (let e = f .every in let d = number-lt in omega arith)
-
-      pub finding-short : (at keys mid < 281474976710656) × (key < 281474976710656)
-      finding-short =
-          let c = f .good .few in
-          let d = key-small (p .variables) (at (solutionAt p mid)) c (digits (solutionAt p mid) middle) in
-          let e = key-small (p .variables) (at s) c (digits s (f .solves)) in
-          let g = f .sought in
-          let k = keyed in
-          (omega arith, omega arith)
-
-      long : (t : List ℕ) → T (isSolution p t) → (x : ℕ) → x < p .variables → x < length t
-      long t st x lx = subst (λ (z : ℕ). x < z) (sym (solution-e p t st .sized)) lx
-
-      -- the solution in the middle is it, or reads earlier
-      pub finding-upper : at keys mid ≤ key → Between p s mid (high)
-      finding-upper le = go (decLt (at keys mid) key)
-        where
-          go : Dec (at keys mid < key) → Between p s mid (high)
-          go (yes less) =
-              let e = f .sought in
-              let d = keyed in
-              let j = key-less (p .variables) (at (solutionAt p mid)) (at s) (digits (solutionAt p mid) middle) (digits s (f .solves)) (omega arith) in
-              let r = between-upper p (f .good) (f .respected) s low (high) b mid l h
-              (first-i (solutionAt p mid) s (j .0) (long (solutionAt p mid) middle (j .0) (j .1), long s (f .solves) (j .0) (j .1), j .2, j .3)) in
-              let g = r .least in
-              record { number = r .number; least = omega arith; most = r .most; within = r .within; is = r .is }
-          go (no more) =
-              let e = f .sought in
-              let d = keyed in
-              let q : keyOf (p .variables) (at (solutionAt p mid)) ≡ keyOf (p .variables) (at s) = omega arith in
-              record {
-                number = mid;
-                least = omega arith;
-                most = h;
-                within = b .within;
-                is =
-                    at-ext (solutionAt p mid) s (solution-e p (solutionAt p mid) middle .sized ∙ sym (solution-e p s (f .solves) .sized))
-                    (λ x lx. key-same (p .variables) (at (solutionAt p mid)) (at s) (digits (solutionAt p mid) middle) (digits s (f .solves)) q x (subst (λ (z : ℕ). x < z) (solution-e p (solutionAt p mid) middle .sized) lx));
-              }
-
-      pub finding-lower : key < at keys mid → Between p s low mid
-      finding-lower more =
-          let e = f .sought in
-          let d = keyed in
-          let j = key-less (p .variables) (at s) (at (solutionAt p mid)) (digits s (f .solves)) (digits (solutionAt p mid) middle) (omega arith) in
-          between-lower p (f .good) (f .respected) s low (high) b mid l h
-          (first-i s (solutionAt p mid) (j .0) (long s (f .solves) (j .0) (j .1), long (solutionAt p mid) middle (j .0) (j .1), j .2, j .3))
-
--- by how much the code moves on
-pub moved : (a b half r : ℕ) → (a ≤ b → r ≡ 1) × (b < a → r ≡ 0) → ((a ≤ b) × (half * r ≡ half)) ⊎ ((b < a) × (half * r ≡ 0))
-moved a b half r h = go (decLt b a)
-  where
-    go : Dec (b < a) → ((a ≤ b) × (half * r ≡ half)) ⊎ ((b < a) × (half * r ≡ 0))
-    go (yes l) = inr (l, ap (λ (z : ℕ). half * z) (h .1 l) ∙ (let z : half * 0 ≡ 0 = omega arith in z))
-    go (no n) = let l : a ≤ b = omega arith in inl (l, ap (λ (z : ℕ). half * z) (h .0 l) ∙ (let z : half * 1 ≡ half = omega arith in z))
-
--- a search that goes on
-pub between-as : {p : Problem} {s : List ℕ} {low high low′ high′ : ℕ} → Between p s low high → low′ ≤ low → high ≤ high′ → high′ ≤ length (solutionsOf p) → Between p s low′ high′
-between-as b l h m = let c = b .least in let d = b .most in record { number = b .number; least = omega arith; most = omega arith; within = m; is = b .is }
-
 -- ---- the image's number
-module _ {p : Problem} {rows images keys : List ℕ} {variables solutions i k : ℕ} (n : Numbering p rows images keys variables solutions i k) where
+module _ {p : Problem} {rows images keys heads weights : List ℕ} {variables i k : ℕ} (n : Numbering p rows images keys heads weights variables i k) where
   abbrev g : WellFormed p
   g = n .imaging .lent .listed .good
 
@@ -321,13 +226,12 @@ module _ {p : Problem} {rows images keys : List ℕ} {variables solutions i k : 
   numbering-small : imageAt p k i < length (solutionsOf p)
   numbering-small = image-good p g rg k i (n .imaging .symmetry) (n .imaging .solution) .0
 
-  pub numbering-finding : {key : ℕ} → key ≡ keyOf variables (at (solutionAt p (imageAt p k i))) → Finding p (solutionAt p (imageAt p k i)) keys key solutions
+  pub numbering-finding : {key : ℕ} → key ≡ keyOf variables (at (solutionAt p (imageAt p k i))) → Finding p (solutionAt p (imageAt p k i)) keys heads key
   numbering-finding e = record {
     good = g;
     respected = rg;
     few = n .imaging .lent .listed .few;
-    every = n .every;
-    keyed = n .keyed;
+    chained = n .finder .chained;
     solves = at-solution p g rg (imageAt p k i) numbering-small;
     sought = e ∙ ap (λ (m : ℕ). keyOf m (at (solutionAt p (imageAt p k i)))) (n .imaging .lent .listed .named);
   }

@@ -18,14 +18,6 @@ solutionAt p i = getD (solutionsOf p) i []
 unfoldable pub imageAt : Problem → ℕ → ℕ → ℕ
 imageAt p k i = least (length (solutionsOf p)) (λ j. takes p (symmetryAt p k) (solutionAt p i) (solutionAt p j))
 
--- the solution s has a number from low on, below high
-pub record Between (p : Problem) (s : List ℕ) (low high : ℕ) : Type 0 where
-  pub number : ℕ
-  pub least : low ≤ number
-  pub most : number < high
-  pub within : high ≤ length (solutionsOf p)
-  pub is : solutionAt p number ≡ s
-
 -- ---- the walk
 -- seen: not 0 at the numbers of the solutions met; queue: these numbers, in the order in which they were met, tail of them.
 -- The images of the first head of them were all looked at, and of the next one those by the first turn symmetries.

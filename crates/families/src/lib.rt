@@ -8,7 +8,7 @@ ghost use Rattle.model.specs.Lists.{at};
 ghost use Rattle.model.specs.Problem.{Problem};
 ghost use Rattle.families.specs.Families.{solutionsOf, familiesOf};
 ghost use Rattle.families.specs.Walk.{solutionAt, imageAt, Walk};
-ghost use Rattle.families.specs.Numbered.{keyOf, Keys, Listed, Imaging, Finding, Numbering, Counted, Spreading, Flooding};
+ghost use Rattle.families.specs.Numbered.{keyOf, Unlinked, Chained, Weighed, Listed, Imaging, Finding, Numbering, Counted, Spreading, Flooding};
 
 // The key of the row from a place on: its values as the digits of one number, which is smaller for a row that reads earlier.
 fn key(rows: &[u8], from: usize, variables: usize) -> u64
@@ -24,22 +24,52 @@ fn key(rows: &[u8], from: usize, variables: usize) -> u64
     r
 }
 
-// The keys of all rows.
-fn fill(rows: &[u8], variables: usize, solutions: usize, keys: &mut [u64; 4096])
-    requires { ⌜ ((p : Problem) × Listed p (now rows) variables × (solutions ≡ length (solutionsOf p)) × (length (now keys) ≡ 4096)) ⌝ }
-    ensures { λ _. ⌜ ((p : Problem) → Listed p (now (rows .entry)) variables → solutions ≡ length (solutionsOf p) → Keys p (now (keys .exit)) solutions) ⌝ }
+// The keys of all rows. Rows whose keys leave the same rest by 1021 make a chain: beside a key stands the link to the chain's row before it, and `heads` has
+// the link to its last. A link is one more than the row's number, or 0.
+fn fill(
+    rows: &[u8],
+    variables: usize,
+    solutions: usize,
+    keys: &mut [u64; 4096],
+    heads: &mut [u16; 1021],
+)
+    requires { ⌜ ((p : Problem) × Listed p (now rows) variables × (solutions ≡ length (solutionsOf p)) × (length (now keys) ≡ 4096) × Unlinked (now heads)) ⌝ }
+    ensures { λ _. ⌜ ((p : Problem) → Listed p (now (rows .entry)) variables → solutions ≡ length (solutionsOf p) → Unlinked (now (heads .entry)) → Chained p (now (keys .exit)) (now (heads .exit)) solutions) ⌝ }
 {
     let mut i = 0;
     while i < solutions {
-        keys[i] = key(rows, i * variables, variables);
+        let own = key(rows, i * variables, variables);
+        let chain = (own % 1021) as usize;
+        keys[i] = 65536 * own + heads[chain] as u64;
+        heads[chain] = (i + 1) as u16;
         i += 1;
     }
 }
 
+// What each pair adds to the key of a row.
+fn weigh(variables: usize, weights: &mut [u64; 192])
+    requires { ⌜ (variables ≤ 12) × (length (now weights) ≡ 192) ⌝ }
+    ensures { λ _. ⌜ Weighed variables (now (weights .exit)) ⌝ }
+{
+    let end = 16 * variables;
+    let mut c = 0;
+    while c < end {
+        weights[c] = ((c % 16) as u64) << (4 * (variables - 1 - c / 16));
+        c += 1;
+    }
+}
+
 // The key of the row to which a symmetry takes a solution: each pair's image is a digit of it.
-fn carry(rows: &[u8], images: &Images, variables: usize, i: usize, k: usize) -> u64
-    requires { ⌜ ((p : Problem) × Imaging p (now rows) (now images) variables i k) ⌝ }
-    ensures { λ r. ⌜ ((p : Problem) → Imaging p (now (rows .entry)) (now (images .entry)) variables i k → r ≡ keyOf variables (at (solutionAt p (imageAt p k i)))) ⌝ }
+fn carry(
+    rows: &[u8],
+    images: &Images,
+    weights: &[u64; 192],
+    variables: usize,
+    i: usize,
+    k: usize,
+) -> u64
+    requires { ⌜ ((p : Problem) × Imaging p (now rows) (now images) variables i k × Weighed variables (now weights)) ⌝ }
+    ensures { λ r. ⌜ ((p : Problem) → Imaging p (now (rows .entry)) (now (images .entry)) variables i k → Weighed variables (now (weights .entry)) → r ≡ keyOf variables (at (solutionAt p (imageAt p k i)))) ⌝ }
 {
     let base = 192 * k;
     let from = i * variables;
@@ -47,34 +77,22 @@ fn carry(rows: &[u8], images: &Images, variables: usize, i: usize, k: usize) -> 
     let mut x = 0;
     while x < variables {
         let code = images[base + 16 * x + rows[from + x] as usize];
-        let y = (code / 16) as usize;
-        r += ((code % 16) as u64) << (4 * (variables - 1 - y));
+        r += weights[code as usize];
         x += 1;
     }
     r
 }
 
-// 1 where a is at most b, else 0. There is no branch in it: the answer could not be foretold.
-fn reached(a: u64, b: u64) -> usize
-    requires { ⌜ (a < 9223372036854775808) × (b < 9223372036854775808) ⌝ }
-    ensures { λ r. ⌜ (a ≤ b → r ≡ 1) × (b < a → r ≡ 0) ⌝ }
+// The number of a solution, by its key: along the chain, which it is in.
+fn find(keys: &[u64; 4096], heads: &[u16; 1021], key: u64) -> usize
+    requires { ⌜ ((p : Problem) × (s : List ℕ) × Finding p s (now keys) (now heads) key) ⌝ }
+    ensures { λ r. ⌜ ((p : Problem) (s : List ℕ) → Finding p s (now (keys .entry)) (now (heads .entry)) key → (r < length (solutionsOf p)) × (solutionAt p r ≡ s)) ⌝ }
 {
-    ((9223372036854775808 + b - a) / 9223372036854775808) as usize
-}
-
-// The number of a solution, by binary search for its key.
-fn find(keys: &[u64; 4096], key: u64, solutions: usize) -> usize
-    requires { ⌜ ((p : Problem) × (s : List ℕ) × Finding p s (now keys) key solutions) ⌝ }
-    ensures { λ r. ⌜ ((p : Problem) (s : List ℕ) → Finding p s (now (keys .entry)) key solutions → (r < length (solutionsOf p)) × (solutionAt p r ≡ s)) ⌝ }
-{
-    let mut low = 0;
-    let mut size = solutions;
-    while size > 1 {
-        let half = size / 2;
-        low += half * reached(keys[low + half], key);
-        size -= half;
+    let mut link = heads[(key % 1021) as usize] as usize;
+    while keys[link - 1] / 65536 != key {
+        link = (keys[link - 1] % 65536) as usize;
     }
-    low
+    link - 1
 }
 
 // The number of the solution to which a symmetry takes a solution.
@@ -82,16 +100,17 @@ fn image(
     rows: &[u8],
     images: &Images,
     keys: &[u64; 4096],
+    heads: &[u16; 1021],
+    weights: &[u64; 192],
     variables: usize,
-    solutions: usize,
     i: usize,
     k: usize,
 ) -> usize
-    requires { ⌜ ((p : Problem) × Numbering p (now rows) (now images) (now keys) variables solutions i k) ⌝ }
-    ensures { λ r. ⌜ ((p : Problem) → Numbering p (now (rows .entry)) (now (images .entry)) (now (keys .entry)) variables solutions i k → r ≡ imageAt p k i) ⌝ }
+    requires { ⌜ ((p : Problem) × Numbering p (now rows) (now images) (now keys) (now heads) (now weights) variables i k) ⌝ }
+    ensures { λ r. ⌜ ((p : Problem) → Numbering p (now (rows .entry)) (now (images .entry)) (now (keys .entry)) (now (heads .entry)) (now (weights .entry)) variables i k → r ≡ imageAt p k i) ⌝ }
 {
-    let sought = carry(rows, images, variables, i, k);
-    find(keys, sought, solutions)
+    let sought = carry(rows, images, weights, variables, i, k);
+    find(keys, heads, sought)
 }
 
 // Looks at the images of the solution at the head of the queue, and puts those that were not met yet into it; the new tail.
@@ -99,22 +118,23 @@ fn spread(
     rows: &[u8],
     images: &Images,
     keys: &[u64; 4096],
+    heads: &[u16; 1021],
+    weights: &[u64; 192],
     variables: usize,
     symmetries: usize,
-    solutions: usize,
     seen: &mut [u8; 4096],
     queue: &mut [u16; 4096],
     head: usize,
     tail: usize,
 ) -> usize
-    requires { ⌜ ((p : Problem) × (starts : ℕ) × (count : ℕ) × Spreading p (now rows) (now images) (now keys) variables symmetries solutions (now seen) (now queue) starts count head tail) ⌝ }
-    ensures { λ r. ⌜ ((p : Problem) (starts count : ℕ) → Spreading p (now (rows .entry)) (now (images .entry)) (now (keys .entry)) variables symmetries solutions (now (seen .entry)) (now (queue .entry)) starts count head tail → (Walk p (now (seen .exit)) (now (queue .exit)) starts count head symmetries r) × (head < r)) ⌝ }
+    requires { ⌜ ((p : Problem) × (starts : ℕ) × (count : ℕ) × Spreading p (now rows) (now images) (now keys) (now heads) (now weights) variables symmetries (now seen) (now queue) starts count head tail) ⌝ }
+    ensures { λ r. ⌜ ((p : Problem) (starts count : ℕ) → Spreading p (now (rows .entry)) (now (images .entry)) (now (keys .entry)) (now (heads .entry)) (now (weights .entry)) variables symmetries (now (seen .entry)) (now (queue .entry)) starts count head tail → (Walk p (now (seen .exit)) (now (queue .exit)) starts count head symmetries r) × (head < r)) ⌝ }
 {
     let i = queue[head] as usize;
     let mut end = tail;
     let mut k = 0;
     while k < symmetries {
-        let j = image(rows, images, keys, variables, solutions, i, k);
+        let j = image(rows, images, keys, heads, weights, variables, i, k);
         if seen[j] == 0 {
             seen[j] = 1;
             queue[end] = j as u16;
@@ -130,16 +150,17 @@ fn flood(
     rows: &[u8],
     images: &Images,
     keys: &[u64; 4096],
+    heads: &[u16; 1021],
+    weights: &[u64; 192],
     variables: usize,
     symmetries: usize,
-    solutions: usize,
     seen: &mut [u8; 4096],
     queue: &mut [u16; 4096],
     head: usize,
     tail: usize,
 ) -> usize
-    requires { ⌜ ((p : Problem) × (starts : ℕ) × (count : ℕ) × Flooding p (now rows) (now images) (now keys) variables symmetries solutions (now seen) (now queue) starts count head tail) ⌝ }
-    ensures { λ r. ⌜ ((p : Problem) (starts count : ℕ) → Flooding p (now (rows .entry)) (now (images .entry)) (now (keys .entry)) variables symmetries solutions (now (seen .entry)) (now (queue .entry)) starts count head tail → Walk p (now (seen .exit)) (now (queue .exit)) starts count r 0 r) ⌝ }
+    requires { ⌜ ((p : Problem) × (starts : ℕ) × (count : ℕ) × Flooding p (now rows) (now images) (now keys) (now heads) (now weights) variables symmetries (now seen) (now queue) starts count head tail) ⌝ }
+    ensures { λ r. ⌜ ((p : Problem) (starts count : ℕ) → Flooding p (now (rows .entry)) (now (images .entry)) (now (keys .entry)) (now (heads .entry)) (now (weights .entry)) variables symmetries (now (seen .entry)) (now (queue .entry)) starts count head tail → Walk p (now (seen .exit)) (now (queue .exit)) starts count r 0 r) ⌝ }
 {
     let mut first = head;
     let mut end = tail;
@@ -148,9 +169,10 @@ fn flood(
             rows,
             images,
             keys,
+            heads,
+            weights,
             variables,
             symmetries,
-            solutions,
             seen,
             queue,
             first,
@@ -173,7 +195,10 @@ pub fn families(
     ensures { λ r. ⌜ ((p : Problem) → Counted p (now (rows .entry)) (now (images .entry)) variables symmetries solutions → r ≡ familiesOf p) ⌝ }
 {
     let mut keys = [0u64; 4096];
-    fill(rows, variables, solutions, &mut keys);
+    let mut heads = [0u16; 1021];
+    fill(rows, variables, solutions, &mut keys, &mut heads);
+    let mut weights = [0u64; 192];
+    weigh(variables, &mut weights);
     let mut seen = [0u8; 4096];
     let mut queue = [0u16; 4096];
     let mut count = 0;
@@ -188,9 +213,10 @@ pub fn families(
                 rows,
                 images,
                 &keys,
+                &heads,
+                &weights,
                 variables,
                 symmetries,
-                solutions,
                 &mut seen,
                 &mut queue,
                 tail,

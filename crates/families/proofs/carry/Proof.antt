@@ -5,17 +5,17 @@ use native.Mathlib.Omega.{arith}
 use Rattle.model.specs.Lists.{at}
 use Rattle.model.specs.Problem.{Problem}
 use Rattle.arrays.specs.Places.{IMAGES}
-use Rattle.families.specs.Numbered.{Imaging}
-use Rattle.families.proofs.Keys.{digit-small, digit-shifted}
+use Rattle.families.specs.Numbered.{Imaging, Weighed}
+use Rattle.families.proofs.Keys.{digit-small}
 use Rattle.families.proofs.Rows.{Carrying, sent, imaging-bounds, imaging-value, imaging-index, imaging-variable, carrying-begin, carrying-small, carrying-turn, carrying-end}
 use Rattle.families.proofs.carry.Statement.{statement}
 use Rattle.families.proofs.carry.Tie as tie
 
 abbrev Inv-loop : tie.InvT-loop
-Inv-loop rows images variables i k base from r₀ x₀ r x = (p : Problem) → Imaging p rows images variables i k → Carrying p rows images variables i k r x
+Inv-loop rows images weights variables i k base from r₀ x₀ r x = (p : Problem) → Imaging p rows images variables i k → Weighed variables weights → Carrying p rows images variables i k r x
 
 abbrev μ-loop : tie.MeasureT-loop
-μ-loop rows images variables i k base from r₀ x₀ r x = variables - x
+μ-loop rows images weights variables i k base from r₀ x₀ r x = variables - x
 
 -- in a turn, for the problem of the `requires`
 abbrev code : tie.In-loop Inv-loop μ-loop → ℕ
@@ -32,11 +32,17 @@ facts c =
     let r = c .before .before .pre in
     let x = c .before .loop .x in
     let l = c .loop-test .taken in
-    (imaging-value (r .1) x l, imaging-index (r .1) x l, imaging-variable (r .1) x l, imaging-bounds (r .1) .0, carrying-small (c .before .loop .inv (r .0) (r .1)))
+    (imaging-value (r .1) x l, imaging-index (r .1) x l, imaging-variable (r .1) x l, imaging-bounds (r .1) .0, carrying-small (c .before .loop .inv (r .0) (r .1) (r .2)))
 
--- the digit where it stands
-shifted : (c : tie.In-loop Inv-loop μ-loop) → code c % 16 * 2 ^ (4 * (c .before .before .args .variables - 1 - code c / 16)) % 2 ^ 64 ≡ code c % 16 * 2 ^ (4 * (c .before .before .args .variables - 1 - code c / 16))
-shifted c = digit-shifted (c .before .before .args .variables) (code c / 16) (code c % 16) (facts c .3) (omega arith)
+-- what the pair adds
+abbrev digit : tie.In-loop Inv-loop μ-loop → ℕ
+digit c = code c % 16 * 2 ^ (4 * (c .before .before .args .variables - 1 - code c / 16))
+
+adds : (c : tie.In-loop Inv-loop μ-loop) → at (c .before .before .args .weights .now) (code c) ≡ digit c
+adds c = c .before .before .pre .2 (code c) (omega (arith, facts c))
+
+small : (c : tie.In-loop Inv-loop μ-loop) → digit c < 281474976710656
+small c = digit-small (c .before .before .args .variables) (code c / 16) (code c % 16) (facts c .3) (omega arith)
 
 mul-base : tie.Need-mul-base Inv-loop μ-loop
 mul-base c = omega (arith, imaging-bounds (c .pre .1))
@@ -45,7 +51,7 @@ mul-from : tie.Need-mul-from Inv-loop μ-loop
 mul-from c = omega (arith, imaging-bounds (c .pre .1))
 
 loop-holds : tie.Need-loop-holds Inv-loop μ-loop
-loop-holds c = λ p a. carrying-begin a
+loop-holds c = λ p a w. carrying-begin a
 
 mul-code : tie.Need-mul-code Inv-loop μ-loop
 mul-code c = omega (arith, imaging-bounds (c .before .before .pre .1))
@@ -71,33 +77,21 @@ element-copy-out-code : tie.Need-element-copy-out-code Inv-loop μ-loop
 unfolding at
 element-copy-out-code c = facts (c .before) .1
 
-cast-y : tie.Need-cast-y Inv-loop μ-loop
-unfolding at
-cast-y c = omega (arith, facts (c .before .before))
-
 cast-r : tie.Need-cast-r Inv-loop μ-loop
 unfolding at
-cast-r c = omega arith
-
-sub-r : tie.Need-sub-r Inv-loop μ-loop
-unfolding at
-sub-r c = omega (arith, facts (c .before .before))
-
-sub-r-2 : tie.Need-sub-r-2 Inv-loop μ-loop
-unfolding at
-sub-r-2 c = omega (arith, facts (c .before .before))
+cast-r c = omega (arith, facts (c .before .before))
 
 mul-r : tie.Need-mul-r Inv-loop μ-loop
 unfolding at
 mul-r c = omega (arith, facts (c .before .before))
 
-shl-r : tie.Need-shl-r Inv-loop μ-loop
+element-copy-out-r : tie.Need-element-copy-out-r Inv-loop μ-loop
 unfolding at
-shl-r c = omega (arith, facts (c .before .before))
+element-copy-out-r c = omega (arith, facts (c .before .before))
 
 add-r : tie.Need-add-r Inv-loop μ-loop
 unfolding at
-add-r c = let i = c .before .before in let f = facts i in omega (arith, shifted i, digit-small (i .before .before .args .variables) (code i / 16) (code i % 16) (f .3) (omega arith))
+add-r c = let i = c .before .before .before in omega (arith, facts i, adds i, small i)
 
 add-x : tie.Need-add-x Inv-loop μ-loop
 add-x c = omega arith
@@ -108,12 +102,13 @@ loop-less c = omega arith
 loop-again : tie.Need-loop-again Inv-loop μ-loop
 unfolding at
 loop-again c =
-    let i = c .before .before in
-    let a = i .before .before .args in λ p m.
-    subst (λ (d : ℕ). Carrying p (a .rows .now) (a .images .now) (a .variables) (a .i) (a .k) (i .before .loop .r + d) (i .before .loop .x + 1)) (sym (shifted i)) (carrying-turn (i .before .loop .inv p m) (i .loop-test .taken))
+    let i = c .before .before .before in
+    let a = i .before .before .args in λ p m w.
+    subst (λ (d : ℕ). Carrying p (a .rows .now) (a .images .now) (a .variables) (a .i) (a .k) (i .before .loop .r + d) (i .before .loop .x + 1)) (sym (adds i))
+    (carrying-turn (i .before .loop .inv p m w) (i .loop-test .taken))
 
 returns : tie.Need-returns Inv-loop μ-loop
-returns c = λ p a. carrying-end (c .before .loop .inv p a) (c .loop-test .left)
+returns c = λ p a w. carrying-end (c .before .loop .inv p a w) (c .loop-test .left)
 
 pub carry-spec : {M : Type 1} → statement M
 carry-spec =
@@ -131,12 +126,9 @@ carry-spec =
     cast-code
     add-code-3
     element-copy-out-code
-    cast-y
     cast-r
-    sub-r
-    sub-r-2
     mul-r
-    shl-r
+    element-copy-out-r
     add-r
     add-x
     loop-less

@@ -1,21 +1,24 @@
--- The loop: the keys of the first i rows are there.
+-- The loop: the first i rows are in their chains.
 use mathlib.Core.Path.{_≡_, _∙_, subst}
-use Prim.Native.Nat.{_+_, _*_, _-_, _≤_, _<_}
+use Prim.Native.Nat.{_+_, _*_, _-_, _%_, _≤_, _<_}
 use native.Mathlib.Omega.{arith}
 use lib.ListN.{length, length-set}
+use Rattle.model.specs.Lists.{at}
 use Rattle.model.specs.Problem.{Problem}
 use Rattle.families.specs.Families.{solutionsOf}
-use Rattle.families.specs.Numbered.{Keys, Listed}
-use Rattle.families.proofs.Rows.{listed-twelve, listed-row, listed-small, keys-turn}
+use Rattle.families.specs.Numbered.{Chained, Unlinked, Listed}
+use Rattle.families.proofs.Keys.{key-small}
+use Rattle.families.proofs.Rows.{listed-twelve, listed-row, listed-small}
+use Rattle.families.proofs.Chains.{chained-begin, chained-link, chained-turn}
 use Rattle.families.proofs.fill.Statement.{statement}
 use Rattle.families.proofs.fill.Tie as tie
 
 abbrev Inv-loop : tie.InvT-loop
-Inv-loop rows variables solutions keys₀ i₀ keys i =
-    (i ≤ solutions) × (length keys ≡ 4096) × ((p : Problem) → Listed p rows variables → solutions ≡ length (solutionsOf p) → Keys p keys i)
+Inv-loop rows variables solutions keys₀ heads₀ i₀ keys heads i =
+    (i ≤ solutions) × (length keys ≡ 4096) × (length heads ≡ 1021) × ((p : Problem) → Listed p rows variables → solutions ≡ length (solutionsOf p) → Unlinked heads₀ → Chained p keys heads i)
 
 abbrev μ-loop : tie.MeasureT-loop
-μ-loop rows variables solutions keys₀ i₀ keys i = solutions - i
+μ-loop rows variables solutions keys₀ heads₀ i₀ keys heads i = solutions - i
 
 -- in a turn, for the problem of the `requires`
 abbrev Bounds : tie.In-loop Inv-loop μ-loop → Type 0
@@ -33,8 +36,23 @@ bounds c =
     let f = r .1 .few in
     (m, omega arith, listed-row (r .1) n m)
 
+-- its key, and the link that goes with it
+short : (c : tie.After-key Inv-loop μ-loop) → c .key .result < 281474976710656
+short c =
+    let i = c .before in
+    let r = i .before .before .before .pre in
+    let s = key-small (i .before .before .before .args .variables) _ (listed-twelve (r .1)) (listed-small (r .1) (i .before .loop .i) (bounds i .0)) in
+    let e = c .key .ensures in
+    omega arith
+
+link : (c : tie.After-key Inv-loop μ-loop) → at (c .before .before .loop .heads) (c .key .result % 1021) < 4096
+link c =
+    let i = c .before in
+    let r = i .before .before .before .pre in
+    chained-link (r .1) (i .before .loop .i) (bounds i .0) (i .before .loop .inv .3 (r .0) (r .1) (r .2) (r .4)) (c .key .ensures)
+
 loop-holds : tie.Need-loop-holds Inv-loop μ-loop
-loop-holds c = (omega arith, c .before .pre .3, λ p a e j l. absurd (omega arith))
+loop-holds c = (omega arith, c .before .pre .3, c .before .pre .4 .size, λ p a e u. chained-begin u)
 
 mul-key : tie.Need-mul-key Inv-loop μ-loop
 mul-key c = omega (arith, bounds c)
@@ -43,32 +61,67 @@ key-requires : tie.Need-key-requires Inv-loop μ-loop
 key-requires c κs = let r = c .before .before .before .pre in (bounds c .2, listed-twelve (r .1), listed-small (r .1) (c .before .loop .i) (bounds c .0))
 
 mul-keys : tie.Need-mul-keys Inv-loop μ-loop
-mul-keys c = omega (arith, bounds (c .before))
+mul-keys c = omega (arith, short c)
+
+mul-keys-2 : tie.Need-mul-keys-2 Inv-loop μ-loop
+mul-keys-2 c = omega arith
+
+element-copy-out-keys : tie.Need-element-copy-out-keys Inv-loop μ-loop
+element-copy-out-keys c = omega arith
+
+cast-keys : tie.Need-cast-keys Inv-loop μ-loop
+unfolding at
+cast-keys c = omega (arith, link (c .before))
+
+add-keys : tie.Need-add-keys Inv-loop μ-loop
+unfolding at
+add-keys c = omega (arith, short (c .before), link (c .before))
+
+mul-keys-3 : tie.Need-mul-keys-3 Inv-loop μ-loop
+mul-keys-3 c = omega (arith, bounds (c .before .before))
 
 element-write-keys : tie.Need-element-write-keys Inv-loop μ-loop
-element-write-keys c = bounds (c .before) .1
+element-write-keys c = bounds (c .before .before) .1
+
+add-heads : tie.Need-add-heads Inv-loop μ-loop
+add-heads c = omega (arith, bounds (c .before .before))
+
+cast-heads : tie.Need-cast-heads Inv-loop μ-loop
+cast-heads c = omega (arith, bounds (c .before .before))
+
+mul-heads : tie.Need-mul-heads Inv-loop μ-loop
+mul-heads c = omega arith
+
+element-write-heads : tie.Need-element-write-heads Inv-loop μ-loop
+element-write-heads c = omega arith
 
 add-i : tie.Need-add-i Inv-loop μ-loop
-add-i c = omega (arith, bounds (c .before))
+add-i c = omega (arith, bounds (c .before .before))
 
 loop-less : tie.Need-loop-less Inv-loop μ-loop
 loop-less c = omega arith
 
 loop-again : tie.Need-loop-again Inv-loop μ-loop
+unfolding at
 loop-again c =
-    let i = c .before in
+    let i = c .before .before in
     let l = i .before .loop in
     let t = i .loop-test .taken in (
       omega arith,
-      length-set (l .keys) (l .i) (c .key .result) ∙ l .inv .1,
-      λ p a e. keys-turn a (l .i) (let z : l .i < length (solutionsOf p) = omega arith in z) (l .keys) (let b = bounds i .1 in let d = l .inv .1 in omega arith) (l .inv .2 p a e) (c .key .ensures),
+      length-set (l .keys) (l .i) _ ∙ l .inv .1,
+      length-set (l .heads) _ _ ∙ l .inv .2,
+      λ p a e u.
+          let b = bounds i .1 in
+          let d = l .inv .1 in
+          let z : l .i < length (solutionsOf p) = omega arith in
+          chained-turn a (l .i) z (l .inv .3 p a e u) (c .before .key .ensures) (omega arith) (l .inv .2),
     )
 
 returns : tie.Need-returns Inv-loop μ-loop
 returns c =
     let l = c .before .loop in
     let t = c .loop-test .left in
-    λ p a e. subst (Keys p (l .keys)) (let z : l .i ≡ c .before .before .before .args .solutions = omega arith in z) (l .inv .2 p a e)
+    λ p a e u. subst (Chained p (l .keys) (l .heads)) (let z : l .i ≡ c .before .before .before .args .solutions = omega arith in z) (l .inv .3 p a e u)
 
 pub fill-spec : {M : Type 1} → statement M
 fill-spec =
@@ -80,7 +133,16 @@ fill-spec =
     mul-key
     key-requires
     mul-keys
+    mul-keys-2
+    element-copy-out-keys
+    cast-keys
+    add-keys
+    mul-keys-3
     element-write-keys
+    add-heads
+    cast-heads
+    mul-heads
+    element-write-heads
     add-i
     loop-less
     loop-again

@@ -1,93 +1,70 @@
--- The loop: the solution has a number from low on, among size.
-use mathlib.Core.Path.{_≡_}
-use mathlib.Core.Logic.{_⊎_, ⊎-elim}
+-- The loop: the solution is in the chain, before the link.
 use mathlib.Core.List.{List}
-use Prim.Native.Nat.{ℕ, _+_, _*_, _/_, _≤_, _<_}
+use Prim.Native.Nat.{ℕ, _≤_}
 use native.Mathlib.Omega.{arith}
 use Rattle.model.specs.Lists.{at}
 use Rattle.model.specs.Problem.{Problem}
-use Rattle.families.specs.Walk.{Between}
 use Rattle.families.specs.Numbered.{Finding}
-use Rattle.families.proofs.Rows.{finding-begin, finding-some, finding-end, finding-short, finding-upper, finding-lower, between-as, moved}
+use Rattle.families.proofs.Chains.{Seeking, seeking-begin, seeking-bounds, seeking-turn, seeking-less, seeking-end}
 use Rattle.families.proofs.find.Statement.{statement}
 use Rattle.families.proofs.find.Tie as tie
 
 abbrev Inv-loop : tie.InvT-loop
-Inv-loop keys key solutions low₀ size₀ low size = (p : Problem) (s : List ℕ) → Finding p s keys key solutions → Between p s low (low + size)
+Inv-loop keys heads key link₀ link = (p : Problem) (s : List ℕ) → Finding p s keys heads key → Seeking p s key link
 
 abbrev μ-loop : tie.MeasureT-loop
-μ-loop keys key solutions low₀ size₀ low size = size
+μ-loop keys heads key link₀ link = link
 
 -- in a turn, for the solution of the `requires`
-bounds : (c : tie.In-loop Inv-loop μ-loop) → (c .before .loop .low < c .before .loop .low + c .before .loop .size) × (c .before .loop .low + c .before .loop .size ≤ 4096)
-bounds c = let r = c .before .before .pre in finding-some (r .2) (c .before .loop .inv (r .0) (r .1) (r .2))
+bounds : (c : tie.At-loop Inv-loop μ-loop) → (1 ≤ c .loop .link) × (c .loop .link ≤ 4096)
+bounds c = let r = c .before .before .pre in seeking-bounds (r .2) (c .loop .inv (r .0) (r .1) (r .2))
 
--- after the comparison
-abbrev Steps : tie.After-reached Inv-loop μ-loop → Type 0
-Steps c =
-    let a = c .before .before .before .before .args in
-    let l = c .before .before .before .loop in
-    let at-mid = at (a .keys .now) (l .low + l .size / 2) in
-    ((at-mid ≤ a .key) × (l .size / 2 * c .reached .result ≡ l .size / 2)) ⊎ ((a .key < at-mid) × (l .size / 2 * c .reached .result ≡ 0))
+mul-link : tie.Need-mul-link Inv-loop μ-loop
+mul-link c = omega arith
 
-steps : (c : tie.After-reached Inv-loop μ-loop) → Steps c
+element-copy-out-link : tie.Need-element-copy-out-link Inv-loop μ-loop
+element-copy-out-link c = omega arith
+
+cast-link : tie.Need-cast-link Inv-loop μ-loop
 unfolding at
-steps c = moved _ _ _ _ (c .reached .ensures)
-
-least-step : (c : tie.After-reached Inv-loop μ-loop) → c .before .before .before .loop .size / 2 * c .reached .result ≤ c .before .before .before .loop .size / 2
-least-step c =
-    let l = c .before .before .before .loop in
-    ⊎-elim {C = l .size / 2 * c .reached .result ≤ l .size / 2} (λ w. omega (arith, w .1)) (λ w. omega (arith, w .1)) (steps c)
+cast-link c = let r = c .before .pre in omega (arith, seeking-bounds (r .2) (seeking-begin (r .2)))
 
 loop-holds : tie.Need-loop-holds Inv-loop μ-loop
-loop-holds c = λ p s f. finding-begin f
-
-add-reached : tie.Need-add-reached Inv-loop μ-loop
-add-reached c = omega (arith, bounds c)
-
-mul-reached : tie.Need-mul-reached Inv-loop μ-loop
-mul-reached c = omega (arith, bounds c)
-
-element-copy-out-reached : tie.Need-element-copy-out-reached Inv-loop μ-loop
-element-copy-out-reached c = omega (arith, bounds c)
-
-reached-requires : tie.Need-reached-requires Inv-loop μ-loop
 unfolding at
-reached-requires c κs =
-    let i = c .before in
-    let r = i .before .before .pre in
-    let l = i .before .loop in
-    let t = i .loop-test .taken in
-    let b = bounds i in
-    let q = finding-short (r .2) (l .inv (r .0) (r .1) (r .2)) (l .low + l .size / 2) (omega arith) (omega arith) in
-    (omega (arith, q .0), omega (arith, q .1))
+loop-holds c = λ p s f. seeking-begin f
 
-mul-low : tie.Need-mul-low Inv-loop μ-loop
-mul-low c = omega (arith, least-step c, bounds (c .before .before))
+sub-if1 : tie.Need-sub-if1 Inv-loop μ-loop
+sub-if1 c = bounds c .0
 
-add-low : tie.Need-add-low Inv-loop μ-loop
-add-low c = omega (arith, least-step c, bounds (c .before .before))
+mul-if1 : tie.Need-mul-if1 Inv-loop μ-loop
+mul-if1 c = omega (arith, bounds c)
 
-sub-size : tie.Need-sub-size Inv-loop μ-loop
-sub-size c = omega arith
+element-copy-out-if1 : tie.Need-element-copy-out-if1 Inv-loop μ-loop
+element-copy-out-if1 c = omega (arith, bounds c)
+
+sub-link : tie.Need-sub-link Inv-loop μ-loop
+sub-link c = bounds (c .before .before) .0
+
+mul-link-2 : tie.Need-mul-link-2 Inv-loop μ-loop
+mul-link-2 c = omega (arith, bounds (c .before .before))
+
+element-copy-out-link-2 : tie.Need-element-copy-out-link-2 Inv-loop μ-loop
+element-copy-out-link-2 c = omega (arith, bounds (c .before .before))
 
 loop-less : tie.Need-loop-less Inv-loop μ-loop
-loop-less c = omega arith
+unfolding at
+loop-less c = let l = c .before .before .before in let r = l .before .before .pre in seeking-less (r .2) (l .loop .inv (r .0) (r .1) (r .2))
 
 loop-again : tie.Need-loop-again Inv-loop μ-loop
 unfolding at
-loop-again c =
-    let i = c .before .before in
-    let l = i .before .loop in
-    let mid = l .low + l .size / 2 in
-    let t = i .loop-test .taken in λ p s f.
-    let b = l .inv p s f in
-    let m = b .within in
-    ⊎-elim (λ w. between-as (finding-upper f b mid (omega arith) (omega arith) (w .0)) (omega (arith, w .1)) (omega (arith, w .1)) (omega (arith, w .1)))
-    (λ w. between-as (finding-lower f b mid (omega arith) (omega arith) (w .0)) (omega (arith, w .1)) (omega (arith, w .1)) (omega (arith, w .1))) (steps c)
+loop-again c = λ p s f. seeking-turn f (c .before .before .before .loop .inv p s f) (c .before .if1 .taken)
+
+sub-result : tie.Need-sub-result Inv-loop μ-loop
+sub-result c = bounds (c .before .before) .0
 
 returns : tie.Need-returns Inv-loop μ-loop
-returns c = λ p s f. finding-end f (c .before .loop .inv p s f) (omega arith)
+unfolding at
+returns c = λ p s f. seeking-end f (c .before .before .loop .inv p s f) (c .if1 .left)
 
 pub find-spec : {M : Type 1} → statement M
 find-spec =
@@ -95,14 +72,17 @@ find-spec =
     (tie.spec
     Inv-loop
     μ-loop
+    mul-link
+    element-copy-out-link
+    cast-link
     loop-holds
-    add-reached
-    mul-reached
-    element-copy-out-reached
-    reached-requires
-    mul-low
-    add-low
-    sub-size
+    sub-if1
+    mul-if1
+    element-copy-out-if1
+    sub-link
+    mul-link-2
+    element-copy-out-link-2
     loop-less
     loop-again
+    sub-result
     returns)

@@ -8,11 +8,12 @@ use Rattle.families.proofs.flood.Statement.{statement}
 use Rattle.families.proofs.flood.Tie as tie
 
 abbrev Inv-loop : tie.InvT-loop
-Inv-loop rows images keys variables symmetries solutions seen₀ queue₀ head tail first₀ end₀ seen queue first end =
-    (p : Problem) (starts count : ℕ) → Flooding p rows images keys variables symmetries solutions seen₀ queue₀ starts count head tail → Flooding p rows images keys variables symmetries solutions seen queue starts count first end
+Inv-loop rows images keys heads weights variables symmetries seen₀ queue₀ head tail first₀ end₀ seen queue first end =
+    (p : Problem) (starts count : ℕ) → Flooding p rows images keys heads weights variables symmetries seen₀ queue₀ starts count head tail →
+    Flooding p rows images keys heads weights variables symmetries seen queue starts count first end
 
 abbrev μ-loop : tie.MeasureT-loop
-μ-loop rows images keys variables symmetries solutions seen₀ queue₀ head tail first₀ end₀ seen queue first end = 4096 - first
+μ-loop rows images keys heads weights variables symmetries seen₀ queue₀ head tail first₀ end₀ seen queue first end = 4096 - first
 
 -- in a turn, for the problem of the `requires`
 abbrev At-turn : tie.In-loop Inv-loop μ-loop → Type 0
@@ -20,7 +21,7 @@ At-turn c =
     let a = c .before .before .before .args in
     let r = c .before .before .before .pre in
     let l = c .before .loop in
-    Spreading (r .0) (a .rows .now) (a .images .now) (a .keys .now) (a .variables) (a .symmetries) (a .solutions) (l .seen) (l .queue) (r .1) (r .2) (l .first) (l .end)
+    Spreading (r .0) (a .rows .now) (a .images .now) (a .keys .now) (a .heads .now) (a .weights .now) (a .variables) (a .symmetries) (l .seen) (l .queue) (r .1) (r .2) (l .first) (l .end)
 
 spreading : (c : tie.In-loop Inv-loop μ-loop) → At-turn c
 spreading c = let r = c .before .before .before .pre in flooding-spread (c .before .loop .inv (r .0) (r .1) (r .2) (r .3)) (c .loop-test .taken)

@@ -8,10 +8,10 @@ carry-requires : tie.Need-carry-requires
 carry-requires c κs = search needs
 
 find-requires : tie.Need-find-requires
-find-requires c κs = let r = c .before .before .pre in (_, _, numbering-finding (r .1) (c .carry .ensures (r .0) (r .1 .imaging)))
+find-requires c κs = let r = c .before .before .pre in (_, _, numbering-finding (r .1) (c .carry .ensures (r .0) (r .1 .imaging) (r .1 .finder .weighed)))
 
 returns : tie.Need-returns
-returns c = λ p n. numbering-end n (c .find .ensures p _ (numbering-finding n (c .before .carry .ensures p (n .imaging))))
+returns c = λ p n. numbering-end n (c .find .ensures p _ (numbering-finding n (c .before .carry .ensures p (n .imaging) (n .finder .weighed))))
 
 pub image-spec : {M : Type 1} → statement M
 image-spec = tie.close (tie.spec carry-requires find-requires returns)

@@ -11,11 +11,12 @@ use Rattle.families.proofs.spread.Statement.{statement}
 use Rattle.families.proofs.spread.Tie as tie
 
 abbrev Inv-loop : tie.InvT-loop
-Inv-loop rows images keys variables symmetries solutions seen₀ queue₀ head tail i end₀ k₀ seen queue end k =
-    (k ≤ symmetries) × ((p : Problem) (starts count : ℕ) → Spreading p rows images keys variables symmetries solutions seen₀ queue₀ starts count head tail → Turning p rows images keys variables symmetries solutions i seen queue starts count head k end)
+Inv-loop rows images keys heads weights variables symmetries seen₀ queue₀ head tail i end₀ k₀ seen queue end k =
+    (k ≤ symmetries) × ((p : Problem) (starts count : ℕ) → Spreading p rows images keys heads weights variables symmetries seen₀ queue₀ starts count head tail →
+    Turning p rows images keys heads weights variables symmetries i seen queue starts count head k end)
 
 abbrev μ-loop : tie.MeasureT-loop
-μ-loop rows images keys variables symmetries solutions seen₀ queue₀ head tail i end₀ k₀ seen queue end k = symmetries - k
+μ-loop rows images keys heads weights variables symmetries seen₀ queue₀ head tail i end₀ k₀ seen queue end k = symmetries - k
 
 -- the invariant in a turn, for the problem of the `requires`
 abbrev At-turn : tie.In-loop Inv-loop μ-loop → Type 0
@@ -23,7 +24,8 @@ At-turn c =
     let a = c .before .before .before .before .args in
     let r = c .before .before .before .before .pre in
     let l = c .before .loop in
-    Turning (r .0) (a .rows .now) (a .images .now) (a .keys .now) (a .variables) (a .symmetries) (a .solutions) (getD (a .queue .now) (a .head) 0) (l .seen) (l .queue) (r .1) (r .2) (a .head) (l .k) (l .end)
+    Turning (r .0) (a .rows .now) (a .images .now) (a .keys .now) (a .heads .now) (a .weights .now) (a .variables) (a .symmetries)
+    (getD (a .queue .now) (a .head) 0) (l .seen) (l .queue) (r .1) (r .2) (a .head) (l .k) (l .end)
 
 turning : (c : tie.In-loop Inv-loop μ-loop) → At-turn c
 turning c = let r = c .before .before .before .before .pre in c .before .loop .inv .1 (r .0) (r .1) (r .2) (r .3)

@@ -1,0 +1,81 @@
+-- The loop: the pairs below c are weighed.
+use mathlib.Core.Path.{_≡_, _∙_}
+use Prim.Native.Nat.{ℕ, _-_, _*_, _/_, _%_, _^_, _≤_, _<_}
+use native.Mathlib.Omega.{arith}
+use lib.ListN.{length, length-set}
+use Rattle.model.specs.Lists.{at}
+use Rattle.model.proofs.Lists.{set-each}
+use Rattle.families.proofs.Keys.{digit-shifted}
+use Rattle.families.proofs.weigh.Statement.{statement}
+use Rattle.families.proofs.weigh.Tie as tie
+
+abbrev Inv-loop : tie.InvT-loop
+Inv-loop variables weights₀ end c₀ weights c = (c ≤ end) × (length weights ≡ 192) × ((d : ℕ) → d < c → at weights d ≡ d % 16 * 2 ^ (4 * (variables - 1 - d / 16)))
+
+abbrev μ-loop : tie.MeasureT-loop
+μ-loop variables weights₀ end c₀ weights c = end - c
+
+mul-end : tie.Need-mul-end Inv-loop μ-loop
+mul-end c = omega (arith, c .pre .0)
+
+loop-holds : tie.Need-loop-holds Inv-loop μ-loop
+loop-holds c = (omega arith, c .pre .1, λ d l. absurd (omega arith))
+
+sub-weights : tie.Need-sub-weights Inv-loop μ-loop
+sub-weights c = omega arith
+
+sub-weights-2 : tie.Need-sub-weights-2 Inv-loop μ-loop
+sub-weights-2 c = omega arith
+
+mul-weights : tie.Need-mul-weights Inv-loop μ-loop
+mul-weights c = omega (arith, c .before .before .pre .0)
+
+shl-weights : tie.Need-shl-weights Inv-loop μ-loop
+shl-weights c = omega (arith, c .before .before .pre .0)
+
+mul-weights-2 : tie.Need-mul-weights-2 Inv-loop μ-loop
+mul-weights-2 c = omega (arith, c .before .before .pre .0)
+
+element-write-weights : tie.Need-element-write-weights Inv-loop μ-loop
+element-write-weights c = omega (arith, c .before .before .pre .0)
+
+add-c : tie.Need-add-c Inv-loop μ-loop
+add-c c = omega (arith, c .before .before .pre .0)
+
+loop-less : tie.Need-loop-less Inv-loop μ-loop
+loop-less c = omega arith
+
+loop-again : tie.Need-loop-again Inv-loop μ-loop
+unfolding at
+loop-again c =
+    let v = c .before .before .args .variables in
+    let l = c .before .loop in
+    let t = c .before .before .pre .0 in (
+      omega arith,
+      length-set (l .weights) (l .c) _ ∙ l .inv .1,
+      λ d h.
+          let new = digit-shifted v (l .c / 16) (l .c % 16) t (omega arith) in
+          set-each (λ (d w : ℕ). w ≡ d % 16 * 2 ^ (4 * (v - 1 - d / 16))) (l .weights) (l .c) _ d (omega (arith, l .inv .1)) new (λ n. l .inv .2 d (omega arith)),
+    )
+
+returns : tie.Need-returns Inv-loop μ-loop
+returns c = λ d l. c .before .loop .inv .2 d (omega arith)
+
+pub weigh-spec : {M : Type 1} → statement M
+weigh-spec =
+    tie.close
+    (tie.spec
+    Inv-loop
+    μ-loop
+    mul-end
+    loop-holds
+    sub-weights
+    sub-weights-2
+    mul-weights
+    shl-weights
+    mul-weights-2
+    element-write-weights
+    add-c
+    loop-less
+    loop-again
+    returns)
