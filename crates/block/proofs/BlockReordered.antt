@@ -94,7 +94,7 @@ module _ (p : Problem) (w : WellFormed p) (order : List ℕ) (o : Ordering (p .v
 
   -- the sets of a run with an accepted block, its variables settled in the order: variable i is place order[i]
   pub reordered-consistent : (first m : ℕ) → blockVerdict p first m ≡ accepted → (prefix ds : List ℕ) → anyEmpty ds ≡ false →
-      Consistent (reordered order (withBlock first m p)) prefix ds ↔ (Consistent (reordered order p) prefix ds × Ascends (λ i. inBlock first m (at order i)) prefix ds)
+      Consistent (λ x. x) (reordered order (withBlock first m p)) prefix ds ↔ (Consistent (λ x. x) (reordered order p) prefix ds × Ascends (λ i. inBlock first m (at order i)) prefix ds)
   unfolding symmetryIn renamed pair
   reordered-consistent first m e prefix =
       S.consistent-block (reordered order p) (R.well-reordered p order o w) (λ i. inBlock first m (at order i)) (map (symmetryIn order p) (p .symmetries ++ blockTables p first m)) (accepted-reordered first m e) prefix

@@ -14,7 +14,7 @@ use Rattle.model.specs.Lists.{both, at}
 use Rattle.model.specs.ValueSets.{has, maskOf, members, anyEmpty}
 use Rattle.model.specs.Problem.{Problem, pair, assignments, withSymmetries}
 use Rattle.model.specs.Nogood.{Entry, obeys, filtered}
-use Rattle.model.specs.Search.{nogoodsOf, pruned, narrowed, setsAt, isLive, isPlan}
+use Rattle.model.specs.Search.{entriesAt, nogoodsOf, pruned, narrowed, setsAt, isLive, isPlan}
 use Rattle.model.specs.Claims.{Consistent, Drawn}
 use Rattle.model.specs.Pruning.{Sets, Inside, closed, Way, Prunes}
 use Rattle.model.specs.WellFormed.{WellFormed}
@@ -177,7 +177,7 @@ module _ (p : Problem) (w : WellFormed p) (prefix : List ℕ) where
             (meets-i g a x y v x< hx (o .there v hx) (subst (λ (n : ℕ). y < n) (sym long) y<) (r .3)))
 
 -- sets that are consistent, none of them empty: the prefix is live, and they lie inside its sets
-consistent-live : (p : Problem) (prefix : List ℕ) → Sized p → (es : List ℕ) → Consistent p prefix es → anyEmpty es ≡ false → T (isLive p prefix) × Inside es (setsAt p prefix)
+consistent-live : (p : Problem) (prefix : List ℕ) → Sized p → (es : List ℕ) → Consistent (λ x. x) p prefix es → anyEmpty es ≡ false → T (isLive p prefix) × Inside es (setsAt p prefix)
 consistent-live p prefix s es c some =
     let t = stable (isLive p prefix) (λ f. of-not (anyEmpty es) some (dead-empty p prefix s (not-of (isLive p prefix) f) es c)) in
     (t, consistent-inside p prefix s t es c)
@@ -263,10 +263,11 @@ module _ (p : Problem) (w : WellFormed p) (block : ℕ → Bool) (gs : List (Lis
     }
 
     -- C: in paper 01's words, sets of which none is empty are consistent with the block's symmetries exactly if they are so without them and ascend
-    pub consistent-block : (ds : List ℕ) → anyEmpty ds ≡ false → Consistent whole prefix ds ↔ (Consistent p prefix ds × Ascends block prefix ds)
+    pub consistent-block : (ds : List ℕ) → anyEmpty ds ≡ false → Consistent (λ x. x) whole prefix ds ↔ (Consistent (λ x. x) p prefix ds × Ascends block prefix ds)
+    unfolding nogoodsOf entriesAt
     consistent-block ds some = (there, λ c. back (c .0) (c .1))
       where
-        there : Consistent whole prefix ds → Consistent p prefix ds × Ascends block prefix ds
+        there : Consistent (λ x. x) whole prefix ds → Consistent (λ x. x) p prefix ds × Ascends block prefix ds
         there c =
             let r = consistent-e whole prefix ds c in (
               record {
@@ -280,7 +281,7 @@ module _ (p : Problem) (w : WellFormed p) (block : ℕ → Bool) (gs : List (Lis
               λ x y v bx by l k t. kept-above ds (c .sized) (r .1) x y v bx by l k (fixed-e whole prefix ds (r .2) y v t),
             )
 
-        back : Consistent p prefix ds → Ascends block prefix ds → Consistent whole prefix ds
+        back : Consistent (λ x. x) p prefix ds → Ascends block prefix ds → Consistent (λ x. x) whole prefix ds
         back c up =
             let r = consistent-e p prefix ds c in
             record {
@@ -294,11 +295,11 @@ module _ (p : Problem) (w : WellFormed p) (block : ℕ → Bool) (gs : List (Lis
             }
 
     -- the sets at a live prefix ascend, and are consistent without the block's symmetries
-    pub live-ascends : T (isLive whole prefix) → Consistent p prefix (setsAt whole prefix) × Ascends block prefix (setsAt whole prefix)
+    pub live-ascends : T (isLive whole prefix) → Consistent (λ x. x) p prefix (setsAt whole prefix) × Ascends block prefix (setsAt whole prefix)
     live-ascends t = consistent-block (setsAt whole prefix) (subst (λ (ds : List ℕ). anyEmpty ds ≡ false) (sym (setsAt-live whole prefix (live-closed whole prefix t))) (live-closed whole prefix t)) .0 (live-consistent whole prefix same-sized t)
 
     -- and they are the largest such sets
-    pub ascending-inside : (es : List ℕ) → Consistent p prefix es → Ascends block prefix es → anyEmpty es ≡ false → T (isLive whole prefix) × Inside es (setsAt whole prefix)
+    pub ascending-inside : (es : List ℕ) → Consistent (λ x. x) p prefix es → Ascends block prefix es → anyEmpty es ≡ false → T (isLive whole prefix) × Inside es (setsAt whole prefix)
     ascending-inside es c up some = consistent-live whole prefix same-sized es (consistent-block es some .1 (c, up)) some
 
     -- ---- for a pruner: Way is that of the whole problem, what it does is that of p

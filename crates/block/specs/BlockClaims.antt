@@ -64,7 +64,7 @@ Trades-enough = (p : Problem) (first m : ℕ) → WellFormed p → T (isBlock p 
 abbrev pub Sets-ascend : Type 0
 Sets-ascend =
     (p : Problem) (order : List ℕ) (first m : ℕ) (prefix ds : List ℕ) → WellFormed p → Ordering (p .variables) order → blockVerdict p first m ≡ accepted → anyEmpty ds ≡ false →
-    Consistent (reordered order (withBlock first m p)) prefix ds ↔ (Consistent (reordered order p) prefix ds × Ascends (λ i. inBlock first m (at order i)) prefix ds)
+    Consistent (λ x. x) (reordered order (withBlock first m p)) prefix ds ↔ (Consistent (λ x. x) (reordered order p) prefix ds × Ascends (λ i. inBlock first m (at order i)) prefix ds)
 
 -- the plans are those of the run without the block that ascend along it
 abbrev pub Plans-ascend : Type 0

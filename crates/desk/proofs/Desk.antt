@@ -12,9 +12,9 @@ use borrow.Author.Tests.{ltb-true, ltb-false, leb-false, eqb-true, eqb-false}
 use Rattle.model.specs.Lists.{both, all, ascending, rowsAscend, either, any, keep, flat, below, upFrom, tabulate}
 use Rattle.model.specs.Problem.{Problem, respects}
 use Rattle.model.specs.Search.{nodes, isPlan}
-use Rattle.model.specs.Verdict.{Verdict, accepted, refused, ask}
+use Rattle.model.specs.Verdict.{Verdict, accepted, refused, ask, reply, kept}
 use Rattle.model.specs.Sheet.{word, Header, headerOf, scopeAt, rowsAt, afterAt, permutesPairs, problemOf, setsVerdict, constraintVerdict, constraintsVerdict, symmetriesVerdict, headerVerdict, formVerdict, verdictOf}
-use Rattle.model.specs.Run.{Ending, finished, spent, full, plansIn, nodesIn, Result, search, resultOf, Answer, ended, answerFor, answerOf, written, listFor, listOf, Tally, settledBy, countsBy, tallyAt, tallyFor, tallyOf}
+use Rattle.model.specs.Run.{Ending, finished, spent, full, plansIn, nodesIn, Result, search, resultOf, Answer, ended, answerOf, written, listOf, Tally, settledBy, countsBy, tallyAt, tallyFor, tallyOf}
 use Rattle.run_cut.specs.Parts.{nodesAfter, lastOf, Progress, start, progressAt, goOn, added, countsAfter, resumed}
 use Rattle.desk.specs.Desk.{Standing, running, over, goesOn, Hall, newcomer, deskRoom, turnLimit, standingAfter, hallAfter, hallTurned, turned, Seat, free, taken, isFree, waits, seatTurned, Desk, emptyDesk, seatAt, Found, none-found, seat, firstOf, lowestFree, toServe, DeskCall, sit, turn, leave, DeskReply, denied, seated, idle, served, left, servedAs, sitReply, sitDesk, turnReply, turnDesk, fits, leaveFor, leaveReply, leaveSeat, deskReply, deskAfter, deskEnd, deskReplies, countsOf}
 use Rattle.desk.specs.Claims.{serves, turnsIn, timesServed, Throughout, Remains, Waits, Fair, alone, HoldsAs, Holds, As-alone, Same-as-run, Turn-of-64, Sixty-four-each, Turn-answers, Refused-same, Idle-exactly, Past-eighth, By-own-turns, Others-nothing, Leaves, Lowest-seat, Seats-taken, Keeps-seat}
@@ -335,12 +335,12 @@ seated-accepted xs k h e = subst SeatHolds e (desk-holds emptyDesk xs empty-hold
 
 -- ---- what a caller gets of an ended run
 pub same-as-run : Same-as-run
-unfolding answerOf answerFor listOf listFor tallyOf tallyAt
+unfolding answerOf listOf tallyOf tallyAt
 same-as-run xs k h e out tally q s n = (
   same-answer,
   ap (λ (x : Seat). leaveReply x out) q ∙ go (fits h out) refl
-      ∙ ap₂ left (sized ∙ ap (λ (m : ℕ). m * p .variables) (a .2)) (sym (ap (λ (v : Verdict). listFor v (h .sheet) (h .allowance) out) c ∙ ap (λ (m : ℕ). written (resultOf p (h .allowance) m .rows) out) n ∙ ap (λ (r : Result). written (r .rows) out) (a .0))),
-  ap (λ (x : Answer). tallyFor x p tally) same-answer ∙ ap₂ (λ (m : ℕ) (l : List ℕ). let t : Tally = record { nodes = m; counts = l } in t) (sym (a .1)) (sym (a .3) ∙ sym (ap countsOf q)),
+      ∙ ap₂ left (sized ∙ ap (λ (m : ℕ). m * p .variables) (a .2)) (sym (ap (λ (v : Verdict). kept v out (written (resultOf p (h .allowance) (length out) .rows) out)) c ∙ ap (λ (m : ℕ). written (resultOf p (h .allowance) m .rows) out) n ∙ ap (λ (r : Result). written (r .rows) out) (a .0))),
+  ap (λ (x : Answer). tallyFor x (tallyAt p) tally) same-answer ∙ ap₂ (λ (m : ℕ) (l : List ℕ). let t : Tally = record { nodes = m; counts = l } in t) (sym (a .1)) (sym (a .3) ∙ sym (ap countsOf q)),
 )
   where
     p : Problem
@@ -352,8 +352,8 @@ same-as-run xs k h e out tally q s n = (
     a : HoldsAs h (over e)
     a = subst (HoldsAs h) s (as-alone xs k h q)
 
-    same-answer : answerFor (verdictOf (h .sheet)) (h .sheet) (h .allowance) (length out) ≡ ended e
-    same-answer = ap (λ (v : Verdict). answerFor v (h .sheet) (h .allowance) (length out)) c ∙ ap (λ (m : ℕ). ended (resultOf p (h .allowance) m .ending)) n ∙ ap (λ (r : Result). ended (r .ending)) (a .0)
+    same-answer : reply (verdictOf (h .sheet)) (resultOf p (h .allowance) (length out) .ending) ≡ ended e
+    same-answer = ap (λ (v : Verdict). reply v (resultOf p (h .allowance) (length out) .ending)) c ∙ ap (λ (m : ℕ). ended (resultOf p (h .allowance) m .ending)) n ∙ ap (λ (r : Result). ended (r .ending)) (a .0)
 
     rows : alone h (h .allowance) .rows ≡ h .progress .rows
     rows = ap (λ (r : Result). r .rows) (a .0)

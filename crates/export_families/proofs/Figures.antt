@@ -3,15 +3,15 @@ use mathlib.Core.Path.{_≡_, sym, ap, _∙_}
 use mathlib.Core.Bool.{Bool}
 use mathlib.Core.List.{List}
 use Prim.Native.Nat.{ℕ, _*_}
-use native.Mathlib.Omega.{arith}
 use lib.ListN.{length}
 use borrow.Author.Tests.{eq-eqb, ne-eqb}
 use Rattle.model.specs.Lists.{choose}
-use Rattle.model.specs.Verdict.{Verdict, accepted, refused}
+use Rattle.model.specs.Verdict.{refused}
 use Rattle.model.specs.Sheet.{problemOf}
+use Rattle.model.proofs.Demands.{reply-refused}
 use Rattle.run_input.specs.Lent.{verdictLent}
-use Rattle.families_figure.specs.Figure.{Figure, familiesLent}
-use Rattle.families_count.specs.Told.{Told, refusal, toldFor, countedLent}
+use Rattle.families_figure.specs.Figure.{familiesLent}
+use Rattle.families_count.specs.Told.{Told, refusal, countedLent}
 use Rattle.wire.specs.Wire.{wrongLength}
 use Rattle.export_families.specs.Families.{figureCode, countedBytes, familiesCode, familiesAnswer, CallFigured}
 
@@ -36,8 +36,4 @@ module _ (b pairs block : List ℕ) (limit : ℕ) (answer : List ℕ) where
 
 pub refusal-counted : (b pairs block : List ℕ) (limit n i : ℕ) → refusal n i ≡ countedLent b pairs block limit → verdictLent b pairs block ≡ refused n i
 unfolding countedLent
-refusal-counted b pairs block limit n i e = go (verdictLent b pairs block) (familiesLent b pairs block limit (4096 * problemOf b .variables)) e
-  where
-    go : (v : Verdict) (f : Figure) → refusal n i ≡ toldFor v f → v ≡ refused n i
-    go accepted f h = absurd (let z : _≡_ {A = ℕ} 0 1 = cc in omega arith)
-    go (refused k l) f h = cc
+refusal-counted b pairs block limit n i e = reply-refused (verdictLent b pairs block) (familiesLent b pairs block limit (4096 * problemOf b .variables)) n i (sym e)

@@ -6,13 +6,13 @@ use lib.Dec.{eqb}
 use lib.ListN.{length}
 use Rattle.model.specs.Lists.{choose}
 use Rattle.families_figure.specs.Figure.{Figure, number, dash}
-use Rattle.families_count.specs.Told.{Told, refusal, told, countedLent}
+use Rattle.families_count.specs.Told.{Told, refusal, answered, countedLent}
 use Rattle.wire.specs.Wire.{wrongLength, threeNumbers}
 
 -- 0, or the number and the item of the refusal
 abbrev pub figureCode : Told → ℕ
 figureCode (refusal n i) = n * 256 + i
-figureCode (told f) = 0
+figureCode (answered f) = 0
 
 -- kind 1 and the number of families, or kind 2, the dash
 abbrev pub figureBytes : Figure → List ℕ
@@ -22,7 +22,7 @@ figureBytes dash = threeNumbers 2 0 0
 -- as it came after a refusal
 abbrev pub countedBytes : Told → List ℕ → List ℕ
 countedBytes (refusal n i) answer = answer
-countedBytes (told f) answer = figureBytes f
+countedBytes (answered f) answer = figureBytes f
 
 unfoldable pub familiesCode : List ℕ → List ℕ → List ℕ → ℕ → List ℕ → ℕ
 familiesCode b pairs block limit answer = choose (eqb (length answer) 12) (figureCode (countedLent b pairs block limit)) wrongLength

@@ -9,9 +9,10 @@ use lib.ListN.{length}
 use lib.Dec.{ltb}
 use borrow.Author.Tests.{ltb-true, ltb-false}
 use Rattle.model.specs.Lists.{at}
-use Rattle.model.specs.Verdict.{Verdict, accepted, refused}
-use Rattle.model.specs.Nogood.{FilterEnding, failed, entailed, consistent, FilterAnswer, declined, answered, answerBy, entries, filterEnding, filterVerdict, filterAnswer, setsAfter}
+use Rattle.model.specs.Verdict.{Verdict}
+use Rattle.model.specs.Nogood.{failed, entailed, consistent, FilterAnswer, refusal, answered, entries, filterEnding, filterVerdict, filterAnswer, setsAfter}
 use Rattle.model.proofs.Lists.{at-out}
+use Rattle.model.proofs.Demands.{reply-refused}
 use Rattle.filter.specs.Lists.{means}
 use Rattle.filter.specs.FilterCalls.{CallFilter, EntryRight, ListsRight}
 use Rattle.filter.specs.declared.Answer.{Answer}
@@ -27,32 +28,28 @@ told : FilterAnswer → Answer
 told (answered failed) = Failed
 told (answered entailed) = Entailed
 told (answered consistent) = Consistent
-told (declined number item) = Refused number item
+told (refusal number item) = Refused number item
 
 told-means : (x : FilterAnswer) → means (told x) ≡ x
 unfolding told
 told-means (answered failed) = refl
 told-means (answered entailed) = refl
 told-means (answered consistent) = refl
-told-means (declined number item) = refl
+told-means (refusal number item) = refl
 
 told-code : (x : FilterAnswer) → filterAnswerCode x ≡ codeOf (told x)
 unfolding told
 told-code (answered failed) = refl
 told-code (answered entailed) = refl
 told-code (answered consistent) = refl
-told-code (declined number item) = refl
+told-code (refusal number item) = refl
 
-told-refused : (x : FilterAnswer) (number item : ℕ) → told x ≡ Refused number item → x ≡ declined number item
+told-refused : (x : FilterAnswer) (number item : ℕ) → told x ≡ Refused number item → x ≡ refusal number item
 unfolding told
 told-refused (answered failed) number item e = absurd (let z : _≡_ {A = ℕ} 0 1 = cc in omega arith)
 told-refused (answered entailed) number item e = absurd (let z : _≡_ {A = ℕ} 0 1 = cc in omega arith)
 told-refused (answered consistent) number item e = absurd (let z : _≡_ {A = ℕ} 0 1 = cc in omega arith)
-told-refused (declined n i) number item e = cc
-
-refused-by : (v : Verdict) (e : FilterEnding) (number item : ℕ) → answerBy v e ≡ declined number item → v ≡ refused number item
-refused-by accepted e number item h = absurd (let z : _≡_ {A = ℕ} 0 1 = cc in omega arith)
-refused-by (refused n i) e number item h = cc
+told-refused (refusal n i) number item e = cc
 
 -- sets written and read again
 sets-back : (ss : List ℕ) → setsIn (bytesOf ss) ≡ ss
@@ -97,7 +94,7 @@ bytes-held b xs es us code b′ bytes c = record {
 
     kept : length b % 2 ≡ 0 → (number item : ℕ) → told (filterAnswer (setsIn b) xs es us) ≡ Refused number item → b′ ≡ b
     kept e number item q =
-        let v = refused-by (filterVerdict (setsIn b) xs es us) (filterEnding (setsIn b) (entries xs es us)) number item (told-refused (filterAnswer (setsIn b) xs es us) number item q) in
+        let v = reply-refused (filterVerdict (setsIn b) xs es us) (filterEnding (setsIn b) (entries xs es us)) number item (told-refused (filterAnswer (setsIn b) xs es us) number item q) in
         c .leaves ∙ sym (even-bytes b xs es us e) ∙ ap (λ (w : Verdict). bytesOf (setsAfter w (setsIn b) (entries xs es us))) v ∙ bytes-back b (length b / 2) (twice e) (λ i. bytes i)
 
 -- 001's four nogoods on six sets are right lists, so what is said of right lists is said of something

@@ -9,8 +9,8 @@ use lib.ListN.{length, getD}
 use borrow.Author.Tests.{eq-eqb, ne-eqb, lt-leb, leb-true}
 use Rattle.model.specs.Lists.{both, at}
 use Rattle.model.specs.ValueSets.{least, leastStep}
-use Rattle.model.specs.Verdict.{Verdict, accepted, refused, ask}
-use Rattle.model.specs.Nogood.{declined, entryOk, answerBy, entries, firstWrong, filterVerdict, filterAnswer, filterEnding, setsAfter}
+use Rattle.model.specs.Verdict.{Verdict, accepted, refused, ask, reply}
+use Rattle.model.specs.Nogood.{refusal, entryOk, entries, firstWrong, filterVerdict, filterAnswer, filterEnding, setsAfter}
 use Rattle.wire.specs.Wire.{wrongLength}
 use Rattle.wire.proofs.Codes.{Small, ask-small, both-right}
 use Rattle.export_filter.specs.Filter.{filterAnswerCode, setsIn, bytesOf, filteredBytes, filterCode, filterBytes, SmallAnswer}
@@ -45,7 +45,7 @@ pub answer-small : (ds xs es us : List ℕ) → SmallAnswer (filterAnswer ds xs 
 unfolding filterAnswer
 answer-small ds xs es us = go (filterVerdict ds xs es us) (filter-small ds xs es us)
   where
-    go : (v : Verdict) → Small v → SmallAnswer (answerBy v (filterEnding ds (entries xs es us)))
+    go : (v : Verdict) → Small v → SmallAnswer (reply v (filterEnding ds (entries xs es us)))
     go accepted s = tt
     go (refused number item) s = s
 
@@ -87,6 +87,6 @@ module _ (sets xs es us : List ℕ) where
       not-both false b e = refl
 
   -- a refusal by the questions is the answer
-  pub declined-by : (number item : ℕ) → filterVerdict (setsIn sets) xs es us ≡ refused number item → filterAnswer (setsIn sets) xs es us ≡ declined number item
+  pub answer-refused : (number item : ℕ) → filterVerdict (setsIn sets) xs es us ≡ refused number item → filterAnswer (setsIn sets) xs es us ≡ refusal number item
   unfolding filterAnswer
-  declined-by number item e = ap (λ (v : Verdict). answerBy v (filterEnding (setsIn sets) (entries xs es us))) e
+  answer-refused number item e = ap (λ (v : Verdict). reply v (filterEnding (setsIn sets) (entries xs es us))) e

@@ -5,7 +5,7 @@ use Prim.Native.Nat.{ℕ, _+_, _*_, _%_, _<_}
 use lib.Dec.{eqb}
 use lib.ListN.{length}
 use Rattle.model.specs.Bytes.{twoBytes}
-use Rattle.model.specs.Nogood.{FilterEnding, failed, entailed, consistent, FilterAnswer, declined, answered, entries, filterVerdict, filterAnswer, setsAfter}
+use Rattle.model.specs.Nogood.{FilterEnding, failed, entailed, consistent, FilterAnswer, refusal, answered, entries, filterVerdict, filterAnswer, setsAfter}
 use Rattle.wire.specs.Wire.{wrongLength}
 
 -- sets of values as pairs of bytes, low byte first
@@ -26,7 +26,7 @@ filterEndingCode failed = 2
 
 abbrev pub filterAnswerCode : FilterAnswer → ℕ
 filterAnswerCode (answered ending) = filterEndingCode ending
-filterAnswerCode (declined number item) = number * 256 + item
+filterAnswerCode (refusal number item) = number * 256 + item
 
 unfoldable pub filterCode : List ℕ → List ℕ → List ℕ → List ℕ → ℕ
 filterCode sets xs es us = elim (eqb (length sets % 2) 0) [ true ↦ filterAnswerCode (filterAnswer (setsIn sets) xs es us) | false ↦ wrongLength ]
@@ -40,5 +40,5 @@ filterBytes sets xs es us = elim (eqb (length sets % 2) 0) [ true ↦ filteredBy
 
 -- between the functions of the crate: the item of a refusal stands in one byte
 abbrev pub SmallAnswer : FilterAnswer → Type 0
-SmallAnswer (declined number item) = item < 256
+SmallAnswer (refusal number item) = item < 256
 SmallAnswer (answered ending) = Unit {0}

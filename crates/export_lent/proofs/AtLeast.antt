@@ -8,10 +8,10 @@ use lib.ListN.{length}
 use borrow.Author.Tests.{eq-eqb, ne-eqb}
 use Rattle.model.specs.Lists.{choose}
 use Rattle.model.specs.Problem.{Problem}
-use Rattle.model.specs.Verdict.{Verdict, accepted, refused}
+use Rattle.model.specs.Verdict.{Verdict, accepted, refused, reply}
 use Rattle.run_input.specs.Lent.{verdictLent, problemLent}
 use Rattle.run_enough.specs.AtLeast.{Enough, enough, tooFew, unknown, enoughOf}
-use Rattle.run_enough.specs.Lent.{EnoughAnswer, answered, enoughLentFor, enoughLent}
+use Rattle.run_enough.specs.Lent.{EnoughAnswer, answered, enoughLent}
 use Rattle.run_enough.proofs.AtLeast.{Said, said, to-limit}
 use Rattle.wire.specs.Wire.{wrongLength}
 use Rattle.export_lent.specs.Enough.{saidCode, saidBytes, enoughCode, enoughBytes}
@@ -26,10 +26,10 @@ of-said p limit m l h (tooFew plans made) s = (omega (arith, s .0, s .2), omega 
 of-said p limit m l h (unknown plans made) s = (omega (arith, s .0, s .2), omega (arith, s .1))
 
 pub small-said : (b pairs block : List ℕ) (limit m : ℕ) → limit < 2 ^ 32 → m < 2 ^ 32 → SmallSaid (enoughLent b pairs block limit m)
-unfolding enoughLent enoughLentFor
+unfolding enoughLent
 small-said b pairs block limit m l h = go (verdictLent b pairs block) (lent-small b pairs block)
   where
-    go : (v : Verdict) → Small v → SmallSaid (enoughLentFor v b pairs block limit m)
+    go : (v : Verdict) → Small v → SmallSaid (reply v (enoughOf (problemLent b pairs block) limit m))
     go accepted s = of-said (problemLent b pairs block) limit m l h (enoughOf (problemLent b pairs block) limit m) (said (problemLent b pairs block) limit m)
     go (refused number item) s = s
 

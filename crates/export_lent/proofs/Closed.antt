@@ -3,14 +3,14 @@ use mathlib.Core.Path.{_≡_, sym, ap, _∙_}
 use mathlib.Core.Bool.{Bool}
 use mathlib.Core.List.{List}
 use Prim.Native.Nat.{ℕ}
-use native.Mathlib.Omega.{arith}
 use lib.ListN.{length}
 use borrow.Author.Tests.{eq-eqb, ne-eqb}
 use Rattle.model.specs.Lists.{choose}
-use Rattle.model.specs.Problem.{Problem}
-use Rattle.model.specs.Verdict.{Verdict, accepted, refused}
+use Rattle.model.specs.Verdict.{refused}
 use Rattle.run_input.specs.Lent.{verdictLent, problemWith}
-use Rattle.families_closed.specs.Lent.{Told, refusal, toldFor, closedLent}
+use Rattle.model.proofs.Demands.{reply-refused}
+use Rattle.families_closed.specs.Open.{firstOpen}
+use Rattle.families_closed.specs.Lent.{Told, refusal, closedLent}
 use Rattle.wire.specs.Wire.{wrongLength}
 use Rattle.export_lent.specs.Closed.{toldCode, toldBytes, closedCode, closedAnswer}
 
@@ -36,8 +36,4 @@ module _ (b pairs block answer : List ℕ) where
 
 pub refusal-told : (b pairs block : List ℕ) (number item : ℕ) → refusal number item ≡ closedLent b pairs block → verdictLent b pairs block ≡ refused number item
 unfolding closedLent
-refusal-told b pairs block number item e = go (verdictLent b pairs block) (problemWith b block) e
-  where
-    go : (v : Verdict) (p : Problem) → refusal number item ≡ toldFor v p → v ≡ refused number item
-    go accepted p h = absurd (let z : _≡_ {A = ℕ} 0 1 = cc in omega arith)
-    go (refused n i) p h = cc
+refusal-told b pairs block number item e = reply-refused (verdictLent b pairs block) (firstOpen (problemWith b block)) number item (sym e)

@@ -14,12 +14,13 @@ use Rattle.model.specs.Verdict.{Verdict, accepted, refused, ask}
 use Rattle.model.specs.Sheet.{problemOf, verdictOf, symmetriesVerdict}
 use Rattle.model.specs.Run.{Answer, refusal, ended, Ending, nodesIn, Tally}
 use Rattle.model.proofs.Tally.{at-total}
+use Rattle.model.proofs.Demands.{reply-refused}
 use Rattle.order.specs.Order.{settlesAll, orderVerdict}
-use Rattle.order.specs.RunBy.{resultBy, placeCounts}
+use Rattle.order.specs.RunBy.{resultBy, placeCounts, answerBy}
+use Rattle.order.proofs.Demanded.{ran-by}
 use Rattle.sheet.specs.Meaning.{andThen}
-use Rattle.run_input.specs.Lent.{verdictLent, problemWith, orderLent, problemLent, answerLentFor, answerLent, listLent, tallyLent}
-use Rattle.run_input.proofs.Lent.{ran-lent, counts-lent, passed-all}
-use Rattle.run_input.proofs.LentTally.{tally-lent}
+use Rattle.run_input.specs.Lent.{verdictLent, problemWith, orderLent, problemLent, lentInput, answerLent, listLent, tallyLent}
+use Rattle.run_input.proofs.Lent.{passed-all, demanded-lent}
 use Rattle.wire.specs.Wire.{wrongLength}
 use Rattle.export_run.specs.Run.{answerCode}
 use Rattle.export_lent.specs.Lent.{placedBytes, lentRunCode, lentRunList, lentRunAnswer}
@@ -68,33 +69,30 @@ lent-small b pairs block =
 
 -- ---- planner_run_lent
 pub refusal-lent-of : (b pairs block : List ℕ) (limit : ℕ) (out : List ℕ) (number item : ℕ) → answerLent b pairs block limit out ≡ refusal number item → verdictLent b pairs block ≡ refused number item
-unfolding answerLent answerLentFor
-refusal-lent-of b pairs block limit out number item e = go (verdictLent b pairs block) e
-  where
-    go : (v : Verdict) → answerLentFor v b pairs block limit (length out) ≡ refusal number item → v ≡ refused number item
-    go accepted h = absurd (let z : _≡_ {A = ℕ} 0 1 = cc in omega arith)
-    go (refused n i) h = cc
+unfolding answerBy
+refusal-lent-of b pairs block limit out number item e = reply-refused (verdictLent b pairs block) (resultBy (orderLent b pairs) (problemWith b block) limit (length out) .ending) number item e
 
 module _ (b pairs block : List ℕ) (limit : ℕ) (list : List ℕ) where
   pub counted-lent : (e : Ending) → limit < 2 ^ 32 → answerLent b pairs block limit list ≡ ended e → Counted e
   unfolding resultBy
   counted-lent e l h =
-      record { plans = omega (arith, plans-most (problemLent b pairs block) limit (length list) e (ran-lent b pairs block limit list e h .so), counts-lent b pairs block limit list e h .0); made = omega (arith, counts-lent b pairs block limit list e h .0) }
+      let k = demanded-lent b pairs block .counts limit list e h in
+      record { plans = omega (arith, plans-most (problemLent b pairs block) limit (length list) e (ran-by (lentInput b pairs block) limit list e h .so), k .0); made = omega (arith, k .0) }
 
   module _ (e : Ending) (tally after : Tally) (so : answerLent b pairs block limit list ≡ ended e) (is : after ≡ tallyLent b pairs block limit list tally) where
     -- the counts of a run that ended
     pub counts-of : after .counts ≡ placeCounts (orderLent b pairs) (problemWith b block) (nodesIn e)
-    counts-of = ap (λ (t : Tally). t .counts) is ∙ tally-lent b pairs block limit list e tally so .1
+    counts-of = ap (λ (t : Tally). t .counts) is ∙ demanded-lent b pairs block .tallied limit list tally e so .counts
 
     -- they add up to the nodes made, which are at most the limit
     pub counts-fit : limit < 2 ^ 32 → Twelve (after .counts)
     unfolding at
     counts-fit l =
-        let t = tally-lent b pairs block limit list e tally so in
+        let t = demanded-lent b pairs block .tallied limit list tally e so in
         let c = ap (λ (u : Tally). u .counts) is in
         subst Twelve (sym c) record {
-          long = t .2;
-          small = λ i. omega (arith, at-total (tallyLent b pairs block limit list tally .counts) i, t .0, t .3, counted-lent e l so .made);
+          long = t .twelve;
+          small = λ i. omega (arith, at-total (tallyLent b pairs block limit list tally .counts) i, t .sum, counted-lent e l so .made);
         }
 
   module _ (answer : List ℕ) where

@@ -5,13 +5,13 @@ use lib.Dec.{eqb}
 use lib.ListN.{length}
 use Rattle.model.specs.Lists.{choose}
 use Rattle.families_closed.specs.Open.{Open, none, two}
-use Rattle.families_closed.specs.Lent.{Told, refusal, told, closedLent}
+use Rattle.families_closed.specs.Lent.{Told, refusal, answered, closedLent}
 use Rattle.wire.specs.Wire.{wrongLength, threeNumbers}
 
 -- 0, or the number and the item of the refusal
 abbrev pub toldCode : Told → ℕ
 toldCode (refusal number item) = number * 256 + item
-toldCode (told o) = 0
+toldCode (answered o) = 0
 
 -- kind 1 where the exchanges are closed; else kind 2 and the first two whose product is missing
 abbrev pub openBytes : Open → List ℕ
@@ -21,7 +21,7 @@ openBytes (two a b) = threeNumbers 2 a b
 -- as it came after a refusal
 abbrev pub toldBytes : Told → List ℕ → List ℕ
 toldBytes (refusal number item) answer = answer
-toldBytes (told o) answer = openBytes o
+toldBytes (answered o) answer = openBytes o
 
 unfoldable pub closedCode : List ℕ → List ℕ → List ℕ → List ℕ → ℕ
 closedCode b pairs block answer = choose (eqb (length answer) 12) (toldCode (closedLent b pairs block)) wrongLength

@@ -4,7 +4,7 @@ use Prim.Native.Nat.{ℕ}
 use lib.Dec.{eqb}
 use lib.ListN.{length}
 use Rattle.model.specs.Lists.{choose}
-use Rattle.model.specs.Run.{Answer, refusal, ended, nodesIn}
+use Rattle.model.specs.Run.{Answer, refusal, answered, nodesIn}
 use Rattle.order.specs.RunBy.{placeCounts}
 use Rattle.run_input.specs.Lent.{verdictLent, problemWith, orderLent, answerLent, listLent}
 use Rattle.wire.specs.Wire.{codeOf, wrongLength}
@@ -19,7 +19,7 @@ lentQuestionCode b pairs block = codeOf (verdictLent b pairs block)
 -- the ending as three numbers, then the nodes made by the place that each settles; as it came where something was refused
 abbrev pub placedBytes : List ℕ → List ℕ → List ℕ → Answer → List ℕ → List ℕ
 placedBytes b pairs block (refusal number item) answer = answer
-placedBytes b pairs block (ended e) answer = endingBytes e ++ numbersOf (placeCounts (orderLent b pairs) (problemWith b block) (nodesIn e))
+placedBytes b pairs block (answered e) answer = endingBytes e ++ numbersOf (placeCounts (orderLent b pairs) (problemWith b block) (nodesIn e))
 
 -- where the answer has not 60 bytes nothing is changed
 unfoldable pub lentRunCode : List ℕ → List ℕ → List ℕ → ℕ → List ℕ → List ℕ → ℕ

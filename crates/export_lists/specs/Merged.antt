@@ -7,14 +7,14 @@ use lib.Dec.{eqb}
 use lib.ListN.{length}
 use Rattle.model.specs.Lists.{choose}
 use Rattle.model.specs.Verdict.{Verdict}
-use Rattle.model.specs.Room.{Outcome, wrote, refusal, outcomeOf}
+use Rattle.model.specs.Room.{Outcome, answered, refusal, outcomeOf}
 use Rattle.list_merge.specs.Merge.{merged, mergeVerdict}
 use Rattle.wire.specs.Wire.{threeNumbers}
 use Rattle.wire.specs.Outcomes.{lentCode, lentRoom}
 
 -- kind 1, the number of bytes written, its low half and its high half; after a refusal the answer is as it came
 abbrev pub mergeOutcome : Outcome → List ℕ → List ℕ
-mergeOutcome (wrote k) answer = threeNumbers 1 (k % 2 ^ 32) (k / 2 ^ 32)
+mergeOutcome (answered k) answer = threeNumbers 1 (k % 2 ^ 32) (k / 2 ^ 32)
 mergeOutcome (refusal number item) answer = answer
 
 unfoldable pub mergeAnswer : Verdict → List ℕ → List ℕ → List ℕ

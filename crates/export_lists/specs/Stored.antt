@@ -5,7 +5,7 @@ use Prim.Native.Nat.{ℕ, _^_, _<_}
 use lib.Dec.{eqb}
 use lib.ListN.{length}
 use Rattle.model.specs.Lists.{choose}
-use Rattle.model.specs.Room.{Outcome, wrote, refusal}
+use Rattle.model.specs.Room.{Outcome, answered, refusal}
 use Rattle.store.specs.Store.{Call, call, fetch}
 use Rattle.store.specs.Layout.{replyOn, bytesAfter}
 use Rattle.wire.specs.Wire.{wrongLength}
@@ -25,5 +25,5 @@ storedRoom b owner key room answer = choose (eqb (length answer) 12) (replyOn b 
 
 -- between the functions of the crate: an outcome that the code and the answer hold
 abbrev pub Holds : Outcome → Type 0
-Holds (wrote k) = k < 2 ^ 32
+Holds (answered k) = k < 2 ^ 32
 Holds (refusal number item) = item < 256

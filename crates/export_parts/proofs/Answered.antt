@@ -9,7 +9,7 @@ use lib.ListN.{length, take, length-take}
 use borrow.Author.Tests.{eq-eqb, ne-eqb, ltb-true, ltb-false}
 use Rattle.model.specs.Lists.{at, choose, keep}
 use Rattle.model.specs.Problem.{Problem}
-use Rattle.model.specs.Verdict.{Verdict, accepted, refused}
+use Rattle.model.specs.Verdict.{refused}
 use Rattle.model.specs.Search.{isPlan}
 use Rattle.model.specs.Run.{Ending, finished, spent, full, plansIn, nodesIn, search, Answer, refusal, ended, settledBy, countsBy}
 use Rattle.model.specs.Written.{Written}
@@ -21,7 +21,8 @@ use Rattle.model.proofs.Written.{written-then}
 use Rattle.run_input.specs.Lent.{verdictLent, problemLent, orderLent}
 use Rattle.wire.specs.Wire.{wrongLength}
 use Rattle.wire.proofs.Numbers.{whole}
-use Rattle.run_ranges.specs.Ranges.{partNodes, resultPart, answerPartFor, answerPart, listPart, madeBy, tallyPart, lastPart}
+use Rattle.model.proofs.Demands.{reply-so, reply-refused}
+use Rattle.run_ranges.specs.Ranges.{partNodes, resultPart, answerPart, listPart, madeBy, tallyPart, lastPart}
 use Rattle.export_run.specs.Run.{endingBytes, answerCode}
 use Rattle.export_run.specs.Inner.{Counted}
 use Rattle.export_lent.specs.Tallied.{numbersOf}
@@ -54,20 +55,12 @@ count-most {A} f l x = go (ltb x 12) refl
 
 module _ (b pairs block from upto : List ℕ) (limit : ℕ) (list : List ℕ) where
   pub refusal-of : (number item : ℕ) → answerPart b pairs block from upto limit list ≡ refusal number item → verdictLent b pairs block ≡ refused number item
-  unfolding answerPart answerPartFor
-  refusal-of number item e = go (verdictLent b pairs block) e
-    where
-      go : (v : Verdict) → answerPartFor v b pairs block from upto limit (length list) ≡ refusal number item → v ≡ refused number item
-      go accepted h = absurd (let z : _≡_ {A = ℕ} 0 1 = cc in omega arith)
-      go (refused n i) h = cc
+  unfolding answerPart
+  refusal-of number item e = reply-refused (verdictLent b pairs block) (resultPart b pairs block from upto limit (length list) .ending) number item e
 
   ended-of : (e : Ending) → answerPart b pairs block from upto limit list ≡ ended e → search (problemLent b pairs block) limit (length list) (partNodes b pairs block from upto) 0 [] .ending ≡ e
-  unfolding answerPart answerPartFor resultPart
-  ended-of e h = go (verdictLent b pairs block) h
-    where
-      go : (v : Verdict) → answerPartFor v b pairs block from upto limit (length list) ≡ ended e → search (problemLent b pairs block) limit (length list) (partNodes b pairs block from upto) 0 [] .ending ≡ e
-      go accepted q = cc
-      go (refused n i) q = absurd (let z : _≡_ {A = ℕ} 0 1 = cc in omega arith)
+  unfolding answerPart resultPart
+  ended-of e h = reply-so (verdictLent b pairs block) (resultPart b pairs block from upto limit (length list) .ending) e h .1
 
   module _ (e : Ending) (so : answerPart b pairs block from upto limit list ≡ ended e) (fits : limit < 2 ^ 32) where
     pub counted : Counted e

@@ -3,7 +3,7 @@ use mathlib.Core.List.{List, [], _∷_, _++_}
 use Prim.Native.Nat.{ℕ, _+_, _*_, _%_}
 use lib.ListN.{length, take}
 use Rattle.model.specs.Lists.{at, tabulate}
-use Rattle.model.specs.Run.{Ending, Answer, refusal, ended}
+use Rattle.model.specs.Run.{Ending, Answer, refusal, answered}
 use Rattle.run_ranges.specs.Claims.{Part}
 use Rattle.export_run.specs.Run.{endingBytes}
 use Rattle.export_lent.specs.Tallied.{numbersOf}
@@ -33,4 +33,4 @@ headOf b pairs block c e =
 -- the lent answer: as it came where the part was refused
 abbrev pub headFor : List ℕ → List ℕ → List ℕ → Part → Answer → List ℕ → List ℕ
 headFor b pairs block c (refusal number item) answer = answer
-headFor b pairs block c (ended e) answer = headOf b pairs block c e
+headFor b pairs block c (answered e) answer = headOf b pairs block c e

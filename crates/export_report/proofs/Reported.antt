@@ -10,17 +10,17 @@ use lib.ListN.{length, take, drop, length-append}
 use borrow.Author.Tests.{le-leb, lt-leb}
 use Rattle.model.specs.Lists.{at, choose}
 use Rattle.model.specs.Bytes.{fourBytes}
-use Rattle.model.specs.Verdict.{Verdict, accepted, refused, ask, isAccepted}
+use Rattle.model.specs.Verdict.{Verdict, accepted, refused, ask, isAccepted, kept}
 use Rattle.model.specs.Room.{Outcome, wrote, refusal, outcomeOf, roomAfter}
 use Rattle.model.specs.Sheet.{headerOf, problemOf, verdictOf}
-use Rattle.model.specs.Run.{Ending, plansIn, resultOf, ended, answerFor, answerOf, listOf, listedPlans}
+use Rattle.model.specs.Run.{Ending, plansIn, resultOf, ended, answerOf, written, listOf, listedPlans}
 use Rattle.report.specs.Report.{line, refusedWord, resultText, reportFor, reportOf}
 use Rattle.families_figure.specs.Figure.{reportFigure}
 use Rattle.families_count.specs.Held.{Sized}
 use Rattle.families_count.proofs.Bare.{report-dash}
 use Rattle.model.proofs.Accepted.{passed}
-use Rattle.model.proofs.Demands.{ran, held}
-use Rattle.model.proofs.Runs.{rows-counted, rows-fit}
+use Rattle.model.proofs.Demands.{reply-so, read-back}
+use Rattle.model.proofs.Runs.{rows-counted, rows-sized, rows-fit}
 use Rattle.report.specs.Text.{endedText, Fitted}
 use Rattle.wire.specs.Wire.{wrongLength, threeNumbers}
 use Rattle.wire.specs.Outcomes.{outcomeCode, outcomeAnswer, lentCode, lentRoom, lentAnswer}
@@ -42,14 +42,15 @@ unfolding problemOf
 variables-of b = refl
 
 module _ (b : List ℕ) (n : ℕ) (out : List ℕ) (e : Ending) (size : Sized b n) (long : length out ≡ 4096 * n) (h : answerOf b 1000000 out ≡ ended e) where
-  accept : (v : Verdict) → answerFor v b 1000000 (length out) ≡ ended e → v ≡ accepted
-  unfolding answerFor
-  accept accepted q = refl
-  accept (refused number item) q = absurd (let z : _≡_ {A = ℕ} 0 1 = cc in omega arith)
+  ran : (verdictOf b ≡ accepted) × (resultOf (problemOf b) 1000000 (length out) .ending ≡ e)
+  unfolding answerOf
+  ran = reply-so (verdictOf b) (resultOf (problemOf b) 1000000 (length out) .ending) e h
 
   pub verdict : verdictOf b ≡ accepted
-  unfolding answerOf
-  verdict = accept (verdictOf b) h
+  verdict = ran .0
+
+  counted : plansIn e ≡ length (resultOf (problemOf b) 1000000 (length out) .rows)
+  counted = sym (ap plansIn (ran .1)) ∙ rows-counted (problemOf b) 1000000 (length out)
 
   width : n ≡ problemOf b .variables
   width = size .true-of verdict
@@ -57,10 +58,8 @@ module _ (b : List ℕ) (n : ℕ) (out : List ℕ) (e : Ending) (size : Sized b 
   fitting : plansIn e * n ≤ 4096 * n
   fitting =
       let p = problemOf b in
-      let r = ran b 1000000 out e h in
-      let c : plansIn e ≡ length (resultOf p 1000000 (length out) .rows) = sym (ap plansIn (r .so)) ∙ rows-counted p 1000000 (length out) in
       let f : length (resultOf p 1000000 (length out) .rows) * p .variables ≤ 4096 * n = subst (λ (k : ℕ). length (resultOf p 1000000 (length out) .rows) * p .variables ≤ k) long (rows-fit p 1000000 (length out)) in
-      subst (λ (k : ℕ). k * n ≤ 4096 * n) (sym c) (subst (λ (k : ℕ). length (resultOf p 1000000 (length out) .rows) * k ≤ 4096 * n) (sym width) f)
+      subst (λ (k : ℕ). k * n ≤ 4096 * n) (sym counted) (subst (λ (k : ℕ). length (resultOf p 1000000 (length out) .rows) * k ≤ 4096 * n) (sym width) f)
 
   pub listed : (list : List ℕ) → length list ≡ length out → Listed e n list
   listed list same =
@@ -71,15 +70,16 @@ module _ (b : List ℕ) (n : ℕ) (out : List ℕ) (e : Ending) (size : Sized b 
   room-is = long ∙ ap (λ (k : ℕ). 4096 * k) width
 
   pub dashed : Dashed e (reportFigure b 1000000)
-  dashed k = report-dash b 1000000 verdict (λ plans nodes q. k plans nodes (sym (ap (λ (m : ℕ). resultOf (problemOf b) 1000000 m .ending) (sym room-is) ∙ ran b 1000000 out e h .so) ∙ q))
+  dashed k = report-dash b 1000000 verdict (λ plans nodes q. k plans nodes (sym (ap (λ (m : ℕ). resultOf (problemOf b) 1000000 m .ending) (sym room-is) ∙ ran .1) ∙ q))
 
   pub ended-text : (list : List ℕ) → list ≡ listOf b 1000000 out → endedText e (reportFigure b 1000000) n list ≡ reportFor (verdictOf b) b
-  unfolding endedText reportFor
+  unfolding endedText reportFor listOf
   ended-text list l =
       let p = problemOf b in
       let rows : listedPlans n (plansIn e) list ≡ resultOf p 1000000 (length out) .rows =
-      ap₂ (λ (k : ℕ) (o : List ℕ). listedPlans k (plansIn e) o) width l ∙ held b 1000000 out e h in
-      let so : resultOf p 1000000 (length out) .ending ≡ e = ran b 1000000 out e h .so in
+      ap₂ (λ (k : ℕ) (o : List ℕ). listedPlans k (plansIn e) o) width (l ∙ ap (λ (v : Verdict). kept v out (written (resultOf p 1000000 (length out) .rows) out)) verdict)
+      ∙ read-back (p .variables) (resultOf p 1000000 (length out) .rows) out (plansIn e) counted (rows-sized p 1000000 (length out)) in
+      let so : resultOf p 1000000 (length out) .ending ≡ e = ran .1 in
       let f = reportFigure b 1000000 in
       let whole : endedText e f n list ≡ resultText (resultOf p 1000000 (length out)) f = ap₂ (λ (x : Ending) (y : List (List ℕ)). resultText (record { ending = x; rows = y }) f) (sym so) rows in
       whole

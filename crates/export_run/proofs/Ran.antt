@@ -8,13 +8,13 @@ use lib.ListN.{length, take, length-take}
 use borrow.Author.Tests.{eq-eqb, ne-eqb}
 use Rattle.model.specs.Lists.{choose, keep}
 use Rattle.model.specs.Problem.{Problem}
-use Rattle.model.specs.Verdict.{Verdict, accepted, refused}
+use Rattle.model.specs.Verdict.{refused}
 use Rattle.model.specs.Sheet.{problemOf, verdictOf}
 use Rattle.model.specs.Search.{nodes, isPlan}
-use Rattle.model.specs.Run.{Ending, finished, spent, full, plansIn, nodesIn, resultOf, Answer, refusal, ended, answerFor, answerOf, listOf}
-use Rattle.model.specs.Claims.{plansAmong}
-use Rattle.model.proofs.Demands.{ran}
-use Rattle.model.proofs.Runs.{nodes-allowed, counts, Counted as Tree·counted}
+use Rattle.model.specs.Run.{Ending, finished, spent, full, plansIn, nodesIn, resultOf, Answer, refusal, ended, answerOf, listOf}
+use Rattle.model.specs.Claims.{plansAmong, CountsAt}
+use Rattle.model.proofs.Demands.{reply-so, reply-refused}
+use Rattle.model.proofs.Runs.{nodes-allowed, counts}
 use Rattle.wire.specs.Wire.{wrongLength}
 use Rattle.export_run.specs.Run.{answerCode, answerBytes, runCode, runList, runAnswer}
 use Rattle.export_run.specs.Inner.{Counted}
@@ -22,12 +22,8 @@ use Rattle.export_run.specs.Calls.{CallExported}
 
 -- ---- refusals
 pub refusal-of : (b : List ℕ) (limit : ℕ) (out : List ℕ) (number item : ℕ) → answerOf b limit out ≡ refusal number item → verdictOf b ≡ refused number item
-unfolding answerOf answerFor
-refusal-of b limit out number item e = go (verdictOf b) e
-  where
-    go : (v : Verdict) → answerFor v b limit (length out) ≡ refusal number item → v ≡ refused number item
-    go accepted h = absurd (let z : _≡_ {A = ℕ} 0 1 = cc in omega arith)
-    go (refused n i) h = cc
+unfolding answerOf
+refusal-of b limit out number item e = reply-refused (verdictOf b) (resultOf (problemOf b) limit (length out) .ending) number item e
 
 -- ---- counts
 keep-most : {A : Type 0} (p : A → Bool) (l : List A) → length (keep p l) ≤ length l
@@ -46,16 +42,17 @@ among-most p k = omega (arith, keep-most (isPlan p) (take k (nodes p)), length-t
 pub plans-most : (p : Problem) (limit room′ : ℕ) (e : Ending) → resultOf p limit room′ .ending ≡ e → plansIn e ≤ nodesIn e
 plans-most p limit room′ e h = go e (counts p limit room′ e h)
   where
-    go : (x : Ending) → Tree·counted p limit room′ x → plansIn x ≤ nodesIn x
+    go : (x : Ending) → CountsAt p limit room′ x → plansIn x ≤ nodesIn x
     go (finished plans made) k = omega (arith, k .1, among-most p made)
     go (spent plans made) k = omega (arith, k .2, among-most p made)
     go (full plans made) k = omega (arith, k .1, among-most p made)
 
 pub counted : (b : List ℕ) (limit : ℕ) (out : List ℕ) (e : Ending) → limit < 2 ^ 32 → answerOf b limit out ≡ ended e → Counted e
+unfolding answerOf
 counted b limit out e l h =
-    let r = ran b limit out e h in
-    let made : nodesIn e ≤ limit = subst (λ (x : Ending). nodesIn x ≤ limit) (r .so) (nodes-allowed (problemOf b) limit (length out)) in
-    record { plans = omega (arith, plans-most (problemOf b) limit (length out) e (r .so)); made = omega arith }
+    let so = reply-so (verdictOf b) (resultOf (problemOf b) limit (length out) .ending) e h .1 in
+    let made : nodesIn e ≤ limit = subst (λ (x : Ending). nodesIn x ≤ limit) so (nodes-allowed (problemOf b) limit (length out)) in
+    record { plans = omega (arith, plans-most (problemOf b) limit (length out) e so); made = omega arith }
 
 -- ---- the run for callers
 module _ (b : List ℕ) (limit : ℕ) (list answer : List ℕ) where

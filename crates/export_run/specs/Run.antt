@@ -5,7 +5,7 @@ use lib.Dec.{eqb}
 use lib.ListN.{length}
 use Rattle.model.specs.Lists.{choose}
 use Rattle.model.specs.Sheet.{verdictOf}
-use Rattle.model.specs.Run.{Ending, finished, spent, full, Answer, refusal, ended, answerOf, listOf}
+use Rattle.model.specs.Run.{Ending, finished, spent, full, Answer, refusal, answered, answerOf, listOf}
 use Rattle.wire.specs.Wire.{codeOf, wrongLength, threeNumbers}
 
 -- ---- planner_question
@@ -22,11 +22,11 @@ endingBytes (full plans made) = threeNumbers 3 plans made
 -- what a run's answer returns, and the lent answer afterwards: as it came where the sheet was refused
 abbrev pub answerCode : Answer → ℕ
 answerCode (refusal number item) = number * 256 + item
-answerCode (ended e) = 0
+answerCode (answered e) = 0
 
 abbrev pub answerBytes : Answer → List ℕ → List ℕ
 answerBytes (refusal number item) answer = answer
-answerBytes (ended e) answer = endingBytes e
+answerBytes (answered e) answer = endingBytes e
 
 unfoldable pub runCode : List ℕ → ℕ → List ℕ → List ℕ → ℕ
 runCode b limit list answer = choose (eqb (length answer) 12) (answerCode (answerOf b limit list)) wrongLength

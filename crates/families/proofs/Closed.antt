@@ -88,26 +88,26 @@ module _ (p : Problem) where
               ⊎-elim {C = One a e} (λ h. inr (h .0, h .1, takes-both a c e (r .0) g (joined-from p a c j) s (r .2) t (h .0) (h .2)))
               (λ q. inl (brings-back a c e (r .0) g (joined-from p a c j) s (r .2) t q)) (closed (r .0) g (r .1) m)
 
-      pub leader-earliest : (s : List ℕ) → Leader p s → (t : List ℕ) → Joined p s t → T (earlier t s) → ⊥
+      pub leader-earliest : (s : List ℕ) → Leader earlier p s → (t : List ℕ) → Joined p s t → T (earlier t s) → ⊥
       leader-earliest s l t j e =
           ⊎-elim {C = ⊥} (λ q. let z : T (earlier s s) = subst (λ (u : List ℕ). T (earlier u s)) q e in earlier-asym s s z z)
           (λ r. l .unbeaten (r .0) t (r .1) (joined-to p s t j) e (r .2)) (one-step t s (joined-sym p w respected s t j))
 
     -- the earliest of a family is a leader, closed or not
-    pub earliest-leader : (s : List ℕ) → T (isSolution p s) → ((t : List ℕ) → Joined p s t → T (earlier t s) → ⊥) → Leader p s
+    pub earliest-leader : (s : List ℕ) → T (isSolution p s) → ((t : List ℕ) → Joined p s t → T (earlier t s) → ⊥) → Leader earlier p s
     earliest-leader s sol h = record { solves = sol; unbeaten = λ g t m st e tk. h t (joined-sym p w respected t s (joined-one p t s g st m tk sol)) e }
 
     module _ (closed : Closed p) where
-      leader-test : (s : List ℕ) → isLeader p s ≡ both (isSolution p s) (isEarliest p s)
+      leader-test : (s : List ℕ) → isLeader earlier p s ≡ both (isSolution p s) (isEarliest p s)
       leader-test s =
-          T-ext (isLeader p s) (both (isSolution p s) (isEarliest p s))
-          (λ t. let l = leader-e p w respected s t in both-i (isSolution p s) (isEarliest p s) (l .solves) (earliest-i p w respected s (l .solves) (leader-earliest closed s l)))
-          (λ t. let sol = both-l (isSolution p s) (isEarliest p s) t in leader-i p w respected s (earliest-leader s sol (earliest-e p w respected s sol (both-r (isSolution p s) (isEarliest p s) t))))
+          T-ext (isLeader earlier p s) (both (isSolution p s) (isEarliest p s))
+          (λ t. let l = leader-e earlier p w s t in both-i (isSolution p s) (isEarliest p s) (l .solves) (earliest-i p w respected s (l .solves) (leader-earliest closed s l)))
+          (λ t. let sol = both-l (isSolution p s) (isEarliest p s) t in leader-i earlier p w s (earliest-leader s sol (earliest-e p w respected s sol (both-r (isSolution p s) (isEarliest p s) t))))
 
       -- the leaders are the earliest of the families
       pub leaders-earliest : leaders p ≡ earliestOf p
       unfolding earliestOf solutionsOf
-      leaders-earliest = keep-ext (isLeader p) (λ s. both (isSolution p s) (isEarliest p s)) (assignments (p .initial)) (λ s m. leader-test s) ∙ sym (keep-keep (isSolution p) (isEarliest p) (assignments (p .initial)))
+      leaders-earliest = keep-ext (isLeader earlier p) (λ s. both (isSolution p s) (isEarliest p s)) (assignments (p .initial)) (λ s m. leader-test s) ∙ sym (keep-keep (isSolution p) (isEarliest p) (assignments (p .initial)))
 
       pub one-of-each : OneLeaderEach p
       unfolding familiesOf
@@ -121,7 +121,7 @@ module _ (p : Problem) where
         count = ap length leaders-earliest;
       }
         where
-          only : (m l : List ℕ) → Leader p m → Leader p l → Joined p m l → m ≡ l
+          only : (m l : List ℕ) → Leader earlier p m → Leader earlier p l → Joined p m l → m ≡ l
           only m l lm ll j =
               ⊎-elim {C = m ≡ l} (λ e. absurd (leader-earliest closed l ll m (joined-sym p w respected m l j) e))
               (⊎-elim {C = m ≡ l} (λ e. absurd (leader-earliest closed m lm l j e)) (λ e. e)) (row-order m l (solution-e p m (lm .solves) .sized ∙ sym (solution-e p l (ll .solves) .sized)))

@@ -112,7 +112,7 @@ families-none p w respected e =
 -- and a finished run without them lists all solutions
 pub leaders-none : (p : Problem) → p .symmetries ≡ [] → leaders p ≡ solutionsOf p
 unfolding solutionsOf any
-leaders-none p e = keep-ext (isLeader p) (isSolution p) (assignments (p .initial)) (λ s m. ap (λ (gs : List (List ℕ)). both (isSolution p s) (not (any (λ g. any (λ t. both (isSolution p t) (both (earlier t s) (takes p g t s))) (assignments (p .initial))) gs))) e ∙ both-yes (isSolution p s))
+leaders-none p e = keep-ext (isLeader earlier p) (isSolution p) (assignments (p .initial)) (λ s m. ap (λ (gs : List (List ℕ)). both (isSolution p s) (not (any (λ g. any (λ t. both (isSolution p t) (both (earlier t s) (takes p g t s))) (assignments (p .initial))) gs))) e ∙ both-yes (isSolution p s))
 
 pub leaders-without : (p : Problem) → leaders (withSymmetries p []) ≡ solutionsOf p
 leaders-without p = leaders-none (withSymmetries p []) refl ∙ solutions-same p []

@@ -1,9 +1,8 @@
--- Joined solutions: none is apart from itself, one can go back and on, and a leader's chain joins. Assumes nothing.
+-- Joined solutions: none is apart from itself, one can go back and on. Assumes nothing.
 use mathlib.Core.List.{List, List·Memᴰ}
 use Prim.Native.Nat.{ℕ}
 use lib.Dec.{T}
 use Rattle.model.specs.Problem.{Problem, isSolution, takes}
-use Rattle.model.specs.Claims.{Chain, here, step}
 use Rattle.families.specs.Families.{Joined, alone, further}
 use Rattle.families.specs.FamilyClaims.{Joined-equivalence}
 use Rattle.model.specs.WellFormed.{WellFormed, Respected}
@@ -29,11 +28,6 @@ module _ (p : Problem) where
   -- one symmetry joins
   pub joined-one : (a b g : List ℕ) → T (isSolution p a) → List·Memᴰ g (p .symmetries) → T (takes p g a b) → T (isSolution p b) → Joined p a b
   joined-one a b g r m t s = further a b g (alone r) m t s
-
-  -- a chain from a solution to ones that read later and later joins
-  pub chain-joined : (a b : List ℕ) → T (isSolution p a) → Chain p a b → Joined p a b
-  chain-joined a b s here = alone s
-  chain-joined a b s (step c e g ch m t r l) = further c e g (chain-joined a c s ch) m t r
 
   module _ (w : WellFormed p) (respected : Respected p) where
     -- back over one symmetry, by the same one again and again

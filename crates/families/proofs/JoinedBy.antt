@@ -8,9 +8,10 @@ use lib.Dec.{T}
 use lib.ListN.{length-map}
 use Rattle.model.specs.Lists.{earlier}
 use Rattle.model.specs.Problem.{Problem, isSolution, assignments, takes}
+use Rattle.model.specs.Claims.{Leader, isLeader}
 use Rattle.order.specs.Order.{Ordering}
-use Rattle.order.specs.Reordered.{read, write, earlierBy, symmetryIn, reordered, LeaderBy}
-use Rattle.order.specs.RunBy.{isLeaderBy, leadersBy}
+use Rattle.order.specs.Reordered.{read, write, earlierBy, symmetryIn, reordered}
+use Rattle.order.specs.RunBy.{leadersBy}
 use Rattle.families.specs.Families.{Joined, alone, further, OneOfEach, Apart, familiesOf, earliestOf, Closed}
 use Rattle.model.specs.WellFormed.{WellFormed, Respected}
 use Rattle.model.proofs.Lists.{earlier-asym, Sorted, sorted-keep}
@@ -95,24 +96,24 @@ module _ (p : Problem) (w : WellFormed p) (respected : Respected p) (order : Lis
       )
 
   -- the earliest of a family is a leader, closed or not
-  pub earliest-leader-by : (s : List ℕ) → T (isSolution p s) → ((t : List ℕ) → Joined p s t → T (earlierBy order t s) → ⊥) → LeaderBy order p s
+  pub earliest-leader-by : (s : List ℕ) → T (isSolution p s) → ((t : List ℕ) → Joined p s t → T (earlierBy order t s) → ⊥) → Leader (earlierBy order) p s
   earliest-leader-by s sol h = record { solves = sol; unbeaten = λ g t m st e tk. h t (joined-sym p w respected t s (joined-one p t s g st m tk sol)) e }
 
   -- ---- closed symmetries
   module _ (closed : Closed p) where
-    pub leader-earliest-by : (s : List ℕ) → LeaderBy order p s → (t : List ℕ) → Joined p s t → T (earlierBy order t s) → ⊥
+    pub leader-earliest-by : (s : List ℕ) → Leader (earlierBy order) p s → (t : List ℕ) → Joined p s t → T (earlierBy order t s) → ⊥
     leader-earliest-by s l t j e =
         ⊎-elim {C = ⊥} (λ q. let z : T (earlier (read order s) (read order s)) = subst (λ (u : List ℕ). T (earlier (read order u) (read order s))) q e in earlier-asym (read order s) (read order s) z z)
         (λ r. l .unbeaten (r .0) t (r .1) (joined-to p s t j) e (r .2)) (one-step p w respected closed t s (joined-sym p w respected s t j))
 
     -- two leaders of one family are one
-    pub one-leader-by : (m l : List ℕ) → LeaderBy order p m → LeaderBy order p l → Joined p m l → m ≡ l
+    pub one-leader-by : (m l : List ℕ) → Leader (earlierBy order) p m → Leader (earlierBy order) p l → Joined p m l → m ≡ l
     one-leader-by m l lm ll j =
         ⊎-elim {C = m ≡ l} (λ e. absurd (leader-earliest-by l ll m (joined-sym p w respected m l j) e))
         (⊎-elim {C = m ≡ l} (λ e. absurd (leader-earliest-by m lm l j e)) (λ e. R.read-inj p order o m l (solution-e p m (lm .solves) .sized) (solution-e p l (ll .solves) .sized) e))
         (row-order (read order m) (read order l) (R.read-length p order o m ∙ sym (R.read-length p order o l)))
 
-    pub each-by : (s : List ℕ) → T (isSolution p s) → (l : List ℕ) × LeaderBy order p l × Joined p l s × ((m : List ℕ) → LeaderBy order p m → Joined p m s → m ≡ l)
+    pub each-by : (s : List ℕ) → T (isSolution p s) → (l : List ℕ) × Leader (earlierBy order) p l × Joined p l s × ((m : List ℕ) → Leader (earlierBy order) p m → Joined p m s → m ≡ l)
     each-by s sol =
         let r = earliest-by s sol in
         let l = r .0 in
@@ -123,7 +124,7 @@ module _ (p : Problem) (w : WellFormed p) (respected : Respected p) (order : Lis
     leaders-sorted =
         let drawn = assignments (read order (p .initial)) in
         let n : (r : List ℕ) → List·Memᴰ r drawn → read order (write order r) ≡ r = λ r m. R.read-write p order o r (assign-e (read order (p .initial)) r m .0 ∙ R.read-length p order o (p .initial)) in
-        sorted-keep (λ (a b : List ℕ). T (earlierBy order a b)) (isLeaderBy order p) (map (write order) drawn)
+        sorted-keep (λ (a b : List ℕ). T (earlierBy order a b)) (isLeader (earlierBy order) p) (map (write order) drawn)
         (sorted-map (λ (a b : List ℕ). T (earlier a b)) (λ (a b : List ℕ). T (earlierBy order a b)) (write order) drawn
         (λ a b i j e. subst₂ (λ (y z : List ℕ). T (earlier y z)) (sym (n a i)) (sym (n b j)) e) (assignments-sorted (read order (p .initial))))
 

@@ -86,6 +86,6 @@ movesNothing p f g = all (λ q. eqb (at g (at f q)) q) (below (p .variables * p 
 
 -- what closed symmetries give: the leaders are the earliest of their families, each family has exactly one, and there are as many as families
 pub record OneLeaderEach (p : Problem) : Type 0 where
-  pub earliest : (s : List ℕ) → Leader p s ↔ (T (isSolution p s) × ((t : List ℕ) → Joined p s t → T (earlier t s) → ⊥))
-  pub each : (s : List ℕ) → T (isSolution p s) → (l : List ℕ) × Leader p l × Joined p l s × ((m : List ℕ) → Leader p m → Joined p m s → m ≡ l)
+  pub earliest : (s : List ℕ) → Leader earlier p s ↔ (T (isSolution p s) × ((t : List ℕ) → Joined p s t → T (earlier t s) → ⊥))
+  pub each : (s : List ℕ) → T (isSolution p s) → (l : List ℕ) × Leader earlier p l × Joined p l s × ((m : List ℕ) → Leader earlier p m → Joined p m s → m ≡ l)
   pub count : length (leaders p) ≡ familiesOf p

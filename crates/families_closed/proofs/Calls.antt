@@ -6,12 +6,12 @@ use Prim.Native.Nat.{ℕ, _<_}
 use native.Mathlib.Decide.{ℕ-discrete, decLt}
 use native.Mathlib.Omega.{arith}
 use Rattle.model.specs.Problem.{Problem}
-use Rattle.model.specs.Verdict.{Verdict, accepted, refused}
+use Rattle.model.specs.Verdict.{Verdict, accepted, refused, reply}
 use Rattle.model.proofs.Lists.{of-not}
 use Rattle.run_input.specs.Lent.{verdictLent, problemWith}
 use Rattle.families.specs.Families.{Closed}
 use Rattle.families_closed.specs.Open.{Open, none, two, made, firstOpen, FirstOpen}
-use Rattle.families_closed.specs.Lent.{means, refusal, told, toldFor, closedLent}
+use Rattle.families_closed.specs.Lent.{means, refusal, told, closedLent}
 use Rattle.families_closed.specs.declared.Answer.{Answer}
 use Rattle.families_closed.specs.declared.Answer.the-variants as A
 use Rattle.families_closed.specs.Calls.{CallClosed, ClosedHeld, Closed-calls}
@@ -56,9 +56,9 @@ open-exactly p a b = (open-first p a b, λ f. go (firstOpen p) refl f)
     go (two c d) e f = let q = first-one p a b c d f (open-first p c d e) in e ∙ sym (ap (λ (x : ℕ). two x b) (q .0) ∙ ap (two c) (q .1))
 
 module _ (b pairs block : List ℕ) (r : Answer) (call : CallClosed b pairs block r) where
-  so : (v : Verdict) → verdictLent b pairs block ≡ v → means r ≡ toldFor v (problemWith b block)
+  so : (v : Verdict) → verdictLent b pairs block ≡ v → means r ≡ reply v (firstOpen (problemWith b block))
   unfolding closedLent
-  so v e = call ∙ ap (λ (u : Verdict). toldFor u (problemWith b block)) e
+  so v e = call ∙ ap (λ (u : Verdict). reply u (firstOpen (problemWith b block))) e
 
   open-of : (o : Open) → means r ≡ told (firstOpen (problemWith b block)) → means r ≡ told o → firstOpen (problemWith b block) ≡ o
   open-of o q e = let z : told (firstOpen (problemWith b block)) ≡ told o = sym q ∙ e in cc

@@ -9,7 +9,7 @@ use lib.ListN.{length, getD, length-append}
 use borrow.Author.Tests.{lt-ltb, le-ltb}
 use Rattle.model.specs.Lists.{at}
 use Rattle.model.specs.Problem.{Problem}
-use Rattle.model.specs.Verdict.{Verdict, accepted, refused, isAccepted}
+use Rattle.model.specs.Verdict.{Verdict, accepted, refused, isAccepted, reply}
 use Rattle.model.specs.Sheet.{problemOf}
 use Rattle.model.specs.WellFormed.{WellFormed}
 use Rattle.model.proofs.Lists.{length-below}
@@ -28,7 +28,7 @@ use Rattle.run_input.proofs.Lent.{passed-all, lent-passed, well-sheet, well-len
 use Rattle.families_closed.specs.Open.{firstMissing, none, two, firstOpen}
 use Rattle.families_closed.specs.Held.{Held, Passed}
 use Rattle.families_closed.proofs.Open.{open-first}
-use Rattle.families_closed.specs.Lent.{Told, told, toldFor, closedLent}
+use Rattle.families_closed.specs.Lent.{Told, told, closedLent}
 
 -- ---- the first two from their number
 module _ (p : Problem) (n k : ℕ) (e : n ≡ length (p .symmetries)) (f : k ≡ firstMissing p) where
@@ -88,9 +88,9 @@ module _ (b pairs block numbers supports images order : List ℕ) (r : Answer) (
   pub passed-of : r ≡ Accepted → Passed b pairs block numbers images
   passed-of e = record { verdict = sym (a .answers) ∙ ap sheet.means e; numbered = a .compiled e .numbered; imaged = a .compiled e .imaged; sized = a .sizes e .images-length }
 
-  pub told-for : (v : Verdict) (t : Told) → sheet.means r ≡ v → t ≡ toldFor v (problemWith b block) → t ≡ closedLent b pairs block
+  pub told-for : (v : Verdict) (t : Told) → sheet.means r ≡ v → t ≡ reply v (firstOpen (problemWith b block)) → t ≡ closedLent b pairs block
   unfolding closedLent
-  told-for v t e q = q ∙ ap (λ (u : Verdict). toldFor u (problemWith b block)) (sym e ∙ a .answers)
+  told-for v t e q = q ∙ ap (λ (u : Verdict). reply u (firstOpen (problemWith b block))) (sym e ∙ a .answers)
 
 -- ---- its numbers are below 136
 tables-few : (p : Problem) → WellFormed p → (block : List ℕ) → blockLent p block ≡ accepted → length (tablesLent p block) ≤ 120
@@ -104,7 +104,7 @@ pub told-few : (b pairs block : List ℕ) (first second : ℕ) → told (two fir
 unfolding closedLent
 told-few b pairs block first second e = go (verdictLent b pairs block) refl e
   where
-    go : (v : Verdict) → verdictLent b pairs block ≡ v → told (two first second) ≡ toldFor v (problemWith b block) → (first < 136) × (second < 136)
+    go : (v : Verdict) → verdictLent b pairs block ≡ v → told (two first second) ≡ reply v (firstOpen (problemWith b block)) → (first < 136) × (second < 136)
     go accepted q t =
         let good = passed-all (verdictLent b pairs block) q in
         let x = lent-passed b pairs block good in

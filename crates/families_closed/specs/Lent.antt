@@ -1,24 +1,22 @@
 -- Are the exchanges of a run closed that is lent a sheet, pairs and a block (paper 02, #112)? The exchanges are the sheet's own, then the block's rows.
 use mathlib.Core.List.{List}
 use Prim.Native.Nat.{ℕ}
-use Rattle.model.specs.Problem.{Problem}
-use Rattle.model.specs.Verdict.{Verdict, accepted, refused}
+use Rattle.model.specs.Verdict.{reply}
+pub use Rattle.model.specs.Verdict.{Reply, refusal, answered}
 use Rattle.run_input.specs.Lent.{verdictLent, problemWith}
 use Rattle.families_closed.specs.Open.{Open, none, two, firstOpen}
 use Rattle.families_closed.specs.declared.Answer.{Answer}
 use Rattle.families_closed.specs.declared.Answer.the-variants.{Closed, Missing, Refused}
 
 -- the refusal of such a run, or the first two exchanges whose product is missing
-pub data Told : Type 0 where
-  refusal : ℕ → ℕ → Told
-  told : Open → Told
+abbrev pub Told : Type 0
+Told = Reply Open
 
-abbrev pub toldFor : Verdict → Problem → Told
-toldFor accepted p = told (firstOpen p)
-toldFor (refused number item) p = refusal number item
+abbrev pub told : Open → Told
+told o = answered o
 
 unfoldable pub closedLent : List ℕ → List ℕ → List ℕ → Told
-closedLent b pairs block = toldFor (verdictLent b pairs block) (problemWith b block)
+closedLent b pairs block = reply (verdictLent b pairs block) (firstOpen (problemWith b block))
 
 -- the answer of `closed`
 abbrev pub means : Answer → Told

@@ -11,20 +11,19 @@ use denote.Enum.Declared.{tagOf}
 use Rattle.model.specs.Lists.{at}
 use Rattle.model.specs.Problem.{Problem}
 use Rattle.model.specs.WellFormed.{WellFormed}
-use Rattle.model.specs.Verdict.{Verdict, accepted, refused, isAccepted}
+use Rattle.model.specs.Verdict.{Verdict, accepted, refused, isAccepted, reply}
 use Rattle.model.specs.Sheet.{problemOf, verdictOf}
 use Rattle.model.specs.Run.{Ending, finished, spent, full, plansIn, nodesIn, resultOf, Tally}
 use Rattle.model.proofs.Accepted.{passed, constraints-are, symmetries-are}
 use Rattle.model.proofs.Lists.{at-set}
 use Rattle.order.specs.Reordered.{constraintIn}
-use Rattle.order.specs.RunBy.{resultBy}
+use Rattle.order.specs.RunBy.{Input, resultBy}
 use Rattle.order.proofs.Reordered.{well-reordered}
 use Rattle.arrays.specs.Places.{VARIABLES, SYMMETRIES, PLANS, ALL, SPENT, FULL, STACK, TABLES, WORK}
 use Rattle.arrays.specs.Layout.{Compiled}
 use Rattle.block.proofs.Tables.{well-formed-with}
 use Rattle.run_input.specs.Lent.{verdictLent, problemWith, orderLent, problemLent}
-use Rattle.run_input.proofs.Lent.{passed-all, lent-passed, well-lent, ordering-lent}
-use Rattle.run_input.proofs.LentTally.{nothing-lent}
+use Rattle.run_input.proofs.Lent.{passed-all, lent-passed, well-lent, ordering-lent, nothing-lent}
 use Rattle.families.specs.Families.{familiesOf}
 use Rattle.families.specs.Numbered.{Counted}
 use Rattle.families_figure.specs.Figure.{number, dash, familiesLent, reportFigure}
@@ -36,7 +35,7 @@ use Rattle.run_state.specs.Meaning.{endingOf}
 use Rattle.run_state.specs.declared.Ending as S
 use Rattle.run_state.specs.declared.Ending.the-variants.{Finished, Spent, Full}
 use Rattle.run_state.proofs.Ending.{the-type}
-use Rattle.families_count.specs.Told.{Told, told, toldFor, countedLent}
+use Rattle.families_count.specs.Told.{Told, told, countedLent}
 use Rattle.families_count.specs.Told as T
 use Rattle.families_count.specs.Held.{Roomy, Runs, Ran, Put, Whole, Listed}
 use Rattle.families_count.proofs.Images.{numbers-with}
@@ -117,7 +116,7 @@ module _ (b pairs block : List ℕ) (symmetries : ℕ) (stack work supports tabl
     unfolding countedLent
     counted-so limit t q =
         q ∙ ap (λ (k : ℕ). told (familiesLent b pairs block limit k)) (room .long ∙ ap (λ (k : ℕ). 4096 * k) (room .named))
-        ∙ ap (λ (v : Verdict). toldFor v (familiesLent b pairs block limit (4096 * problemOf b .variables))) (sym (h .put .verdict))
+        ∙ ap (λ (v : Verdict). reply v (familiesLent b pairs block limit (4096 * problemOf b .variables))) (sym (h .put .verdict))
 
 -- new arrays to write on
 pub new-whole : (b pairs block numbers supports images : List ℕ) (n : ℕ) → Put b pairs block numbers supports images n → Whole b pairs block n (replicate STACK 0) (replicate WORK 0) supports (replicate TABLES 0) numbers images
@@ -126,7 +125,7 @@ new-whole b pairs block numbers supports images n h = record { put = h; writable
 -- a refusal is that of the run
 pub counted-refused : (b pairs block : List ℕ) (limit i j : ℕ) → refused i j ≡ verdictLent b pairs block → T.refusal i j ≡ countedLent b pairs block limit
 unfolding countedLent
-counted-refused b pairs block limit i j v = ap (λ (u : Verdict). toldFor u (familiesLent b pairs block limit (4096 * problemOf b .variables))) v
+counted-refused b pairs block limit i j v = ap (λ (u : Verdict). reply u (familiesLent b pairs block limit (4096 * problemOf b .variables))) v
 
 -- an ending whose tag is that of the second or the third case is not a finished run
 pub stopped : (e : S.Ending) → OneOf (1 ∷ 2 ∷ []) (tagOf the-type e) → (plans nodes : ℕ) → endingOf e ≡ finished plans nodes → ⊥
@@ -137,7 +136,7 @@ stopped (Full plans nodes) k p m q = let z : _≡_ {A = ℕ} 0 1 = cc in omega a
 -- ---- the figure of a report
 module _ (b : List ℕ) (limit : ℕ) (verdict : verdictOf b ≡ accepted) where
   accepts : verdictLent b [] [] ≡ accepted
-  accepts = nothing-lent b .verdict ∙ verdict
+  accepts = ap (λ (i : Input). i .verdict) (nothing-lent b .input) ∙ verdict
 
   so-lent : resultBy (orderLent b []) (problemWith b []) limit (4096 * problemOf b .variables) .ending ≡ resultOf (problemOf b) limit (4096 * problemOf b .variables) .ending
   unfolding resultBy
@@ -145,7 +144,7 @@ module _ (b : List ℕ) (limit : ℕ) (verdict : verdictOf b ≡ accepted) where
 
   pub report-told : (t : Told) → t ≡ countedLent b [] [] limit → t ≡ told (reportFigure b limit)
   unfolding countedLent
-  report-told t q = q ∙ ap (λ (v : Verdict). toldFor v (reportFigure b limit)) accepts
+  report-told t q = q ∙ ap (λ (v : Verdict). reply v (reportFigure b limit)) accepts
 
   -- a run that isn't finished
   pub report-dash : ((plans nodes : ℕ) → resultOf (problemOf b) limit (4096 * problemOf b .variables) .ending ≡ finished plans nodes → ⊥) → reportFigure b limit ≡ dash
@@ -154,7 +153,7 @@ module _ (b : List ℕ) (limit : ℕ) (verdict : verdictOf b ≡ accepted) where
   -- without symmetries each plan is a family
   report-plans : (plans nodes : ℕ) → problemOf b .symmetries ≡ [] → resultOf (problemOf b) limit (4096 * problemOf b .variables) .ending ≡ finished plans nodes → told (number plans) ≡ told (reportFigure b limit)
   report-plans plans nodes none e =
-      ap told (sym (figure-none b [] [] limit (4096 * problemOf b .variables) accepts plans nodes (ap (λ (q : Problem). q .symmetries) (nothing-lent b .problem) ∙ none) (so-lent ∙ e)))
+      ap told (sym (figure-none b [] [] limit (4096 * problemOf b .variables) accepts plans nodes (ap (λ (i : Input). i .problem .symmetries) (nothing-lent b .input) ∙ none) (so-lent ∙ e)))
 
 module _ (b : List ℕ) (limit : ℕ) (stack work supports tables numbers images : List ℕ) (stop : ℕ) (h : Listed b limit stack work supports tables numbers images stop) where
   abbrev ending : Ending
@@ -193,6 +192,6 @@ pub told-few : (b pairs block : List ℕ) (limit k : ℕ) → told (number k) �
 unfolding countedLent
 told-few b pairs block limit k e = go (verdictLent b pairs block) refl e
   where
-    go : (v : Verdict) → verdictLent b pairs block ≡ v → told (number k) ≡ toldFor v (familiesLent b pairs block limit (4096 * problemOf b .variables)) → k ≤ 4096
+    go : (v : Verdict) → verdictLent b pairs block ≡ v → told (number k) ≡ reply v (familiesLent b pairs block limit (4096 * problemOf b .variables)) → k ≤ 4096
     go accepted q t = figure-few b pairs block limit (4096 * problemOf b .variables) q k (omega arith) (let z : familiesLent b pairs block limit (4096 * problemOf b .variables) ≡ number k = cc in z)
     go (refused i j) q t = absurd (let z : _≡_ {A = ℕ} 0 1 = cc in omega arith)

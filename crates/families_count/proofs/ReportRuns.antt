@@ -7,9 +7,9 @@ use lib.Dec.{T}
 use lib.ListN.{length, take, drop, replicate}
 use lib.Seq.{take-at}
 use Rattle.model.specs.Lists.{at}
-use Rattle.model.specs.Verdict.{Verdict, accepted, refused, isAccepted}
+use Rattle.model.specs.Verdict.{Verdict, accepted, refused, isAccepted, reply, kept}
 use Rattle.model.specs.Sheet.{verdictOf, problemOf}
-use Rattle.model.specs.Run.{Ending, ended, plansIn, resultOf, answerFor, answerOf, listFor, listOf, Tally}
+use Rattle.model.specs.Run.{Ending, ended, plansIn, resultOf, answerOf, written, listOf, Tally}
 use Rattle.model.proofs.Accepted.{passed, well-formed, constraints-are, symmetries-are}
 use Rattle.arrays.specs.Places.{VARIABLES, PLANS, STACK, TABLES, WORK}
 use Rattle.families_figure.specs.Figure.{reportFigure}
@@ -77,7 +77,7 @@ module _ (b : List ℕ) (limit : ℕ) (numbers supports images : List ℕ) (c : 
       -- the list was the front of one that is lent whole
       pub report-told-so : (made : ℕ) → made ≡ tally′ .nodes → (r : Answer) → Answered work′ made stop r → (f : C.Answer) → F.means f ≡ told (reportFigure b limit) →
           (whole : List ℕ) → list ≡ take (4096 * at numbers VARIABLES) whole → length list′ ≡ length list → RunTold b limit whole (record { answer = r; figure = f; variables = at numbers VARIABLES }) (list′ ++ drop (4096 * at numbers VARIABLES) whole)
-      unfolding answerOf answerFor listOf listFor
+      unfolding answerOf listOf
       report-told-so made m r q f g whole x y =
           let l = stop-in e in
           let s = a .stopped in
@@ -85,8 +85,8 @@ module _ (b : List ℕ) (limit : ℕ) (numbers supports images : List ℕ) (c : 
           record {
             sized = record { most = report-few; true-of = λ z. c .compiled refl .numbered .variables };
             call = subst₂ (λ (i j : List ℕ). Call b limit i r j) x (sym (take-at list′ (drop (4096 * at numbers VARIABLES) whole) (4096 * at numbers VARIABLES) (y ∙ long))) record {
-              answers = o .1 ∙ ap ended (ended-same (o .0) e (o .2 ∙ a .plans) (o .3 ∙ m ∙ a .nodes) (o .4 ∙ a .stopped)) ∙ ap (λ (u : Verdict). answerFor u b limit (length list)) (sym verdict);
-              leaves = a .wrote ∙ ap (λ (u : Verdict). listFor u b limit list) (sym verdict);
+              answers = o .1 ∙ ap ended (ended-same (o .0) e (o .2 ∙ a .plans) (o .3 ∙ m ∙ a .nodes) (o .4 ∙ a .stopped)) ∙ ap (λ (u : Verdict). reply u e) (sym verdict);
+              leaves = a .wrote ∙ ap (λ (u : Verdict). kept u list (written (resultOf (problemOf b) limit (length list) .rows) list)) (sym verdict);
             };
             figure = λ z. g;
           }
@@ -99,10 +99,13 @@ accepted-so b numbers supports images v e c = subst (Compilation b numbers suppo
 
 -- a refusal, of which no byte of the list counts
 pub report-refused : (b : List ℕ) (limit : ℕ) (list : List ℕ) (number item : ℕ) (f : C.Answer) → refused number item ≡ verdictOf b → RunTold b limit list (record { answer = Refused number item; figure = f; variables = 0 }) list
-unfolding answerOf answerFor listOf listFor
+unfolding answerOf listOf
 report-refused b limit list number item f v = record {
   sized = record { most = omega arith; true-of = λ z. absurd (never z) };
-  call = record { answers = ap (λ (u : Verdict). answerFor u b limit (length (take 0 list))) v; leaves = ap (λ (u : Verdict). listFor u b limit (take 0 list)) v };
+  call = record {
+    answers = ap (λ (u : Verdict). reply u (resultOf (problemOf b) limit (length (take 0 list)) .ending)) v;
+    leaves = ap (λ (u : Verdict). kept u (take 0 list) (written (resultOf (problemOf b) limit (length (take 0 list)) .rows) (take 0 list))) v;
+  };
   figure = λ z. absurd (never z);
 }
   where

@@ -6,23 +6,24 @@ use Prim.Native.Nat.{ℕ}
 use lib.Dec.{T}
 use lib.ListN.{length}
 use Rattle.model.specs.Problem.{Problem, isSolution, withSymmetries}
-use Rattle.model.specs.Verdict.{Verdict, accepted, isAccepted}
+use Rattle.model.specs.Verdict.{Verdict, accepted, isAccepted, reply, kept}
+use Rattle.model.specs.Claims.{Leader}
 use Rattle.model.specs.Lists.{upFrom, below}
 use Rattle.model.specs.Sheet.{headerOf, problemOf, tableAt}
 use Rattle.model.specs.WellFormed.{WellFormed, Respected}
-use Rattle.model.specs.Run.{Ending, finished, spent, full, plansIn, ended, written}
+use Rattle.model.specs.Run.{Ending, finished, spent, full, plansIn, written}
 use Rattle.order.specs.Order.{Ordering, settlingOrder, orderVerdict}
-use Rattle.order.specs.Reordered.{LeaderBy}
-use Rattle.order.specs.RunBy.{resultBy, leadersBy}
+use Rattle.order.specs.Reordered.{earlierBy}
+use Rattle.order.specs.RunBy.{Input, resultBy, leadersBy, answerBy, listBy}
 use Rattle.order.proofs.Order.{no-circle-passes}
+use Rattle.order.proofs.Demanded.{ran-by}
 use Rattle.order.proofs.RunBy.{leadersBy-hold, finished-lists, rows-counted-by, fewer-by}
 use Rattle.sheet.specs.Meaning.{andThen}
 use Rattle.block.specs.Block.{blockVerdict, tablesLent, blockLent}
 use Rattle.block.proofs.BlockLent.{is-accepted}
 use Rattle.block.proofs.Claimed.{alone-closed}
-use Rattle.run_input.specs.Lent.{verdictLent, problemWith, orderLent, answerLentFor, answerLent, listLentFor, listLent}
-use Rattle.run_input.proofs.Lent.{passed-all, lent-passed, well-sheet, well-lent, respected-lent, ordering-lent, lent-good, ran-lent, lists-leaders-lent}
-use Rattle.run_input.proofs.LentTally.{nothing-lent}
+use Rattle.run_input.specs.Lent.{verdictLent, problemWith, orderLent, lentInput}
+use Rattle.run_input.proofs.Lent.{passed-all, lent-passed, well-sheet, well-lent, respected-lent, ordering-lent, lent-good, demanded-lent, nothing-lent}
 use Rattle.families.specs.Families.{Closed, familiesOf}
 use Rattle.families.proofs.FamilyCount.{families}
 use Rattle.families.proofs.FewerFamilies.{well-formed-with}
@@ -92,22 +93,22 @@ families-lent b pairs block limit room h = record {
 
 -- the run without exchanges and block is that of the sheet without exchanges
 pub bare-run : Bare-run
-unfolding answerLent answerLentFor listLent listLentFor verdictLent blockLent
+unfolding answerBy listBy verdictLent blockLent
 bare-run b pairs block limit out h =
     let x = lent-passed b pairs block (passed-all (verdictLent b pairs block) h) in
     let c = bareSheet b in
     let e = bare-passed b (x .sheet) in
-    let same : problemWith c [] ≡ problemBare b = nothing-lent c .problem ∙ e .1 in
+    let same : problemWith c [] ≡ problemBare b = ap (λ (i : Input). i .problem) (nothing-lent c .input) ∙ e .1 in
     let k = x .ordered in
     let v : verdictLent c pairs [] ≡ accepted = ap₂ andThen (e .0) (ap (λ (q : Problem). orderVerdict (q .variables) pairs accepted) (e .1) ∙ no-circle-passes (problemOf b .variables) pairs (k .few) (k .whole) (k .inside) accepted (k .acyclic)) in (
-      ap (λ (u : Verdict). answerLentFor u c pairs [] limit (length out)) v ∙ ap (λ (q : Problem). ended (resultBy (settlingOrder (q .variables) pairs) q limit (length out) .ending)) same,
-      ap (λ (u : Verdict). listLentFor u c pairs [] limit out) v ∙ ap (λ (q : Problem). written (resultBy (settlingOrder (q .variables) pairs) q limit (length out) .rows) out) same,
+      ap₂ (λ (u : Verdict) (q : Problem). reply u (resultBy (settlingOrder (q .variables) pairs) q limit (length out) .ending)) v same,
+      ap₂ (λ (u : Verdict) (q : Problem). kept u out (written (resultBy (settlingOrder (q .variables) pairs) q limit (length out) .rows) out)) v same,
     )
 
 -- ---- closed exchanges
 pub one-of-each-lent : One-of-each-lent
 unfolding isSolution
-one-of-each-lent b pairs block limit out plans made closed h = subst (OneListedEach b pairs block plans) (sym (lists-leaders-lent b pairs block limit out plans made h)) (record {
+one-of-each-lent b pairs block limit out plans made closed h = subst (OneListedEach b pairs block plans) (sym (demanded-lent b pairs block .lists-leaders limit out plans made h)) (record {
   earliest = λ s. (
     λ m. let l = hold s .0 m in (l .solves, leader-earliest-by p w rp order o closed s l),
     λ r. hold s .1 (earliest-leader-by p w rp order o s (r .0) (r .1)),
@@ -135,12 +136,12 @@ one-of-each-lent b pairs block limit out plans made closed h = subst (OneListedE
     o : Ordering (problemOf b .variables) (orderLent b pairs)
     o = ordering-lent b pairs block good
 
-    hold : (s : List ℕ) → List·Memᴰ s (leadersBy (orderLent b pairs) (problemWith b block)) ↔ LeaderBy (orderLent b pairs) (problemWith b block) s
+    hold : (s : List ℕ) → List·Memᴰ s (leadersBy (orderLent b pairs) (problemWith b block)) ↔ Leader (earlierBy (orderLent b pairs)) (problemWith b block) s
     hold = leadersBy-hold (problemWith b block) w rp (orderLent b pairs) o
 
     listed : plans ≡ length (leadersBy (orderLent b pairs) (problemWith b block))
     listed =
-        let r = ran-lent b pairs block limit out (finished plans made) h in
+        let r = ran-by (lentInput b pairs block) limit out (finished plans made) h in
         sym (ap plansIn (r .so)) ∙ rows-counted-by p w rp order o limit (length out) ∙ ap length (finished-lists p w rp order o limit (length out) plans made (r .so))
 
 -- ---- a block alone

@@ -10,8 +10,8 @@ use lib.ListN.{length, getD, replicate}
 use borrow.Author.Tests.{eq-eqb, ne-eqb, lt-ltb, le-leb}
 use Rattle.model.specs.Lists.{at, both}
 use Rattle.model.specs.ValueSets.{has}
-use Rattle.model.specs.Verdict.{Verdict, accepted, refused, ask}
-use Rattle.model.specs.Nogood.{Entry, equality, disequality, is, obeysFrom, obeys, filtered, FilterEnding, failed, entailed, consistent, filterEnding, mark, Kind, isEquality, isDisequality, bothAbsent, bothPresent, kindBy, kindOf, CaseOf, valueOk, entryIn, entryOf, entryOk, entries, firstWrong, filterVerdict, setsAfter, declined, answered, answerBy, filterAnswer, Fails, Entails}
+use Rattle.model.specs.Verdict.{Verdict, accepted, refused, ask, reply}
+use Rattle.model.specs.Nogood.{Entry, equality, disequality, is, obeysFrom, obeys, filtered, FilterEnding, failed, entailed, consistent, filterEnding, mark, Kind, isEquality, isDisequality, bothAbsent, bothPresent, kindBy, kindOf, CaseOf, valueOk, entryIn, entryOf, entryOk, entries, firstWrong, filterVerdict, setsAfter, refusal, answered, filterAnswer, Fails, Entails}
 use Rattle.model.specs.Claims.{Drawn}
 use Rattle.model.proofs.Lists.{both-i, both-l, both-r, not-of, getD-at}
 use Rattle.model.proofs.Assignments.{drawn-i, drawn-e}
@@ -147,11 +147,11 @@ is-consistent Entailed e = absurd (let z : _≡_ {A = ℕ} 0 1 = cc in omega ari
 is-consistent Consistent e = refl
 is-consistent (Refused n i) e = absurd (let z : _≡_ {A = ℕ} 0 1 = cc in omega arith)
 
-is-declined : (r : Answer) (n i : ℕ) → means r ≡ declined n i → r ≡ Refused n i
-is-declined Failed n i e = absurd (let z : _≡_ {A = ℕ} 0 1 = cc in omega arith)
-is-declined Entailed n i e = absurd (let z : _≡_ {A = ℕ} 0 1 = cc in omega arith)
-is-declined Consistent n i e = absurd (let z : _≡_ {A = ℕ} 0 1 = cc in omega arith)
-is-declined (Refused m j) n i e = cc
+is-refused : (r : Answer) (n i : ℕ) → means r ≡ refusal n i → r ≡ Refused n i
+is-refused Failed n i e = absurd (let z : _≡_ {A = ℕ} 0 1 = cc in omega arith)
+is-refused Entailed n i e = absurd (let z : _≡_ {A = ℕ} 0 1 = cc in omega arith)
+is-refused Consistent n i e = absurd (let z : _≡_ {A = ℕ} 0 1 = cc in omega arith)
+is-refused (Refused m j) n i e = cc
 
 -- a question that is answered "no"
 asked-no : (c : Bool) (number item : ℕ) (later : Verdict) → (T c → ⊥) → ask c number item later ≡ refused number item
@@ -170,7 +170,7 @@ module _ (ds xs es us : List ℕ) (r : Answer) (rs : List ℕ) (small : (x : ℕ
 
   refused-so : (number item : ℕ) → filterVerdict ds xs es us ≡ refused number item → (r ≡ Refused number item) × (rs ≡ ds)
   unfolding filterAnswer setsAfter
-  refused-so number item e = (is-declined r number item (c .answers ∙ ap (λ (v : Verdict). answerBy v (filterEnding ds es′)) e), c .leaves ∙ ap (λ (v : Verdict). setsAfter v ds es′) e)
+  refused-so number item e = (is-refused r number item (c .answers ∙ ap (λ (v : Verdict). reply v (filterEnding ds es′)) e), c .leaves ∙ ap (λ (v : Verdict). setsAfter v ds es′) e)
 
   sets-test : SetsRight ds → both (leb 1 (length ds)) (leb (length ds) 12) ≡ true
   sets-test s = ap₂ both (le-leb 1 (length ds) (s .0)) (le-leb (length ds) 12 (s .1))
@@ -211,7 +211,7 @@ module _ (ds xs es us : List ℕ) (r : Answer) (rs : List ℕ) (small : (x : ℕ
 
     ended : means r ≡ answered (filterEnding ds (entries xs es us))
     unfolding filterAnswer
-    ended = c .answers ∙ ap (λ (v : Verdict). answerBy v (filterEnding ds es′)) accepted-so
+    ended = c .answers ∙ ap (λ (v : Verdict). reply v (filterEnding ds es′)) accepted-so
 
     -- an assignment of as many values
     right-for : (a : List ℕ) → length a ≡ length ds → AllRight a xs es us

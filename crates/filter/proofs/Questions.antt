@@ -8,8 +8,8 @@ use lib.Dec.{T, eqb, leb}
 use lib.ListN.{length}
 use borrow.Author.Tests.{eq-eqb, ne-eqb, eqb-true, le-leb, lt-leb, leb-true, not-false}
 use Rattle.model.specs.Lists.{at, both}
-use Rattle.model.specs.Verdict.{Verdict, accepted, refused, ask}
-use Rattle.model.specs.Nogood.{entries, entryOk, firstWrong, filterVerdict, setsAfter, filterEnding, answerBy, filterAnswer}
+use Rattle.model.specs.Verdict.{Verdict, accepted, refused, ask, reply}
+use Rattle.model.specs.Nogood.{entries, entryOk, firstWrong, filterVerdict, setsAfter, filterEnding, filterAnswer}
 use Rattle.model.proofs.Lists.{T-of}
 use Rattle.model.proofs.Masks.{least-none, least-at, least-below}
 use Rattle.model.proofs.Members.{both-no}
@@ -123,11 +123,11 @@ module _ (ds xs es us : List ℕ) (a : code.Verdict) (v : verdictIs a ≡ filter
   unfolding setsAfter filterAnswer
   after-accepted rs r e h =
       let q : accepted ≡ filterVerdict ds xs es us = ap verdictIs (sym e) ∙ v in
-      record { answers = h .answer ∙ ap (λ (w : Verdict). answerBy w (filterEnding ds (entries xs es us))) q; leaves = h .left ∙ ap (λ (w : Verdict). setsAfter w ds (entries xs es us)) q }
+      record { answers = h .answer ∙ ap (λ (w : Verdict). reply w (filterEnding ds (entries xs es us))) q; leaves = h .left ∙ ap (λ (w : Verdict). setsAfter w ds (entries xs es us)) q }
 
   pub after-refused : (number item : ℕ) → a ≡ Refused number item
       → CallFilter ds xs es us (answer.Refused number item) ds
   unfolding setsAfter filterAnswer
   after-refused number item e =
       let q : refused number item ≡ filterVerdict ds xs es us = ap verdictIs (sym e) ∙ v in
-      record { answers = ap (λ (w : Verdict). answerBy w (filterEnding ds (entries xs es us))) q; leaves = ap (λ (w : Verdict). setsAfter w ds (entries xs es us)) q }
+      record { answers = ap (λ (w : Verdict). reply w (filterEnding ds (entries xs es us))) q; leaves = ap (λ (w : Verdict). setsAfter w ds (entries xs es us)) q }

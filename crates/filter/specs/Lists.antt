@@ -7,7 +7,7 @@ use lib.ListN.{length, set, take, drop}
 use Rattle.model.specs.Lists.{at}
 use Rattle.model.specs.ValueSets.{onlyMask}
 use Rattle.model.specs.Verdict.{Verdict, accepted, refused}
-use Rattle.model.specs.Nogood.{Entry, equality, filtered, failed, entailed, consistent, filterEnding, FilterAnswer, declined, answered, Kind, isEquality, isDisequality, bothAbsent, bothPresent, entryOf, entries}
+use Rattle.model.specs.Nogood.{Entry, equality, filtered, failed, entailed, consistent, filterEnding, FilterAnswer, refusal, answered, Kind, isEquality, isDisequality, bothAbsent, bothPresent, entryOf, entries}
 use Rattle.filter.specs.declared.Answer.{Answer}
 use Rattle.filter.specs.declared.Answer.the-variants as answer
 use Rattle.filter.specs.declared.Verdict as code
@@ -26,7 +26,7 @@ abbrev pub means : Answer → FilterAnswer
 means answer.Failed = answered failed
 means answer.Entailed = answered entailed
 means answer.Consistent = answered consistent
-means (answer.Refused number item) = declined number item
+means (answer.Refused number item) = refusal number item
 
 -- ---- between the functions of the crate: no reader has to believe what follows
 abbrev pub verdictIs : code.Verdict → Verdict

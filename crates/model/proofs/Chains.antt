@@ -1,8 +1,8 @@
 -- Every solution is reached from a leader by symmetries, one after another, and nothing else is. Assumes nothing.
-use mathlib.Core.Path.{_≡_, refl, sym, ap, ap₂, _∙_, subst}
+use mathlib.Core.Path.{_≡_, sym, ap, ap₂, _∙_, subst}
 use mathlib.Core.Logic.{_↔_, ∥∥₁-elim, _⊎_, inl, inr}
 use mathlib.Core.Bool.{Bool}
-use mathlib.Core.List.{List, [], _∷_, List·Memᴰ, List·Memᴰ·head, List·Memᴰ·not-nil}
+use mathlib.Core.List.{List, [], _∷_, List·Memᴰ}
 use Prim.Native.Nat.{ℕ, zero, suc, _+_, _*_, _^_, _≤_, _<_}
 use native.Mathlib.Nat.{not-suc-le-zero, pow-suc, mul-le-mul-right}
 use native.Mathlib.Omega.{arith}
@@ -49,25 +49,26 @@ num-earlier (x ∷ t) (y ∷ s) e h k = go (num-earlier t s (omega arith) (λ i 
 
 -- ---- from a leader to each solution
 module _ (p : Problem) (w : WellFormed p) (rows : List (List ℕ)) (listed : rows ≡ leaders p) where
-  row-i : (s : List ℕ) → T (isLeader p s) → T (isSolution p s) → List·Memᴰ s rows
-  row-i s t sol = subst (List·Memᴰ s) (sym listed) (keep-i (isLeader p) (assignments (p .initial)) s (sol-drawn p w s sol) t)
+  row-i : (s : List ℕ) → T (isLeader earlier p s) → T (isSolution p s) → List·Memᴰ s rows
+  row-i s t sol = subst (List·Memᴰ s) (sym listed) (keep-i (isLeader earlier p) (assignments (p .initial)) s (sol-drawn p w s sol) t)
 
   row-e : (l : List ℕ) → List·Memᴰ l rows → T (isSolution p l)
-  row-e l m = both-l (isSolution p l) _ (keep-e (isLeader p) (assignments (p .initial)) l (subst (List·Memᴰ l) listed m) .1)
+  row-e l m = both-l (isSolution p l) _ (keep-e (isLeader earlier p) (assignments (p .initial)) l (subst (List·Memᴰ l) listed m) .1)
 
   abbrev beats : List ℕ → List ℕ → List ℕ → Bool
   beats s g t = both (isSolution p t) (both (earlier t s) (takes p g t s))
 
-  beaten : (s : List ℕ) → T (isSolution p s) → (T (isLeader p s) → ⊥) → T (any (λ g. any (beats s g) (assignments (p .initial))) (p .symmetries))
+  beaten : (s : List ℕ) → T (isSolution p s) → (T (isLeader earlier p s) → ⊥) → T (any (λ g. any (beats s g) (assignments (p .initial))) (p .symmetries))
   beaten s sol n =
       stable (any (λ g. any (beats s g) (assignments (p .initial))) (p .symmetries))
       (λ f. n (both-i (isSolution p s) _ sol (not-T (any (λ g. any (beats s g) (assignments (p .initial))) (p .symmetries)) f)))
 
-  reach : (k : ℕ) (s : List ℕ) → num s < k → T (isSolution p s) → (l : List ℕ) × List·Memᴰ l rows × Chain p l s
+  reach : (k : ℕ) (s : List ℕ) → num s < k → T (isSolution p s) → (l : List ℕ) × List·Memᴰ l rows × Chain earlier p l s
   reach zero s h sol = absurd (not-suc-le-zero h)
-  reach (suc k) s h sol = go (reach k) (T-dec (isLeader p s))
+  reach (suc k) s h sol = go (reach k) (T-dec (isLeader earlier p s))
     where
-      go : ((t : List ℕ) → num t < k → T (isSolution p t) → (l : List ℕ) × List·Memᴰ l rows × Chain p l t) → T (isLeader p s) ⊎ (T (isLeader p s) → ⊥) → (l : List ℕ) × List·Memᴰ l rows × Chain p l s
+      go : ((t : List ℕ) → num t < k → T (isSolution p t) → (l : List ℕ) × List·Memᴰ l rows × Chain earlier p l t) →
+          T (isLeader earlier p s) ⊎ (T (isLeader earlier p s) → ⊥) → (l : List ℕ) × List·Memᴰ l rows × Chain earlier p l s
       go ih (inl t) = (s, row-i s t sol, here)
       go ih (inr n) =
           let r = any-e (λ g. any (beats s g) (assignments (p .initial))) (p .symmetries) (beaten s sol n) in
@@ -81,21 +82,10 @@ module _ (p : Problem) (w : WellFormed p) (rows : List (List ℕ)) (listed : row
           let c = ih t (omega arith) st in
           (c .0, c .1, step t s g (c .2) (r .1) (both-r (earlier t s) (takes p g t s) b) sol e)
 
-  chain-end : (l s : List ℕ) → T (isSolution p l) → Chain p l s → T (isSolution p s)
+  chain-end : (l s : List ℕ) → T (isSolution p l) → Chain earlier p l s → T (isSolution p s)
   chain-end l s h here = h
   chain-end l s h (step b c g ch m t sol e) = sol
 
-  pub chains : (s : List ℕ) → length s ≡ p .variables → T (isSolution p s) ↔ ∥ ((l : List ℕ) × List·Memᴰ l rows × Chain p l s) ∥₁
+  pub chains : (s : List ℕ) → length s ≡ p .variables → T (isSolution p s) ↔ ∥ ((l : List ℕ) × List·Memᴰ l rows × Chain earlier p l s) ∥₁
   chains s e =
       (λ sol. ∣ reach (suc (num s)) s (omega arith) sol ∣₁, λ h. ∥∥₁-elim h (T-prop (isSolution p s)) (λ r. chain-end (r .0) s (row-e (r .0) (r .1)) (r .2)))
-
-  none-left : (r : List (List ℕ)) → ((l : List ℕ) → List·Memᴰ l r → ⊥) → r ≡ []
-  none-left [] h = refl
-  none-left (l ∷ r) h = absurd (h l (List·Memᴰ·head refl))
-
-  -- an empty list exactly where there is no solution
-  pub empty : rows ≡ [] ↔ ((s : List ℕ) → length s ≡ p .variables → T (isSolution p s) → ⊥)
-  empty = (
-    λ e s n sol. List·Memᴰ·not-nil (subst (List·Memᴰ (reach (suc (num s)) s (omega arith) sol .0)) e (reach (suc (num s)) s (omega arith) sol .1)),
-    λ h. none-left rows (λ l m. h l (solution-e p l (row-e l m) .sized) (row-e l m)),
-  )

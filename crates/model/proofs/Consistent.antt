@@ -10,7 +10,7 @@ use Rattle.model.specs.Lists.{at}
 use Rattle.model.specs.ValueSets.{has, anyEmpty}
 use Rattle.model.specs.Problem.{Problem}
 use Rattle.model.specs.Nogood.{Entry, filtered}
-use Rattle.model.specs.Search.{nogoodsOf, pruned, narrowed, setsAt, isLive}
+use Rattle.model.specs.Search.{entriesAt, nogoodsOf, pruned, narrowed, setsAt, isLive}
 use Rattle.model.specs.Claims.{Consistent}
 use Rattle.model.proofs.Lists.{T-of}
 use Rattle.model.proofs.Sets.{has-lt, inside-antisym, empty-inside}
@@ -22,7 +22,8 @@ use Rattle.model.proofs.Prune.{supported-i, supported-e, Kept, fixed-i,
 filter-same : (n : ℕ) (ds : List ℕ) (es : List Entry) → Sets n ds → ((x v : ℕ) → T (has (at ds x) v) → T (has (at (filtered ds es) x) v)) → filtered ds es ≡ ds
 filter-same n ds es s h = inside-antisym (length ds) (filtered ds es) ds (filtered-sets ds es) (refl, s .1) (filtered-inside ds es) h
 
-pub consistent-e : (p : Problem) (prefix es : List ℕ) → Consistent p prefix es → Sets (p .variables) es × Inside es (narrowed prefix (p .initial)) × (pruned p prefix es ≡ es)
+pub consistent-e : (p : Problem) (prefix es : List ℕ) → Consistent (λ x. x) p prefix es → Sets (p .variables) es × Inside es (narrowed prefix (p .initial)) × (pruned p prefix es ≡ es)
+unfolding nogoodsOf entriesAt
 consistent-e p prefix es c = (
   s,
   λ x v t. narrowed-i prefix (p .initial) x v (has-lt 16 (at es x) v (c .sixteen x) t) (c .inside x v t) (λ l. c .given x v l t),
@@ -36,7 +37,8 @@ consistent-e p prefix es c = (
     s : Sets (p .variables) es
     s = (c .sized, c .sixteen)
 
-pub largest-consistent : (p : Problem) (prefix ds : List ℕ) → Largest p prefix ds → Consistent p prefix ds
+pub largest-consistent : (p : Problem) (prefix ds : List ℕ) → Largest p prefix ds → Consistent (λ x. x) p prefix ds
+unfolding nogoodsOf entriesAt
 largest-consistent p prefix ds l = record {
   sized = l .sets .0;
   sixteen = l .sets .1;
@@ -49,17 +51,17 @@ largest-consistent p prefix ds l = record {
     kept : (x v : ℕ) → T (has (at ds x) v) → Kept p prefix ds x v
     kept = fixed-e p prefix ds (l .fixed)
 
-pub live-consistent : (p : Problem) (prefix : List ℕ) → Sized p → T (isLive p prefix) → Consistent p prefix (setsAt p prefix)
-live-consistent p prefix s t = subst (Consistent p prefix) (sym (setsAt-live p prefix (live-closed p prefix t))) (largest-consistent p prefix (closed p prefix) (largest p prefix s))
+pub live-consistent : (p : Problem) (prefix : List ℕ) → Sized p → T (isLive p prefix) → Consistent (λ x. x) p prefix (setsAt p prefix)
+live-consistent p prefix s t = subst (Consistent (λ x. x) p prefix) (sym (setsAt-live p prefix (live-closed p prefix t))) (largest-consistent p prefix (closed p prefix) (largest p prefix s))
 
 -- such sets lie inside the largest
-inside-closed : (p : Problem) (prefix : List ℕ) → Sized p → (es : List ℕ) → Consistent p prefix es → Sets (p .variables) es × Inside es (closed p prefix)
+inside-closed : (p : Problem) (prefix : List ℕ) → Sized p → (es : List ℕ) → Consistent (λ x. x) p prefix es → Sets (p .variables) es × Inside es (closed p prefix)
 inside-closed p prefix s es c = let r = consistent-e p prefix es c in (r .0, largest p prefix s .above es (r .0 .0) (r .1) (r .2))
 
-pub consistent-inside : (p : Problem) (prefix : List ℕ) → Sized p → T (isLive p prefix) → (es : List ℕ) → Consistent p prefix es → Inside es (setsAt p prefix)
+pub consistent-inside : (p : Problem) (prefix : List ℕ) → Sized p → T (isLive p prefix) → (es : List ℕ) → Consistent (λ x. x) p prefix es → Inside es (setsAt p prefix)
 consistent-inside p prefix s l es c x v t = subst (λ (ds : List ℕ). T (has (at ds x) v)) (sym (setsAt-live p prefix (live-closed p prefix l))) (inside-closed p prefix s es c .1 x v t)
 
-pub dead-empty : (p : Problem) (prefix : List ℕ) → Sized p → isLive p prefix ≡ false → (es : List ℕ) → Consistent p prefix es → T (anyEmpty es)
+pub dead-empty : (p : Problem) (prefix : List ℕ) → Sized p → isLive p prefix ≡ false → (es : List ℕ) → Consistent (λ x. x) p prefix es → T (anyEmpty es)
 dead-empty p prefix s e es c =
     let r = inside-closed p prefix s es c in
     empty-inside (p .variables) es (closed p prefix) (r .0) (largest p prefix s .sets) (r .1) (T-of (anyEmpty (closed p prefix)) (not-false (anyEmpty (closed p prefix)) (sym (live-is p prefix) ∙ e)))

@@ -12,7 +12,7 @@ use Rattle.model.specs.Problem.{valuesAt, satisfies, isSolution, assignm
 use Rattle.model.specs.Sheet.{word, words, headerOf, scopeAt, rowsAt, afterAt, constraintsFrom, tableAt, problemOf, headerVerdict, setsVerdict, constraintVerdict, constraintsVerdict, formVerdict, distinct, permutesPairs, symmetriesVerdict, verdictOf}
 use Rattle.model.specs.Nogood.{obeysFrom, obeying, used, filtered, entries, firstWrong, filterVerdict, setsAfter}
 use Rattle.model.specs.Search.{entriesAt, nogoodsOf, rowWith, supported, pruned, narrowed, rounds, setsAt, isLive, nodesBelow, nodes, isPlan}
-use Rattle.model.specs.Run.{search, resultOf, answerFor, answerOf, written, listFor, listOf, tallyOf, listedPlans}
+use Rattle.model.specs.Run.{search, resultOf, answerOf, written, listOf, tallyOf, listedPlans}
 use Rattle.model.specs.Claims.{leaders}
 use Rattle.model.specs.Examples.{filterOf, sheetF, tests, testsMore, testsBeside, Each}
 use Rattle.model.specs.Verdict.{Verdict, accepted, ask}
@@ -20,7 +20,7 @@ use Rattle.model.proofs.Filter.{filtered-none}
 
 -- every definition that computes
 unfoldable pub opened : ℕ
-unfolding all any keep flat tabulate upFrom below at same earlier ascending rowsAscend has maskBelow least members anyEmpty valuesAt satisfies isSolution assignments pair isPair pairsOf within takes doubled pairsAt excluded forbidden respects word words headerOf scopeAt rowsAt afterAt constraintsFrom tableAt problemOf headerVerdict setsVerdict constraintVerdict constraintsVerdict formVerdict distinct permutesPairs symmetriesVerdict verdictOf obeysFrom obeying used filtered entries firstWrong filterVerdict setsAfter entriesAt nogoodsOf rowWith supported pruned narrowed rounds setsAt isLive nodesBelow nodes isPlan search resultOf answerFor answerOf written listFor listOf tallyOf listedPlans
+unfolding all any keep flat tabulate upFrom below at same earlier ascending rowsAscend has maskBelow least members anyEmpty valuesAt satisfies isSolution assignments pair isPair pairsOf within takes doubled pairsAt excluded forbidden respects word words headerOf scopeAt rowsAt afterAt constraintsFrom tableAt problemOf headerVerdict setsVerdict constraintVerdict constraintsVerdict formVerdict distinct permutesPairs symmetriesVerdict verdictOf obeysFrom obeying used filtered entries firstWrong filterVerdict setsAfter entriesAt nogoodsOf rowWith supported pruned narrowed rounds setsAt isLive nodesBelow nodes isPlan search resultOf answerOf written listOf tallyOf listedPlans
 opened = 0
 
 -- empty lists take nothing from non-empty sets: questions 17 to 19 are passed, and each value has an assignment through it

@@ -15,7 +15,7 @@ use Rattle.model.specs.Nogood.{is, obeys}
 use Rattle.model.specs.Search.{nogoodsOf}
 use Rattle.model.specs.WellFormed.{WellFormed, GoodSymmetry, Respected}
 use Rattle.model.specs.Claims.{Leader, isLeader}
-use Rattle.model.proofs.Lists.{not-any, both-i, both-l, both-r, T-ext, T-of, stable, all-i, all-e, any-i, any-e, keep-i, keep-e, getD-at}
+use Rattle.model.proofs.Lists.{not-any, both-i, both-l, both-r, T-ext, T-of, stable, any-i, any-e, keep-i, keep-e, getD-at}
 use Rattle.model.proofs.Sets.{members-i, members-e}
 use Rattle.model.proofs.Assignments.{drawn-i}
 use Rattle.model.proofs.Tree.{solution-e, well-sized}
@@ -49,6 +49,32 @@ module _ (p : Problem) (w : WellFormed p) where
   sol-drawn a s =
       let h = solution-e p a s in
       drawn-i (p .initial) a (well-sized p w .1) (h .sized ∙ sym (w .sized), λ x l. h .drawn x (subst (λ (k : ℕ). x < k) (w .sized) l))
+
+-- the test of a leader says what it should
+module _ (less : List ℕ → List ℕ → Bool) (p : Problem) (w : WellFormed p) (s : List ℕ) where
+  abbrev beats : List ℕ → List ℕ → Bool
+  beats g t = both (isSolution p t) (both (less t s) (takes p g t s))
+
+  abbrev beatenBy : List ℕ → Bool
+  beatenBy g = any (beats g) (assignments (p .initial))
+
+  pub leader-e : T (isLeader less p s) → Leader less p s
+  leader-e h = record {
+    solves = both-l (isSolution p s) _ h;
+    unbeaten = λ g t m st e tk. T-not (any beatenBy (p .symmetries)) (both-r (isSolution p s) (not (any beatenBy (p .symmetries))) h)
+        (any-i beatenBy (p .symmetries) g m (any-i (beats g) (assignments (p .initial)) t (sol-drawn p w t st)
+        (both-i (isSolution p t) (both (less t s) (takes p g t s)) st (both-i (less t s) (takes p g t s) e tk))));
+  }
+
+  pub leader-i : Leader less p s → T (isLeader less p s)
+  leader-i l =
+      both-i (isSolution p s) (not (any beatenBy (p .symmetries))) (l .solves)
+      (not-T (any beatenBy (p .symmetries)) (λ h.
+      let r = any-e beatenBy (p .symmetries) h in
+      let q = any-e (beats (r .0)) (assignments (p .initial)) (r .2) in
+      let t = q .0 in
+      let b = both-r (isSolution p t) (both (less t s) (takes p (r .0) t s)) (q .2) in
+      l .unbeaten (r .0) t (r .1) (both-l (isSolution p t) (both (less t s) (takes p (r .0) t s)) (q .2)) (both-l (less t s) (takes p (r .0) t s) b) (both-r (less t s) (takes p (r .0) t s) b)))
 
 module _ (p : Problem) (w : WellFormed p) (respected : Respected p) where
   -- an entry of the list holds of s exactly if its number is one of the pairs of s
@@ -131,23 +157,7 @@ module _ (p : Problem) (w : WellFormed p) (respected : Respected p) where
           (any-i beaten (assignments (p .initial)) t (sol-drawn p w t st) (both-i (isSolution p t) (both (earlier t s) (takes p g t s)) st (both-i (earlier t s) (takes p g t s) e tk)))))
 
   -- a leader is a solution that obeys the nogoods of every symmetry
-  pub leader-is : (s : List ℕ) → isLeader p s ≡ both (isSolution p s) (all (λ g. obeys s (nogoodsOf p g s)) (p .symmetries))
+  pub leader-is : (s : List ℕ) → isLeader earlier p s ≡ both (isSolution p s) (all (λ g. obeys s (nogoodsOf p g s)) (p .symmetries))
   leader-is s =
       guarded (isSolution p s) (not (any (λ g. any (λ t. both (isSolution p t) (both (earlier t s) (takes p g t s))) (assignments (p .initial))) (p .symmetries))) (all (λ g. obeys s (nogoodsOf p g s)) (p .symmetries))
       (λ sol. not-any (λ g. any (λ t. both (isSolution p t) (both (earlier t s) (takes p g t s))) (assignments (p .initial))) (λ g. obeys s (nogoodsOf p g s)) (p .symmetries) (λ g m. obeys-is s sol g m))
-
-  -- the test says what it should
-  pub leader-e : (s : List ℕ) → T (isLeader p s) → Leader p s
-  leader-e s h = record {
-    solves = sol;
-    unbeaten = λ g t m st e tk. obeys-none s sol g m (all-e (λ k. obeys s (nogoodsOf p k s)) (p .symmetries) (both-r (isSolution p s) (all (λ k. obeys s (nogoodsOf p k s)) (p .symmetries)) (subst T (leader-is s) h)) g m) t st e tk;
-  }
-    where
-      sol : T (isSolution p s)
-      sol = both-l (isSolution p s) _ h
-
-  pub leader-i : (s : List ℕ) → Leader p s → T (isLeader p s)
-  leader-i s l =
-      subst T (sym (leader-is s))
-      (both-i (isSolution p s) (all (λ k. obeys s (nogoodsOf p k s)) (p .symmetries)) (l .solves)
-      (all-i (λ k. obeys s (nogoodsOf p k s)) (p .symmetries) (λ g m. none-obeys s (l .solves) g m (λ t st e tk. l .unbeaten g t m st e tk))))

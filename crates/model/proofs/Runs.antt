@@ -13,7 +13,7 @@ use Rattle.model.specs.Lists.{keep}
 use Rattle.model.specs.Problem.{Problem}
 use Rattle.model.specs.Search.{nodes, isLive, isPlan}
 use Rattle.model.specs.Run.{Ending, finished, spent, full, plansIn, nodesIn, Result, search, resultOf}
-use Rattle.model.specs.Claims.{plansAmong}
+use Rattle.model.specs.Claims.{plansAmong, CountsAt}
 use Rattle.model.proofs.Lists.{both-l, keep-yes, keep-no, keep-append, keep-e}
 
 -- ---- one element more in front, on both sides
@@ -217,15 +217,10 @@ module _ (p : Problem) (limit room : ℕ) where
           omega (arith, q .1))
 
   -- ---- the counts of each ending
-  abbrev pub Counted : Ending → Type 0
-  Counted (finished plans made) = (made ≡ length (nodes p)) × (plansAmong p made ≡ plans)
-  Counted (spent plans made) = (made ≡ limit) × (made < length (nodes p)) × (plansAmong p made ≡ plans)
-  Counted (full plans made) = (room < suc plans * p .variables) × (plansAmong p made ≡ suc plans) × (plansAmong p (made - 1) ≡ plans)
-
   among : (k : ℕ) → the-walk .passed ≡ k → (x : Ending) → resultOf p limit room .ending ≡ x → plansAmong p k ≡ plansIn x
   among k q x e = ap (plansAmong p) (sym q) ∙ ap length (sym (the-walk .listed)) ∙ sym (the-walk .counted) ∙ ap plansIn e
 
-  pub counts : (x : Ending) → resultOf p limit room .ending ≡ x → Counted x
+  pub counts : (x : Ending) → resultOf p limit room .ending ≡ x → CountsAt p limit room x
   counts (finished plans made) e =
       let h = subst (Ended (nodes p) 0 (the-walk .passed)) e (the-walk .ended) in
       (omega (arith, h .0, h .1), among made (omega (arith, h .1)) (finished plans made) e)

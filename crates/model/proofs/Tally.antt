@@ -1,22 +1,21 @@
--- The tally (paper 02, #107): twelve counts of a list by a number of each element; of the first nodes of a tree by the variable that each settles
--- they add up to the number of these nodes. Assumes nothing.
+-- The tally (paper 02, #107): twelve counts of a list by a number of each element, which add up to its length; how many values the nodes of a tree have.
+-- Assumes nothing.
 use mathlib.Core.Path.{_≡_, refl, sym, ap, ap₂, _∙_, subst}
 use mathlib.Core.Bool.{Bool, true, false}
 use mathlib.Core.Logic.{⊎-elim}
 use mathlib.Core.List.{List, [], _∷_, _++_, map, List·Memᴰ, List·Memᴰ·head, List·Memᴰ·tail, List·Memᴰ·not-nil, List·Memᴰ·cases-cons, Memᴰ·of-map, Memᴰ·append-left, append-nil}
-use Prim.Native.Nat.{ℕ, zero, suc, _+_, _-_, _≤_, _<_}
+use Prim.Native.Nat.{ℕ, zero, suc, _+_, _≤_, _<_}
 use native.Mathlib.Nat.{not-suc-le-zero, le-of-suc-le-suc}
 use native.Mathlib.Omega.{arith}
 use lib.Dec.{eqb, leb, ltb}
 use lib.ListN.{length, take, drop, set, length-append, length-set, take-append-drop}
-use lib.Seq.{append-snoc, take-all, length-take-le}
-use borrow.Author.Tests.{eq-eqb, ne-eqb, eqb-true, eqb-false, ltb-true, ltb-false, leb-true, leb-false}
+use lib.Seq.{append-snoc, take-all}
+use borrow.Author.Tests.{eqb-true, eqb-false, ltb-true, ltb-false, leb-true, leb-false}
 use Rattle.model.specs.Lists.{keep, at, tabulate, total}
 use Rattle.model.specs.ValueSets.{members}
 use Rattle.model.specs.Problem.{Problem}
 use Rattle.model.specs.Search.{setsAt, nodesBelow, nodes, isPlan}
-use Rattle.model.specs.Run.{Ending, finished, spent, full, nodesIn, resultOf, countsBy, settledBy, tallyAt}
-use Rattle.model.specs.WellFormed.{WellFormed}
+use Rattle.model.specs.Run.{Ending, finished, spent, full, nodesIn, resultOf, countsBy, settledBy}
 use Rattle.model.proofs.Lists.{flat-e, keep-yes, keep-no, keep-append, keep-none, keep-ext, of-T, length-tabulate, at-tabulate, at-ext, at-out, at-set, at-set-other}
 use Rattle.model.proofs.Runs as R
 
@@ -121,42 +120,8 @@ module _ (p : Problem) (k : ℕ) where
       below-sized p (p .variables) [] t
       (subst (λ (l : List (List ℕ)). List·Memᴰ t l) (take-append-drop k (nodesBelow p (p .variables) [])) (Memᴰ·append-left (drop k (nodesBelow p (p .variables) [])) m))
 
-  settled-some : (t : List ℕ) → List·Memᴰ t (take k (nodes p)) → 0 < length t
-  settled-some t m = sized t m .0
-
   pub settled-few : (t : List ℕ) → List·Memᴰ t (take k (nodes p)) → settledBy t < p .variables
   settled-few t m = omega (arith, sized t m .0, sized t m .1)
-
-  -- the counts of the first k nodes add up to k, and a variable that is none of p's has none
-  pub tally-total : WellFormed p → k ≤ length (nodes p) → total (tallyAt p k .counts) ≡ k
-  unfolding tallyAt
-  tally-total w h = counts-total settledBy (take k (nodes p)) (λ t m. let s = settled-few t m in let f = w .few in omega arith) ∙ length-take-le k (nodes p) h
-
-  pub tally-none : (x : ℕ) → p .variables ≤ x → at (tallyAt p k .counts) x ≡ 0
-  unfolding tallyAt
-  tally-none x h = counts-none settledBy (take k (nodes p)) (p .variables) x settled-few h
-
-  -- each count is that of the nodes of one value more than the variable's number
-  pub tally-count : (x : ℕ) → x < 12 → at (tallyAt p k .counts) x ≡ length (keep (λ t. eqb (length t) (suc x)) (take k (nodes p)))
-  unfolding tallyAt
-  tally-count x h =
-      at-counts settledBy (take k (nodes p)) x h
-      ∙ ap length (keep-ext (λ t. eqb (settledBy t) x) (λ t. eqb (length t) (suc x)) (take k (nodes p)) (λ t m. same (length t) (settled-some t m)))
-    where
-      same : (n : ℕ) → 0 < n → eqb (n - 1) x ≡ eqb n (suc x)
-      same n l = go (eqb (n - 1) x) refl
-        where
-          go : (b : Bool) → eqb (n - 1) x ≡ b → b ≡ eqb n (suc x)
-          go true e = let q = eqb-true (n - 1) x e in sym (eq-eqb n (suc x) (omega arith))
-          go false e = let q = eqb-false (n - 1) x e in sym (ne-eqb n (suc x) (λ z. q (omega arith)))
-
-  pub tally-nodes : tallyAt p k .nodes ≡ k
-  unfolding tallyAt
-  tally-nodes = refl
-
-  pub tally-twelve : length (tallyAt p k .counts) ≡ 12
-  unfolding tallyAt
-  tally-twelve = length-counts settledBy (take k (nodes p))
 
 -- ---- a run makes no more nodes than there are
 module _ (p : Problem) (limit room : ℕ) where

@@ -12,7 +12,7 @@ use Rattle.model.specs.Verdict.{Verdict, accepted}
 use Rattle.model.specs.Nogood.{entries, filterVerdict, setsAfter}
 use Rattle.model.specs.Sheet.{verdictOf, problemOf}
 use Rattle.model.specs.Search.{setsAt, nodes, isLive}
-use Rattle.model.specs.Run.{Answer, refusal, ended, finished, spent, full, answerOf, listOf}
+use Rattle.model.specs.Run.{Answer, refusal, answered, ended, finished, spent, full, answerOf, listOf}
 use Rattle.model.specs.Claims.{plansHeld, OneMore}
 
 -- each of the statements holds
@@ -68,7 +68,7 @@ room k = replicate k 9
 
 abbrev heldAfter : Answer → List ℕ → ℕ → List ℕ → List (List ℕ)
 heldAfter (refusal number item) b limit out = []
-heldAfter (ended e) b limit out = plansHeld b limit out e
+heldAfter (answered e) b limit out = plansHeld b limit out e
 
 abbrev pub run : List ℕ → ℕ → ℕ → Answer × List (List ℕ)
 run b limit k = (answerOf b limit (room k), heldAfter (answerOf b limit (room k)) b limit (room k))

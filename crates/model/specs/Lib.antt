@@ -1,4 +1,4 @@
--- The definitions of paper 01, in its order, then the demands as statements and the starred examples.
+-- The definitions of paper 01, in its order, then claims, the words of the demands and the starred examples.
 pub mod Lists
 pub mod Bytes
 pub mod Written

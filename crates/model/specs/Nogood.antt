@@ -9,7 +9,8 @@ use lib.Dec.{T, eqb, ltb, leb}
 use Rattle.model.specs.Lists.{all, any, at, keep, both, either, tabulate}
 use Rattle.model.specs.ValueSets.{maskOf, least}
 use Rattle.model.specs.Problem.{assignments}
-use Rattle.model.specs.Verdict.{Verdict, accepted, refused, ask}
+use Rattle.model.specs.Verdict.{Verdict, accepted, ask, reply, kept}
+pub use Rattle.model.specs.Verdict.{Reply, refusal, answered}
 
 -- An entry of the three lists. An equality adds "variable = value" to the left side.
 -- A disequality says: if all equalities before it hold, the variable has not the value.
@@ -130,20 +131,14 @@ filterVerdict ds xs es us =
 
 -- the lent sets afterwards: what the filter leaves, or as they came where it refused
 unfoldable pub setsAfter : Verdict → List ℕ → List Entry → List ℕ
-setsAfter accepted ds es = filtered ds es
-setsAfter (refused number item) ds es = ds
+setsAfter v ds es = kept v ds (filtered ds es)
 
 -- what the filter answers: the number and the item of a refusal, or how it ended
-pub data FilterAnswer : Type 0 where
-  declined : ℕ → ℕ → FilterAnswer
-  answered : FilterEnding → FilterAnswer
-
-abbrev pub answerBy : Verdict → FilterEnding → FilterAnswer
-answerBy accepted ending = answered ending
-answerBy (refused number item) ending = declined number item
+abbrev pub FilterAnswer : Type 0
+FilterAnswer = Reply FilterEnding
 
 unfoldable pub filterAnswer : List ℕ → List ℕ → List ℕ → List ℕ → FilterAnswer
-filterAnswer ds xs es us = answerBy (filterVerdict ds xs es us) (filterEnding ds (entries xs es us))
+filterAnswer ds xs es us = reply (filterVerdict ds xs es us) (filterEnding ds (entries xs es us))
 
 -- ---- claims about the endings, for any sets and any list; the proofs are in proofs/Endings.antt
 -- no assignment from the sets obeys the nogoods

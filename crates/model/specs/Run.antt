@@ -7,7 +7,8 @@ use lib.Dec.{leb, eqb}
 use Rattle.model.specs.Lists.{keep, flat, tabulate}
 use Rattle.model.specs.Problem.{Problem}
 use Rattle.model.specs.Search.{nodes, isPlan}
-use Rattle.model.specs.Verdict.{Verdict, accepted, refused}
+use Rattle.model.specs.Verdict.{reply, kept}
+pub use Rattle.model.specs.Verdict.{Reply, refusal, answered}
 use Rattle.model.specs.Sheet.{verdictOf, problemOf}
 
 -- how a run ends; each ending carries the plans listed and the nodes made (the paper's trial figure)
@@ -52,28 +53,22 @@ unfoldable pub resultOf : Problem → ℕ → ℕ → Result
 resultOf p limit room = search p limit room (nodes p) 0 []
 
 -- ---- what a caller holds
--- what a run answers: the number and item of a refusal, or the ending
-pub data Answer : Type 0 where
-  refusal : ℕ → ℕ → Answer
-  ended : Ending → Answer
+-- what a run answers: the number and item of a refusal, or how it ended
+abbrev pub Answer : Type 0
+Answer = Reply Ending
 
-unfoldable pub answerFor : Verdict → List ℕ → ℕ → ℕ → Answer
-answerFor accepted b limit room = ended (resultOf (problemOf b) limit room .ending)
-answerFor (refused number item) b limit room = refusal number item
+abbrev pub ended : Ending → Answer
+ended e = answered e
 
 unfoldable pub answerOf : List ℕ → ℕ → List ℕ → Answer
-answerOf b limit out = answerFor (verdictOf b) b limit (length out)
+answerOf b limit out = reply (verdictOf b) (resultOf (problemOf b) limit (length out) .ending)
 
 -- the caller's list after the run: the rows at its front, all bytes after them as they came
 unfoldable pub written : List (List ℕ) → List ℕ → List ℕ
 written rows out = flat rows ++ drop (length (flat rows)) out
 
-unfoldable pub listFor : Verdict → List ℕ → ℕ → List ℕ → List ℕ
-listFor accepted b limit out = written (resultOf (problemOf b) limit (length out) .rows) out
-listFor (refused number item) b limit out = out
-
 unfoldable pub listOf : List ℕ → ℕ → List ℕ → List ℕ
-listOf b limit out = listFor (verdictOf b) b limit out
+listOf b limit out = kept (verdictOf b) out (written (resultOf (problemOf b) limit (length out) .rows) out)
 
 -- ---- the tally
 -- the nodes made, and of these the nodes that settle each of twelve variables (paper 02, #107: trials by place)
@@ -94,12 +89,12 @@ unfoldable pub tallyAt : Problem → ℕ → Tally
 tallyAt p k = record { nodes = k; counts = countsBy settledBy (take k (nodes p)) }
 
 -- the caller's tally after the run: that of the nodes made, or as it came where the sheet was refused
-abbrev pub tallyFor : Answer → Problem → Tally → Tally
-tallyFor (refusal number item) p tally = tally
-tallyFor (ended e) p tally = tallyAt p (nodesIn e)
+abbrev pub tallyFor : Answer → (ℕ → Tally) → Tally → Tally
+tallyFor (refusal number item) made tally = tally
+tallyFor (answered e) made tally = made (nodesIn e)
 
 unfoldable pub tallyOf : List ℕ → ℕ → List ℕ → Tally → Tally
-tallyOf b limit out tally = tallyFor (answerOf b limit out) (problemOf b) tally
+tallyOf b limit out tally = tallyFor (answerOf b limit out) (tallyAt (problemOf b)) tally
 
 -- the listed plans: k rows of n bytes at the front of the list
 unfoldable pub listedPlans : ℕ → ℕ → List ℕ → List (List ℕ)

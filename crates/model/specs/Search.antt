@@ -10,13 +10,17 @@ use Rattle.model.specs.ValueSets.{has, maskOf, members, anyEmpty}
 use Rattle.model.specs.Problem.{Problem, Constraint, pair}
 use Rattle.model.specs.Nogood.{Entry, equality, disequality, filtered}
 
--- the entries that variable j adds to a symmetry's list: "not the image of (j, v)" for every smaller v of j's initial set,
--- then the image of the prefix's own pair as an equality
-unfoldable pub entriesAt : Problem → List ℕ → List ℕ → ℕ → List Entry
-entriesAt p g prefix j =
+-- the entries that variable j, which has value u, adds to a symmetry's list: "not the image of (j, v)" for every smaller v of j's initial set,
+-- then the image of its own pair as an equality
+abbrev pub entriesOf : Problem → List ℕ → ℕ → ℕ → List Entry
+entriesOf p g j u =
     let image : ℕ → ℕ = λ v. at g (pair p j v) in
-    map (λ v. disequality (image v / p .values) (image v % p .values)) (keep (λ v. ltb v (at prefix j)) (members (at (p .initial) j)))
-    ++ (equality (image (at prefix j) / p .values) (image (at prefix j) % p .values) ∷ [])
+    map (λ v. disequality (image v / p .values) (image v % p .values)) (keep (λ v. ltb v u) (members (at (p .initial) j)))
+    ++ (equality (image u / p .values) (image u % p .values) ∷ [])
+
+-- those of variable j of a prefix
+unfoldable pub entriesAt : Problem → List ℕ → List ℕ → ℕ → List Entry
+entriesAt p g prefix j = entriesOf p g j (at prefix j)
 
 -- the nogoods of a symmetry at a prefix, one list
 unfoldable pub nogoodsOf : Problem → List ℕ → List ℕ → List Entry

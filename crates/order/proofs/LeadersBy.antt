@@ -10,10 +10,9 @@ use lib.Dec.{T}
 use lib.ListN.{length}
 use Rattle.model.specs.Lists.{below, at, earlier}
 use Rattle.model.specs.Problem.{Problem, Constraint, pair, takes, isSolution}
-use Rattle.model.specs.Claims.{Leader, Chain}
-use Rattle.model.specs.Claims as C
+use Rattle.model.specs.Claims.{Leader, Chain, here, step}
 use Rattle.order.specs.Order.{Ordering}
-use Rattle.order.specs.Reordered.{position, read, write, valueOf, scopeIn, rowIn, constraintIn, renamed, symmetryIn, reordered, LeaderBy, ChainBy, here, step}
+use Rattle.order.specs.Reordered.{position, read, write, valueOf, scopeIn, rowIn, constraintIn, renamed, symmetryIn, reordered, earlierBy}
 use Rattle.model.specs.WellFormed.{WellFormed, GoodConstraint}
 use Rattle.model.proofs.Lists.{map-ext, below-i, below-e, length-below, at-below, at-ext, Sorted, sorted-ext, ascending-sorted}
 use Rattle.model.proofs.Tree.{solution-e}
@@ -42,7 +41,7 @@ module _ (p : Problem) (order : List ℕ) (o : Ordering (p .variables) order) (w
   took g a b m s t = R.takes-read p order o w g (w .symmetric g m) a b (P.sol-lt p w a s) (P.sol-lt p w b t)
 
   -- ---- leaders
-  pub leader-read : (s : List ℕ) → length s ≡ p .variables → Leader (reordered order p) (read order s) ↔ LeaderBy order p s
+  pub leader-read : (s : List ℕ) → length s ≡ p .variables → Leader earlier (reordered order p) (read order s) ↔ Leader (earlierBy order) p s
   leader-read s n = (
     λ l. let sol : T (isSolution p s) = subst T (sym (R.solution-read p order o w s n)) (l .solves) in record {
       solves = sol;
@@ -60,21 +59,22 @@ module _ (p : Problem) (order : List ℕ) (o : Ordering (p .variables) order) (w
     },
   )
 
-  pub leader-write : (s : List ℕ) → length s ≡ p .variables → Leader (reordered order p) s ↔ LeaderBy order p (write order s)
-  leader-write s n = subst (λ (z : List ℕ). Leader (reordered order p) z ↔ LeaderBy order p (write order s)) (R.read-write p order o s n) (leader-read (write order s) (R.write-length p order o s))
+  pub leader-write : (s : List ℕ) → length s ≡ p .variables → Leader earlier (reordered order p) s ↔ Leader (earlierBy order) p (write order s)
+  leader-write s n = subst (λ (z : List ℕ). Leader earlier (reordered order p) z ↔ Leader (earlierBy order) p (write order s)) (R.read-write p order o s n)
+      (leader-read (write order s) (R.write-length p order o s))
 
   -- ---- chains
-  pub chain-end : (a c : List ℕ) → T (isSolution p a) → ChainBy order p a c → T (isSolution p c)
+  pub chain-end : (a c : List ℕ) → T (isSolution p a) → Chain (earlierBy order) p a c → T (isSolution p c)
   chain-end a c s here = s
   chain-end a c s (step b e g ch m t sol l) = sol
 
-  end-of : (a c : List ℕ) → T (isSolution p2 a) → Chain p2 a c → T (isSolution p2 c)
-  end-of a c s C.here = s
-  end-of a c s (C.step b e g ch m t sol l) = sol
+  end-of : (a c : List ℕ) → T (isSolution p2 a) → Chain earlier p2 a c → T (isSolution p2 c)
+  end-of a c s here = s
+  end-of a c s (step b e g ch m t sol l) = sol
 
-  pub chain-write : (a c : List ℕ) → T (isSolution (reordered order p) a) → Chain (reordered order p) a c → ChainBy order p (write order a) (write order c)
-  chain-write a c s C.here = here
-  chain-write a c s (C.step b e g ch m t sol l) =
+  pub chain-write : (a c : List ℕ) → T (isSolution (reordered order p) a) → Chain earlier (reordered order p) a c → Chain (earlierBy order) p (write order a) (write order c)
+  chain-write a c s here = here
+  chain-write a c s (step b e g ch m t sol l) =
       let r = Memᴰ·of-map (symmetryIn order p) (p .symmetries) m in
       let sb = end-of a b s ch in
       let qb = again b sb in

@@ -4,4 +4,5 @@ pub mod Reordered
 pub mod LeadersBy
 pub mod SetsBy
 pub mod RunBy
+pub mod Demanded
 pub mod Placing

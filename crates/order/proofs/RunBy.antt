@@ -1,22 +1,22 @@
 -- The run of any well-formed problem in any order (specs/RunBy): what it lists, its leaders, chains and counts. Assumes nothing.
 use mathlib.Core.Path.{_≡_, refl, sym, ap, ap₂, _∙_, subst}
-use mathlib.Core.Bool.{Bool, true, false, not}
+use mathlib.Core.Bool.{Bool, true, false}
 use mathlib.Core.Logic.{_↔_, ∥∥₁-elim, ∥∥₁-map}
 use mathlib.Core.List.{List, [], _∷_, map, List·Memᴰ, List·Memᴰ·head, List·Memᴰ·tail, List·Memᴰ·not-nil, Memᴰ·cast, Memᴰ·map, Memᴰ·of-map, Sublistᴰ, Sublistᴰ·slnil, Sublistᴰ·cons, Sublistᴰ·cons-cons}
 use Prim.Native.Nat.{ℕ, zero, suc, _≤_, _<_}
 use native.Mathlib.Omega.{arith}
-use lib.Dec.{T, T-not, not-T, T-prop}
+use lib.Dec.{T, T-prop}
 use lib.ListN.{length, take, length-map}
-use Rattle.model.specs.Lists.{both, any, keep, below, at, earlier, rowsAscend, total}
-use Rattle.model.specs.Problem.{Problem, pair, isSolution, assignments, takes, withSymmetries}
+use Rattle.model.specs.Lists.{keep, below, at, earlier, rowsAscend, total}
+use Rattle.model.specs.Problem.{Problem, pair, isSolution, assignments, withSymmetries}
 use Rattle.model.specs.Search.{nodes}
-use Rattle.model.specs.Run.{Ending, finished, spent, full, plansIn, nodesIn, resultOf, settledBy, countsBy}
-use Rattle.model.specs.Claims.{isLeader, leaders}
+use Rattle.model.specs.Run.{Ending, finished, plansIn, nodesIn, resultOf, settledBy, countsBy}
+use Rattle.model.specs.Claims.{Leader, isLeader, leaders, Chain, CountsAt}
 use Rattle.order.specs.Order.{Ordering}
-use Rattle.order.specs.Reordered.{read, write, earlierBy, renamed, symmetryIn, reordered, LeaderBy, ChainBy}
-use Rattle.order.specs.RunBy.{resultBy, isLeaderBy, leadersBy, CountsBy, placeCounts}
+use Rattle.order.specs.Reordered.{read, write, earlierBy, renamed, symmetryIn, reordered}
+use Rattle.order.specs.RunBy.{resultBy, leadersBy, placeCounts}
 use Rattle.model.specs.WellFormed.{WellFormed, Respected}
-use Rattle.model.proofs.Lists.{both-i, both-l, both-r, T-ext, any-i, any-e, keep-i, keep-e, sorted-keep, rowsAscend-of, mem-at}
+use Rattle.model.proofs.Lists.{both-l, T-ext, keep-i, keep-e, sorted-keep, rowsAscend-of, mem-at}
 use Rattle.model.proofs.Assignments.{assignments-sorted, assign-e}
 use Rattle.model.proofs.Tree.{solution-e, plans-of-tree, well-sized}
 use Rattle.model.proofs.Leaders.{sol-drawn, leader-e, leader-i}
@@ -66,63 +66,43 @@ module _ (p : Problem) (w : WellFormed p) (respected : Respected p) (order : Lis
   r2 : Respected (reordered order p)
   r2 = O.respected-reordered p order o w respected
 
-  abbrev beats : List ℕ → List ℕ → List ℕ → Bool
-  beats s g t = both (isSolution p t) (both (earlierBy order t s) (takes p g t s))
-
-  -- the test says what it should
-  pub leaderBy-e : (s : List ℕ) → T (isLeaderBy order p s) → LeaderBy order p s
-  leaderBy-e s t = record {
-    solves = both-l (isSolution p s) _ t;
-    unbeaten = λ g u m su e tk. T-not (any (λ g. any (beats s g) (assignments (p .initial))) (p .symmetries))
-        (both-r (isSolution p s) (not (any (λ g. any (beats s g) (assignments (p .initial))) (p .symmetries))) t)
-        (any-i (λ g. any (beats s g) (assignments (p .initial))) (p .symmetries) g m (any-i (beats s g) (assignments (p .initial)) u (sol-drawn p w u su)
-        (both-i (isSolution p u) (both (earlierBy order u s) (takes p g u s)) su (both-i (earlierBy order u s) (takes p g u s) e tk))));
-  }
-
-  pub leaderBy-i : (s : List ℕ) → LeaderBy order p s → T (isLeaderBy order p s)
-  leaderBy-i s l =
-      both-i (isSolution p s) (not (any (λ g. any (beats s g) (assignments (p .initial))) (p .symmetries))) (l .solves)
-      (not-T (any (λ g. any (beats s g) (assignments (p .initial))) (p .symmetries)) (λ t.
-      let r = any-e (λ g. any (beats s g) (assignments (p .initial))) (p .symmetries) t in
-      let q = any-e (beats s (r .0)) (assignments (p .initial)) (r .2) in
-      let u = q .0 in
-      let b = both-r (isSolution p u) (both (earlierBy order u s) (takes p (r .0) u s)) (q .2) in
-      l .unbeaten (r .0) u (r .1) (both-l (isSolution p u) (both (earlierBy order u s) (takes p (r .0) u s)) (q .2)) (both-l (earlierBy order u s) (takes p (r .0) u s) b) (both-r (earlierBy order u s) (takes p (r .0) u s) b)))
-
   drawn-length : (r : List ℕ) → List·Memᴰ r (assignments (read order (p .initial))) → length r ≡ p .variables
   drawn-length r m = assign-e (read order (p .initial)) r m .0 ∙ O.read-length p order o (p .initial)
 
   -- the leaders in the order are those of the reordered problem, written by place number
   pub leadersBy-is : map (write order) (leaders (reordered order p)) ≡ leadersBy order p
   leadersBy-is =
-      keep-map (write order) (isLeader p2) (isLeaderBy order p) (assignments (read order (p .initial)))
+      keep-map (write order) (isLeader earlier p2) (isLeader (earlierBy order) p) (assignments (read order (p .initial)))
       (λ r m. let n = drawn-length r m in
-      T-ext (isLeader p2 r) (isLeaderBy order p (write order r)) (λ t. leaderBy-i (write order r) (L.leader-write p order o w r n .0 (leader-e p2 w2 r2 r t)))
-      (λ t. leader-i p2 w2 r2 r (L.leader-write p order o w r n .1 (leaderBy-e (write order r) t))))
+      T-ext (isLeader earlier p2 r) (isLeader (earlierBy order) p (write order r))
+      (λ t. leader-i (earlierBy order) p w (write order r) (L.leader-write p order o w r n .0 (leader-e earlier p2 w2 r t)))
+      (λ t. leader-i earlier p2 w2 r (L.leader-write p order o w r n .1 (leader-e (earlierBy order) p w (write order r) t))))
 
   pub leadersBy-ascend : T (rowsAscend (map (read order) (leadersBy order p)))
   leadersBy-ascend =
       subst (λ (l : List (List ℕ)). T (rowsAscend l))
-      (sym (map-back (write order) (read order) (leaders p2) (λ r m. O.read-write p order o r (drawn-length r (keep-e (isLeader p2) (assignments (read order (p .initial))) r m .0)))) ∙ ap (map (read order)) leadersBy-is)
-      (rowsAscend-of (leaders p2) (sorted-keep (λ (x y : List ℕ). T (earlier x y)) (isLeader p2) (assignments (read order (p .initial))) (assignments-sorted (read order (p .initial)))))
+      (sym (map-back (write order) (read order) (leaders p2) (λ r m. O.read-write p order o r (drawn-length r (keep-e (isLeader earlier p2) (assignments (read order (p .initial))) r m .0))))
+      ∙ ap (map (read order)) leadersBy-is)
+      (rowsAscend-of (leaders p2) (sorted-keep (λ (x y : List ℕ). T (earlier x y)) (isLeader earlier p2) (assignments (read order (p .initial))) (assignments-sorted (read order (p .initial)))))
 
-  pub leadersBy-hold : (s : List ℕ) → List·Memᴰ s (leadersBy order p) ↔ LeaderBy order p s
+  pub leadersBy-hold : (s : List ℕ) → List·Memᴰ s (leadersBy order p) ↔ Leader (earlierBy order) p s
   leadersBy-hold s = (
-    λ m. leaderBy-e s (keep-e (isLeaderBy order p) (map (write order) (assignments (read order (p .initial)))) s m .1),
+    λ m. leader-e (earlierBy order) p w s (keep-e (isLeader (earlierBy order) p) (map (write order) (assignments (read order (p .initial)))) s m .1),
     λ l. let n = solution-e p s (l .solves) .sized in
         let d = sol-drawn p2 w2 (read order s) (subst T (O.solution-read p order o w s n) (l .solves)) in
-        keep-i (isLeaderBy order p) (map (write order) (assignments (read order (p .initial)))) s (Memᴰ·cast (sym (O.write-read p order o s n)) (Memᴰ·map (write order) d)) (leaderBy-i s l),
+        keep-i (isLeader (earlierBy order) p) (map (write order) (assignments (read order (p .initial)))) s
+        (Memᴰ·cast (sym (O.write-read p order o s n)) (Memᴰ·map (write order) d)) (leader-i (earlierBy order) p w s l),
   )
 
   -- every solution is reached from a leader by a chain that reads later and later in the order, and nothing else is
-  pub chainsBy : (s : List ℕ) → length s ≡ p .variables → T (isSolution p s) ↔ ∥ ((l : List ℕ) × List·Memᴰ l (leadersBy order p) × ChainBy order p l s) ∥₁
+  pub chainsBy : (s : List ℕ) → length s ≡ p .variables → T (isSolution p s) ↔ ∥ ((l : List ℕ) × List·Memᴰ l (leadersBy order p) × Chain (earlierBy order) p l s) ∥₁
   chainsBy s n = (
     λ sol. ∥∥₁-map (C.chains p2 w2 (leaders p2) refl (read order s) (O.read-length p order o s) .0 (subst T (O.solution-read p order o w s n) sol))
         (λ r. (
           write order (r .0),
           subst (List·Memᴰ (write order (r .0))) leadersBy-is (Memᴰ·map (write order) (r .1)),
-          subst (ChainBy order p (write order (r .0))) (O.write-read p order o s n)
-              (L.chain-write p order o w (r .0) (read order s) (both-l (isSolution p2 (r .0)) _ (keep-e (isLeader p2) (assignments (read order (p .initial))) (r .0) (r .1) .1)) (r .2)),
+          subst (Chain (earlierBy order) p (write order (r .0))) (O.write-read p order o s n)
+              (L.chain-write p order o w (r .0) (read order s) (both-l (isSolution p2 (r .0)) _ (keep-e (isLeader earlier p2) (assignments (read order (p .initial))) (r .0) (r .1) .1)) (r .2)),
         )),
     λ h. ∥∥₁-elim h (T-prop (isSolution p s)) (λ r. L.chain-end p order o w (r .0) s (leadersBy-hold (r .0) .0 (r .1) .solves) (r .2)),
   )
@@ -157,14 +137,9 @@ module _ (p : Problem) (w : WellFormed p) (respected : Respected p) (order : Lis
       none-of [] h = refl
       none-of (l ∷ r) h = absurd (h l (List·Memᴰ·head refl))
 
-  pub counts-by : (limit room : ℕ) (e : Ending) → resultBy order p limit room .ending ≡ e → (nodesIn e ≤ limit) × CountsBy (reordered order p) limit room e
+  pub counts-by : (limit room : ℕ) (e : Ending) → resultBy order p limit room .ending ≡ e → (nodesIn e ≤ limit) × CountsAt (reordered order p) limit room e
   unfolding resultBy
-  counts-by limit room e h = (subst (λ (x : Ending). nodesIn x ≤ limit) h (R.nodes-allowed p2 limit room), same e (R.counts p2 limit room e h))
-    where
-      same : (e : Ending) → R.Counted (reordered order p) limit room e → CountsBy (reordered order p) limit room e
-      same (finished plans made) h = h
-      same (spent plans made) h = h
-      same (full plans made) h = h
+  counts-by limit room e h = (subst (λ (x : Ending). nodesIn x ≤ limit) h (R.nodes-allowed p2 limit room), R.counts p2 limit room e h)
 
 -- further symmetries: the reordered problem gets their tables
 pub fewer-by : (p : Problem) (order : List ℕ) (gs : List (List ℕ)) → WellFormed p → Ordering (p .variables) order → ((g : List ℕ) → List·Memᴰ g (p .symmetries) → List·Memᴰ g gs) →

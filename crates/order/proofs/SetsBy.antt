@@ -1,4 +1,4 @@
--- The sets at a prefix of the reordered problem, written by place number, are the largest in paper 01's words (specs/RunBy, ConsistentBy). Assumes nothing.
+-- The sets at a prefix of the reordered problem, written by place number, are the largest in paper 01's words (model's Largest). Assumes nothing.
 use mathlib.Core.Path.{_≡_, refl, sym, ap, ap₂, _∙_, subst, subst₂}
 use mathlib.Core.Bool.{Bool, true, false, not}
 use mathlib.Core.Logic.{_⊎_, ⊎-elim}
@@ -12,11 +12,11 @@ use Rattle.model.specs.Lists.{both, any, keep, flat, below, at}
 use Rattle.model.specs.ValueSets.{has, members, anyEmpty}
 use Rattle.model.specs.Problem.{Problem, Constraint, pair, assignments}
 use Rattle.model.specs.Nogood.{Entry, equality, disequality, is, obeysFrom, obeys, filtered}
-use Rattle.model.specs.Search.{entriesAt, nogoodsOf, rowWith, setsAt, isLive}
-use Rattle.model.specs.Claims.{Consistent}
+use Rattle.model.specs.Search.{entriesOf, rowWith, setsAt, isLive}
+use Rattle.model.specs.Claims.{nogoodsIn, Consistent, Largest}
 use Rattle.order.specs.Order.{Ordering}
 use Rattle.order.specs.Reordered.{position, read, write, valueOf, scopeIn, rowIn, constraintIn, renamed, symmetryIn, reordered}
-use Rattle.order.specs.RunBy.{entriesBy, nogoodsBy, ConsistentBy, Largest-by}
+use Rattle.order.specs.RunBy.{setsBy, isLiveBy}
 use Rattle.model.specs.WellFormed.{WellFormed, GoodConstraint, GoodSymmetry}
 use Rattle.model.proofs.Lists.{both-i, both-l, both-r, T-of, stable, not-of, of-not, any-i, any-e, keep-e, flat-e, map-append, map-ext, map-flat-map, below-e, at-ext, at-out, getD-at, at-replicate, ascending-sorted}
 use Rattle.model.proofs.Sets.{inside-antisym, has-at-lt, member, empty-i, empty-e, members-e}
@@ -179,8 +179,8 @@ module _ (p : Problem) (order : List ℕ) (o : Ordering (p .variables) order) (w
       image-var : (j v : ℕ) → j < n → v < d → image j v / d < n
       image-var j v h l = O.var-lt p order o w (image j v) (O.image-lt p order o w g good (pair p (place j) v) (P.pair-lt p w (place j) v (O.place-lt p order o j h) l))
 
-      entries-same : (j : ℕ) → j < length prefix → entriesAt p2 (symmetryIn order p g) prefix j ≡ map (ren stand) (entriesBy order p g prefix j)
-      unfolding entriesAt entriesBy ren
+      entries-same : (j : ℕ) → j < length prefix → entriesOf p2 (symmetryIn order p g) j (at prefix j) ≡ map (ren stand) (entriesOf p g (at order j) (at prefix j))
+      unfolding ren
       entries-same j h =
           let l : j < n = omega arith in
           let D2 : ℕ → Entry = λ v. disequality (at (symmetryIn order p g) (pair p2 j v) / d) (at (symmetryIn order p g) (pair p2 j v) % d) in
@@ -197,14 +197,14 @@ module _ (p : Problem) (order : List ℕ) (o : Ordering (p .variables) order) (w
           (ap₂ {C = List Entry} (λ a b. equality a b ∷ []) (image-div j u l (small j h)) (image-mod j u l (small j h)))
           ∙ sym (map-append (ren stand) (map D S) (equality (image j u / d) (image j u % d) ∷ []))
 
-      nogoods-same : nogoodsOf p2 (symmetryIn order p g) prefix ≡ map (ren stand) (nogoodsBy order p g prefix)
-      unfolding nogoodsOf nogoodsBy
+      nogoods-same : nogoodsIn (λ x. x) p2 (symmetryIn order p g) prefix ≡ map (ren stand) (nogoodsIn (at order) p g prefix)
       nogoods-same =
-          ap flat (map-ext (entriesAt p2 (symmetryIn order p g) prefix) (λ j. map (ren stand) (entriesBy order p g prefix j)) (below (length prefix)) (λ j m. entries-same j (below-e (length prefix) j m)))
-          ∙ sym (map-flat-map (ren stand) (entriesBy order p g prefix) (below (length prefix)))
+          ap flat (map-ext (λ j. entriesOf p2 (symmetryIn order p g) j (at prefix j)) (λ j. map (ren stand) (entriesOf p g (at order j) (at prefix j))) (below (length prefix))
+          (λ j m. entries-same j (below-e (length prefix) j m)))
+          ∙ sym (map-flat-map (ren stand) (λ j. entriesOf p g (at order j) (at prefix j)) (below (length prefix)))
 
-      entry-small : (j : ℕ) → j < length prefix → (e : Entry) → List·Memᴰ e (entriesBy order p g prefix j) → varOf e < n
-      unfolding entriesBy varOf
+      entry-small : (j : ℕ) → j < length prefix → (e : Entry) → List·Memᴰ e (entriesOf p g (at order j) (at prefix j)) → varOf e < n
+      unfolding varOf
       entry-small j h e m =
           let l : j < n = omega arith in
           let D : ℕ → Entry = λ v. disequality (image j v / d) (image j v % d) in
@@ -216,15 +216,14 @@ module _ (p : Problem) (order : List ℕ) (o : Ordering (p .variables) order) (w
           (λ k. subst (λ (z : Entry). varOf z < n) (sym (List·Memᴰ·eq-of-singleton k)) (image-var j (at prefix j) l (small j h)))
           (List·Memᴰ·append-cases (map D S) m)
 
-      nogoods-small : (e : Entry) → List·Memᴰ e (nogoodsBy order p g prefix) → varOf e < n
-      unfolding nogoodsBy
+      nogoods-small : (e : Entry) → List·Memᴰ e (nogoodsIn (at order) p g prefix) → varOf e < n
       nogoods-small e m =
-          let r = flat-e (map (entriesBy order p g prefix) (below (length prefix))) e m in
-          let q = Memᴰ·of-map (entriesBy order p g prefix) (below (length prefix)) (r .1) in
+          let r = flat-e (map (λ j. entriesOf p g (at order j) (at prefix j)) (below (length prefix))) e m in
+          let q = Memᴰ·of-map (λ j. entriesOf p g (at order j) (at prefix j)) (below (length prefix)) (r .1) in
           entry-small (q .0) (below-e (length prefix) (q .0) (q .1)) e (subst (List·Memᴰ e) (sym (q .2)) (r .2))
 
-      filter-same : (ds : List ℕ) → length ds ≡ n → filtered (read order ds) (nogoodsOf p2 (symmetryIn order p g) prefix) ≡ read order (filtered ds (nogoodsBy order p g prefix))
-      filter-same ds e = ap (filtered (read order ds)) nogoods-same ∙ filtered-read ds e (nogoodsBy order p g prefix) nogoods-small
+      filter-same : (ds : List ℕ) → length ds ≡ n → filtered (read order ds) (nogoodsIn (λ x. x) p2 (symmetryIn order p g) prefix) ≡ read order (filtered ds (nogoodsIn (at order) p g prefix))
+      filter-same ds e = ap (filtered (read order ds)) nogoods-same ∙ filtered-read ds e (nogoodsIn (at order) p g prefix) nogoods-small
 
     -- ---- rows inside the sets
     module _ (c : Constraint) (m : List·Memᴰ c (p .constraints)) (ds : List ℕ) where
@@ -266,7 +265,7 @@ module _ (p : Problem) (order : List ℕ) (o : Ordering (p .variables) order) (w
           (subst (λ (z : ℕ). T (has (at ds z) (valueOf xs (k .0) z))) e (read-has ds (stand y) (valueOf xs (k .0) (place (stand y))) (q .0) .1), λ z. q .1 (ap stand z) ∙ ap (valueOf xs (k .0)) e))))
 
     -- ---- consistent in the order exactly if consistent in the reordered problem
-    pub consistent-read : (ds : List ℕ) → ConsistentBy order p prefix ds → Consistent (reordered order p) prefix (read order ds)
+    pub consistent-read : (ds : List ℕ) → Consistent (at order) p prefix ds → Consistent (λ x. x) (reordered order p) prefix (read order ds)
     consistent-read ds c = record {
       sized = O.read-length p order o ds;
       sixteen = read-sets ds (c .sixteen) .1;
@@ -279,11 +278,11 @@ module _ (p : Problem) (order : List ℕ) (o : Ordering (p .variables) order) (w
           (let s = O.scope-e p order o (q .0 .scope) (g .inside) (g .ordered) i (subst (λ (y : Constraint). List·Memᴰ i (y .scope)) (sym (q .2)) j) in
           rows-into (q .0) (q .1) ds i v (s .0) (c .rows (q .0) (q .1) (place i) v (s .1) (read-has ds i v t .1)));
       filters = λ h k. let q = Memᴰ·of-map (symmetryIn order p) (p .symmetries) k in
-          subst (λ (y : List ℕ). filtered (read order ds) (nogoodsOf p2 y prefix) ≡ read order ds) (q .2)
+          subst (λ (y : List ℕ). filtered (read order ds) (nogoodsIn (λ x. x) p2 y prefix) ≡ read order ds) (q .2)
           (filter-same (q .0) (w .symmetric (q .0) (q .1)) ds (c .sized) ∙ ap (read order) (c .filters (q .0) (q .1)));
     }
 
-    pub consistent-write : (ds : List ℕ) → length ds ≡ n → ((x : ℕ) → at ds x < 2 ^ 16) → Consistent (reordered order p) prefix (read order ds) → ConsistentBy order p prefix ds
+    pub consistent-write : (ds : List ℕ) → length ds ≡ n → ((x : ℕ) → at ds x < 2 ^ 16) → Consistent (λ x. x) (reordered order p) prefix (read order ds) → Consistent (at order) p prefix ds
     consistent-write ds e s c = record {
       sized = e;
       sixteen = s;
@@ -292,7 +291,7 @@ module _ (p : Problem) (order : List ℕ) (o : Ordering (p .variables) order) (w
       given = λ i v l t. c .given i v l (has-read ds i v (omega arith) t);
       rows = λ z k x v j t. rows-from z k ds x v (lt x v t)
           (c .rows (constraintIn order z) (Memᴰ·map (constraintIn order) k) (stand x) v (O.stand-in p order o (z .scope) (w .constrained z k .inside) (w .constrained z k .ordered) x j) (there x v t));
-      filters = λ g k. O.read-inj p order o (filtered ds (nogoodsBy order p g prefix)) ds (length-filtered ds (nogoodsBy order p g prefix) ∙ e) e
+      filters = λ g k. O.read-inj p order o (filtered ds (nogoodsIn (at order) p g prefix)) ds (length-filtered ds (nogoodsIn (at order) p g prefix) ∙ e) e
           (sym (filter-same g (w .symmetric g k) ds e) ∙ c .filters (symmetryIn order p g) (Memᴰ·map (symmetryIn order p) k));
     }
       where
@@ -306,14 +305,14 @@ module _ (p : Problem) (order : List ℕ) (o : Ordering (p .variables) order) (w
         there x v t = has-read ds (stand x) v (O.stand-lt p order o x (lt x v t)) (subst (λ (z : ℕ). T (has (at ds z) v)) (sym (at-stand x (lt x v t))) t)
 
   -- ---- sets of which none is empty fix values of the initial sets
-  small-read : (prefix es : List ℕ) → length prefix ≤ n → Consistent p2 prefix es → anyEmpty es ≡ false → (j : ℕ) → j < length prefix → at prefix j < d
+  small-read : (prefix es : List ℕ) → length prefix ≤ n → Consistent (λ x. x) p2 prefix es → anyEmpty es ≡ false → (j : ℕ) → j < length prefix → at prefix j < d
   small-read prefix es short c some j h =
       let l : j < n = omega arith in
       let r = member (at es j) (c .sixteen j) (λ e. of-not (anyEmpty es) some (empty-i es j (omega (arith, c .sized)) e)) in
       let v = r .0 in
       subst (λ (z : ℕ). z < d) (c .given j v h (r .2)) (P.init-lt p w (place j) v (O.place-lt p order o j l) (read-has (p .initial) j v (c .inside j v (r .2)) .1))
 
-  small-by : (prefix es : List ℕ) → length prefix ≤ n → ConsistentBy order p prefix es → anyEmpty es ≡ false → (j : ℕ) → j < length prefix → at prefix j < d
+  small-by : (prefix es : List ℕ) → length prefix ≤ n → Consistent (at order) p prefix es → anyEmpty es ≡ false → (j : ℕ) → j < length prefix → at prefix j < d
   small-by prefix es short c some j h =
       let l : j < n = omega arith in
       let k = O.place-lt p order o j l in
@@ -328,14 +327,14 @@ module _ (p : Problem) (order : List ℕ) (o : Ordering (p .variables) order) (w
       of-not (anyEmpty es) some (empty-i es (place (r .0)) (omega (arith, O.place-lt p order o (r .0) l)) (sym (O.read-at p order o es (r .0) l) ∙ r .2)))
 
   -- the sets at a prefix are the largest
-  pub largest-by : (prefix : List ℕ) → length prefix ≤ p .variables → Largest-by order p prefix
+  pub largest-by : (prefix : List ℕ) → length prefix ≤ p .variables → Largest (at order) p prefix (isLiveBy order p prefix) (setsBy order p prefix)
   unfolding isLive
   largest-by prefix short = (
     λ t. let c = live-consistent p2 prefix s t in
         let some = not-of (anyEmpty (setsAt p2 prefix)) (T-not (anyEmpty (setsAt p2 prefix)) t) in
         let small = small-read prefix (setsAt p2 prefix) short c some in (
           consistent-write prefix short small (write order (setsAt p2 prefix)) (O.write-length p order o (setsAt p2 prefix)) (written-small (setsAt p2 prefix) (c .sixteen))
-              (subst (Consistent p2 prefix) (sym (O.read-write p order o (setsAt p2 prefix) (c .sized))) c),
+              (subst (Consistent (λ x. x) p2 prefix) (sym (O.read-write p order o (setsAt p2 prefix) (c .sized))) c),
           λ es k x v q. let l : x < n = subst (λ (m : ℕ). x < m) (k .sized) (has-at-lt es x v q) in
               subst (λ (z : ℕ). T (has z v)) (sym (O.write-at p order o (setsAt p2 prefix) x l))
               (consistent-inside p2 prefix s t (read order es) (consistent-read prefix short small es k) (stand x) v (has-read es (stand x) v (O.stand-lt p order o x l) (subst (λ (z : ℕ). T (has (at es z) v)) (sym (O.place-stand p order o x l)) q))),

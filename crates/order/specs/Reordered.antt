@@ -1,13 +1,13 @@
 -- A problem with its variables in another order: variable i of `reordered order p` is variable order[i] of p (paper 02, request 108).
 -- Prefixes, nodes, sets and counts of a run that is lent pairs are those of the reordered problem; rows are written by place number.
 use mathlib.Core.Bool.{Bool}
-use mathlib.Core.List.{List, map, List·Memᴰ}
+use mathlib.Core.List.{List, map}
 use Prim.Native.Nat.{ℕ, _*_, _/_, _%_}
 use lib.ListN.{length}
-use lib.Dec.{T, eqb}
+use lib.Dec.{eqb}
 use Rattle.model.specs.Lists.{any, keep, below, at, earlier}
 use Rattle.model.specs.ValueSets.{least}
-use Rattle.model.specs.Problem.{Problem, Constraint, pair, isSolution, takes}
+use Rattle.model.specs.Problem.{Problem, Constraint, pair}
 
 -- where x stands in a list: the first index (the length where it does not stand there)
 unfoldable pub position : List ℕ → ℕ → ℕ
@@ -59,14 +59,3 @@ reordered order p =
       constraints = map (constraintIn order) (p .constraints);
       symmetries = map (symmetryIn order p) (p .symmetries);
     }
-
--- ---- leaders and chains of p where rows are read in the order
--- a solution onto which no symmetry takes a solution that reads earlier in the order
-pub record LeaderBy (order : List ℕ) (p : Problem) (s : List ℕ) : Type 0 where
-  pub solves : T (isSolution p s)
-  pub unbeaten : (g t : List ℕ) → List·Memᴰ g (p .symmetries) → T (isSolution p t) → T (earlierBy order t s) → T (takes p g t s) → ⊥
-
--- from a to c by symmetries, one after another, each step giving a solution that reads later in the order than the one before
-pub data ChainBy (order : List ℕ) (p : Problem) (a : List ℕ) : List ℕ → Type 0 where
-  here : ChainBy order p a a
-  step : (b c g : List ℕ) → ChainBy order p a b → List·Memᴰ g (p .symmetries) → T (takes p g b c) → T (isSolution p c) → T (earlierBy order b c) → ChainBy order p a c

@@ -1,23 +1,24 @@
--- The demands, of what `run` answers and writes: from its contract and model's theorems about the definitions. Assumes nothing.
-use mathlib.Core.Path.{_≡_, refl, sym, ap, ap₂, _∙_, subst, subst₂}
+-- The demands, of what `run`, `run_with` and `run_lent` answer, write and count: from their contracts and order's theorems about the definitions. Assumes nothing.
+use mathlib.Core.Path.{_≡_, refl, sym, ap, _∙_, subst, subst₂}
 use mathlib.Core.Logic.{_↔_}
-use mathlib.Core.List.{List, List·Memᴰ, Sublistᴰ}
+use mathlib.Core.List.{List, [], map, List·Memᴰ, Sublistᴰ}
 use Prim.Native.Nat.{ℕ, _*_}
 use native.Mathlib.Omega.{arith}
 use lib.Dec.{T}
-use lib.ListN.{length, drop}
-use lib.Seq.{drop-append-seam}
-use Rattle.model.specs.Lists.{flat, rowsAscend}
+use lib.ListN.{drop}
+use Rattle.model.specs.Lists.{rowsAscend}
 use Rattle.model.specs.Problem.{isSolution}
-use Rattle.model.specs.Verdict.{Verdict, accepted, refused, isAccepted}
-use Rattle.model.specs.Sheet.{verdictOf, problemOf}
-use Rattle.model.specs.Run.{ended, refusal, answerOf, listOf, resultOf, written, plansIn}
+use Rattle.model.specs.Run.{ended, refusal, plansIn, listedPlans}
 use Rattle.model.specs.Run as Run
-use Rattle.model.specs.Claims.{leaders, Tallied, Chain}
+use Rattle.model.specs.Claims.{Chain}
 use Rattle.model.proofs.Lists.{rowsAscend-take}
-use Rattle.model.proofs.Room.{length-flat}
-use Rattle.model.proofs.Runs.{rows-counted, rows-sized}
-use Rattle.model.proofs.Demands as M
+use Rattle.order.specs.Reordered.{read, earlierBy}
+use Rattle.order.specs.RunBy.{Input, sheetInput, placeTally, leadersBy, answerBy, listBy, talliedBy}
+use Rattle.order.specs.Demanded.{Tallied, Demanded, Fewer}
+use Rattle.order.proofs.RunBy.{take-map}
+use Rattle.order.proofs.Demanded.{ran-by, demanded-sheet, fewer-sheet, sheet-run}
+use Rattle.run_input.specs.Lent.{lentInput}
+use Rattle.run_input.proofs.Lent.{demanded-lent, fewer-lent}
 use Rattle.run_state.specs.Meaning.{tallyIn, endingOf}
 use Rattle.run.specs.Meaning.{means}
 use Rattle.run_state.specs.declared.Tally.{Tally}
@@ -25,9 +26,7 @@ use Rattle.run_state.specs.declared.Ending.{Ending}
 use Rattle.run_state.specs.declared.Ending.the-variants.{Finished, Spent, Full}
 use Rattle.run.specs.declared.Answer.{Answer}
 use Rattle.run.specs.declared.Answer.the-variants.{Refused, Ended}
-use Rattle.run.specs.Calls.{Call, CallWith}
-use Rattle.promises.specs.Demands.{plansFrom, AtEnd, AtFinish, Demands}
-use Rattle.promises.proofs.Refusals.{answer-refused, list-refused}
+use Rattle.promises.specs.Demands.{AtEnd, AtFinish, Demands, TallyHeld, MoreHeld, Run-demands, Tally-demands, Lent-demands, More-demands, More-demands-lent}
 
 -- ---- an answer is known by what it means
 pub is-refused : (r : Answer) (number item : ℕ) → means r ≡ refusal number item → r ≡ Refused number item
@@ -43,74 +42,95 @@ is-finished (Finished a b) plans nodes h = cc
 is-finished (Spent a b) plans nodes h = absurd (let z : _≡_ {A = ℕ} 0 1 = cc in omega arith)
 is-finished (Full a b) plans nodes h = absurd (let z : _≡_ {A = ℕ} 0 1 = cc in omega arith)
 
--- an accepted sheet's verdict
-accepted-is : (v : Verdict) → T (isAccepted v) → v ≡ accepted
-accepted-is accepted t = refl
-accepted-is (refused number item) t = absurd t
+-- ---- a run that was given i
+-- an answer that refuses leaves the tally
+tally-kept : (i : Input) (limit : ℕ) (out : List ℕ) (tally : Run.Tally) (number item : ℕ) → answerBy i limit out ≡ refusal number item → talliedBy i limit out tally ≡ tally
+unfolding talliedBy
+tally-kept i limit out tally number item h = ap (λ (a : Run.Answer). Run.tallyFor a (placeTally (i .order) (i .problem)) tally) h
 
-module _ (b : List ℕ) (limit : ℕ) (out : List ℕ) (r : Answer) (after : List ℕ) (c : Call b limit out r after) where
-  answered : (e : Ending) → r ≡ Ended e → answerOf b limit out ≡ ended (endingOf e)
-  answered e q = sym (c .answers) ∙ ap means q
+module _ (i : Input) (d : Demanded i) (limit : ℕ) (out : List ℕ) (r : Answer) (after : List ℕ) (answers : means r ≡ answerBy i limit out) (leaves : after ≡ listBy i limit out) where
+  said : (e : Ending) → r ≡ Ended e → answerBy i limit out ≡ ended (endingOf e)
+  said e q = sym answers ∙ ap means q
 
-  listed : (plans : ℕ) → plansFrom b plans (listOf b limit out) ≡ plansFrom b plans after
-  listed plans = ap (plansFrom b plans) (sym (c .leaves))
+  listed : (plans : ℕ) → listedPlans (i .problem .variables) plans (listBy i limit out) ≡ listedPlans (i .problem .variables) plans after
+  listed plans = ap (listedPlans (i .problem .variables) plans) (sym leaves)
 
-  rest-kept : (e : Ending) → r ≡ Ended e → drop (plansIn (endingOf e) * problemOf b .variables) after ≡ drop (plansIn (endingOf e) * problemOf b .variables) out
-  unfolding written
-  rest-kept e q =
-      let p = problemOf b in
-      let rows = resultOf p limit (length out) .rows in
-      let h = M.ran b limit out (endingOf e) (answered e q) in
-      let n : plansIn (endingOf e) ≡ length rows = sym (ap plansIn (h .so)) ∙ rows-counted p limit (length out) in
-      let k : plansIn (endingOf e) * p .variables ≡ length (flat rows) = ap (λ (j : ℕ). j * p .variables) n ∙ sym (length-flat (p .variables) rows (rows-sized p limit (length out))) in
-      ap₂ drop k (c .leaves ∙ h .wrote) ∙ drop-append-seam (flat rows) (drop (length (flat rows)) out) ∙ ap (λ (j : ℕ). drop j out) (sym k)
-
-  at-end : (e : Ending) → r ≡ Ended e → AtEnd b limit out e after
+  at-end : (e : Ending) → r ≡ Ended e → AtEnd i limit out e after
   at-end e q =
-      let a = answered e q in
-      let n = M.counts b limit out (endingOf e) a in
-      let f = sym (listed (plansIn (endingOf e))) ∙ M.first-part b limit out (endingOf e) a in
-      let s = M.leaders-ascend b (accepted-is (verdictOf b) (M.ran b limit out (endingOf e) a .good)) .0 in
+      let a = said e q in
+      let n = d .counts limit out (endingOf e) a in
+      let k = plansIn (endingOf e) in
+      let f = sym (listed k) ∙ d .first-part limit out (endingOf e) a in
+      let all = leadersBy (i .order) (i .problem) in
       record {
         plans = f;
-        ascend = subst (λ (l : List (List ℕ)). T (rowsAscend l)) (sym f) (rowsAscend-take (plansIn (endingOf e)) (leaders (problemOf b)) s);
-        rest = rest-kept e q;
+        ascend = subst (λ (l : List (List ℕ)). T (rowsAscend l)) (take-map (read (i .order)) k all ∙ ap (map (read (i .order))) (sym f))
+            (rowsAscend-take k (map (read (i .order)) all) (d .leaders-ascend (ran-by i limit out (endingOf e) a .good) .0));
+        rest = ap (drop (k * i .problem .variables)) leaves ∙ d .rest limit out (endingOf e) a;
         allowed = n .0;
         counts = n .1;
       }
 
-  at-finish : (plans nodes : ℕ) → r ≡ Ended (Finished plans nodes) → AtFinish b plans after
+  at-finish : (plans nodes : ℕ) → r ≡ Ended (Finished plans nodes) → AtFinish i plans after
   at-finish plans nodes q =
-      let a = answered (Finished plans nodes) q in
+      let a = said (Finished plans nodes) q in
       record {
-        all-leaders = sym (listed plans) ∙ M.lists-leaders b limit out plans nodes a;
+        all-leaders = sym (listed plans) ∙ d .lists-leaders limit out plans nodes a;
         chains = λ s l.
-            subst (λ (ls : List (List ℕ)). T (isSolution (problemOf b) s) ↔ ∥ ((x : List ℕ) × List·Memᴰ x ls × Chain (problemOf b) x s) ∥₁) (listed plans) (M.chains b limit out plans nodes a s l);
-        nothing = M.nothing-listed b limit out plans nodes a;
+            subst (λ (ls : List (List ℕ)). T (isSolution (i .problem) s) ↔ ∥ ((x : List ℕ) × List·Memᴰ x ls × Chain (earlierBy (i .order)) (i .problem) x s) ∥₁) (listed plans) (d .chains limit out plans nodes a s l);
+        nothing = d .nothing-listed limit out plans nodes a;
       }
 
--- the lent tally goes by the answer
-module _ (b : List ℕ) (limit : ℕ) (out : List ℕ) (tally : Tally) (r : Answer) (after : List ℕ) (tally′ : Tally) (h : CallWith b limit out tally r after tally′) where
-  tally-kept : (number item : ℕ) → r ≡ Refused number item → (tally′ .nodes ≡ tally .nodes) × (tally′ .counts ≡ tally .counts)
-  tally-kept number item q =
-      let e = h .counts ∙ M.tally-kept b limit out (tallyIn tally) number item (sym (h .call .answers) ∙ ap means q) in
-      (ap (λ (t : Run.Tally). t .nodes) e, ap (λ (t : Run.Tally). t .counts) e)
+  held : Demands i limit out r after
+  held = record {
+    refuses = λ number item v. (let q = d .refuses number item v limit out record { nodes = 0; counts = [] } in (is-refused r number item (answers ∙ q .0), leaves ∙ q .1));
+    ends = λ v. (let x = d .ends v limit out in is-ended r (x .0) (answers ∙ x .1));
+    at-end = at-end;
+    at-finish = at-finish;
+  }
 
-  tally-counts : (e : Ending) → r ≡ Ended e → Tallied b (endingOf e) (tallyIn tally′)
-  tally-counts e q = subst (Tallied b (endingOf e)) (sym (h .counts)) (M.tally-counts b limit out (tallyIn tally) (endingOf e) (answered b limit out r after (h .call) e q))
+  -- the lent tally goes by the answer
+  tally-held : (tally tally′ : Tally) → tallyIn tally′ ≡ talliedBy i limit out (tallyIn tally) → TallyHeld i tally r tally′
+  tally-held tally tally′ c = record {
+    kept = λ number item q. (let e = c ∙ kept-so number item q in (ap (λ (t : Run.Tally). t .nodes) e, ap (λ (t : Run.Tally). t .counts) e));
+    tallied = λ e q. subst (Tallied i (endingOf e)) (sym c) (d .tallied limit out (tallyIn tally) (endingOf e) (said e q));
+  }
+    where
+      kept-so : (number item : ℕ) → r ≡ Refused number item → talliedBy i limit out (tallyIn tally) ≡ tallyIn tally
+      kept-so number item q = tally-kept i limit out (tallyIn tally) number item (sym answers ∙ ap means q)
 
-pub demands : Demands
-demands = record {
-  refuses = λ b limit out r after c number item e. (is-refused r number item (c .answers ∙ sym (answer-refused b number item e limit out)), c .leaves ∙ sym (list-refused b number item e limit out));
-  ends = λ b limit out r after c e. let x = M.ends b limit out e in is-ended r (x .0) (c .answers ∙ x .1);
-  at-end = at-end;
-  at-finish = at-finish;
-  tally-kept = tally-kept;
-  tally-counts = tally-counts;
-  fewer = λ b c t k o limit out r after x limit′ out′ r′ after′ y plans nodes plans′ nodes′ e e′.
-      let f = M.fewer b c t k o limit out plans nodes (answered b limit out r after x (Finished plans nodes) e) limit′ out′ plans′ nodes′ (answered c limit′ out′ r′ after′ y (Finished plans′ nodes′) e′) in
-      (subst₂ Sublistᴰ (listed c limit′ out′ r′ after′ y plans′) (listed b limit out r after x plans) (f .0), f .1);
-  finishes-too = λ b c t k o limit out r after x out′ r′ after′ y l plans nodes e z e′.
-      let f = M.finishes-too b c t k o limit out plans nodes (answered b limit out r after x (Finished plans nodes) e) out′ l (endingOf z) (answered c limit out′ r′ after′ y z e′) in
-      (f .0, f .1, is-finished z (f .0) (f .1) (f .2));
+-- two runs
+more-held : (i j : Input) → Fewer i j → (limit : ℕ) (out : List ℕ) (r : Answer) (after : List ℕ) → means r ≡ answerBy i limit out → after ≡ listBy i limit out →
+    (limit₂ : ℕ) (out₂ : List ℕ) (r₂ : Answer) (after₂ : List ℕ) → means r₂ ≡ answerBy j limit₂ out₂ → after₂ ≡ listBy j limit₂ out₂ → MoreHeld i j limit out r after limit₂ out₂ r₂ after₂
+more-held i j f limit out r after a l limit₂ out₂ r₂ after₂ a₂ l₂ = record {
+  fewer = λ plans nodes plans₂ nodes₂ q q₂.
+      let x = f .lists limit out plans nodes (sym a ∙ ap means q) limit₂ out₂ plans₂ nodes₂ (sym a₂ ∙ ap means q₂) in
+      (subst₂ Sublistᴰ (ap (listedPlans (j .problem .variables) plans₂) (sym l₂)) (ap (listedPlans (i .problem .variables) plans) (sym l)) (x .0), x .1);
+  finishes-too = λ same n plans nodes q e q₂.
+      let x = f .finishes limit out plans nodes (sym a ∙ ap means q) out₂ n (endingOf e) (ap (λ (k : ℕ). answerBy j k out₂) (sym same) ∙ sym a₂ ∙ ap means q₂) in
+      (x .0, x .1, is-finished e (x .0) (x .1) (x .2));
 }
+
+-- ---- of calls
+pub demands : Run-demands
+demands b limit out r after c = held (sheetInput b) (demanded-sheet b) limit out r after (c .answers ∙ sym (sheet-run b .answer limit out)) (c .leaves ∙ sym (sheet-run b .list limit out))
+
+pub tally-demands : Tally-demands
+tally-demands b limit out tally r after tally′ c =
+    tally-held (sheetInput b) (demanded-sheet b) limit out r after (c .call .answers ∙ sym (sheet-run b .answer limit out)) (c .call .leaves ∙ sym (sheet-run b .list limit out)) tally tally′
+    (c .counts ∙ sym (sheet-run b .tally limit out (tallyIn tally)))
+
+pub demands-lent : Lent-demands
+demands-lent b pairs block limit out tally r after tally′ c =
+    let i = lentInput b pairs block in
+    let d = demanded-lent b pairs block in
+    (held i d limit out r after (c .answers) (c .leaves), tally-held i d limit out r after (c .answers) (c .leaves) tally tally′ (c .counts))
+
+pub more-demands : More-demands
+more-demands b c t k more limit out r after x limit₂ out₂ r₂ after₂ y =
+    more-held (sheetInput b) (sheetInput c) (fewer-sheet b c t k more) limit out r after (x .answers ∙ sym (sheet-run b .answer limit out)) (x .leaves ∙ sym (sheet-run b .list limit out))
+    limit₂ out₂ r₂ after₂ (y .answers ∙ sym (sheet-run c .answer limit₂ out₂)) (y .leaves ∙ sym (sheet-run c .list limit₂ out₂))
+
+pub more-demands-lent : More-demands-lent
+more-demands-lent b c t pairs block k more limit out tally r after tally′ x limit₂ out₂ tally₂ r₂ after₂ tally₂′ y =
+    more-held (lentInput b pairs block) (lentInput c pairs block) (fewer-lent b c t pairs block k more) limit out r after (x .answers) (x .leaves) limit₂ out₂ r₂ after₂ (y .answers) (y .leaves)

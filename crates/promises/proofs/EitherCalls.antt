@@ -14,17 +14,19 @@ use Rattle.model.specs.Lists.{both, all, flat}
 use Rattle.model.specs.Sheet.{problemOf, verdictOf}
 use Rattle.model.specs.Verdict.{Verdict, accepted, ask, isAccepted}
 use Rattle.model.specs.Room.{wrote, refusal, outcomeOf, roomAfter, rowsIn}
-use Rattle.model.specs.Run.{written, plansIn}
+use Rattle.model.specs.Run.{written}
 use Rattle.model.proofs.Lists.{of-T}
 use Rattle.model.proofs.Accepted.{asked}
-use Rattle.model.proofs.Demands.{listed-back}
+use Rattle.model.proofs.Demands.{read-back}
 use Rattle.model.proofs.Room.{Wide, length-flat, length-listed, rows-back, rows-wide}
 use Rattle.order.specs.Order.{settlingOrder, settlesAll, orderVerdict, Ordering}
-use Rattle.order.specs.Reordered.{LeaderBy}
+use Rattle.model.specs.Claims.{Leader}
+use Rattle.order.specs.Reordered.{earlierBy}
 use Rattle.order.specs.RunBy.{resultBy, leadersBy}
-use Rattle.order.proofs.RunBy.{rows-sized-by, rows-counted-by, leadersBy-hold}
+use Rattle.order.proofs.Demanded.{RanBy, ran-by}
+use Rattle.order.proofs.Demanded as D
 use Rattle.block.specs.Block.{blockLent}
-use Rattle.run_input.specs.Lent.{verdictLent, problemWith, orderLent}
+use Rattle.run_input.specs.Lent.{verdictLent, problemWith, orderLent, lentInput}
 use Rattle.run_input.proofs.Lent as L
 use Rattle.list_merge.specs.Merge.{ascends, mergedBy, merged, wholeLists, orderedVerdict, mergeVerdict}
 use Rattle.list_merge.specs.Meaning.{means}
@@ -40,7 +42,7 @@ use Rattle.promises.specs.Demands.{plansFrom}
 use Rattle.run_state.specs.declared.Ending.{Ending}
 use Rattle.run_state.specs.declared.Ending.the-variants.{Finished}
 use Rattle.run.specs.declared.Answer.the-variants.{Ended}
-use Rattle.promises.proofs.DemandsLent.{demands-lent}
+use Rattle.promises.proofs.Demands.{demands-lent}
 use Rattle.promises.specs.EitherCalls.{plansOf, plansBytes, InMerged, Either-calls}
 
 ⊎-map : {A B C D : Type 0} → (A → C) → (B → D) → A ⊎ B → C ⊎ D
@@ -68,11 +70,11 @@ order-other n pairs v w t =
 
 -- ---- a run that ended
 module _ (b pairs block : List ℕ) (limit : ℕ) (out : List ℕ) (tally : Tally) (e : Ending) (after : List ℕ) (tally′ : Tally) (x : CallLent b pairs block limit out tally (Ended e) after tally′) where
-  ran : L.RanLent b pairs block limit out (endingOf e)
-  ran = L.ran-lent b pairs block limit out (endingOf e) (sym (x .answers))
+  ran : RanBy (lentInput b pairs block) limit out (endingOf e)
+  ran = ran-by (lentInput b pairs block) limit out (endingOf e) (sym (x .answers))
 
   good : T (isAccepted (verdictLent b pairs block))
-  good = ran .good
+  good = L.passed-all (verdictLent b pairs block) (ran .good)
 
   some : 1 ≤ problemOf b .variables
   some = L.well-sheet b pairs block good .some
@@ -92,11 +94,11 @@ module _ (b pairs block : List ℕ) (limit : ℕ) (out : List ℕ) (tally : Tall
 
   wide : Wide (problemOf b .variables) rows
   unfolding rows
-  wide = rows-sized-by (problemWith b block) (L.well-lent b pairs block good) (L.respected-lent b pairs block good) (orderLent b pairs) ordering limit (length out)
+  wide = D.sized (lentInput b pairs block) (L.sound-lent b pairs block) limit out (endingOf e) (sym (x .answers))
 
   counted : plansOf e ≡ length rows
   unfolding rows
-  counted = sym (ap plansIn (ran .so)) ∙ rows-counted-by (problemWith b block) (L.well-lent b pairs block good) (L.respected-lent b pairs block good) (orderLent b pairs) ordering limit (length out)
+  counted = D.counted (lentInput b pairs block) (L.sound-lent b pairs block) limit out (endingOf e) (sym (x .answers))
 
   long : plansOf e * problemOf b .variables ≡ length (flat rows)
   long = ap (λ (j : ℕ). j * problemOf b .variables) counted ∙ sym (length-flat (problemOf b .variables) rows wide)
@@ -110,8 +112,7 @@ module _ (b pairs block : List ℕ) (limit : ℕ) (out : List ℕ) (tally : Tall
   bytes-are = ap₂ take long wrote-so ∙ take-at (flat rows) (drop (length (flat rows)) out) (length (flat rows)) refl
 
   plans-are : plansFrom b (plansOf e) after ≡ rows
-  unfolding written
-  plans-are = ap₂ (λ (k : ℕ) (l : List ℕ). plansFrom b k l) counted wrote-so ∙ listed-back (problemOf b .variables) rows (drop (length (flat rows)) out) wide
+  plans-are = ap (plansFrom b (plansOf e)) wrote-so ∙ read-back (problemOf b .variables) rows out (plansOf e) counted wide
 
   front : Front (problemOf b .variables) pairs (plansBytes b e after) (plansFrom b (plansOf e) after) (plansOf e)
   unfolding ascends
@@ -119,15 +120,15 @@ module _ (b pairs block : List ℕ) (limit : ℕ) (out : List ℕ) (tally : Tall
     whole = ap (λ (l : List ℕ). length l % problemOf b .variables) bytes-are ∙ ap (λ (k : ℕ). k % problemOf b .variables) (sym long) ∙ mul-mod-left (plansOf e) (problemOf b .variables);
     rows-are = ap (rowsIn (problemOf b .variables)) bytes-are ∙ rows-back (problemOf b .variables) rows some wide ∙ sym plans-are;
     count = length-listed (problemOf b .variables) (plansOf e) after;
-    ascend = demands-lent .at-end b pairs block limit out tally (Ended e) after tally′ x e refl .ascend;
+    ascend = demands-lent b pairs block limit out tally (Ended e) after tally′ x .0 .at-end e refl .ascend;
   }
 
-  leaders : (plans nodes : ℕ) → e ≡ Finished plans nodes → (s : List ℕ) → List·Memᴰ s (plansFrom b (plansOf e) after) ↔ LeaderBy (orderLent b pairs) (problemWith b block) s
+  leaders : (plans nodes : ℕ) → e ≡ Finished plans nodes → (s : List ℕ) → List·Memᴰ s (plansFrom b (plansOf e) after) ↔ Leader (earlierBy (orderLent b pairs)) (problemWith b block) s
   leaders plans nodes q s =
-      let f = demands-lent .at-finish b pairs block limit out tally (Ended e) after tally′ x plans nodes (ap Ended q) .all-leaders in
+      let f = demands-lent b pairs block limit out tally (Ended e) after tally′ x .0 .at-finish plans nodes (ap Ended q) .all-leaders in
       let k : plansOf e ≡ plans = ap plansOf q in
       let a : plansFrom b (plansOf e) after ≡ leadersBy (orderLent b pairs) (problemWith b block) = ap (λ (j : ℕ). plansFrom b j after) k ∙ f in
-      let l = leadersBy-hold (problemWith b block) (L.well-lent b pairs block good) (L.respected-lent b pairs block good) (orderLent b pairs) ordering s in
+      let l = L.demanded-lent b pairs block .leaders-ascend (ran .good) .1 s in
       (λ m. l .0 (subst (List·Memᴰ s) a m), λ m. subst (List·Memᴰ s) (sym a) (l .1 m))
 
 -- ---- the merge of two such lists

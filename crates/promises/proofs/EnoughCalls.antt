@@ -8,14 +8,14 @@ use native.Mathlib.Omega.{arith}
 use lib.ListN.{length}
 use Rattle.model.specs.Lists.{keep}
 use Rattle.model.specs.Problem.{Problem}
-use Rattle.model.specs.Verdict.{Verdict, accepted, refused}
 use Rattle.model.specs.Sheet.{problemOf}
 use Rattle.model.specs.Search.{nodes, isPlan}
-use Rattle.model.specs.Run.{plansIn, ended}
+use Rattle.model.specs.Run.{plansIn}
 use Rattle.model.specs.Claims.{plansAmong}
 use Rattle.model.proofs.Room.{length-listed}
 use Rattle.order.specs.RunBy.{leadersBy}
-use Rattle.run_input.specs.Lent.{verdictLent, problemWith, orderLent, problemLent, answerLentFor, answerLent, listLent}
+use Rattle.order.proofs.Demanded.{ran-by}
+use Rattle.run_input.specs.Lent.{problemWith, orderLent, problemLent, lentInput, listLent}
 use Rattle.run_enough.specs.AtLeast.{enough, tooFew, unknown}
 use Rattle.run_enough.specs.Lent.{enoughLent}
 use Rattle.run_enough.specs.LentClaims.{AgreesLent, FiguresLent}
@@ -33,7 +33,7 @@ use Rattle.run.specs.declared.Enough.{Enough}
 use Rattle.run.specs.declared.Enough.the-variants as N
 use Rattle.promises.specs.EnoughCalls.{Agrees, Roomy, EnoughHeld, Enough-calls}
 use Rattle.promises.proofs.RetypedCalls.{answer-known}
-use Rattle.promises.proofs.DemandsLent.{demands-lent}
+use Rattle.promises.proofs.Demands.{demands-lent}
 
 -- what is said is known by what it means
 said-known : (r : Enough) (s : Enough) → saidEnough r ≡ saidEnough s → r ≡ s
@@ -54,15 +54,6 @@ said-known (N.Spent a b) (N.Yes x y) h = absurd (let e : unknown a b ≡ enough 
 said-known (N.Spent a b) (N.No x y) h = absurd (let e : unknown a b ≡ tooFew x y = cc in let z : _≡_ {A = ℕ} 0 1 = cc in omega arith)
 said-known (N.Spent a b) (N.Spent x y) h = let e : unknown a b ≡ unknown x y = cc in let f : a ≡ x = cc in let g : b ≡ y = cc in cc
 
--- what a caller is told is accepted or refused with the run
-verdict-of : (b pairs block : List ℕ) (limit : ℕ) (out : List ℕ) (e : Ending) → answerLent b pairs block limit out ≡ ended (endingOf e) → verdictLent b pairs block ≡ accepted
-unfolding answerLent answerLentFor
-verdict-of b pairs block limit out e h = go (verdictLent b pairs block) refl h
-  where
-    go : (v : Verdict) → verdictLent b pairs block ≡ v → answerLentFor v b pairs block limit (length out) ≡ ended (endingOf e) → verdictLent b pairs block ≡ accepted
-    go accepted q h = q
-    go (refused number item) q h = absurd (let z : _≡_ {A = ℕ} 0 1 = cc in omega arith)
-
 -- with room for all plans a run of k trials, k being no more than the tree has, lists the plans among the first k
 module _ (b pairs block : List ℕ) (k : ℕ) (out : List ℕ) (tally : Tally) (after : List ℕ) (tally′ : Tally) (roomy : Roomy b pairs block out) (inside : k ≤ length (nodes (problemLent b pairs block))) where
   abbrev p : Problem
@@ -70,15 +61,15 @@ module _ (b pairs block : List ℕ) (k : ℕ) (out : List ℕ) (tally : Tally) (
 
   among : (e : Ending) → CallLent b pairs block k out tally (Ended e) after tally′ → plansIn (endingOf e) ≡ plansAmong (problemLent b pairs block) k
   among (E.Finished plans made) c =
-      let q = demands-lent .at-end b pairs block k out tally (Ended (E.Finished plans made)) after tally′ c (E.Finished plans made) refl in
+      let q = demands-lent b pairs block k out tally (Ended (E.Finished plans made)) after tally′ c .0 .at-end (E.Finished plans made) refl in
       let same : made ≡ k = omega (arith, q .counts .0, q .allowed) in
       sym (q .counts .1) ∙ ap (plansAmong p) same
   among (E.Spent plans made) c =
-      let q = demands-lent .at-end b pairs block k out tally (Ended (E.Spent plans made)) after tally′ c (E.Spent plans made) refl in
+      let q = demands-lent b pairs block k out tally (Ended (E.Spent plans made)) after tally′ c .0 .at-end (E.Spent plans made) refl in
       sym (q .counts .2) ∙ ap (plansAmong p) (q .counts .0)
   among (E.Full plans made) c =
-      let q = demands-lent .at-end b pairs block k out tally (Ended (E.Full plans made)) after tally′ c (E.Full plans made) refl in
-      let t = tree-leaders b pairs block (verdict-of b pairs block k out (E.Full plans made) (sym (c .answers))) in
+      let q = demands-lent b pairs block k out tally (Ended (E.Full plans made)) after tally′ c .0 .at-end (E.Full plans made) refl in
+      let t = tree-leaders b pairs block (ran-by (lentInput b pairs block) k out (endingOf (E.Full plans made)) (sym (c .answers)) .good) in
       let g : suc plans ≤ length (keep (isPlan p) (nodes p)) = subst (λ (j : ℕ). j ≤ length (keep (isPlan p) (nodes p))) (q .counts .1) (among-most p made) in
       let l : suc plans ≤ length (leadersBy (orderLent b pairs) (problemWith b block)) = subst (λ (j : ℕ). suc plans ≤ j) t g in
       absurd (omega (arith, q .counts .0, mul-le-mul-right (problemOf b .variables) l, roomy))

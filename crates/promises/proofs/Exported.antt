@@ -10,11 +10,10 @@ use borrow.Author.Tests.{eq-eqb, eqb-true, eqb-false}
 use Rattle.model.specs.Lists.{choose, both, all, at, below, ascending, rowsAscend}
 use Rattle.model.specs.Bytes.{fourBytes}
 use Rattle.model.specs.Problem.{Problem, respects}
-use Rattle.model.specs.Verdict.{Verdict, accepted, refused, ask}
+use Rattle.model.specs.Verdict.{Verdict, accepted, refused, ask, reply, kept}
 use Rattle.model.specs.Sheet.{Header, word, headerOf, problemOf, scopeAt, rowsAt, afterAt, headerVerdict, setsVerdict, constraintVerdict, constraintsVerdict, permutesPairs, offsetsFit, tablesFit, formVerdict, symmetriesVerdict, verdictOf}
 use Rattle.model.specs.Run as R
-use Rattle.model.specs.Run.{refusal, ended, finished, spent, full, answerFor, answerOf, listFor, listOf}
-use Rattle.model.proofs.Demands as M
+use Rattle.model.specs.Run.{refusal, ended, finished, spent, full, answerOf, written, listOf}
 use Rattle.run_state.specs.Meaning.{endingOf}
 use Rattle.run.specs.Calls.{Call}
 use Rattle.run_state.specs.declared.Ending.{Ending}
@@ -168,13 +167,19 @@ module _ (b : List ℕ) (limit : ℕ) (list answer : List ℕ) (code : ℕ) (lis
     )
 
     refuses : (number item : ℕ) → verdictOf b ≡ refused number item → (code ≡ number * 256 + item) × (list′ ≡ list) × (answer′ ≡ answer)
-    unfolding answerOf answerFor listOf listFor
+    unfolding answerOf listOf
     refuses number item e =
-        let s = so (refusal number item) (ap (λ (v : Verdict). answerFor v b limit (length list)) e) in
-        (s .0, s .1 ∙ ap (λ (v : Verdict). listFor v b limit list) e, s .2)
+        let x = R.resultOf (problemOf b) limit (length list) in
+        let s = so (refusal number item) (ap (λ (v : Verdict). reply v (x .ending)) e) in
+        (s .0, s .1 ∙ ap (λ (v : Verdict). kept v list (written (x .rows) list)) e, s .2)
 
     ran-so : verdictOf b ≡ accepted → (code ≡ 0) × ((e : R.Ending) × (answerOf b limit list ≡ ended e) × (list′ ≡ listOf b limit list) × (answer′ ≡ endingBytes e))
-    ran-so e = let x = M.ends b limit list e in let s = so (ended (x .0)) (x .1) in (s .0, (x .0, x .1, s .1, s .2))
+    unfolding answerOf
+    ran-so e =
+        let x = R.resultOf (problemOf b) limit (length list) .ending in
+        let a = ap (λ (v : Verdict). reply v x) e in
+        let s = so (ended x) a in
+        (s .0, (x, a, s .1, s .2))
 
   zero-so : code ≡ 0 → (length answer ≡ 12) × (verdictOf b ≡ accepted)
   zero-so z = let t = twelve (eqb (length answer) 12) refl in (t, good t (verdictOf b) refl)
@@ -206,7 +211,7 @@ exported b limit list answer code list′ answer′ c = record {
   ends = λ f. ran-so b limit list answer code list′ answer′ c (f .0) (f .1) .0;
   zero = zero-so b limit list answer code list′ answer′ c;
   called = called b limit list answer code list′ answer′ c;
-  at-end = λ z. let r = called b limit list answer code list′ answer′ c z in (r .0, r .1, demands .at-end b limit list (Ended (r .0)) list′ (r .2) (r .0) refl);
+  at-end = λ z. let r = called b limit list answer code list′ answer′ c z in (r .0, r .1, demands b limit list (Ended (r .0)) list′ (r .2) .at-end (r .0) refl);
   at-finish = λ z k. let r = called b limit list answer code list′ answer′ c z in let f = is-finish answer′ (r .0) (r .1) k in
-      demands .at-finish b limit list (Ended (r .0)) list′ (r .2) (fourAt answer′ 4) (f .0) (ap Ended (f .1));
+      demands b limit list (Ended (r .0)) list′ (r .2) .at-finish (fourAt answer′ 4) (f .0) (ap Ended (f .1));
 }

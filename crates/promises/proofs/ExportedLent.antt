@@ -18,18 +18,18 @@ use Rattle.model.specs.Sheet.{problemOf, permutesPairs, symmetriesVerdict, verd
 use Rattle.model.specs.Run as R
 use Rattle.model.specs.Run.{ended, finished, spent, full, nodesIn}
 use Rattle.order.specs.Order.{settlesAll, orderVerdict}
-use Rattle.order.specs.RunBy.{placeCounts}
+use Rattle.order.specs.RunBy.{placeCounts, placeTally, talliedBy}
 use Rattle.block.specs.Block.{blockTables, isBlock, blockVerdict, blockLent}
 use Rattle.sheet.specs.Meaning.{andThen}
-use Rattle.run_input.specs.Lent.{verdictLent, problemWith, orderLent, answerLentFor, answerLent, listLentFor, listLent, tallyLentFor, tallyLent}
-use Rattle.run_input.proofs.Lent as L
+use Rattle.run_input.specs.Lent.{verdictLent, problemWith, orderLent, answerLent, listLent}
+use Rattle.run_input.proofs.Lent.{demanded-lent}
 use Rattle.run_state.specs.Meaning.{tallyIn}
 use Rattle.run_state.specs.declared.Tally.{Tally}
 use Rattle.run_enough.specs.AtLeast.{enough, tooFew, unknown}
 use Rattle.run_enough.specs.Lent.{EnoughAnswer, enoughLent}
 use Rattle.run_enough.specs.Lent as E
 use Rattle.families_closed.specs.Open.{none, two}
-use Rattle.families_closed.specs.Lent.{Told, refusal, told, closedLent, means as closedMeans}
+use Rattle.families_closed.specs.Lent.{Told, refusal, answered, closedLent, means as closedMeans}
 use Rattle.families_closed.specs.declared.Answer as CA
 use Rattle.families_closed.specs.declared.Answer.the-variants as CV
 use Rattle.families_closed.proofs.Calls.{closed-calls}
@@ -41,7 +41,7 @@ use Rattle.run.specs.Calls.{CallLent, noTally}
 use Rattle.run_state.specs.declared.Ending.{Ending}
 use Rattle.run_state.specs.declared.Ending.the-variants.{Finished, Spent, Full}
 use Rattle.run.specs.declared.Answer.the-variants.{Ended}
-use Rattle.promises.proofs.DemandsLent.{demands-lent}
+use Rattle.promises.proofs.Demands.{demands-lent}
 use Rattle.wire.specs.Wire.{codeOf, wrongLength, threeNumbers, fourAt}
 use Rattle.export_run.specs.Run.{questionCode, endingBytes, answerCode}
 use Rattle.promises.specs.Exported.{Tells}
@@ -178,14 +178,14 @@ module _ (b pairs block : List ℕ) (limit : ℕ) (list answer : List ℕ) (code
     )
 
     refuses : (number item : ℕ) → verdictLent b pairs block ≡ refused number item → (code ≡ number * 256 + item) × (list′ ≡ list) × (answer′ ≡ answer)
-    unfolding answerLent answerLentFor listLent listLentFor
     refuses number item e =
-        let s = so (R.refusal number item) (ap (λ (v : Verdict). answerLentFor v b pairs block limit (length list)) e) in
-        (s .0, s .1 ∙ ap (λ (v : Verdict). listLentFor v b pairs block limit list) e, s .2)
+        let q = demanded-lent b pairs block .refuses number item e limit list (tallyIn noTally) in
+        let s = so (R.refusal number item) (q .0) in
+        (s .0, s .1 ∙ q .1, s .2)
 
     module _ (good : verdictLent b pairs block ≡ accepted) where
       ran : (e : R.Ending) × (answerLent b pairs block limit list ≡ ended e)
-      ran = L.ends-lent b pairs block limit list good
+      ran = demanded-lent b pairs block .ends good limit list
 
       abbrev e : Ending
       e = endingAs (ran .0)
@@ -195,11 +195,11 @@ module _ (b pairs block : List ℕ) (limit : ℕ) (list answer : List ℕ) (code
       tally = record { nodes = nodesIn (ran .0); counts = placeCounts (orderLent b pairs) (problemWith b block) (nodesIn (ran .0)) }
 
       call : CallLent b pairs block limit list noTally (Ended e) list′ tally
-      unfolding tallyLent tally
+      unfolding talliedBy tally
       call = record {
         answers = ap ended (ending-as (ran .0)) ∙ sym (ran .1);
         leaves = so (ended (ran .0)) (ran .1) .1;
-        counts = sym (ap (λ (a : R.Answer). tallyLentFor a b pairs block (tallyIn noTally)) (ran .1));
+        counts = sym (ap (λ (a : R.Answer). R.tallyFor a (placeTally (orderLent b pairs) (problemWith b block)) (tallyIn noTally)) (ran .1));
       }
 
       bytes : answer′ ≡ endingBytes (ran .0) ++ numbersOf (tally .counts)
@@ -210,7 +210,7 @@ module _ (b pairs block : List ℕ) (limit : ℕ) (list answer : List ℕ) (code
       tells = subst (λ (l : List ℕ). Tells l e) (sym bytes) (told-front (ran .0) (numbersOf (tally .counts)))
 
       twelve : length (tally .counts) ≡ 12
-      twelve = demands-lent .tallied b pairs block limit list noTally (Ended e) list′ tally call e refl .twelve
+      twelve = demands-lent b pairs block limit list noTally (Ended e) list′ tally call .1 .tallied e refl .twelve
 
       tells-counts : TellsCounts answer′ tally
       tells-counts x h = ap (λ (l : List ℕ). fourAt l (12 + 4 * x)) bytes ∙ shifted (endingBytes (ran .0)) (numbersOf (tally .counts)) 12 (4 * x) (ending-long (ran .0)) ∙ number-of (tally .counts) x (omega (arith, twelve))
@@ -239,13 +239,13 @@ module _ (b pairs block : List ℕ) (limit : ℕ) (list answer : List ℕ) (code
         tells s g,
         tells-counts s g,
         call s g,
-        demands-lent .at-end b pairs block limit list noTally (Ended (e s g)) list′ (tally s g) (call s g) (e s g) refl,
-        demands-lent .tallied b pairs block limit list noTally (Ended (e s g)) list′ (tally s g) (call s g) (e s g) refl,
+        demands-lent b pairs block limit list noTally (Ended (e s g)) list′ (tally s g) (call s g) .0 .at-end (e s g) refl,
+        demands-lent b pairs block limit list noTally (Ended (e s g)) list′ (tally s g) (call s g) .1 .tallied (e s g) refl,
       ),
     );
     at-finish = λ s g k.
         let f = is-finish answer′ (e s g) (tells s g) k in
-        demands-lent .at-finish b pairs block limit list noTally (Ended (e s g)) list′ (tally s g) (call s g) (fourAt answer′ 4) (f .0) (ap Ended (f .1));
+        demands-lent b pairs block limit list noTally (Ended (e s g)) list′ (tally s g) (call s g) .0 .at-finish (fourAt answer′ 4) (f .0) (ap Ended (f .1));
   }
 
 pub run-bytes : Run-bytes
@@ -291,20 +291,20 @@ enough-bytes b pairs block m limit answer code answer′ c = record {
 -- ---- planner_closed
 toldAs : Told → CA.Answer
 toldAs (refusal number item) = CV.Refused number item
-toldAs (told none) = CV.Closed
-toldAs (told (two first second)) = CV.Missing first second
+toldAs (answered none) = CV.Closed
+toldAs (answered (two first second)) = CV.Missing first second
 
 told-as : (a : Told) → closedMeans (toldAs a) ≡ a
 unfolding toldAs
 told-as (refusal number item) = refl
-told-as (told none) = refl
-told-as (told (two first second)) = refl
+told-as (answered none) = refl
+told-as (answered (two first second)) = refl
 
 closed-told : (a : Told) (answer : List ℕ) → ClosedTold (toldAs a) answer (toldCode a) (toldBytes a answer)
 unfolding toldAs
 closed-told (refusal number item) answer = (refl, refl)
-closed-told (told none) answer = (refl, first-of 1 0 0)
-closed-told (told (two first second)) answer = (refl, first-of 2 first second, second-of 2 first second, third-of 2 first second)
+closed-told (answered none) answer = (refl, first-of 1 0 0)
+closed-told (answered (two first second)) answer = (refl, first-of 2 first second, second-of 2 first second, third-of 2 first second)
 
 pub closed-bytes : Closed-bytes
 unfolding closedCode closedAnswer

@@ -6,7 +6,7 @@ use Prim.Native.Nat.{ℕ, _*_}
 use native.Mathlib.Omega.{arith}
 use lib.ListN.{length}
 use Rattle.run_state.specs.Meaning.{endingOf}
-use Rattle.model.specs.Verdict.{Verdict, accepted, refused}
+use Rattle.model.specs.Verdict.{Verdict, accepted, refused, reply}
 use Rattle.model.specs.Sheet.{problemOf}
 use Rattle.model.specs.Run.{Ending, finished, spent, full, ended, listedPlans}
 use Rattle.run_input.specs.Lent.{verdictLent, problemWith}
@@ -21,7 +21,7 @@ use Rattle.run_state.specs.declared.Ending.the-variants.{Finished as Done}
 use Rattle.run.specs.declared.Answer as SA
 use Rattle.run.specs.declared.Answer.the-variants.{Ended}
 use Rattle.promises.proofs.Demands.{is-ended, is-finished}
-use Rattle.families_count.specs.Told.{refusal, told, toldFor, countedLent, means}
+use Rattle.families_count.specs.Told.{refusal, told, countedLent, means}
 use Rattle.families_count.specs.declared.Answer.{Answer}
 use Rattle.families_count.specs.declared.Answer.the-variants.{Number, Dash, Refused}
 use Rattle.promises.specs.FamilyCalls.{Families-calls, One-of-each-calls, Block-calls}
@@ -58,7 +58,7 @@ number-is (full plans made) f m k h = absurd (let z : _≡_ {A = ℕ} 0 1 = cc i
 pub families-calls : Families-calls
 unfolding countedLent familiesLent
 families-calls b pairs block limit r call = record {
-  refuses = λ n i v. refused-is r n i (call ∙ ap (λ (u : Verdict). toldFor u figure) v);
+  refuses = λ n i v. refused-is r n i (call ∙ ap (λ (u : Verdict). reply u figure) v);
   counts = λ k e. counted k (sym (ap means e) ∙ call) (verdictLent b pairs block) refl;
   numbered = λ v out tally a after tally′ c l plans nodes e. number-told r (familiesOf (problemWith b block)) (so v ∙ ap told (counts-so v (done v out tally a after tally′ c l plans nodes e)));
   dashed = λ v out tally a after tally′ c l. (
@@ -75,7 +75,7 @@ families-calls b pairs block limit r call = record {
     figure = familiesLent b pairs block limit (4096 * problemOf b .variables)
 
     so : verdictLent b pairs block ≡ accepted → means r ≡ told figure
-    so v = call ∙ ap (λ (u : Verdict). toldFor u figure) v
+    so v = call ∙ ap (λ (u : Verdict). reply u figure) v
 
     counts-so : verdictLent b pairs block ≡ accepted → Finished (ranBare b pairs limit room) → figure ≡ number (familiesOf (problemWith b block))
     counts-so v d = let f = families-lent b pairs block limit room v in f .counted (f .bare-enough d) d
@@ -97,9 +97,9 @@ families-calls b pairs block limit r call = record {
 
     counted : (k : ℕ) → told (number k) ≡ countedLent b pairs block limit → (v : Verdict) → verdictLent b pairs block ≡ v → (k ≡ familiesOf (problemWith b block)) × FamilyCount (problemWith b block)
     counted k q accepted v =
-        let z : told (number k) ≡ told figure = q ∙ ap (λ (u : Verdict). toldFor u figure) v in
+        let z : told (number k) ≡ told figure = q ∙ ap (λ (u : Verdict). reply u figure) v in
         (number-is (ranWith b pairs block limit room) (ranBare b pairs limit room) (familiesOf (problemWith b block)) k (let y : figure ≡ number k = cc in y), families-lent b pairs block limit room v .count)
-    counted k q (refused n i) v = absurd (let z : told (number k) ≡ refusal n i = q ∙ ap (λ (u : Verdict). toldFor u figure) v in let y : _≡_ {A = ℕ} 0 1 = cc in omega arith)
+    counted k q (refused n i) v = absurd (let z : told (number k) ≡ refusal n i = q ∙ ap (λ (u : Verdict). reply u figure) v in let y : _≡_ {A = ℕ} 0 1 = cc in omega arith)
 
 -- ---- one of each family
 pub one-of-each-calls : One-of-each-calls

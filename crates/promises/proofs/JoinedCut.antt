@@ -9,7 +9,7 @@ use lib.Dec.{T}
 use lib.ListN.{length, take}
 use Rattle.model.specs.Lists.{choose}
 use Rattle.model.specs.Verdict.{Verdict, accepted}
-use Rattle.model.specs.Run.{finished, spent, full, Answer, refusal, ended}
+use Rattle.model.specs.Run.{finished, spent, full, Answer, refusal, answered, ended}
 use Rattle.model.proofs.Lists.{place-of, mem-getD}
 use Rattle.run_cut.specs.Parts.{after, Cuts, lastOf}
 use Rattle.run_cut.proofs.Parts.{after-e, after-i, after-total}
@@ -69,15 +69,15 @@ range-end from (cut ∷ cuts) a c (List·Memᴰ·tail m) = List·Memᴰ·tail (r
 
 -- ---- a part that is done
 done-is : (a : Answer) → Done a → (plans : ℕ) × (made : ℕ) × (a ≡ ended (finished plans made))
-done-is (ended (finished plans made)) d = (plans, made, refl)
-done-is (ended (spent plans made)) d = absurd d
-done-is (ended (full plans made)) d = absurd d
+done-is (answered (finished plans made)) d = (plans, made, refl)
+done-is (answered (spent plans made)) d = absurd d
+done-is (answered (full plans made)) d = absurd d
 done-is (refusal number item) d = absurd d
 
 done-goes : (a : Answer) → Done a → Goes a
-done-goes (ended (finished plans made)) d = tt
-done-goes (ended (spent plans made)) d = absurd d
-done-goes (ended (full plans made)) d = absurd d
+done-goes (answered (finished plans made)) d = tt
+done-goes (answered (spent plans made)) d = absurd d
+done-goes (answered (full plans made)) d = absurd d
 done-goes (refusal number item) d = absurd d
 
 pub cuts-joined : Cuts-joined

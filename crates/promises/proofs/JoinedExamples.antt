@@ -15,7 +15,7 @@ use Rattle.order.specs.Reordered.{position, read, write, valueOf, scopeIn, rowI
 use Rattle.block.specs.Block.{tablesLent, blockLent}
 use Rattle.run_input.specs.Lent.{verdictLent}
 use Rattle.run_cut.specs.Parts.{after, nodesBetween, lastOf}
-use Rattle.run_ranges.specs.Ranges.{resultPart, answerPartFor, answerPart, listPartFor, listPart, tallyPart, lastPart}
+use Rattle.run_ranges.specs.Ranges.{resultPart, answerPart, listPart, tallyPart, lastPart}
 use Rattle.run_ranges.specs.Claims.{Part, Call, Done}
 use Rattle.wire.specs.Wire.{threeNumbers}
 use Rattle.export_lent.specs.Tallied.{numbersOf}
@@ -33,7 +33,7 @@ use Rattle.promises.proofs.JoinedCut.{cuts-joined}
 
 -- every definition of parts and heads that computes
 unfoldable pub openedParts : ℕ
-unfolding opened countsBy tallyAt pairsIn forerunners canFollow settledFirst settlingOrder settlesAll orderVerdict position read write valueOf scopeIn rowIn renamed symmetryIn tablesLent blockLent verdictLent after nodesBetween lastOf resultPart answerPartFor answerPart listPartFor listPart tallyPart lastPart threeNumbers numbersOf fourBytes digestFrom digest nameBytes pathBytes headOf pathAt wholeHeads pathShaped headShaped alike joinVerdict comes mayTake bestOf stepOf takenFrom taken standAfter nearestOf answerFor total
+unfolding opened countsBy tallyAt pairsIn forerunners canFollow settledFirst settlingOrder settlesAll orderVerdict position read write valueOf scopeIn rowIn renamed symmetryIn tablesLent blockLent verdictLent after nodesBetween lastOf resultPart answerPart listPart tallyPart lastPart threeNumbers numbersOf fourBytes digestFrom digest nameBytes pathBytes headOf pathAt wholeHeads pathShaped headShaped alike joinVerdict comes mayTake bestOf stepOf takenFrom taken standAfter nearestOf answerFor total
 openedParts = 0
 
 pub examples-joined : Each testsJoined

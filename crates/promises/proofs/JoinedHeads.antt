@@ -7,13 +7,13 @@ use lib.ListN.{length, take, getD, length-append, length-take}
 use lib.Seq.{getD-append-add}
 use Rattle.model.specs.Lists.{at, flat, tabulate}
 use Rattle.model.specs.Bytes.{fourBytes}
-use Rattle.model.specs.Verdict.{Verdict, accepted}
+use Rattle.model.specs.Verdict.{Verdict, accepted, reply}
 use Rattle.model.specs.Run.{Ending, finished, spent, full, plansIn, nodesIn, search, Answer, ended, Tally, settledBy}
 use Rattle.model.proofs.Lists.{at-append, at-tabulate, at-take, at-ext, length-tabulate, mem-getD}
 use Rattle.model.proofs.Tally.{length-counts}
 use Rattle.wire.specs.Wire.{threeNumbers}
 use Rattle.run_input.specs.Lent.{verdictLent, orderLent, problemLent}
-use Rattle.run_ranges.specs.Ranges.{partNodes, resultPart, answerPartFor, answerPart, plansSaid, nodesSaid, madeBy, tallyPart}
+use Rattle.run_ranges.specs.Ranges.{partNodes, resultPart, answerPart, plansSaid, nodesSaid, madeBy, tallyPart}
 use Rattle.run_ranges.specs.Claims.{Part, Call}
 use Rattle.run_join.specs.Join.{fourAt, pathAt, headsIn}
 use Rattle.export_run.specs.Run.{endingBytes}
@@ -169,8 +169,8 @@ module _ (b pairs block : List ℕ) (c : Part) (call : Call b pairs block c) whe
 
   module _ (so : verdictLent b pairs block ≡ accepted) where
     pub answered : c .answer ≡ ended (search (problemLent b pairs block) (c .limit) (length (c .out)) (partNodes b pairs block (c .from) (c .upto)) 0 [] .ending)
-    unfolding answerPart answerPartFor resultPart
-    answered = call .answers ∙ ap (λ (v : Verdict). answerPartFor v b pairs block (c .from) (c .upto) (c .limit) (length (c .out))) so
+    unfolding answerPart resultPart
+    answered = call .answers ∙ ap (λ (v : Verdict). reply v (resultPart b pairs block (c .from) (c .upto) (c .limit) (length (c .out)) .ending)) so
 
     pub ends : (e : Ending) × (c .answer ≡ ended e)
     ends = (search (problemLent b pairs block) (c .limit) (length (c .out)) (partNodes b pairs block (c .from) (c .upto)) 0 [] .ending, answered)

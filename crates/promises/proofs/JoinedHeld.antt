@@ -13,9 +13,11 @@ use Rattle.model.specs.Sheet.{problemOf}
 use Rattle.model.specs.Verdict.{Verdict, accepted}
 use Rattle.model.specs.Run.{finished, ended, Tally}
 use Rattle.model.proofs.Room.{length-listed}
-use Rattle.order.specs.Reordered.{read, LeaderBy, ChainBy}
+use Rattle.model.specs.Claims.{Leader}
+use Rattle.model.specs.Claims as Reads
+use Rattle.order.specs.Reordered.{read, earlierBy}
 use Rattle.run_input.specs.Lent.{verdictLent, problemWith, orderLent, problemLent, answerLent, listLent, tallyLent}
-use Rattle.run_input.proofs.Lent.{lists-leaders-lent, leaders-ascend-lent, chains-lent, nothing-listed-lent}
+use Rattle.run_input.proofs.Lent.{demanded-lent}
 use Rattle.run_ranges.specs.Ranges.{plansSaid, nodesSaid}
 use Rattle.run_ranges.specs.Claims.{Part, Chain, allPlans, sumPlans, sumNodes, sumCounts, Together}
 use Rattle.run_ranges.proofs.Joined.{joined-run}
@@ -64,17 +66,18 @@ module _ (b pairs block : List ℕ) (cs : List Part) (so : verdictLent b pairs b
   demands-held =
       let p = problemWith b block in
       let order = orderLent b pairs in
+      let d = demanded-lent b pairs block in
       let a = whole .finishes in
-      let leaders = sym (whole .plans) ∙ lists-leaders-lent b pairs block (sumNodes cs) room (sumPlans cs) (sumNodes cs) a in
-      let up = leaders-ascend-lent b pairs block so in
+      let leaders = sym (whole .plans) ∙ d .lists-leaders (sumNodes cs) room (sumPlans cs) (sumNodes cs) a in
+      let up = d .leaders-ascend so in
       record {
         many = ap length (sym (whole .plans)) ∙ length-listed n (sumPlans cs) (listLent b pairs block (sumNodes cs) room);
-        leaders = λ s. subst (λ (rows : List (List ℕ)). List·Memᴰ s rows ↔ LeaderBy order p s) (sym leaders) (up .1 s);
+        leaders = λ s. subst (λ (rows : List (List ℕ)). List·Memᴰ s rows ↔ Leader (earlierBy order) p s) (sym leaders) (up .1 s);
         ascend = subst (λ (rows : List (List ℕ)). T (rowsAscend (map (read order) rows))) (sym leaders) (up .0);
         chains = λ s l.
-            subst (λ (rows : List (List ℕ)). T (isSolution (problemOf b) s) ↔ ∥ ((t : List ℕ) × List·Memᴰ t rows × ChainBy order p t s) ∥₁) (whole .plans)
-            (chains-lent b pairs block (sumNodes cs) room (sumPlans cs) (sumNodes cs) a s l);
-        nothing = nothing-listed-lent b pairs block (sumNodes cs) room (sumPlans cs) (sumNodes cs) a;
+            subst (λ (rows : List (List ℕ)). T (isSolution p s) ↔ ∥ ((t : List ℕ) × List·Memᴰ t rows × Reads.Chain (earlierBy order) p t s) ∥₁) (whole .plans)
+            (d .chains (sumNodes cs) room (sumPlans cs) (sumNodes cs) a s l);
+        nothing = d .nothing-listed (sumNodes cs) room (sumPlans cs) (sumNodes cs) a;
       }
 
 pub joined-held : Joined-held

@@ -9,7 +9,7 @@ use lib.ListN.{length, take, length-take}
 use borrow.Author.Tests.{eq-eqb, le-leb}
 use Rattle.model.specs.Lists.{all, at, below, both}
 use Rattle.model.specs.Verdict.{accepted, ask}
-use Rattle.model.specs.Run.{finished, spent, full, Answer, refusal, ended}
+use Rattle.model.specs.Run.{finished, spent, full, Answer, refusal, answered}
 use Rattle.model.proofs.Lists.{at-tabulate, at-out, length-tabulate, mem-getD}
 use Rattle.run_ranges.specs.Claims.{Part, Goes}
 use Rattle.export_parts.specs.Head.{pathBytes}
@@ -35,9 +35,9 @@ path-shaped l o path f = shaped-yes l o (length (take 12 path)) (sym here) (let 
 
 -- a part that can be gone on from is finished or spent
 low-kind : (a : Answer) → Goes a → (1 ≤ kindSaid a) × (kindSaid a ≤ 2)
-low-kind (ended (finished plans made)) g = (omega arith, omega arith)
-low-kind (ended (spent plans made)) g = (omega arith, omega arith)
-low-kind (ended (full plans made)) g = absurd g
+low-kind (answered (finished plans made)) g = (omega arith, omega arith)
+low-kind (answered (spent plans made)) g = (omega arith, omega arith)
+low-kind (answered (full plans made)) g = absurd g
 low-kind (refusal number item) g = absurd g
 
 module _ (b pairs block : List ℕ) (cs : List Part) (l : List ℕ) (h : HeldBytes b pairs block cs l) (few : length cs ≤ 65536) (goes : (c : Part) → List·Memᴰ c cs → Goes (c .answer)) where

@@ -1,5 +1,5 @@
 -- Twelve values of a path are enough: a call is a call with its paths cut to twelve values. Assumes nothing.
-use mathlib.Core.Path.{_≡_, refl, sym, ap, ap₂, _∙_}
+use mathlib.Core.Path.{_≡_, sym, ap, ap₂, _∙_}
 use mathlib.Core.Bool.{Bool, not}
 use mathlib.Core.List.{List, [], map}
 use Prim.Native.Nat.{ℕ, _≤_}
@@ -9,15 +9,15 @@ use lib.Seq.{take-all}
 use Rattle.model.specs.Lists.{both, at}
 use Rattle.model.specs.Problem.{Problem}
 use Rattle.model.specs.Search.{nodes}
-use Rattle.model.specs.Verdict.{Verdict, accepted, refused}
+use Rattle.model.specs.Verdict.{accepted, reply, kept}
 use Rattle.model.specs.Sheet.{problemOf}
-use Rattle.model.specs.Run.{search, Answer, ended, written, Tally, settledBy, countsBy}
+use Rattle.model.specs.Run.{search, Answer, written, Tally, settledBy, countsBy}
 use Rattle.model.proofs.Lists.{keep-ext}
 use Rattle.order.specs.Reordered.{write}
 use Rattle.run_cut.specs.Parts.{nodesBetween, lastOf}
 use Rattle.run_input.specs.Lent.{verdictLent, orderLent, problemLent}
 use Rattle.run_input.proofs.Lent.{passed-all, well-lent}
-use Rattle.run_ranges.specs.Ranges.{partNodes, resultPart, answerPartFor, answerPart, listPartFor, listPart, nodesSaid, tallyPart, lastPart}
+use Rattle.run_ranges.specs.Ranges.{partNodes, resultPart, answerPart, listPart, nodesSaid, tallyPart, lastPart}
 use Rattle.run_ranges.specs.Claims.{Part, Call}
 use Rattle.run_cut.proofs.Resume.{node-values}
 use Rattle.run_ranges.proofs.Between.{between, after-short}
@@ -35,20 +35,12 @@ twelve-between p from upto h = keep-ext (between from upto) (between (take 12 fr
 -- the definitions of a part, by its nodes
 module _ (b pairs block from upto from′ upto′ : List ℕ) (limit : ℕ) (out : List ℕ) (q : partNodes b pairs block from upto ≡ partNodes b pairs block from′ upto′) where
   same-answer : answerPart b pairs block from upto limit out ≡ answerPart b pairs block from′ upto′ limit out
-  unfolding answerPart answerPartFor resultPart
-  same-answer = go (verdictLent b pairs block)
-    where
-      go : (v : Verdict) → answerPartFor v b pairs block from upto limit (length out) ≡ answerPartFor v b pairs block from′ upto′ limit (length out)
-      go accepted = ap (λ (ts : List (List ℕ)). ended (search (problemLent b pairs block) limit (length out) ts 0 [] .ending)) q
-      go (refused number item) = refl
+  unfolding answerPart resultPart
+  same-answer = ap (λ (ts : List (List ℕ)). reply (verdictLent b pairs block) (search (problemLent b pairs block) limit (length out) ts 0 [] .ending)) q
 
   same-list : listPart b pairs block from upto limit out ≡ listPart b pairs block from′ upto′ limit out
-  unfolding listPart listPartFor resultPart
-  same-list = go (verdictLent b pairs block)
-    where
-      go : (v : Verdict) → listPartFor v b pairs block from upto limit out ≡ listPartFor v b pairs block from′ upto′ limit out
-      go accepted = ap (λ (ts : List (List ℕ)). written (map (write (orderLent b pairs)) (search (problemLent b pairs block) limit (length out) ts 0 [] .rows)) out) q
-      go (refused number item) = refl
+  unfolding listPart resultPart
+  same-list = ap (λ (ts : List (List ℕ)). kept (verdictLent b pairs block) out (written (map (write (orderLent b pairs)) (search (problemLent b pairs block) limit (length out) ts 0 [] .rows)) out)) q
 
   same-tally : tallyPart b pairs block from upto limit out ≡ tallyPart b pairs block from′ upto′ limit out
   unfolding tallyPart

@@ -1,10 +1,8 @@
 -- The proofs of what callers hold.
 pub mod Demands
-pub mod DemandsLent
 pub mod RetypedCalls
 pub mod EnoughCalls
 pub mod Moments
-pub mod Refusals
 pub mod CountedCalls
 pub mod FamilyCalls
 pub mod Exported

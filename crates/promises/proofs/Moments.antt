@@ -15,16 +15,16 @@ use Rattle.model.specs.Run.{Ending as Told, spent, full, plansIn, nodesIn, Resu
 use Rattle.model.proofs.Runs.{turn, search-turn, walk}
 use Rattle.order.specs.Reordered.{reordered}
 use Rattle.order.specs.RunBy.{resultBy, placeCounts, leadersBy}
-use Rattle.block.proofs.BlockLent.{is-accepted}
-use Rattle.run_input.specs.Lent.{verdictLent, problemWith, orderLent}
-use Rattle.run_input.proofs.Lent as L
+use Rattle.order.specs.Demanded.{Tallied}
+use Rattle.order.proofs.Demanded.{RanBy, ran-by}
+use Rattle.run_input.specs.Lent.{problemWith, orderLent, lentInput}
 use Rattle.run.specs.Meaning.{means}
-use Rattle.run_state.specs.Meaning.{endingOf}
+use Rattle.run_state.specs.Meaning.{tallyIn, endingOf}
 use Rattle.run_state.specs.declared.Ending.{Ending}
 use Rattle.run.specs.declared.Answer.the-variants.{Ended}
-use Rattle.promises.specs.DemandsLent.{TalliedLent}
+use Rattle.promises.specs.Demands.{Demands, TallyHeld}
 use Rattle.promises.specs.Moments.{Each-moment}
-use Rattle.promises.proofs.DemandsLent.{demands-lent}
+use Rattle.promises.proofs.Demands.{demands-lent}
 
 -- what is said of the two walks
 abbrev Stopped : ℕ → Result → Result → Type 0
@@ -86,26 +86,29 @@ each-moment b pairs block limit out tally e after tally′ x k h out₂ tally₂
   stops = (e₂ .0, e₂ .1, made (e₂ .0) (e₂ .1) .0);
   nodes = t .made ∙ n;
   counts = t .counts ∙ ap (placeCounts (orderLent b pairs) (problemWith b block)) n;
-  sum = t .sum ∙ t .made ∙ n;
+  sum = t .sum ∙ n;
   unused = t .unused;
-  plans = λ d q. demands-lent .at-end b pairs block k out₂ tally₂ r₂ after₂ tally₂′ y d q .plans
+  plans = λ d q. second .0 .at-end d q .plans
       ∙ sym (take-take (plansIn (endingOf d)) (plansIn (endingOf e)) (leadersBy (orderLent b pairs) (problemWith b block)) (made d q .1))
-      ∙ ap (take (plansIn (endingOf d))) (sym (demands-lent .at-end b pairs block limit out tally (Ended e) after tally′ x e refl .plans));
+      ∙ ap (take (plansIn (endingOf d))) (sym (demands-lent b pairs block limit out tally (Ended e) after tally′ x .0 .at-end e refl .plans));
 }
   where
+    second : Demands (lentInput b pairs block) k out₂ r₂ after₂ × TallyHeld (lentInput b pairs block) tally₂ r₂ tally₂′
+    second = demands-lent b pairs block k out₂ tally₂ r₂ after₂ tally₂′ y
+
     q : Problem
     q = reordered (orderLent b pairs) (problemWith b block)
 
-    ran : L.RanLent b pairs block limit out (endingOf e)
-    ran = L.ran-lent b pairs block limit out (endingOf e) (sym (x .answers))
+    ran : RanBy (lentInput b pairs block) limit out (endingOf e)
+    ran = ran-by (lentInput b pairs block) limit out (endingOf e) (sym (x .answers))
 
     e₂ : (d : Ending) × (r₂ ≡ Ended d)
-    e₂ = demands-lent .ends b pairs block k out₂ tally₂ r₂ after₂ tally₂′ y (is-accepted (verdictLent b pairs block) (ran .good))
+    e₂ = second .0 .ends (ran .good)
 
     -- the stopped run, beside the whole one
     made : (d : Ending) → r₂ ≡ Ended d → (nodesIn (endingOf d) ≡ k) × (plansIn (endingOf d) ≤ plansIn (endingOf e))
     made d w =
-        let a = L.ran-lent b pairs block k out₂ (endingOf d) (sym (y .answers) ∙ ap means w) .so in
+        let a = ran-by (lentInput b pairs block) k out₂ (endingOf d) (sym (y .answers) ∙ ap means w) .so in
         let z = stopped-so q limit k (length out) (subst (λ (v : Told). k ≤ nodesIn v) (sym (ran .so)) h) in
         let u : resultOf q k (length out) .ending ≡ endingOf d = ap (λ (m : ℕ). resultOf q k m .ending) (sym l) ∙ a in
         (ap nodesIn (sym u) ∙ z .0, subst₂ (λ (v w : Told). plansIn v ≤ plansIn w) u (ran .so) (z .1))
@@ -113,5 +116,5 @@ each-moment b pairs block limit out tally e after tally′ x k h out₂ tally₂
     n : nodesIn (endingOf (e₂ .0)) ≡ k
     n = made (e₂ .0) (e₂ .1) .0
 
-    t : TalliedLent b pairs block (e₂ .0) tally₂′
-    t = demands-lent .tallied b pairs block k out₂ tally₂ r₂ after₂ tally₂′ y (e₂ .0) (e₂ .1)
+    t : Tallied (lentInput b pairs block) (endingOf (e₂ .0)) (tallyIn tally₂′)
+    t = second .1 .tallied (e₂ .0) (e₂ .1)

@@ -3,11 +3,12 @@ use mathlib.Core.Path.{_≡_, sym, ap, _∙_, subst}
 use mathlib.Core.List.{List}
 use Prim.Native.Nat.{ℕ}
 use lib.ListN.{length, replicate}
-use Rattle.model.specs.Verdict.{Verdict}
+use Rattle.model.specs.Verdict.{Verdict, reply}
 use Rattle.model.specs.Sheet.{problemOf}
 use Rattle.model.specs.Run.{Answer}
 use Rattle.model.specs.Run as Run
-use Rattle.run_input.specs.Lent.{answerLentFor, answerLent, listLent, tallyLentFor, tallyLent}
+use Rattle.order.specs.RunBy.{resultBy, placeTally, answerBy, talliedBy}
+use Rattle.run_input.specs.Lent.{problemWith, orderLent, answerLent, listLent, tallyLent}
 use Rattle.run_state.specs.Meaning.{tallyIn}
 use Rattle.run_ranges.specs.Claims.{Together}
 use Rattle.run_ranges.proofs.Joined.{joined-run, whole-run}
@@ -21,12 +22,13 @@ parts-calls b pairs block cs so chain limit out tally r after tally′ c l m =
     (joined-run b pairs block cs so chain limit out (tallyIn tally) l m)))
 
 pub whole-calls : Whole-calls
-unfolding tallyLent answerLent answerLentFor
+unfolding talliedBy answerBy
 whole-calls b pairs block limit out r after c tally r′ after′ tally′ d so =
     let w = whole-run b pairs block limit out in
     (c .answers ∙ w .answer ∙ sym (d .answers), c .leaves ∙ w .list ∙ sym (d .leaves), c .counts ∙ w .tally ∙ same record { nodes = 0; counts = replicate 12 0 } (tallyIn tally) ∙ sym (d .counts))
   where
     same : (t u : Run.Tally) → tallyLent b pairs block limit out t ≡ tallyLent b pairs block limit out u
     same t u =
-        ap (λ (v : Verdict). tallyLentFor (answerLentFor v b pairs block limit (length out)) b pairs block t) so
-        ∙ sym (ap (λ (v : Verdict). tallyLentFor (answerLentFor v b pairs block limit (length out)) b pairs block u) so)
+        let e = resultBy (orderLent b pairs) (problemWith b block) limit (length out) .ending in
+        let made = placeTally (orderLent b pairs) (problemWith b block) in
+        ap (λ (v : Verdict). Run.tallyFor (reply v e) made t) so ∙ sym (ap (λ (v : Verdict). Run.tallyFor (reply v e) made u) so)

@@ -4,9 +4,11 @@ use mathlib.Core.List.{List}
 use Prim.Native.Nat.{ℕ}
 use native.Mathlib.Omega.{arith}
 use lib.ListN.{length}
-use Rattle.model.specs.Run.{plansIn, listedPlans, ended, Answer as Told, Tally as Counts}
+use Rattle.model.specs.Run.{plansIn, listedPlans, ended, Answer as Told, Tally as Counts, tallyFor}
 use Rattle.model.specs.Sheet.{problemOf}
-use Rattle.run_input.specs.Lent.{verdictLent, answerLentFor, answerLent, listLent, tallyLentFor, tallyLent}
+use Rattle.model.specs.Verdict.{reply}
+use Rattle.order.specs.RunBy.{resultBy, placeTally, answerBy, talliedBy}
+use Rattle.run_input.specs.Lent.{verdictLent, problemWith, orderLent, answerLent, listLent, tallyLent}
 use Rattle.run_input.proofs.Lent.{passed-all, lent-passed}
 use Rattle.run_retyped.proofs.Retyped.{same-symmetries}
 use Rattle.run_retyped.proofs.LentRetyped.{retyped-lent, retyped-accepted-lent}
@@ -18,7 +20,7 @@ use Rattle.run.specs.declared.Answer.the-variants.{Refused, Ended}
 use Rattle.run.specs.Meaning.{means}
 use Rattle.run.specs.Calls.{CallLent}
 use Rattle.promises.specs.RetypedCalls.{Retyped-calls}
-use Rattle.promises.proofs.DemandsLent.{demands-lent}
+use Rattle.promises.proofs.Demands.{demands-lent}
 
 -- an answer is known by what it means
 ending-known : (d e : Ending) → endingOf d ≡ endingOf e → d ≡ e
@@ -40,20 +42,22 @@ answer-known (Ended d) (Ended e) h = let k : endingOf d ≡ endingOf e = cc in a
 
 -- what a run answers depends on the list's length alone, and its tally on the answer, once it has ended
 room-alone : (b pairs block : List ℕ) (limit : ℕ) (out out₂ : List ℕ) → length out₂ ≡ length out → answerLent b pairs block limit out₂ ≡ answerLent b pairs block limit out
-unfolding answerLent
-room-alone b pairs block limit out out₂ l = ap (answerLentFor (verdictLent b pairs block) b pairs block limit) l
+unfolding answerBy
+room-alone b pairs block limit out out₂ l = ap (λ (n : ℕ). reply (verdictLent b pairs block) (resultBy (orderLent b pairs) (problemWith b block) limit n .ending)) l
 
 tally-alone : (b pairs block : List ℕ) (limit : ℕ) (out out₂ : List ℕ) (e : Ending) (t t₂ : Counts) → answerLent b pairs block limit out ≡ ended (endingOf e) → answerLent b pairs block limit out₂ ≡ ended (endingOf e)
     → tallyLent b pairs block limit out₂ t₂ ≡ tallyLent b pairs block limit out t
-unfolding tallyLent
-tally-alone b pairs block limit out out₂ e t t₂ h h₂ = ap (λ (a : Told). tallyLentFor a b pairs block t₂) h₂ ∙ sym (ap (λ (a : Told). tallyLentFor a b pairs block t) h)
+unfolding talliedBy
+tally-alone b pairs block limit out out₂ e t t₂ h h₂ =
+    let made = placeTally (orderLent b pairs) (problemWith b block) in
+    ap (λ (a : Told). tallyFor a made t₂) h₂ ∙ sym (ap (λ (a : Told). tallyFor a made t) h)
 
 pub retyped-calls : Retyped-calls
 retyped-calls b c pairs block v s limit out tally r after tally′ x out₂ tally₂ r₂ after₂ tally₂′ y l = record {
   answer = same-answer;
-  plans = λ e q. ap (λ (n : ℕ). listed n (plansIn (endingOf e))) width ∙ demands-lent .at-end b pairs block limit out₂ tally₂ r₂ after₂ tally₂′ z e (same-answer ∙ q) .plans
-      ∙ sym (demands-lent .at-end b pairs block limit out tally r after tally′ x e q .plans);
-  rest = λ e q. demands-lent .at-end c pairs block limit out₂ tally₂ r₂ after₂ tally₂′ y e (same-answer ∙ q) .rest;
+  plans = λ e q. ap (λ (n : ℕ). listed n (plansIn (endingOf e))) width ∙ demands-lent b pairs block limit out₂ tally₂ r₂ after₂ tally₂′ z .0 .at-end e (same-answer ∙ q) .plans
+      ∙ sym (demands-lent b pairs block limit out tally r after tally′ x .0 .at-end e q .plans);
+  rest = λ e q. demands-lent c pairs block limit out₂ tally₂ r₂ after₂ tally₂′ y .0 .at-end e (same-answer ∙ q) .rest;
   whole = λ e. z .leaves ∙ ap (listLent b pairs block limit) e ∙ sym (x .leaves);
   nodes = ap (λ (t : Counts). t .nodes) same-tally;
   counts = ap (λ (t : Counts). t .counts) same-tally;
@@ -73,7 +77,7 @@ retyped-calls b c pairs block v s limit out tally r after tally′ x out₂ tall
 
     same-tally : tallyIn tally₂′ ≡ tallyIn tally′
     same-tally =
-        let e = demands-lent .ends b pairs block limit out tally r after tally′ x v in
+        let e = demands-lent b pairs block limit out tally r after tally′ x .0 .ends v in
         let h = sym (x .answers) ∙ ap means (e .1) in
         z .counts ∙ tally-alone b pairs block limit out out₂ (e .0) (tallyIn tally) (tallyIn tally₂) h (room-alone b pairs block limit out out₂ l ∙ h) ∙ sym (x .counts)
 

@@ -9,7 +9,8 @@ use lib.ListN.{length, take, drop}
 use Rattle.model.specs.Sheet.{problemOf}
 use Rattle.model.specs.Room.{rowsIn}
 use Rattle.model.specs.Run.{plansIn}
-use Rattle.order.specs.Reordered.{LeaderBy}
+use Rattle.model.specs.Claims.{Leader}
+use Rattle.order.specs.Reordered.{earlierBy}
 use Rattle.run_input.specs.Lent.{problemWith, orderLent}
 use Rattle.list_merge.specs.Merge.{ascends}
 use Rattle.list_merge.specs.Calls.{CallMerge}
@@ -47,7 +48,7 @@ pub record EitherHeld (b c pairs block : List ℕ) (e e₂ : Ending) (after afte
   pub rest : (k : ℕ) → r ≡ Written k → drop k room′ ≡ drop k room
   -- where both runs finished: the plans good under at least one of the two sheets, exactly
   pub either : (plans nodes plans₂ nodes₂ : ℕ) → e ≡ Finished plans nodes → e₂ ≡ Finished plans₂ nodes₂ → (k : ℕ) → r ≡ Written k →
-      (s : List ℕ) → InMerged b k room′ s ↔ (LeaderBy (orderLent b pairs) (problemWith b block) s ⊎ LeaderBy (orderLent c pairs) (problemWith c block) s)
+      (s : List ℕ) → InMerged b k room′ s ↔ (Leader (earlierBy (orderLent b pairs)) (problemWith b block) s ⊎ Leader (earlierBy (orderLent c pairs)) (problemWith c block) s)
 
 abbrev pub Either-calls : Type 0
 Either-calls =

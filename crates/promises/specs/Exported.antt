@@ -8,6 +8,7 @@ use lib.ListN.{length}
 use Rattle.export_run.specs.Calls.{CallCode, CallExported}
 use Rattle.model.specs.Verdict.{accepted, refused}
 use Rattle.model.specs.Sheet.{verdictOf}
+use Rattle.order.specs.RunBy.{sheetInput}
 use Rattle.run.specs.Calls.{Call}
 use Rattle.promises.specs.Demands.{AtEnd, AtFinish}
 use Rattle.run_state.specs.declared.Ending.{Ending}
@@ -39,8 +40,8 @@ pub record ExportedHeld (b : List ℕ) (limit : ℕ) (list answer : List ℕ) (c
   -- code 0: the bytes tell an ending of a call of `run` with this list, so that all of `Demands` holds of it ..
   pub called : code ≡ 0 → (e : Ending) × Tells answer′ e × Call b limit list (Ended e) list′
   -- .. demand 2 for every ending, and demands 2 and 3 where the first number is 1: the second number of plans stands at the front of the list
-  pub at-end : code ≡ 0 → (e : Ending) × Tells answer′ e × AtEnd b limit list e list′
-  pub at-finish : code ≡ 0 → fourAt answer′ 0 ≡ 1 → AtFinish b (fourAt answer′ 4) list′
+  pub at-end : code ≡ 0 → (e : Ending) × Tells answer′ e × AtEnd (sheetInput b) limit list e list′
+  pub at-finish : code ≡ 0 → fourAt answer′ 0 ≡ 1 → AtFinish (sheetInput b) (fourAt answer′ 4) list′
 
 abbrev pub Exported : Type 0
 Exported = (b : List ℕ) (limit : ℕ) (list answer : List ℕ) (code : ℕ) (list′ answer′ : List ℕ) → CallExported b limit list answer code list′ answer′ → ExportedHeld b limit list answer code list′ answer′

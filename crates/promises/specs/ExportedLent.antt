@@ -6,10 +6,12 @@ use Prim.Native.Nat.{ℕ, _+_, _*_, _<_}
 use lib.ListN.{length}
 use Rattle.model.specs.Lists.{at}
 use Rattle.model.specs.Verdict.{accepted, refused}
-use Rattle.run_input.specs.Lent.{verdictLent}
+use Rattle.run_input.specs.Lent.{verdictLent, lentInput}
 use Rattle.run_state.specs.declared.Tally.{Tally}
+use Rattle.order.specs.Demanded.{Tallied}
+use Rattle.run_state.specs.Meaning.{tallyIn, endingOf}
 use Rattle.run.specs.Calls.{CallLent, noTally, CallEnough}
-use Rattle.promises.specs.DemandsLent.{AtEndLent, AtFinishLent, TalliedLent}
+use Rattle.promises.specs.Demands.{AtEnd, AtFinish}
 use Rattle.promises.specs.EnoughCalls.{EnoughHeld}
 use Rattle.run.specs.declared.Enough.{Enough}
 use Rattle.run.specs.declared.Enough.the-variants as N
@@ -33,12 +35,12 @@ pub record RunBytesHeld (b pairs block : List ℕ) (limit : ℕ) (list answer : 
   -- the code is 0 only where neither is so
   pub zero : code ≡ 0 → (length answer ≡ 60) × (verdictLent b pairs block ≡ accepted)
   -- then the bytes tell the ending and the counts of a call of `run_lent` with this list and a tally of nothing, so that all of
-  -- `DemandsLent` holds of it: demand 2 and the counts of every ending, demands 2 and 3 of a finished one
+  -- `Demands` holds of it: demand 2 and the counts of every ending, demands 2 and 3 of a finished one
   pub ends : length answer ≡ 60 → verdictLent b pairs block ≡ accepted →
       (code ≡ 0) × ((e : Ending) × (tally : Tally) × Tells answer′ e × TellsCounts answer′ tally × CallLent b pairs block limit list noTally (Ended e) list′ tally
-      × AtEndLent b pairs block limit list e list′ × TalliedLent b pairs block e tally)
+      × AtEnd (lentInput b pairs block) limit list e list′ × Tallied (lentInput b pairs block) (endingOf e) (tallyIn tally))
   -- the first number 1: demands 2 and 3; the second number of plans stands at the front of the list
-  pub at-finish : length answer ≡ 60 → verdictLent b pairs block ≡ accepted → fourAt answer′ 0 ≡ 1 → AtFinishLent b pairs block (fourAt answer′ 4) list′
+  pub at-finish : length answer ≡ 60 → verdictLent b pairs block ≡ accepted → fourAt answer′ 0 ≡ 1 → AtFinish (lentInput b pairs block) (fourAt answer′ 4) list′
 
 abbrev pub Run-bytes : Type 0
 Run-bytes =

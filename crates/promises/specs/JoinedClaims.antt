@@ -11,7 +11,9 @@ use Rattle.model.specs.Problem.{isSolution}
 use Rattle.model.specs.Sheet.{problemOf}
 use Rattle.model.specs.Verdict.{accepted}
 use Rattle.model.specs.Run.{finished, spent, full, ended, written, Tally}
-use Rattle.order.specs.Reordered.{read, LeaderBy, ChainBy}
+use Rattle.model.specs.Claims.{Leader}
+use Rattle.model.specs.Claims as Reads
+use Rattle.order.specs.Reordered.{read, earlierBy}
 use Rattle.run_input.specs.Lent.{verdictLent, problemWith, orderLent, problemLent, answerLent, listLent, tallyLent}
 use Rattle.run_ranges.specs.Ranges.{nodesSaid}
 use Rattle.run_ranges.specs.Claims.{Part, Call, plansHeld, Goes, Done, Chain, allPlans}
@@ -55,11 +57,11 @@ pub record RunHeld (b pairs block : List ℕ) (cs : List Part) (r : Joining) (li
 -- them becomes s by symmetries, one after another, each giving a solution that reads later; there are none exactly when there is no solution
 pub record DemandsHeld (b pairs block : List ℕ) (plans : List (List ℕ)) (number : ℕ) : Type 0 where
   pub many : length plans ≡ number
-  pub leaders : (s : List ℕ) → List·Memᴰ s plans ↔ LeaderBy (orderLent b pairs) (problemWith b block) s
+  pub leaders : (s : List ℕ) → List·Memᴰ s plans ↔ Leader (earlierBy (orderLent b pairs)) (problemWith b block) s
   pub ascend : T (rowsAscend (map (read (orderLent b pairs)) plans))
   pub chains : (s : List ℕ) → length s ≡ problemOf b .variables →
-      T (isSolution (problemOf b) s) ↔ ∥ ((t : List ℕ) × List·Memᴰ t plans × ChainBy (orderLent b pairs) (problemWith b block) t s) ∥₁
-  pub nothing : (number ≡ 0) ↔ ((s : List ℕ) → T (isSolution (problemOf b) s) → ⊥)
+      T (isSolution (problemWith b block) s) ↔ ∥ ((t : List ℕ) × List·Memᴰ t plans × Reads.Chain (earlierBy (orderLent b pairs)) (problemWith b block) t s) ∥₁
+  pub nothing : (number ≡ 0) ↔ ((s : List ℕ) → T (isSolution (problemWith b block) s) → ⊥)
 
 -- the heads taken are parts one behind the other from the first to the last path. The limit is any number: also one beyond what a call can be allowed
 pub record JoinedHeld (b pairs block : List ℕ) (cs : List Part) (r : Joining) : Type 0 where

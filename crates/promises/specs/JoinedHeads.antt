@@ -4,7 +4,7 @@ use mathlib.Core.List.{List, [], map, List·Memᴰ}
 use Prim.Native.Nat.{ℕ, _+_, _*_, _<_}
 use lib.ListN.{take, getD}
 use Rattle.model.specs.Lists.{at, flat}
-use Rattle.model.specs.Run.{finished, spent, full, Answer, refusal, ended}
+use Rattle.model.specs.Run.{finished, spent, full, Answer, refusal, answered}
 use Rattle.model.specs.Verdict.{accepted}
 use Rattle.run_input.specs.Lent.{verdictLent}
 use Rattle.run_ranges.specs.Ranges.{plansSaid, nodesSaid}
@@ -16,9 +16,9 @@ use Rattle.export_parts.specs.Parts.{partOf}
 -- ---- a call and its head
 -- 1 finished, 2 spent, 3 full; a refused call has no head
 abbrev pub kindSaid : Answer → ℕ
-kindSaid (ended (finished plans made)) = 1
-kindSaid (ended (spent plans made)) = 2
-kindSaid (ended (full plans made)) = 3
+kindSaid (answered (finished plans made)) = 1
+kindSaid (answered (spent plans made)) = 2
+kindSaid (answered (full plans made)) = 3
 kindSaid (refusal number item) = 0
 
 -- what is read of head k of some bytes is what the call said; of a path its first twelve values

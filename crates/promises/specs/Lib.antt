@@ -1,7 +1,6 @@
 -- What callers hold, as statements.
 pub mod CountedCalls
 pub mod Demands
-pub mod DemandsLent
 pub mod RetypedCalls
 pub mod EnoughCalls
 pub mod Moments

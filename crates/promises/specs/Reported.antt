@@ -5,13 +5,15 @@ use mathlib.Core.Bool.{true, false}
 use mathlib.Core.Logic.{_↔_}
 use mathlib.Core.List.{List, [], _∷_, _++_, map, List·Memᴰ}
 use Prim.Native.Nat.{ℕ, _*_, _≤_}
-use lib.ListN.{length, take, replicate}
+use lib.ListN.{length, take}
 use lib.Dec.{T, eqb}
 use Rattle.model.specs.Problem.{isSolution}
 use Rattle.model.specs.Verdict.{accepted, refused}
 use Rattle.model.specs.Sheet.{verdictOf, problemOf}
 use Rattle.model.specs.Run.{Ending, plansIn, nodesIn}
-use Rattle.model.specs.Claims.{leaders, CountsAt, Chain}
+use Rattle.model.specs.Claims.{CountsAt, Chain}
+use Rattle.order.specs.Reordered.{earlierBy}
+use Rattle.order.specs.RunBy.{sheetInput, leadersBy}
 use Rattle.families_figure.specs.Figure.{reportFigure}
 use Rattle.report.specs.Report.{line, planWord, finishedWord, refusedWord, endingLine, reportOf}
 
@@ -28,19 +30,23 @@ linesIn (x ∷ text) = elim (eqb x 10) [ true ↦ (x ∷ []) ∷ linesIn text | 
 abbrev pub sheetIn : List ℕ → List ℕ
 sheetIn input = take 65536 input
 
+-- the leaders of a sheet in reading order
+abbrev pub leadersOf : List ℕ → List (List ℕ)
+leadersOf b = leadersBy (sheetInput b .order) (problemOf b)
+
 -- a report that ended so: a line for each of the first leaders, as many as the ending carries, in reading order; then the ending's line with its figures,
 -- whose counts are those of the tree up to where the run ended, within the allowance of a million
 pub record ReportEnds (b : List ℕ) (lines : List (List ℕ)) (e : Ending) : Type 0 where
-  pub lines-are : lines ≡ map (line planWord) (take (plansIn e) (leaders (problemOf b))) ++ (endingLine e (reportFigure b 1000000) ∷ [])
+  pub lines-are : lines ≡ map (line planWord) (take (plansIn e) (leadersOf b)) ++ (endingLine e (reportFigure b 1000000) ∷ [])
   pub allowed : nodesIn e ≤ 1000000
-  pub counts : CountsAt b 1000000 (replicate (4096 * problemOf b .variables) 0) e
+  pub counts : CountsAt (problemOf b) 1000000 (4096 * problemOf b .variables) e
 
 -- before the last line, which begins with "finished", the lines are those of all leaders; s is a solution exactly when one of these becomes s by
 -- symmetries, one after another, each giving a solution that reads later; there is none exactly when there is no solution
 pub record ReportFinished (b : List ℕ) (before : List (List ℕ)) : Type 0 where
   pub accepts : verdictOf b ≡ accepted
-  pub all-leaders : before ≡ map (line planWord) (leaders (problemOf b))
-  pub chains : (s : List ℕ) → length s ≡ problemOf b .variables → T (isSolution (problemOf b) s) ↔ ∥ ((l : List ℕ) × List·Memᴰ l (leaders (problemOf b)) × Chain (problemOf b) l s) ∥₁
+  pub all-leaders : before ≡ map (line planWord) (leadersOf b)
+  pub chains : (s : List ℕ) → length s ≡ problemOf b .variables → T (isSolution (problemOf b) s) ↔ ∥ ((l : List ℕ) × List·Memᴰ l (leadersOf b) × Chain (earlierBy (sheetInput b .order)) (problemOf b) l s) ∥₁
   pub nothing : (before ≡ []) ↔ ((s : List ℕ) → T (isSolution (problemOf b) s) → ⊥)
 
 pub record ReportHeld (input : List ℕ) : Type 0 where

@@ -8,7 +8,7 @@ use lib.Dec.{leb}
 use lib.ListN.{length}
 use Rattle.model.specs.Problem.{Problem}
 use Rattle.model.specs.Search.{nodes}
-use Rattle.model.specs.Verdict.{Verdict, accepted, refused}
+use Rattle.model.specs.Verdict.{Verdict, accepted, refused, reply}
 use Rattle.model.specs.Sheet.{problemOf}
 use Rattle.model.specs.Run.{Ending, finished, spent, full, ended, resultOf}
 use Rattle.model.specs.Run as Run
@@ -16,20 +16,16 @@ use Rattle.model.specs.Claims.{plansAmong}
 use Rattle.run_input.specs.Lent.{verdictLent, problemLent}
 use Rattle.run_input.proofs.Lent.{passed-all, well-sheet}
 use Rattle.run_enough.specs.AtLeast.{Enough, enough, tooFew, unknown, enoughOf, nodesTo, says}
-use Rattle.run_enough.specs.Lent.{answered, enoughLentFor, enoughLent}
+use Rattle.run_enough.specs.Lent.{answered, enoughLent}
 use Rattle.run_enough.proofs.AtLeast.{enough-none, enough-run}
 use Rattle.run.specs.Meaning.{means}
 use Rattle.run.specs.Whole.{Wanted}
-use Rattle.run.specs.Tasks.{enoughNoneFor, enoughNone, enoughFor}
+use Rattle.run.specs.Tasks.{enoughNone, enoughFor}
 use Rattle.run.specs.declared.Answer.{Answer}
 
 pub none-asked : (b pairs block : List ℕ) (limit : ℕ) → enoughNone b pairs block ≡ enoughLent b pairs block limit 0
-unfolding enoughNone enoughLent enoughLentFor
-none-asked b pairs block limit = go (verdictLent b pairs block)
-  where
-    go : (v : Verdict) → enoughNoneFor v ≡ enoughLentFor v b pairs block limit 0
-    go accepted = ap answered (sym (enough-none (problemLent b pairs block) limit))
-    go (refused number item) = refl
+unfolding enoughNone enoughLent
+none-asked b pairs block limit = ap (λ (x : Enough). reply (verdictLent b pairs block) x) (sym (enough-none (problemLent b pairs block) limit))
 
 -- yes says m
 abbrev yesFor : Enough → ℕ → ℕ
@@ -61,10 +57,10 @@ module _ (p : Problem) (limit m : ℕ) (some : 1 ≤ p .variables) where
 
 module _ (b pairs block : List ℕ) (limit : ℕ) (r : Answer) where
   said-more : (m : ℕ) → Wanted (suc m) b pairs block limit r → enoughFor (means r) (suc m) ≡ enoughLent b pairs block limit (suc m)
-  unfolding enoughLent enoughLentFor
+  unfolding enoughLent
   said-more m h = go (verdictLent b pairs block) refl
     where
-      go : (v : Verdict) → verdictLent b pairs block ≡ v → enoughFor (means r) (suc m) ≡ enoughLentFor v b pairs block limit (suc m)
+      go : (v : Verdict) → verdictLent b pairs block ≡ v → enoughFor (means r) (suc m) ≡ reply v (enoughOf (problemLent b pairs block) limit (suc m))
       go (refused number item) v = ap (λ (x : Run.Answer). enoughFor x (suc m)) (h .refused number item v)
       go accepted v =
           let some = well-sheet b pairs block (passed-all (verdictLent b pairs block) v) .some in

@@ -10,15 +10,16 @@ use lib.ListN.{length, set, replicate, length-set}
 use Rattle.model.specs.Lists.{flat, at, choose}
 use Rattle.model.specs.Problem.{Problem}
 use Rattle.model.specs.Search.{nodes}
-use Rattle.model.specs.Verdict.{Verdict, accepted, refused}
-use Rattle.model.specs.Run.{finished, spent, full, refusal, ended, Result, resultOf, written, Tally, plansIn, nodesIn}
+use Rattle.model.specs.Verdict.{Verdict, accepted, refused, reply}
+use Rattle.model.specs.Verdict as model
+use Rattle.model.specs.Run.{finished, spent, full, refusal, ended, Result, resultOf, written, Tally, tallyFor, plansIn, nodesIn}
 use Rattle.model.specs.Run as Run
 use Rattle.model.specs.Sheet.{problemOf}
 use Rattle.model.proofs.Lists.{at-set, at-set-other}
 use Rattle.model.proofs.Runs.{rows-fit}
 use Rattle.order.specs.Reordered.{write}
-use Rattle.order.specs.RunBy.{resultBy, placeCounts}
-use Rattle.run_input.specs.Lent.{verdictLent, orderLent, problemLent, answerLentFor, answerLent, listLentFor, listLent, tallyLentFor, tallyLent}
+use Rattle.order.specs.RunBy.{resultBy, placeCounts, placeTally, answerBy, listBy, talliedBy}
+use Rattle.run_input.specs.Lent.{verdictLent, orderLent, problemWith, problemLent, answerLent, listLent, tallyLent}
 use Rattle.run_input.proofs.Lent.{passed-all, well-sheet}
 use Rattle.arrays.specs.Places.{PLANS, ALL, SPENT, REFUSED, NUMBERS, STACK, SUPPORTS, TABLES, WORK, WANTED}
 use Rattle.sheet.proofs.Whole.{zeros}
@@ -130,10 +131,12 @@ module _ (task b pairs block : List ℕ) (limit : ℕ) (list : List ℕ) (tally 
   same-result = ap (λ (j : ℕ). resultOf (problemLent b pairs block) limit (bytesFor j (problemOf b .variables) (length list))) lists
 
   abbrev Told : Verdict → Type 0
-  Told v = (means r ≡ answerLentFor v b pairs block limit (length list)) × (list′ ≡ listLentFor v b pairs block limit list) × (tally′ ≡ tallyLentFor (answerLentFor v b pairs block limit (length list)) b pairs block tally)
+  Told v =
+      let z = resultBy (orderLent b pairs) (problemWith b block) limit (length list) in
+      (means r ≡ reply v (z .ending)) × (list′ ≡ model.kept v list (written (z .rows) list)) × (tally′ ≡ tallyFor (reply v (z .ending)) (placeTally (orderLent b pairs) (problemWith b block)) tally)
 
   told : (v : Verdict) → verdictLent b pairs block ≡ v → Told v
-  unfolding answerLentFor listLentFor resultBy placeCounts tallyBy
+  unfolding resultBy placeCounts tallyBy
   told (refused number item) v = h .refused number item v
   told accepted v =
       let f = h .ended v in
@@ -144,7 +147,7 @@ module _ (task b pairs block : List ℕ) (limit : ℕ) (list : List ℕ) (tally 
       )
 
   pub said : Said b pairs block limit list tally list′ tally′ r
-  unfolding answerLent listLent tallyLent
+  unfolding answerBy listBy talliedBy
   said = let t = told (verdictLent b pairs block) refl in record { answer = t .0; lists = t .1; counts = t .2 }
 
 -- ---- a run that counts up to one plan less than are asked for

@@ -14,10 +14,10 @@ use Rattle.model.specs.ValueSets.{least}
 use Rattle.model.specs.Problem.{Problem}
 use Rattle.model.specs.Search.{nodes, isPlan}
 use Rattle.model.specs.Run.{Ending, finished, spent, full, plansIn, nodesIn, resultOf}
-use Rattle.model.specs.Claims.{plansAmong}
+use Rattle.model.specs.Claims.{plansAmong, CountsAt}
 use Rattle.run_enough.specs.AtLeast.{Enough, enough, tooFew, unknown, nodesTo, enoughOf, Enough-none, says, Enough-run, Enough-more}
 use Rattle.model.proofs.Masks.{least-none, least-at, least-below, least-is}
-use Rattle.model.proofs.Runs.{Counted, counts, nodes-allowed, rows-fit, rows-counted}
+use Rattle.model.proofs.Runs.{counts, nodes-allowed, rows-fit, rows-counted}
 
 -- ---- plans among the first nodes
 module _ {A : Type 0} (q : A → Bool) where
@@ -191,7 +191,7 @@ enough-run p limit m h = go (resultOf p limit room .ending) refl
     go x e = pick x (counts p limit room x e) (subst (λ (y : Ending). nodesIn y ≤ limit) e (nodes-allowed p limit room))
         (times-le (plansIn x) m (p .variables) h (subst (λ (k : ℕ). k * p .variables ≤ room) (sym (rows-counted p limit room) ∙ ap plansIn e) (rows-fit p limit room)))
       where
-        pick : (x : Ending) → Counted p limit room x → nodesIn x ≤ limit → plansIn x ≤ m → enoughOf p limit (suc m) ≡ says x
+        pick : (x : Ending) → CountsAt p limit room x → nodesIn x ≤ limit → plansIn x ≤ m → enoughOf p limit (suc m) ≡ says x
         pick (finished plans made) c a f =
             let l : length (nodes p) ≤ limit = omega (arith, c .0) in
             let q : plansAmong p limit ≡ plans = among-all p limit l ∙ sym (among-all p made (omega (arith, c .0))) ∙ c .1 in

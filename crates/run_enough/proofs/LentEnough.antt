@@ -3,40 +3,36 @@ use mathlib.Core.Path.{_≡_, refl, sym, ap, ap₂, _∙_, subst}
 use mathlib.Core.List.{List}
 use Prim.Native.Nat.{ℕ, _*_, _≤_, _<_}
 use native.Mathlib.Omega.{arith}
-use lib.Dec.{T}
 use lib.ListN.{length, length-map}
 use Rattle.model.specs.Lists.{keep}
 use Rattle.model.specs.Problem.{Problem}
-use Rattle.model.specs.Verdict.{Verdict, accepted, refused, isAccepted}
+use Rattle.model.specs.Verdict.{Verdict, accepted, refused, reply}
 use Rattle.model.specs.Sheet.{problemOf}
 use Rattle.model.specs.Search.{nodes, isPlan}
 use Rattle.model.specs.Run.{Ending, finished, spent, resultOf, ended}
 use Rattle.model.specs.Claims.{plansAmong, leaders}
 use Rattle.model.proofs.Runs.{finished-rows, finishes}
-use Rattle.model.proofs.Demands.{same-test}
+use Rattle.model.proofs.Demands.{same-test, reply-so}
 use Rattle.model.proofs.Tree.{plans-of-tree}
 use Rattle.order.specs.Reordered.{write}
-use Rattle.order.specs.RunBy.{resultBy, leadersBy}
+use Rattle.order.specs.RunBy.{resultBy, leadersBy, answerBy}
 use Rattle.order.proofs.Reordered.{respected-reordered}
 use Rattle.order.proofs.RunBy.{w2, leadersBy-is}
-use Rattle.run_input.specs.Lent.{verdictLent, problemWith, orderLent, problemLent, answerLentFor, answerLent, plansLent}
-use Rattle.run_input.proofs.Lent.{passed-all, well-lent, respected-lent, ordering-lent, ran-lent, held-lent}
+use Rattle.order.proofs.Demanded.{ran-by, held}
+use Rattle.run_input.specs.Lent.{verdictLent, problemWith, orderLent, problemLent, lentInput, answerLent, plansLent}
+use Rattle.run_input.proofs.Lent.{passed-all, well-lent, respected-lent, ordering-lent, sound-lent}
 use Rattle.run_enough.specs.AtLeast.{Enough, enough, tooFew, unknown, nodesTo, enoughOf}
-use Rattle.run_enough.specs.Lent.{answered, enoughLentFor, enoughLent}
+use Rattle.run_enough.specs.Lent.{answered, enoughLent}
 use Rattle.run_enough.specs.LentClaims.{Enough-refused-lent, Enough-none-lent, AgreesLent, Enough-agrees-lent, Enough-figures-lent, Enough-more-lent}
 use Rattle.run_enough.proofs.AtLeast.{Said, said, spends, among-all, among-most, is-enough, to-limit, to-count, to-before, enough-none, enough-more}
 
 of-answer : (b pairs block : List ℕ) (limit m : ℕ) (e : Enough) → enoughLent b pairs block limit m ≡ answered e → (verdictLent b pairs block ≡ accepted) × (enoughOf (problemLent b pairs block) limit m ≡ e)
-unfolding enoughLent enoughLentFor
-of-answer b pairs block limit m e h = go (verdictLent b pairs block) refl h
-  where
-    go : (v : Verdict) → verdictLent b pairs block ≡ v → enoughLentFor v b pairs block limit m ≡ answered e → (verdictLent b pairs block ≡ accepted) × (enoughOf (problemLent b pairs block) limit m ≡ e)
-    go accepted q h = (q, cc)
-    go (refused number item) q h = absurd (let z : _≡_ {A = ℕ} 0 1 = cc in omega arith)
+unfolding enoughLent
+of-answer b pairs block limit m e h = reply-so (verdictLent b pairs block) (enoughOf (problemLent b pairs block) limit m) e h
 
 run-of : (b pairs block : List ℕ) (limit : ℕ) (out : List ℕ) (e : Ending) → verdictLent b pairs block ≡ accepted → resultOf (problemLent b pairs block) limit (length out) .ending ≡ e → answerLent b pairs block limit out ≡ ended e
-unfolding answerLent answerLentFor resultBy
-run-of b pairs block limit out e h q = ap (λ (v : Verdict). answerLentFor v b pairs block limit (length out)) h ∙ ap ended q
+unfolding answerBy resultBy
+run-of b pairs block limit out e h q = ap₂ (λ (v : Verdict) (x : Ending). reply v x) h q
 
 -- as many plans in the tree as leaders in the order
 pub tree-leaders : (b pairs block : List ℕ) → verdictLent b pairs block ≡ accepted → length (keep (isPlan (problemLent b pairs block)) (nodes (problemLent b pairs block))) ≡ length (leadersBy (orderLent b pairs) (problemWith b block))
@@ -52,12 +48,12 @@ tree-leaders b pairs block h =
     ap length (plans-of-tree p2 v ∙ same-test p2 v (respected-reordered p order o w r)) ∙ sym (length-map (leaders p2) (write order)) ∙ ap length (leadersBy-is p w r order o)
 
 pub enough-refused-lent : Enough-refused-lent
-unfolding enoughLent enoughLentFor
-enough-refused-lent b pairs block limit m number item h = ap (λ (v : Verdict). enoughLentFor v b pairs block limit m) h
+unfolding enoughLent
+enough-refused-lent b pairs block limit m number item h = ap (λ (v : Verdict). reply v (enoughOf (problemLent b pairs block) limit m)) h
 
 pub enough-none-lent : Enough-none-lent
-unfolding enoughLent enoughLentFor
-enough-none-lent b pairs block limit h = ap (λ (v : Verdict). enoughLentFor v b pairs block limit 0) h ∙ ap answered (enough-none (problemLent b pairs block) limit)
+unfolding enoughLent
+enough-none-lent b pairs block limit h = ap₂ (λ (v : Verdict) (x : Enough). reply v x) h (enough-none (problemLent b pairs block) limit)
 
 module _ (b pairs block : List ℕ) (limit m : ℕ) where
   abbrev p : Problem
@@ -73,24 +69,20 @@ module _ (b pairs block : List ℕ) (limit m : ℕ) where
 
     so : resultOf p limit′ (length out) .ending ≡ finished plans made
     unfolding resultBy
-    so = ran-lent b pairs block limit′ out (finished plans made) h .so
+    so = ran-by (lentInput b pairs block) limit′ out (finished plans made) h .so
 
     listed : count ≡ length (keep (isPlan p) (nodes p))
     unfolding resultBy
     listed =
-        ap length (held-lent b pairs block limit′ out (finished plans made) h) ∙ length-map (resultOf p limit′ (length out) .rows) (write (orderLent b pairs))
+        ap length (held (lentInput b pairs block) (sound-lent b pairs block) limit′ out (finished plans made) h) ∙ length-map (resultOf p limit′ (length out) .rows) (write (orderLent b pairs))
         ∙ ap length (finished-rows p limit′ (length out) plans made so .0)
 
     walked : made ≡ length (nodes p)
     walked = finished-rows p limit′ (length out) plans made so .2
 
     of-many : m ≤ plansAmong p limit → enoughLent b pairs block limit m ≡ answered (enough m (nodesTo p m))
-    unfolding enoughLent enoughLentFor
-    of-many k = go (verdictLent b pairs block) (ran-lent b pairs block limit′ out (finished plans made) h .good) ∙ ap answered (is-enough p limit m k)
-      where
-        go : (v : Verdict) → T (isAccepted v) → enoughLentFor v b pairs block limit m ≡ answered (enoughOf p limit m)
-        go accepted t = refl
-        go (refused number item) t = absurd t
+    unfolding enoughLent
+    of-many k = ap₂ (λ (v : Verdict) (x : Enough). reply v x) (ran-by (lentInput b pairs block) limit′ out (finished plans made) h .good) (is-enough p limit m k)
 
     agrees : AgreesLent (enoughLent b pairs block limit m) limit m made count
     agrees = record {
@@ -129,9 +121,9 @@ enough-figures-lent b pairs block limit m = record {
     room out h r = subst (λ (l : ℕ). l * problemOf b .variables ≤ length out) (sym (tree-leaders b pairs block h)) r
 
 pub enough-more-lent : Enough-more-lent
-unfolding enoughLent enoughLentFor
+unfolding enoughLent
 enough-more-lent b pairs block limit limit′ m l h = go (verdictLent b pairs block) refl
   where
-    go : (v : Verdict) → verdictLent b pairs block ≡ v → enoughLentFor v b pairs block limit′ m ≡ enoughLentFor v b pairs block limit m
-    go accepted q = ap answered (enough-more (problemLent b pairs block) limit limit′ m l (λ k t e. h k t (ap (λ (v : Verdict). enoughLentFor v b pairs block limit m) q ∙ ap answered e)))
+    go : (v : Verdict) → verdictLent b pairs block ≡ v → reply v (enoughOf (problemLent b pairs block) limit′ m) ≡ reply v (enoughOf (problemLent b pairs block) limit m)
+    go accepted q = ap answered (enough-more (problemLent b pairs block) limit limit′ m l (λ k t e. h k t (ap (λ (v : Verdict). reply v (enoughOf (problemLent b pairs block) limit m)) q ∙ ap answered e)))
     go (refused number item) q = refl

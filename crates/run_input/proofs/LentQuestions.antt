@@ -18,8 +18,8 @@ use Rattle.order.proofs.Order.{question-30, no-circle-passes}
 use Rattle.sheet.specs.Meaning.{andThen}
 use Rattle.block.specs.Block.{blockTables, isBlock, blockVerdict, blockLent}
 use Rattle.block.proofs.Block.{block-is, is-block}
-use Rattle.run_input.specs.Lent.{verdictLent, answerLentFor, answerLent, listLentFor, listLent, tallyLentFor, tallyLent}
-use Rattle.run_input.specs.LentClaims.{Pairs, NamesBlock, Questions-lent, Refused-lent}
+use Rattle.run_input.specs.Lent.{verdictLent}
+use Rattle.run_input.specs.LentClaims.{Pairs, NamesBlock, Questions-lent}
 
 -- ---- the block's questions
 abbrev numberIn : Verdict → ℕ
@@ -132,11 +132,3 @@ questions-lent b pairs block = record {
 
     pass : verdictOf b ≡ accepted → Pairs (problemOf b .variables) pairs → (Circle pairs → ⊥) → andThen (verdictOf b) (orderVerdict (problemOf b .variables) pairs (blockLent (problemOf b) block)) ≡ blockLent (problemOf b) block
     pass e q ok = rest e ∙ no-circle-passes n pairs (q .few) (q .whole) (q .inside) (blockLent p block) ok
-
-pub refused-lent : Refused-lent
-unfolding answerLent answerLentFor listLent listLentFor tallyLent
-refused-lent b pairs block limit out tally number item h = (
-  ap (λ (v : Verdict). answerLentFor v b pairs block limit (length out)) h,
-  ap (λ (v : Verdict). listLentFor v b pairs block limit out) h,
-  ap (λ (v : Verdict). tallyLentFor (answerLentFor v b pairs block limit (length out)) b pairs block tally) h,
-)

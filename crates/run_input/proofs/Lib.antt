@@ -1,7 +1,6 @@
 -- The laws, in the order of the argument.
 pub mod Lent
 pub mod LentQuestions
-pub mod LentTally
 pub mod Compiling
 pub mod Blocked
 pub mod LentExamples

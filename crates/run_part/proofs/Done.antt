@@ -12,7 +12,8 @@ use borrow.Author.Tests.{eqb-true, eqb-false}
 use Rattle.model.specs.Lists.{at, choose, keep, flat}
 use Rattle.model.specs.Problem.{Problem}
 use Rattle.model.specs.Search.{nodes}
-use Rattle.model.specs.Verdict.{Verdict, accepted}
+use Rattle.model.specs.Verdict.{Verdict, accepted, reply}
+use Rattle.model.specs.Verdict as model
 use Rattle.model.specs.Sheet.{problemOf}
 use Rattle.model.specs.Run.{Ending, finished, spent, full, plansIn, nodesIn, Result, search, Answer, refusal, ended, written, Tally, settledBy, countsBy}
 use Rattle.model.proofs.Lists.{keep-e}
@@ -33,7 +34,7 @@ use Rattle.run_search.proofs.Prepared.{room-fits, room-most}
 use Rattle.run.specs.Meaning.{means}
 use Rattle.run.specs.Whole.{Stopped, Answered}
 use Rattle.run.specs.declared.Answer as S
-use Rattle.run_ranges.specs.Ranges.{resultPart, answerPartFor, answerPart, listPartFor, listPart, nodesSaid, tallyPart, lastPart}
+use Rattle.run_ranges.specs.Ranges.{resultPart, answerPart, listPart, nodesSaid, tallyPart, lastPart}
 use Rattle.run_ranges.specs.Claims.{Call}
 use Rattle.run_ranges.specs.Within.{within}
 use Rattle.run_ranges.proofs.Within.{within-whole}
@@ -175,7 +176,7 @@ module _ (task b pairs block from upto : List ℕ) (limit : ℕ) (list : List �
 
     -- ---- where it stands
     stands-so : prefixOf work₂ (at work₂ LAST) ≡ lastOf (take 12 from) (take (nodesSaid (answerPart b pairs block from upto limit list)) ts)
-    unfolding answerPart answerPartFor resultPart lastOf
+    unfolding answerPart resultPart lastOf
     stands-so = go (eqb step REFUSED) refl
       where
         go : (c : Bool) → eqb step REFUSED ≡ c → prefixOf work₂ (at work₂ LAST) ≡ lastOf (take 12 from) (take (nodesSaid (answerPart b pairs block from upto limit list)) ts)
@@ -183,11 +184,11 @@ module _ (task b pairs block from upto : List ℕ) (limit : ℕ) (list : List �
             let e = eqb-true step REFUSED c in
             let o = q .none (λ d. omega arith) in
             ap (λ (w : List ℕ). prefixOf w (at w LAST)) (o .2) ∙ put-last from work work₁ put
-            ∙ sym (ap (λ (v : Verdict). lastOf (take 12 from) (take (nodesSaid (answerPartFor v b pairs block from upto limit (length list))) ts)) (h .refused e .verdict))
+            ∙ sym (ap (λ (v : Verdict). lastOf (take 12 from) (take (nodesSaid (reply v (resultPart b pairs block from upto limit (length list) .ending))) ts)) (h .refused e .verdict))
         go false c =
             let z = eqb-false step REFUSED c in
             ap (λ (s : State). s .last) (ended-so z)
-            ∙ sym (ap (λ (v : Verdict). lastOf (take 12 from) (take (nodesSaid (answerPartFor v b pairs block from upto limit (length list))) ts)) (good z))
+            ∙ sym (ap (λ (v : Verdict). lastOf (take 12 from) (take (nodesSaid (reply v (resultPart b pairs block from upto limit (length list) .ending))) ts)) (good z))
 
     -- ---- the last node's values are bytes, twelve at most
     abbrev Bytes : List ℕ → Type 0
@@ -268,45 +269,45 @@ module _ (task b pairs block from upto : List ℕ) (limit : ℕ) (list : List �
           f .1 ∙ ap ended (sym (ending-by (f .0)) ∙ ap₂ (λ (i j : ℕ). endingBy i j (stopIn (f .0))) g m ∙ ap (endingBy (plansIn (x .ending)) (nodesIn (x .ending))) (f .4 ∙ w) ∙ ending-by (x .ending))
 
       answers-so : means r ≡ answerPart b pairs block from upto limit list
-      unfolding answerPart answerPartFor resultPart
+      unfolding answerPart resultPart
       answers-so = go (eqb step REFUSED) refl
         where
-          go : (c : Bool) → eqb step REFUSED ≡ c → means r ≡ answerPartFor (verdictLent b pairs block) b pairs block from upto limit (length list)
+          go : (c : Bool) → eqb step REFUSED ≡ c → means r ≡ reply (verdictLent b pairs block) (resultPart b pairs block from upto limit (length list) .ending)
           go true c =
               let e = eqb-true step REFUSED c in
               let o = q .none (λ d. omega arith) in
               a .refused (o .0 ∙ e)
               ∙ ap₂ refusal (ap (λ (w : List ℕ). at w NUMBER) (o .2) ∙ put .others NUMBER (omega arith) (omega arith) (λ d. omega arith)) (ap (λ (w : List ℕ). at w ITEM) (o .2) ∙ put .others ITEM (omega arith) (omega arith) (λ d. omega arith))
-              ∙ sym (ap (λ (u : Verdict). answerPartFor u b pairs block from upto limit (length list)) (h .refused e .verdict))
-          go false c = let z = eqb-false step REFUSED c in same-ending z ∙ sym (ap (λ (u : Verdict). answerPartFor u b pairs block from upto limit (length list)) (good z))
+              ∙ sym (ap (λ (u : Verdict). reply u (resultPart b pairs block from upto limit (length list) .ending)) (h .refused e .verdict))
+          go false c = let z = eqb-false step REFUSED c in same-ending z ∙ sym (ap (λ (u : Verdict). reply u (resultPart b pairs block from upto limit (length list) .ending)) (good z))
 
       leaves-so : list₂ ≡ listPart b pairs block from upto limit list
-      unfolding listPart listPartFor resultPart
+      unfolding listPart resultPart
       leaves-so = go (eqb step REFUSED) refl
         where
-          go : (c : Bool) → eqb step REFUSED ≡ c → list₂ ≡ listPartFor (verdictLent b pairs block) b pairs block from upto limit list
+          go : (c : Bool) → eqb step REFUSED ≡ c → list₂ ≡ model.kept (verdictLent b pairs block) list (written (resultPart b pairs block from upto limit (length list) .rows) list)
           go true c =
               let e = eqb-true step REFUSED c in
-              q .none (λ d. omega arith) .3 ∙ sym (ap (λ (u : Verdict). listPartFor u b pairs block from upto limit list) (h .refused e .verdict))
+              q .none (λ d. omega arith) .3 ∙ sym (ap (λ (u : Verdict). model.kept u list (written (resultPart b pairs block from upto limit (length list) .rows) list)) (h .refused e .verdict))
           go false c =
               let z = eqb-false step REFUSED c in
-              ap (λ (s : State). s .list) (ended-so z) ∙ kept-so p order limit list ts (some z) ∙ sym (ap (λ (u : Verdict). listPartFor u b pairs block from upto limit list) (good z))
+              ap (λ (s : State). s .list) (ended-so z) ∙ kept-so p order limit list ts (some z) ∙ sym (ap (λ (u : Verdict). model.kept u list (written (resultPart b pairs block from upto limit (length list) .rows) list)) (good z))
 
       counts-so : tally₂ ≡ tallyPart b pairs block from upto limit list
-      unfolding tallyPart answerPart answerPartFor resultPart tallyBy
+      unfolding tallyPart answerPart resultPart tallyBy
       counts-so = go (eqb step REFUSED) refl
         where
           told : Answer → Tally
           told y = record { nodes = nodesSaid y; counts = countsBy (λ t. at order (settledBy t)) (take (nodesSaid y) ts) }
 
-          go : (c : Bool) → eqb step REFUSED ≡ c → tally₂ ≡ told (answerPartFor (verdictLent b pairs block) b pairs block from upto limit (length list))
+          go : (c : Bool) → eqb step REFUSED ≡ c → tally₂ ≡ told (reply (verdictLent b pairs block) (resultPart b pairs block from upto limit (length list) .ending))
           go true c =
               let e = eqb-true step REFUSED c in
               q .none (λ d. omega arith) .1 ∙ sym (ap (λ (cs : List ℕ). let t : Tally = record { nodes = 0; counts = cs } in t) (counts-none (λ (t : List ℕ). at order (settledBy t))))
-              ∙ sym (ap (λ (u : Verdict). told (answerPartFor u b pairs block from upto limit (length list))) (h .refused e .verdict))
+              ∙ sym (ap (λ (u : Verdict). told (reply u (resultPart b pairs block from upto limit (length list) .ending))) (h .refused e .verdict))
           go false c =
               let z = eqb-false step REFUSED c in
-              ap (λ (s : State). s .tally) (ended-so z) ∙ sym (ap (λ (u : Verdict). told (answerPartFor u b pairs block from upto limit (length list))) (good z))
+              ap (λ (s : State). s .tally) (ended-so z) ∙ sym (ap (λ (u : Verdict). told (reply u (resultPart b pairs block from upto limit (length list) .ending))) (good z))
 
       pub part-call : Call b pairs block record { from = from; upto = upto; limit = limit; out = list; answer = means r; list = list₂; tally = tally₂; last = take (at work₂ LAST) last }
       unfolding lastPart

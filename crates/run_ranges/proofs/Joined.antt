@@ -11,21 +11,21 @@ use lib.Seq.{take-all, length-take-le, take-append-seam, take-append-le}
 use Rattle.model.specs.Lists.{keep, flat, at, total}
 use Rattle.model.specs.Problem.{Problem}
 use Rattle.model.specs.Search.{nodes, isPlan}
-use Rattle.model.specs.Verdict.{Verdict, accepted, refused}
+use Rattle.model.specs.Verdict.{Verdict, accepted, reply, kept}
 use Rattle.model.specs.Sheet.{problemOf}
-use Rattle.model.specs.Run.{Ending, finished, spent, full, plansIn, nodesIn, Result, search, resultOf, Answer, refusal, ended, written, Tally, settledBy, countsBy, listedPlans}
+use Rattle.model.specs.Run.{Ending, finished, spent, full, plansIn, nodesIn, Result, search, resultOf, Answer, refusal, answered, ended, written, Tally, tallyFor, settledBy, countsBy, listedPlans}
 use Rattle.model.proofs.Lists.{keep-append, map-append}
 use Rattle.model.proofs.Runs.{Ended, Walk, walk}
-use Rattle.model.proofs.Demands.{listed-back}
+use Rattle.model.proofs.Demands.{read-back}
 use Rattle.order.specs.Order.{Ordering}
 use Rattle.order.specs.Reordered.{write}
-use Rattle.order.specs.RunBy.{resultBy, placeCounts}
+use Rattle.order.specs.RunBy.{resultBy, placeCounts, placeTally, answerBy, listBy, talliedBy}
 use Rattle.order.proofs.Reordered as O
 use Rattle.run_cut.specs.Parts.{after, Cuts, nodesBetween, lastOf}
 use Rattle.run_cut.proofs.Counts.{counts-append, counts-none}
-use Rattle.run_input.specs.Lent.{verdictLent, problemWith, orderLent, problemLent, answerLentFor, answerLent, listLentFor, listLent, tallyLentFor, tallyLent}
+use Rattle.run_input.specs.Lent.{verdictLent, problemWith, orderLent, problemLent, answerLent, listLent, tallyLent}
 use Rattle.run_input.proofs.Lent.{passed-all, well-lent, ordering-lent}
-use Rattle.run_ranges.specs.Ranges.{resultPart, answerPartFor, answerPart, listPartFor, listPart, plansSaid, nodesSaid, madeBy, tallyPart, lastPart}
+use Rattle.run_ranges.specs.Ranges.{resultPart, answerPart, listPart, plansSaid, nodesSaid, madeBy, tallyPart, lastPart}
 use Rattle.run_ranges.specs.Claims.{Part, Call, plansHeld, Refused-part, Whole-run, Goes, reachedFor, reachedBy, Chain, allPlans, sumPlans, sumNodes, sumCounts, Together, Joined, Joined-run, One-piece, Done, CutAt, Cuts-run}
 use Rattle.run_ranges.proofs.Between.{Before, before-of, join-nodes, none-between, whole-between, stop}
 
@@ -98,13 +98,13 @@ module _ (b pairs block : List ℕ) (so : verdictLent b pairs block ≡ accepted
   abbrev walked : Part → Result
   walked c = search p (c .limit) (length (c .out)) (nodesBetween p (c .from) (c .upto)) 0 []
 
-  answered : (c : Part) → Call b pairs block c → c .answer ≡ ended (walked c .ending)
-  unfolding answerPart answerPartFor resultPart
-  answered c h = h .answers ∙ ap (λ (v : Verdict). answerPartFor v b pairs block (c .from) (c .upto) (c .limit) (length (c .out))) so
+  told : (c : Part) → Call b pairs block c → c .answer ≡ ended (walked c .ending)
+  unfolding answerPart resultPart
+  told c h = h .answers ∙ ap (λ (v : Verdict). reply v (walked c .ending)) so
 
   wrote : (c : Part) → Call b pairs block c → c .list ≡ written (map (write order) (walked c .rows)) (c .out)
-  unfolding listPart listPartFor resultPart
-  wrote c h = h .leaves ∙ ap (λ (v : Verdict). listPartFor v b pairs block (c .from) (c .upto) (c .limit) (c .out)) so
+  unfolding listPart resultPart
+  wrote c h = h .leaves ∙ ap (λ (v : Verdict). kept v (c .out) (written (map (write order) (walked c .rows)) (c .out))) so
 
   tallied : (c : Part) → Call b pairs block c → (c .tally .nodes ≡ nodesSaid (c .answer)) × (c .tally .counts ≡ countsBy place (take (nodesSaid (c .answer)) (nodesBetween p (c .from) (c .upto))))
   unfolding tallyPart
@@ -118,11 +118,10 @@ module _ (b pairs block : List ℕ) (so : verdictLent b pairs block ≡ accepted
   stands c h = h .stands ∙ ap (λ (a : Answer). lastOf (take 12 (c .from)) (madeBy a b pairs block (c .from) (c .upto))) (sym (h .answers))
 
   -- rows of n bytes are read back
-  read-back : (rows : List (List ℕ)) (out : List ℕ) (k : ℕ) → k ≡ length rows → listedPlans n k (written (map (write order) rows) out) ≡ map (write order) rows
-  unfolding written
-  read-back rows out k e =
-      ap (λ (j : ℕ). listedPlans n j (written (map (write order) rows) out)) (e ∙ sym (length-map rows (write order)))
-      ∙ listed-back n (map (write order) rows) (drop (length (flat (map (write order) rows))) out) (λ r m. let q = Memᴰ·of-map (write order) rows m in ap length (sym (q .2)) ∙ O.write-length (problemWith b block) order o (q .0))
+  rows-back : (rows : List (List ℕ)) (out : List ℕ) (k : ℕ) → k ≡ length rows → listedPlans n k (written (map (write order) rows) out) ≡ map (write order) rows
+  rows-back rows out k e =
+      read-back n (map (write order) rows) out k (e ∙ sym (length-map rows (write order)))
+      (λ r m. let q = Memᴰ·of-map (write order) rows m in ap length (sym (q .2)) ∙ O.write-length (problemWith b block) order o (q .0))
 
   -- what a caller holds of some nodes that are all made
   pub record Holds (ts : List (List ℕ)) (plans : List (List ℕ)) (number made : ℕ) (counts : ℕ → ℕ) : Type 0 where
@@ -141,7 +140,7 @@ module _ (b pairs block : List ℕ) (so : verdictLent b pairs block ≡ accepted
       let rows : walked c .rows ≡ keep (isPlan p) ts = q .0 ∙ ap (keep (isPlan p)) (sym i) in
       let k : plansIn e ≡ length (keep (isPlan p) ts) = q .1 ∙ ap (λ (x : List (List ℕ)). length (keep (isPlan p) x)) (sym i) in
       record {
-        listed = ap₂ (λ (x : Answer) (y : List ℕ). listedPlans n (plansSaid x) y) a (wrote c h) ∙ read-back (walked c .rows) (c .out) (plansIn e) (k ∙ ap length (sym rows)) ∙ ap (map (write order)) rows;
+        listed = ap₂ (λ (x : Answer) (y : List ℕ). listedPlans n (plansSaid x) y) a (wrote c h) ∙ rows-back (walked c .rows) (c .out) (plansIn e) (k ∙ ap length (sym rows)) ∙ ap (map (write order)) rows;
         many = ap plansSaid a ∙ k;
         nodes = ap nodesSaid a ∙ sym (length-take-le (nodesIn e) (nodesBetween p (c .from) (c .upto)) l) ∙ ap length (sym i);
         settled = λ x. ap (λ (cs : List ℕ). at cs x) (tallied c h .1 ∙ ap (λ (y : Answer). countsBy place (take (nodesSaid y) (nodesBetween p (c .from) (c .upto)))) a ∙ ap (countsBy place) (sym i));
@@ -159,20 +158,20 @@ module _ (b pairs block : List ℕ) (so : verdictLent b pairs block ≡ accepted
 
       go : (e : Ending) → walked c .ending ≡ e → Before p (c .from) (reachedBy c) × held c (nodesBetween p (c .from) (reachedBy c))
       go (finished plans made) e =
-          let a : c .answer ≡ ended (finished plans made) = answered c h ∙ ap ended e in
+          let a : c .answer ≡ ended (finished plans made) = told c h ∙ ap ended e in
           let q = finished-passed p (c .limit) (length (c .out)) ts plans made e in
           let z : c .upto ≡ reachedBy c = sym (ap (λ (x : Answer). reachedFor x (c .upto) (c .last)) a) in
           subst (λ (u : List ℕ). Before p (c .from) u × held c (nodesBetween p (c .from) u)) z
           (forth, held-by c ts (finished plans made) h a (q .0) (sym (take-all made ts (omega (arith, q .1)))))
       go (spent plans made) e =
-          let a : c .answer ≡ ended (spent plans made) = answered c h ∙ ap ended e in
+          let a : c .answer ≡ ended (spent plans made) = told c h ∙ ap ended e in
           let q = spent-passed p (c .limit) (length (c .out)) ts plans made e in
           let s = stop p (c .from) (c .upto) made forth small in
           let z : lastOf (take 12 (c .from)) (take made ts) ≡ reachedBy c =
           sym (ap (λ (x : Answer). reachedFor x (c .upto) (c .last)) a ∙ stands c h ∙ ap (λ (x : Answer). lastOf (take 12 (c .from)) (take (nodesSaid x) ts)) a) in
           subst (λ (u : List ℕ). Before p (c .from) u × held c (nodesBetween p (c .from) u)) z
           (s .onward, held-by c (nodesBetween p (c .from) (lastOf (take 12 (c .from)) (take made ts))) (spent plans made) h a q (s .done))
-      go (full plans made) e = absurd (subst Goes (answered c h ∙ ap ended e) g)
+      go (full plans made) e = absurd (subst Goes (told c h ∙ ap ended e) g)
 
   -- ---- parts one behind the other
   abbrev heldBy : List Part → List (List ℕ) → Type 0
@@ -218,7 +217,7 @@ module _ (b pairs block : List ℕ) (so : verdictLent b pairs block ≡ accepted
       let ans : a ≡ ended (finished (sumPlans cs) (sumNodes cs)) = answer ∙ ap ended (e ∙ ap₂ finished (sym (h .many)) (sym (h .nodes))) in
       record {
         finishes = ans;
-        plans = ap (listedPlans n (sumPlans cs)) leaves ∙ read-back (r .rows) out (sumPlans cs) (h .many ∙ ap length (sym rows)) ∙ ap (map (write order)) rows ∙ sym (h .listed);
+        plans = ap (listedPlans n (sumPlans cs)) leaves ∙ rows-back (r .rows) out (sumPlans cs) (h .many ∙ ap length (sym rows)) ∙ ap (map (write order)) rows ∙ sym (h .listed);
         wrote = wrote;
         nodes = counts .0 ∙ ap nodesSaid ans;
         counts = λ x. ap (λ (y : List ℕ). at y x) (counts .1 ∙ ap (λ (y : Answer). countsBy place (take (nodesSaid y) ts)) ans ∙ ap (λ (j : ℕ). countsBy place (take j ts)) (h .nodes) ∙ ap (countsBy place) all) ∙ sym (h .settled x);
@@ -240,62 +239,56 @@ joined b pairs block from upto cs so chain c call e f l m =
     let k = chained b pairs block so from upto cs chain in
     let ts = nodesBetween (problemLent b pairs block) (c .from) (c .upto) in
     let h = subst (λ (x : List ℕ). heldBy b pairs block so cs (nodesBetween (problemLent b pairs block) x (c .upto))) (sym e) (subst (λ (x : List ℕ). heldBy b pairs block so cs (nodesBetween (problemLent b pairs block) from x)) (sym f) (k .1)) in
-    together b pairs block so cs ts h (c .limit) (c .out) l m (c .answer) (answered b pairs block so c call) (c .list) (wrote b pairs block so c call) (c .tally) (tallied b pairs block so c call)
+    together b pairs block so cs ts h (c .limit) (c .out) l m (c .answer) (told b pairs block so c call) (c .list) (wrote b pairs block so c call) (c .tally) (tallied b pairs block so c call)
 
 -- ---- the whole tree
 module _ (b pairs block : List ℕ) (limit : ℕ) (out : List ℕ) where
   same-answer : answerPart b pairs block [] (255 ∷ []) limit out ≡ answerLent b pairs block limit out
-  unfolding answerPart answerPartFor resultPart answerLent answerLentFor resultBy resultOf
-  same-answer = go (verdictLent b pairs block)
-    where
-      go : (v : Verdict) → answerPartFor v b pairs block [] (255 ∷ []) limit (length out) ≡ answerLentFor v b pairs block limit (length out)
-      go accepted = ap (λ (ts : List (List ℕ)). ended (search (problemLent b pairs block) limit (length out) ts 0 [] .ending)) (whole-between (problemLent b pairs block))
-      go (refused number item) = refl
+  unfolding answerPart resultPart answerBy resultBy resultOf
+  same-answer = ap (λ (ts : List (List ℕ)). reply (verdictLent b pairs block) (search (problemLent b pairs block) limit (length out) ts 0 [] .ending)) (whole-between (problemLent b pairs block))
 
   same-list : listPart b pairs block [] (255 ∷ []) limit out ≡ listLent b pairs block limit out
-  unfolding listPart listPartFor resultPart listLent listLentFor resultBy resultOf
-  same-list = go (verdictLent b pairs block)
-    where
-      go : (v : Verdict) → listPartFor v b pairs block [] (255 ∷ []) limit out ≡ listLentFor v b pairs block limit out
-      go accepted = ap (λ (ts : List (List ℕ)). written (map (write (orderLent b pairs)) (search (problemLent b pairs block) limit (length out) ts 0 [] .rows)) out) (whole-between (problemLent b pairs block))
-      go (refused number item) = refl
+  unfolding listPart resultPart listBy resultBy resultOf
+  same-list = ap (λ (ts : List (List ℕ)). kept (verdictLent b pairs block) out (written (map (write (orderLent b pairs)) (search (problemLent b pairs block) limit (length out) ts 0 [] .rows)) out)) (whole-between (problemLent b pairs block))
 
   same-tally : tallyPart b pairs block [] (255 ∷ []) limit out ≡ tallyLent b pairs block limit out record { nodes = 0; counts = replicate 12 0 }
-  unfolding tallyPart tallyLent placeCounts
+  unfolding tallyPart talliedBy placeCounts
   same-tally = ap (λ (a : Answer). tallyOf a) same-answer ∙ go (answerLent b pairs block limit out)
     where
       tallyOf : Answer → Tally
       tallyOf a = record { nodes = nodesSaid a; counts = countsBy (λ t. at (orderLent b pairs) (settledBy t)) (madeBy a b pairs block [] (255 ∷ [])) }
 
-      go : (a : Answer) → tallyOf a ≡ tallyLentFor a b pairs block record { nodes = 0; counts = replicate 12 0 }
+      go : (a : Answer) → tallyOf a ≡ tallyFor a (placeTally (orderLent b pairs) (problemWith b block)) record { nodes = 0; counts = replicate 12 0 }
       go (refusal number item) = ap (λ (cs : List ℕ). let t : Tally = record { nodes = 0; counts = cs } in t) (counts-none (λ (t : List ℕ). at (orderLent b pairs) (settledBy t)))
-      go (ended e) = ap (λ (ts : List (List ℕ)). let t : Tally = record { nodes = nodesIn e; counts = countsBy (λ t. at (orderLent b pairs) (settledBy t)) (take (nodesIn e) ts) } in t) (whole-between (problemLent b pairs block))
+      go (answered e) = ap (λ (ts : List (List ℕ)). let t : Tally = record { nodes = nodesIn e; counts = countsBy (λ t. at (orderLent b pairs) (settledBy t)) (take (nodesIn e) ts) } in t) (whole-between (problemLent b pairs block))
 
 pub whole-run : Whole-run
 whole-run b pairs block limit out = record { answer = same-answer b pairs block limit out; list = same-list b pairs block limit out; tally = same-tally b pairs block limit out }
 
 pub refused-part : Refused-part
-unfolding answerPart answerPartFor listPart listPartFor tallyPart
+unfolding answerPart listPart tallyPart
 refused-part b pairs block c h number item v =
-    let a = ap (λ (x : Verdict). answerPartFor x b pairs block (c .from) (c .upto) (c .limit) (length (c .out))) v in (
+    let r = resultPart b pairs block (c .from) (c .upto) (c .limit) (length (c .out)) in
+    let a = ap (λ (x : Verdict). reply x (r .ending)) v in (
       h .answers ∙ a,
-      h .leaves ∙ ap (λ (x : Verdict). listPartFor x b pairs block (c .from) (c .upto) (c .limit) (c .out)) v,
+      h .leaves ∙ ap (λ (x : Verdict). kept x (c .out) (written (r .rows) (c .out))) v,
       h .counts ∙ ap (λ (x : Answer). let t : Tally = record { nodes = nodesSaid x; counts = countsBy (λ t. at (orderLent b pairs) (settledBy t)) (madeBy x b pairs block (c .from) (c .upto)) } in t) a
           ∙ ap (λ (cs : List ℕ). let t : Tally = record { nodes = 0; counts = cs } in t) (counts-none (λ (t : List ℕ). at (orderLent b pairs) (settledBy t))),
     )
 
 pub joined-run : Joined-run
-unfolding answerLent answerLentFor listLent listLentFor tallyLent placeCounts resultBy resultOf
+unfolding answerBy listBy talliedBy placeCounts resultBy resultOf
 joined-run b pairs block cs so chain limit out tally l m =
     let p = problemLent b pairs block in
     let order = orderLent b pairs in
     let k = subst (heldBy b pairs block so cs) (whole-between p) (chained b pairs block so [] (255 ∷ []) cs chain .1) in
-    let a : answerLent b pairs block limit out ≡ ended (search p limit (length out) (nodes p) 0 [] .ending) = ap (λ (v : Verdict). answerLentFor v b pairs block limit (length out)) so in
-    let e : Ending = search p limit (length out) (nodes p) 0 [] .ending in
-    together b pairs block so cs (nodes p) k limit out l m (answerLent b pairs block limit out) a (listLent b pairs block limit out) (ap (λ (v : Verdict). listLentFor v b pairs block limit out) so)
+    let r = search p limit (length out) (nodes p) 0 [] in
+    let a : answerLent b pairs block limit out ≡ ended (r .ending) = ap (λ (v : Verdict). reply v (r .ending)) so in
+    let made = placeTally order (problemWith b block) in
+    together b pairs block so cs (nodes p) k limit out l m (answerLent b pairs block limit out) a (listLent b pairs block limit out) (ap (λ (v : Verdict). kept v out (written (map (write order) (r .rows)) out)) so)
     (tallyLent b pairs block limit out tally) (
-      ap (λ (x : Answer). tallyLentFor x b pairs block tally .nodes) a ∙ sym (ap nodesSaid a),
-      ap (λ (x : Answer). tallyLentFor x b pairs block tally .counts) a ∙ ap (λ (x : Answer). countsBy (λ t. at order (settledBy t)) (take (nodesSaid x) (nodes p))) (sym a),
+      ap (λ (x : Answer). tallyFor x made tally .nodes) a ∙ sym (ap nodesSaid a),
+      ap (λ (x : Answer). tallyFor x made tally .counts) a ∙ ap (λ (x : Answer). countsBy (λ t. at order (settledBy t)) (take (nodesSaid x) (nodes p))) (sym a),
     )
 
 -- ---- in one piece
@@ -354,7 +347,7 @@ one-piece b pairs block from came upto cs so chain f c call e g l m =
     let join : nodesBetween p (c .from) (c .upto) ≡ xs ++ ys = ap₂ (nodesBetween p) e g ∙ join-nodes p from came upto (k .0) (before-of p came upto f) in
     let z : search p (c .limit) (length (c .out)) (nodesBetween p (c .from) (c .upto)) 0 [] ≡ search p (c .limit) (length (c .out)) (xs ++ ys) 0 [] = ap (λ (ts : List (List ℕ)). search p (c .limit) (length (c .out)) ts 0 []) join in
     let o = one-walk p (c .limit) (length (c .out)) xs ys (l ∙ k .1 .nodes) (subst (λ (j : ℕ). j * n ≤ length (c .out)) (k .1 .many) m) in
-    let a : c .answer ≡ ended (search p (c .limit) (length (c .out)) (xs ++ ys) 0 [] .ending) = answered b pairs block so c call ∙ ap (λ (r : Result). ended (r .ending)) z in
+    let a : c .answer ≡ ended (search p (c .limit) (length (c .out)) (xs ++ ys) 0 [] .ending) = told b pairs block so c call ∙ ap (λ (r : Result). ended (r .ending)) z in
     let ends = ended-so b pairs block so cs xs (k .1) (c .answer) (search p (c .limit) (length (c .out)) (xs ++ ys) 0 [] .ending) a (o .0) in
     let made : nodesSaid (c .answer) ≡ sumNodes cs = nodes-of (c .answer) (sumPlans cs) (sumNodes cs) ends in
     let t = tallied b pairs block so c call in
@@ -367,15 +360,15 @@ one-piece b pairs block from came upto cs so chain f c call e g l m =
 
 -- ---- cuts in order
 done-goes : (a : Answer) → Done a → Goes a
-done-goes (ended (finished plans made)) h = tt
-done-goes (ended (spent plans made)) h = absurd h
-done-goes (ended (full plans made)) h = absurd h
+done-goes (answered (finished plans made)) h = tt
+done-goes (answered (spent plans made)) h = absurd h
+done-goes (answered (full plans made)) h = absurd h
 done-goes (refusal number item) h = absurd h
 
 done-reached : (a : Answer) → Done a → (upto last : List ℕ) → reachedFor a upto last ≡ upto
-done-reached (ended (finished plans made)) h upto last = refl
-done-reached (ended (spent plans made)) h upto last = absurd h
-done-reached (ended (full plans made)) h upto last = absurd h
+done-reached (answered (finished plans made)) h upto last = refl
+done-reached (answered (spent plans made)) h upto last = absurd h
+done-reached (answered (full plans made)) h upto last = absurd h
 done-reached (refusal number item) h upto last = absurd h
 
 cuts-chain : (b pairs block from : List ℕ) (cuts : List (List ℕ)) (cs : List Part) → Cuts from cuts → CutAt b pairs block from cuts cs → Chain b pairs block from cs (lastOf from cuts)

@@ -8,7 +8,7 @@ use lib.ListN.{length, replicate}
 use Rattle.model.specs.Lists.{flat, at, total}
 use Rattle.model.specs.Verdict.{accepted, refused}
 use Rattle.model.specs.Sheet.{problemOf}
-use Rattle.model.specs.Run.{finished, spent, full, Answer, refusal, ended, written, Tally, listedPlans}
+use Rattle.model.specs.Run.{finished, spent, full, Answer, refusal, answered, ended, written, Tally, listedPlans}
 use Rattle.run_cut.specs.Parts.{after, Cuts, lastOf}
 use Rattle.run_input.specs.Lent.{verdictLent, answerLent, listLent, tallyLent}
 use Rattle.run_ranges.specs.Ranges.{answerPart, listPart, plansSaid, nodesSaid, tallyPart, lastPart}
@@ -54,15 +54,15 @@ Whole-run = (b pairs block : List ℕ) (limit : ℕ) (out : List ℕ) → WholeR
 -- ---- parts that join
 -- how far a part has come: to its end where it is finished, to its last node where it is spent. A part that is full cannot be gone on with
 abbrev pub Goes : Answer → Type 0
-Goes (ended (finished plans made)) = Unit {0}
-Goes (ended (spent plans made)) = Unit {0}
-Goes (ended (full plans made)) = ⊥
+Goes (answered (finished plans made)) = Unit {0}
+Goes (answered (spent plans made)) = Unit {0}
+Goes (answered (full plans made)) = ⊥
 Goes (refusal number item) = ⊥
 
 abbrev pub reachedFor : Answer → List ℕ → List ℕ → List ℕ
-reachedFor (ended (finished plans made)) upto last = upto
-reachedFor (ended (spent plans made)) upto last = last
-reachedFor (ended (full plans made)) upto last = last
+reachedFor (answered (finished plans made)) upto last = upto
+reachedFor (answered (spent plans made)) upto last = last
+reachedFor (answered (full plans made)) upto last = last
 reachedFor (refusal number item) upto last = last
 
 abbrev pub reachedBy : Part → List ℕ
@@ -125,9 +125,9 @@ One-piece =
 
 -- ---- cuts in order (parts' `Cuts`), the last of them the path 255, and a finished call of each range between two of them
 abbrev pub Done : Answer → Type 0
-Done (ended (finished plans made)) = Unit {0}
-Done (ended (spent plans made)) = ⊥
-Done (ended (full plans made)) = ⊥
+Done (answered (finished plans made)) = Unit {0}
+Done (answered (spent plans made)) = ⊥
+Done (answered (full plans made)) = ⊥
 Done (refusal number item) = ⊥
 
 abbrev pub CutAt : List ℕ → List ℕ → List ℕ → List ℕ → List (List ℕ) → List Part → Type 0

@@ -5,8 +5,8 @@ use mathlib.Core.List.{List, [], map}
 use Prim.Native.Nat.{ℕ}
 use lib.ListN.{length, take}
 use Rattle.model.specs.Lists.{at}
-use Rattle.model.specs.Verdict.{Verdict, accepted, refused}
-use Rattle.model.specs.Run.{plansIn, nodesIn, Result, search, Answer, refusal, ended, written, Tally, settledBy, countsBy}
+use Rattle.model.specs.Verdict.{reply, kept}
+use Rattle.model.specs.Run.{plansIn, nodesIn, Result, search, Answer, refusal, answered, written, Tally, settledBy, countsBy}
 use Rattle.order.specs.Reordered.{write}
 use Rattle.run_cut.specs.Parts.{nodesBetween, lastOf}
 use Rattle.run_input.specs.Lent.{verdictLent, orderLent, problemLent}
@@ -23,28 +23,20 @@ resultPart b pairs block from upto limit room =
 
 -- ---- what a caller holds
 -- the refusal of the run, or how the part ended, with its plans and its nodes
-unfoldable pub answerPartFor : Verdict → List ℕ → List ℕ → List ℕ → List ℕ → List ℕ → ℕ → ℕ → Answer
-answerPartFor accepted b pairs block from upto limit room = ended (resultPart b pairs block from upto limit room .ending)
-answerPartFor (refused number item) b pairs block from upto limit room = refusal number item
-
 unfoldable pub answerPart : List ℕ → List ℕ → List ℕ → List ℕ → List ℕ → ℕ → List ℕ → Answer
-answerPart b pairs block from upto limit out = answerPartFor (verdictLent b pairs block) b pairs block from upto limit (length out)
-
-unfoldable pub listPartFor : Verdict → List ℕ → List ℕ → List ℕ → List ℕ → List ℕ → ℕ → List ℕ → List ℕ
-listPartFor accepted b pairs block from upto limit out = written (resultPart b pairs block from upto limit (length out) .rows) out
-listPartFor (refused number item) b pairs block from upto limit out = out
+answerPart b pairs block from upto limit out = reply (verdictLent b pairs block) (resultPart b pairs block from upto limit (length out) .ending)
 
 unfoldable pub listPart : List ℕ → List ℕ → List ℕ → List ℕ → List ℕ → ℕ → List ℕ → List ℕ
-listPart b pairs block from upto limit out = listPartFor (verdictLent b pairs block) b pairs block from upto limit out
+listPart b pairs block from upto limit out = kept (verdictLent b pairs block) out (written (resultPart b pairs block from upto limit (length out) .rows) out)
 
 -- the figures of an answer; a refusal has none
 abbrev pub plansSaid : Answer → ℕ
 plansSaid (refusal number item) = 0
-plansSaid (ended e) = plansIn e
+plansSaid (answered e) = plansIn e
 
 abbrev pub nodesSaid : Answer → ℕ
 nodesSaid (refusal number item) = 0
-nodesSaid (ended e) = nodesIn e
+nodesSaid (answered e) = nodesIn e
 
 -- the nodes that the part made
 abbrev pub madeBy : Answer → List ℕ → List ℕ → List ℕ → List ℕ → List ℕ → List (List ℕ)

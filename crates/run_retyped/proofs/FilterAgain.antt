@@ -6,7 +6,7 @@ use lib.Dec.{eqb, leb}
 use lib.ListN.{length}
 use Rattle.model.specs.Lists.{both}
 use Rattle.model.specs.Verdict.{Verdict, accepted, refused, ask}
-use Rattle.model.specs.Nogood.{Entry, filtered, FilterAnswer, declined, answered, failed, entailed, consistent, entries, firstWrong, filterVerdict, filterAnswer, setsAfter}
+use Rattle.model.specs.Nogood.{Entry, filtered, FilterAnswer, refusal, answered, failed, entailed, consistent, entries, firstWrong, filterVerdict, filterAnswer, setsAfter}
 use Rattle.model.proofs.Filter.{length-filtered}
 use Rattle.filter.specs.Lists.{means}
 use Rattle.filter.specs.FilterCalls.{CallFilter, ListsRight}
@@ -68,14 +68,14 @@ within-calls ds ds₂ xs es us w r rs c r₂ rs₂ d = go (filterVerdict ds₂ x
 -- ---- by turns
 -- the answer that is meant
 meant : FilterAnswer → Answer
-meant (declined number item) = Refused number item
+meant (refusal number item) = Refused number item
 meant (answered failed) = Failed
 meant (answered entailed) = Entailed
 meant (answered consistent) = Consistent
 
 meant-so : (a : FilterAnswer) → means (meant a) ≡ a
 unfolding meant
-meant-so (declined number item) = refl
+meant-so (refusal number item) = refl
 meant-so (answered failed) = refl
 meant-so (answered entailed) = refl
 meant-so (answered consistent) = refl

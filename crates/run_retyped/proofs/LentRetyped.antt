@@ -11,14 +11,14 @@ use Rattle.model.specs.ValueSets.{least}
 use Rattle.model.specs.Search.{isPlan}
 use Rattle.model.specs.Run.{countsBy, settledBy}
 use Rattle.model.specs.Problem.{Problem, pair, isPair, withSymmetries}
-use Rattle.model.specs.Verdict.{Verdict, accepted, isAccepted}
+use Rattle.model.specs.Verdict.{Verdict, accepted, isAccepted, reply, kept}
 use Rattle.model.specs.Sheet.{problemOf, verdictOf}
 use Rattle.model.specs.WellFormed.{WellFormed, Respected}
-use Rattle.model.specs.Run.{Answer, refusal, ended, Result, nodesIn, written, Tally}
+use Rattle.model.specs.Run.{Answer, refusal, answered, Result, nodesIn, written, Tally, tallyFor}
 use Rattle.model.proofs.Accepted.{Passed}
 use Rattle.order.specs.Order.{settlingOrder, orderVerdict}
 use Rattle.order.specs.Reordered.{write, renamed, symmetryIn, reordered}
-use Rattle.order.specs.RunBy.{resultBy, placeCounts}
+use Rattle.order.specs.RunBy.{resultBy, placeCounts, placeTally, answerBy, listBy, talliedBy}
 use Rattle.sheet.specs.Meaning.{andThen}
 use Rattle.block.specs.Block.{factorial, variableTable, orderingTable, tablesLent, blockLent}
 use Rattle.model.proofs.Asked as A
@@ -26,14 +26,14 @@ use Rattle.block.proofs.Tables as B
 use Rattle.block.proofs.Block.{is-block, block-e, block-i}
 use Rattle.block.proofs.Orderings.{factorial-up}
 use Rattle.block.proofs.BlockLent.{is-accepted}
-use Rattle.run_input.specs.Lent.{verdictLent, problemWith, orderLent, problemLent, answerLentFor, answerLent, listLentFor, listLent, tallyLentFor, tallyLent}
+use Rattle.run_input.specs.Lent.{verdictLent, problemWith, orderLent, problemLent, answerLent, listLent}
 use Rattle.run_input.proofs.Lent.{both-passed, passed-all, lent-passed, well-lent, respected-lent, problem-other}
 use Rattle.families.specs.Families.{Joined, familiesOf}
 use Rattle.families.proofs.Joined.{joined-one}
 use Rattle.families.proofs.FewerFamilies.{joined-more, joined-fewer, families-same}
 use Rattle.families_figure.specs.Figure.{problemBare, figureFor, familiesLent}
-use Rattle.run_enough.specs.AtLeast.{enough, tooFew, unknown, nodesTo, enoughOf}
-use Rattle.run_enough.specs.Lent.{answered, enoughLentFor, enoughLent}
+use Rattle.run_enough.specs.AtLeast.{Enough, enough, tooFew, unknown, nodesTo, enoughOf}
+use Rattle.run_enough.specs.Lent.{enoughLent}
 use Rattle.run_retyped.specs.Retyped.{SameSymmetries, SameSearch, SameButOrder}
 use Rattle.run_retyped.specs.LentClaims.{SameRunsLent, Retyped-lent, Retyped-accepted-lent, Retyped-exactly, Retyped-enough, Retyped-families}
 use Rattle.run_retyped.proofs.SameSearch.{same-search}
@@ -86,32 +86,28 @@ module _ (b c pairs block : List ℕ) (ok : Passed b) (s : SameButOrder b c) whe
   unfolding placeCounts
   places k = ap₂ (λ (o : List ℕ) (ns : List (List ℕ)). countsBy (λ t. at o (settledBy t)) (take k ns)) same-order (search .tree)
 
-  tallies : (a : Answer) (tally : Tally) → tallyLentFor a c pairs block tally ≡ tallyLentFor a b pairs block tally
+  tallies : (a : Answer) (tally : Tally) → tallyFor a (placeTally (orderLent c pairs) (problemWith c block)) tally ≡ tallyFor a (placeTally (orderLent b pairs) (problemWith b block)) tally
   tallies (refusal number item) tally = refl
-  tallies (ended e) tally = ap (λ (cs : List ℕ). record { nodes = nodesIn e; counts = cs }) (places (nodesIn e))
+  tallies (answered e) tally = ap (λ (cs : List ℕ). record { nodes = nodesIn e; counts = cs }) (places (nodesIn e))
 
   -- ---- what a caller holds
   module _ (hb : verdictLent b pairs block ≡ accepted) (hc : verdictLent c pairs block ≡ accepted) where
     answers : (limit : ℕ) (out : List ℕ) → answerLent c pairs block limit out ≡ answerLent b pairs block limit out
-    unfolding answerLent answerLentFor
-    answers limit out =
-        ap (λ (v : Verdict). answerLentFor v c pairs block limit (length out)) hc ∙ ap (λ (r : Result). ended (r .ending)) (results limit (length out))
-        ∙ sym (ap (λ (v : Verdict). answerLentFor v b pairs block limit (length out)) hb)
+    unfolding answerBy
+    answers limit out = ap₂ (λ (v : Verdict) (r : Result). reply v (r .ending)) (hc ∙ sym hb) (results limit (length out))
 
     lists : (limit : ℕ) (out : List ℕ) → listLent c pairs block limit out ≡ listLent b pairs block limit out
-    unfolding listLent listLentFor
-    lists limit out =
-        ap (λ (v : Verdict). listLentFor v c pairs block limit out) hc ∙ ap (λ (r : Result). written (r .rows) out) (results limit (length out))
-        ∙ sym (ap (λ (v : Verdict). listLentFor v b pairs block limit out) hb)
+    unfolding listBy
+    lists limit out = ap₂ (λ (v : Verdict) (r : Result). kept v out (written (r .rows) out)) (hc ∙ sym hb) (results limit (length out))
 
     same-runs : SameRunsLent b c pairs block
-    unfolding tallyLent
+    unfolding talliedBy
     same-runs = record {
       search = search;
       sets = λ prefix. ap₂ write same-order (search .sets prefix);
       answers = answers;
       lists = lists;
-      tallies = λ limit out tally. ap (λ (a : Answer). tallyLentFor a c pairs block tally) (answers limit out) ∙ tallies (answerLent b pairs block limit out) tally;
+      tallies = λ limit out tally. ap (λ (a : Answer). tallyFor a (placeTally (orderLent c pairs) (problemWith c block)) tally) (answers limit out) ∙ tallies (answerLent b pairs block limit out) tally;
     }
 
 pub retyped-lent : Retyped-lent
@@ -159,14 +155,12 @@ enough-same p q s limit m = ap₂ (λ (f : List ℕ → Bool) (ns : List (List �
     plans = λ i node. s .plans node i
 
 pub retyped-enough : Retyped-enough
-unfolding enoughLent enoughLentFor
+unfolding enoughLent
 retyped-enough b c pairs block hb s limit m =
     let ok = lent-passed b pairs block (passed-all (verdictLent b pairs block) hb) .sheet in
     let p = problemLent b pairs block in
     let q = problemLent c pairs block in
-    ap (λ (v : Verdict). enoughLentFor v c pairs block limit m) (retyped-accepted-lent b c pairs block hb s)
-    ∙ ap answered (enough-same p q (same-search p q (same-lent b c pairs block ok s)) limit m)
-    ∙ sym (ap (λ (v : Verdict). enoughLentFor v b pairs block limit m) hb)
+    ap₂ (λ (v : Verdict) (x : Enough). reply v x) (retyped-accepted-lent b c pairs block hb s ∙ sym hb) (enough-same p q (same-search p q (same-lent b c pairs block ok s)) limit m)
 
 -- ---- families
 pub retyped-families : Retyped-families

@@ -3,22 +3,20 @@ use mathlib.Core.Path.{_≡_, sym, ap, _∙_}
 use mathlib.Core.Bool.{Bool}
 use mathlib.Core.List.{List}
 use Prim.Native.Nat.{ℕ}
-use native.Mathlib.Omega.{arith}
 use lib.ListN.{length}
 use borrow.Author.Tests.{eq-eqb, ne-eqb}
 use Rattle.model.specs.Lists.{choose}
 use Rattle.model.specs.Verdict.{Verdict, accepted, refused}
 use Rattle.model.specs.Room.{Outcome, wrote, refusal, outcomeOf, roomAfter}
+use Rattle.model.proofs.Demands.{reply-so, reply-refused}
 use Rattle.wire.specs.Wire.{wrongLength}
 use Rattle.wire.specs.Outcomes.{outcomeCode, outcomeAnswer, lentCode, lentRoom, lentAnswer}
 
 pub refused-is : (v : Verdict) (text : List ℕ) (number item : ℕ) → refusal number item ≡ outcomeOf v text → v ≡ refused number item
-refused-is accepted text number item e = absurd (let z : _≡_ {A = ℕ} 0 1 = cc in omega arith)
-refused-is (refused k i) text number item e = cc
+refused-is v text number item e = reply-refused v (length text) number item (sym e)
 
 pub wrote-is : (v : Verdict) (text : List ℕ) (k : ℕ) → wrote k ≡ outcomeOf v text → (v ≡ accepted) × (k ≡ length text)
-wrote-is accepted text k e = (cc, cc)
-wrote-is (refused number item) text k e = absurd (let z : _≡_ {A = ℕ} 0 1 = cc in omega arith)
+wrote-is v text k e = let r = reply-so v (length text) k (sym e) in (r .0, sym (r .1))
 
 module _ (v : Verdict) (text room answer : List ℕ) where
   abbrev Answered : ℕ → List ℕ → List ℕ → Type 0

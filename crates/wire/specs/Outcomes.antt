@@ -5,17 +5,17 @@ use lib.Dec.{eqb}
 use lib.ListN.{length}
 use Rattle.model.specs.Lists.{choose}
 use Rattle.model.specs.Verdict.{Verdict}
-use Rattle.model.specs.Room.{Outcome, wrote, refusal, outcomeOf, roomAfter}
+use Rattle.model.specs.Room.{Outcome, answered, refusal, outcomeOf, roomAfter}
 use Rattle.wire.specs.Wire.{wrongLength, threeNumbers}
 
 -- 0, or the number and the item of the refusal
 abbrev pub outcomeCode : Outcome → ℕ
-outcomeCode (wrote k) = 0
+outcomeCode (answered k) = 0
 outcomeCode (refusal number item) = number * 256 + item
 
 -- kind 1, the number of bytes written, 0; after a refusal the answer is as it came
 abbrev pub outcomeAnswer : Outcome → List ℕ → List ℕ
-outcomeAnswer (wrote k) answer = threeNumbers 1 k 0
+outcomeAnswer (answered k) answer = threeNumbers 1 k 0
 outcomeAnswer (refusal number item) answer = answer
 
 -- where the answer has not 12 bytes nothing is changed

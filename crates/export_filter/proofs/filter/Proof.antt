@@ -5,7 +5,7 @@ use native.Mathlib.Omega.{arith}
 use lib.ListN.{length, replicate}
 use lib.Seq.{length-take-le}
 use Rattle.export_filter.specs.Filter.{filterAnswerCode}
-use Rattle.export_filter.proofs.Filtered.{odd-code, odd-bytes, even-code, even-bytes, refused-bytes, many, declined-by}
+use Rattle.export_filter.proofs.Filtered.{odd-code, odd-bytes, even-code, even-bytes, refused-bytes, many, answer-refused}
 use borrow.Author.Needs.{needs}
 use Rattle.export_filter.proofs.filter.Statement.{statement}
 use Rattle.export_filter.proofs.filter.Tie as tie
@@ -24,7 +24,7 @@ returns-2 c =
     let twice : length sets ≡ 2 * n = omega arith in
     let e = many sets (a .index .now) (a .equal .now) (a .not-equal .now) n twice (c .if2 .taken) in
     record {
-      answers = sym (ap filterAnswerCode (declined-by sets (a .index .now) (a .equal .now) (a .not-equal .now) 17 0 e)) ∙ even-code sets (a .index .now) (a .equal .now) (a .not-equal .now) even;
+      answers = sym (ap filterAnswerCode (answer-refused sets (a .index .now) (a .equal .now) (a .not-equal .now) 17 0 e)) ∙ even-code sets (a .index .now) (a .equal .now) (a .not-equal .now) even;
       leaves = refused-bytes sets (a .index .now) (a .equal .now) (a .not-equal .now) n 17 0 twice (λ i. c .before .before .before .before .before .slice-known .given i .fits) e
           ∙ even-bytes sets (a .index .now) (a .equal .now) (a .not-equal .now) even;
     }

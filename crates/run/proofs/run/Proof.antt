@@ -1,7 +1,7 @@
 -- `run::run` meets its contract: an empty lending changes nothing (crate run_input). Assumes nothing.
 use mathlib.Core.Path.{_∙_}
 use denote.Ref.{now}
-use Rattle.run_input.proofs.LentTally.{nothing-lent}
+use Rattle.run_input.proofs.Lent.{nothing-lent}
 use borrow.Author.Needs.{needs}
 use Rattle.run.proofs.run.Statement.{statement}
 use Rattle.run.proofs.run.Tie as tie

@@ -36,7 +36,7 @@ use denote.Triple.Spec.{Meets, tripleOf}
 use denote.Triple.Table.{entered, cited}
 use denote.Triple.Walked.{says, Stays, stay-ref, stay-slice, stay-dropped, walkOf, Walks, ends-at, walked, goes-dropped, goes-slice, goes-ref, walk-meets}
 use denote.Enum.Laws as EL
-use Rattle.run_input.proofs.LentTally.{nothing-lent}
+use Rattle.run_input.proofs.Lent.{nothing-lent}
 use Rattle.run_state.specs.Meaning.{tallyIn}
 use Rattle.run.specs.Calls.{CallWith, CallLent}
 use Rattle.run_state.specs.declared.Tally.{Tally}
