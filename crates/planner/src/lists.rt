@@ -1,6 +1,9 @@
-// Calls about lists of plans, the symmetry store and small sheets: crate export_lists says what they answer and leave.
-ghost use Rattle.export_lists.specs.Merged.{CallMerged};
-ghost use Rattle.export_lists.specs.Calls.{CallColumnsBytes, CallRowsBytes, CallPutBytes, CallFetchBytes, CallDropBytes, CallSmallBytes};
+// Calls about lists of plans, the symmetry store and small sheets: crates export_columns, export_merge,
+// export_store and export_small say what they answer and leave.
+ghost use Rattle.export_columns.specs.Calls.{CallColumnsBytes, CallRowsBytes};
+ghost use Rattle.export_merge.specs.Merged.{CallMerged};
+ghost use Rattle.export_store.specs.Calls.{CallPutBytes, CallFetchBytes, CallDropBytes};
+ghost use Rattle.export_small.specs.Calls.{CallSmallBytes};
 
 // Rows to columns (paper 02, #103).
 #[no_mangle]
@@ -12,7 +15,7 @@ pub extern "C" fn planner_columns(
 ) -> u32
     ensures { λ r. ⌜ CallColumnsBytes variables (now (rows .entry)) (now (out .entry)) (now (answer .entry)) r (now (out .exit)) (now (answer .exit)) ⌝ }
 {
-    export_lists::transpose::columns(variables, rows, out, answer)
+    export_columns::columns(variables, rows, out, answer)
 }
 
 // And back.
@@ -20,7 +23,7 @@ pub extern "C" fn planner_columns(
 pub extern "C" fn planner_rows(store: &[u8], out: &mut [u8], answer: &mut [u8]) -> u32
     ensures { λ r. ⌜ CallRowsBytes (now (store .entry)) (now (out .entry)) (now (answer .entry)) r (now (out .exit)) (now (answer .exit)) ⌝ }
 {
-    export_lists::transpose::rows(store, out, answer)
+    export_columns::rows(store, out, answer)
 }
 
 // One list from two (#106).
@@ -35,7 +38,7 @@ pub extern "C" fn planner_merge<'a>(
 ) -> u32
     ensures { λ r. ⌜ CallMerged variables (now (pairs .entry)) (now (first .entry)) (now (second .entry)) (now (out .entry)) (now (answer .entry)) r (now (out .exit)) (now (answer .exit)) ⌝ }
 {
-    export_lists::lists::merge(variables, pairs, first, second, out, answer)
+    export_merge::merge(variables, pairs, first, second, out, answer)
 }
 
 // The symmetry store (#110): puts a table in place of the one there.
@@ -49,7 +52,7 @@ pub extern "C" fn planner_store_put(
 ) -> u32
     ensures { λ r. ⌜ CallPutBytes (now (store .entry)) owner key (now (table .entry)) (now (answer .entry)) r (now (store .exit)) (now (answer .exit)) ⌝ }
 {
-    export_lists::stored::store_put(store, owner, key, table, answer)
+    export_store::store_put(store, owner, key, table, answer)
 }
 
 // Copies a table to the front of the room.
@@ -63,7 +66,7 @@ pub extern "C" fn planner_store_fetch(
 ) -> u32
     ensures { λ r. ⌜ CallFetchBytes (now (store .entry)) owner key (now (room .entry)) (now (answer .entry)) r (now (room .exit)) (now (answer .exit)) ⌝ }
 {
-    export_lists::stored::store_fetch(store, owner, key, room, answer)
+    export_store::store_fetch(store, owner, key, room, answer)
 }
 
 // Removes a table.
@@ -76,7 +79,7 @@ pub extern "C" fn planner_store_drop(
 ) -> u32
     ensures { λ r. ⌜ CallDropBytes (now (store .entry)) owner key (now (answer .entry)) r (now (store .exit)) (now (answer .exit)) ⌝ }
 {
-    export_lists::stored::store_drop(store, owner, key, answer)
+    export_store::store_drop(store, owner, key, answer)
 }
 
 // The small sheet at a position (#114).
@@ -84,5 +87,5 @@ pub extern "C" fn planner_store_drop(
 pub extern "C" fn planner_small_sheet(k: u32, out: &mut [u8], answer: &mut [u8]) -> u32
     ensures { λ r. ⌜ CallSmallBytes k (now (out .entry)) (now (answer .entry)) r (now (out .exit)) (now (answer .exit)) ⌝ }
 {
-    export_lists::small_sheets::small_sheet(k, out, answer)
+    export_small::small_sheet(k, out, answer)
 }

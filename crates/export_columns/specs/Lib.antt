@@ -1,0 +1,2 @@
+-- What the calls about columns answer and leave in every lent buffer.
+pub mod Calls

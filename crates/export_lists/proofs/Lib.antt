@@ -1,3 +1,0 @@
-pub mod Merged
-pub mod Replies
-pub mod SmallSheets
