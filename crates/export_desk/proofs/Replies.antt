@@ -28,9 +28,9 @@ use Rattle.desk.specs.declared.Answer.the-variants.{Seated, Idle, Stands, Left,
 use Rattle.desk.proofs.Desk.{first-in}
 use Rattle.desk.proofs.Seats.{long-small, seat-in, seat-out, free-at, taken-at}
 use Rattle.desk.proofs.Turning.{Fits, at-fits, turned-fits}
-use Rattle.export_lent.specs.Tallied.{numbersOf}
-use Rattle.export_lent.specs.Inner.{Twelve}
-use Rattle.export_lent.proofs.Tallied.{length-numbers}
+use Rattle.export_counts.specs.Tallied.{numbersOf}
+use Rattle.export_counts.specs.Inner.{Twelve}
+use Rattle.export_counts.proofs.Tallied.{length-numbers}
 use Rattle.export_desk.specs.Told.{fourNumbers, kindOf, replyCode, replyAnswer, answerLength, deskCode, deskBytes, deskAnswer, leaveRoom, lookBytes, lookCode, lookAnswer, roundsReplyCode, roundsReplyAnswer, roundsCode, roundsDesk, roundsAnswer, CallDesk, CallLeave, CallLook, CallRounds, Holds, Sees}
 
 -- ---- four numbers

@@ -12,7 +12,7 @@ use Rattle.wire.specs.Wire.{wrongLength, threeNumbers}
 use Rattle.desk.specs.Desk.{Standing, running, over, DeskCall, sit, turn, leave, DeskReply, denied, seated, idle, served, left, RoundsReply, not-given, gave}
 use Rattle.desk.specs.Layout.{replyOn, lookOn, countsOn, bytesAfter, roundsOn, roundsAfter}
 use Rattle.desk.specs.Meaning.{roomAfter}
-use Rattle.export_lent.specs.Tallied.{numbersOf}
+use Rattle.export_counts.specs.Tallied.{numbersOf}
 
 -- four numbers of four bytes
 unfoldable pub fourNumbers : ℕ → ℕ → ℕ → ℕ → List ℕ

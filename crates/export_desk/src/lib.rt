@@ -3,7 +3,6 @@
 // another length than is asked.
 use desk::Answer;
 use desk_turns::Reply;
-use export_lent::counts;
 use wire::WRONG_LENGTH;
 use wire::code;
 use wire::four;
@@ -16,7 +15,7 @@ ghost use Rattle.model.specs.Written.{Written};
 ghost use Rattle.desk.specs.Desk.{sit, turn};
 ghost use Rattle.desk.specs.Layout.{standingBy};
 ghost use Rattle.desk.specs.Meaning.{means};
-ghost use Rattle.export_lent.specs.Inner.{Twelve};
+ghost use Rattle.export_counts.specs.Inner.{Twelve};
 ghost use Rattle.export_desk.specs.Told.{fourNumbers, kindOf, replyCode, replyAnswer, lookBytes, CallDesk, CallLeave, CallLook, CallRounds, Holds, Sees};
 
 // Puts four numbers at the front; answers the place after them.
@@ -90,7 +89,7 @@ fn seen(answer: &mut [u8], r: Answer, counts: [u32; 12]) -> u32
             nodes,
         } => {
             let after = numbers(answer, kind(standing), seat, plans, nodes);
-            counts::numbers(answer, after, counts);
+            export_counts::numbers(answer, after, counts);
             0
         }
         Answer::Seated { seat } => 0,

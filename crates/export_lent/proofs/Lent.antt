@@ -25,7 +25,7 @@ use Rattle.wire.specs.Wire.{wrongLength}
 use Rattle.export_run.specs.Run.{answerCode}
 use Rattle.export_lent.specs.Lent.{placedBytes, lentRunCode, lentRunList, lentRunAnswer}
 use Rattle.export_run.specs.Inner.{Counted}
-use Rattle.export_lent.specs.Inner.{Twelve}
+use Rattle.export_counts.specs.Inner.{Twelve}
 use Rattle.wire.proofs.Codes.{Small, ask-small, verdict-small, symmetries-small}
 use Rattle.export_run.proofs.Ran.{plans-most}
 use Rattle.block.specs.Block.{factorial, orderingTable, blockTables, isBlock, blockVerdict, blockLent}

@@ -9,7 +9,7 @@ use Rattle.order.specs.RunBy.{placeCounts}
 use Rattle.run_input.specs.Lent.{verdictLent, problemWith, orderLent, answerLent, listLent}
 use Rattle.wire.specs.Wire.{codeOf, wrongLength}
 use Rattle.export_run.specs.Run.{endingBytes, answerCode}
-use Rattle.export_lent.specs.Tallied.{numbersOf}
+use Rattle.export_counts.specs.Tallied.{numbersOf}
 
 -- ---- planner_question_lent
 unfoldable pub lentQuestionCode : List ℕ → List ℕ → List ℕ → ℕ

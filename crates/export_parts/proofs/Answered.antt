@@ -25,8 +25,8 @@ use Rattle.model.proofs.Demands.{reply-so, reply-refused}
 use Rattle.run_ranges.specs.Ranges.{partNodes, resultPart, answerPart, listPart, madeBy, tallyPart, lastPart}
 use Rattle.export_run.specs.Run.{endingBytes, answerCode}
 use Rattle.export_run.specs.Inner.{Counted}
-use Rattle.export_lent.specs.Tallied.{numbersOf}
-use Rattle.export_lent.specs.Inner.{Twelve}
+use Rattle.export_counts.specs.Tallied.{numbersOf}
+use Rattle.export_counts.specs.Inner.{Twelve}
 use Rattle.export_parts.specs.Head.{nameBytes, pathBytes, headOf, headFor}
 use Rattle.export_parts.specs.Parts.{partOf, partCode, partList, partAnswer, CallPartBytes}
 

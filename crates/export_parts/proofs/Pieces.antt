@@ -12,8 +12,8 @@ use Rattle.model.specs.Written.{Written}
 use Rattle.model.proofs.Lists.{length-tabulate, at-out}
 use Rattle.model.proofs.Written.{written-byte, written-then, written-none}
 use Rattle.wire.specs.Wire.{threeNumbers}
-use Rattle.export_lent.specs.Tallied.{numbersOf}
-use Rattle.export_lent.proofs.Tallied.{length-numbers}
+use Rattle.export_counts.specs.Tallied.{numbersOf}
+use Rattle.export_counts.proofs.Tallied.{length-numbers}
 use Rattle.export_parts.specs.Head.{digestFrom, digest, nameBytes, pathBytes}
 
 -- ---- digests

@@ -6,7 +6,7 @@ use Rattle.model.specs.Lists.{at, tabulate}
 use Rattle.model.specs.Run.{Ending, Answer, refusal, answered}
 use Rattle.run_ranges.specs.Claims.{Part}
 use Rattle.export_run.specs.Run.{endingBytes}
-use Rattle.export_lent.specs.Tallied.{numbersOf}
+use Rattle.export_counts.specs.Tallied.{numbersOf}
 
 -- ---- the name of a problem
 -- the digest of bytes by a base: from 1 on, each byte in turn

@@ -1,6 +1,6 @@
 // The head of a part, piece by piece.
 use crate::digests::digest;
-use export_lent::counts::numbers;
+use export_counts::numbers;
 use run_state::Ending;
 use wire::four;
 ghost use mathlib.Core.Path.{_≡_};
@@ -13,8 +13,8 @@ ghost use Rattle.run_state.specs.Meaning.{endingOf};
 ghost use Rattle.wire.specs.Wire.{threeNumbers};
 ghost use Rattle.export_run.specs.Run.{endingBytes};
 ghost use Rattle.export_run.specs.Inner.{Counted};
-ghost use Rattle.export_lent.specs.Inner.{Twelve};
-ghost use Rattle.export_lent.specs.Tallied.{numbersOf};
+ghost use Rattle.export_counts.specs.Inner.{Twelve};
+ghost use Rattle.export_counts.specs.Tallied.{numbersOf};
 ghost use Rattle.export_parts.specs.Head.{nameBytes, pathBytes};
 
 // Three numbers and twelve counts.

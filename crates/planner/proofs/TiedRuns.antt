@@ -13,7 +13,9 @@ use denote.Ref.{now}
 use denote.Triple.Entry.{Args, Res}
 use denote.Triple.Clauses.{AtExit}
 use Rattle.export_run.specs.Calls.{CallCode}
-use Rattle.export_lent.specs.Calls.{CallQuestionCode, CallRunBytes, CallEnoughBytes, CallClosedBytes}
+use Rattle.export_lent.specs.Calls.{CallQuestionCode, CallRunBytes}
+use Rattle.export_enough.specs.Calls.{CallEnoughBytes}
+use Rattle.export_closed.specs.Calls.{CallClosedBytes}
 use Rattle.planner.proofs.runs.planner_question as question
 use Rattle.planner.proofs.runs.planner_question_lent as question-lent
 use Rattle.planner.proofs.runs.planner_run_lent as run-lent

@@ -1,6 +1,8 @@
-// Calls about runs: crates export_run, export_lent and export_families say what they answer and leave.
+// Calls about runs: crates export_run, export_lent, export_enough, export_closed and export_families say what they answer and leave.
 ghost use Rattle.export_run.specs.Calls.{CallCode, CallExported};
-ghost use Rattle.export_lent.specs.Calls.{CallQuestionCode, CallRunBytes, CallEnoughBytes, CallClosedBytes};
+ghost use Rattle.export_lent.specs.Calls.{CallQuestionCode, CallRunBytes};
+ghost use Rattle.export_enough.specs.Calls.{CallEnoughBytes};
+ghost use Rattle.export_closed.specs.Calls.{CallClosedBytes};
 ghost use Rattle.export_families.specs.Families.{CallFigured};
 
 // The questions to a sheet.
@@ -24,7 +26,7 @@ pub extern "C" fn planner_run(sheet: &[u8], limit: u32, list: &mut [u8], answer:
 pub extern "C" fn planner_question_lent(sheet: &[u8], pairs: &[u8], block: &[u8]) -> u32
     ensures { λ r. ⌜ CallQuestionCode (now (sheet .entry)) (now (pairs .entry)) (now (block .entry)) r ⌝ }
 {
-    export_lent::lendings::question_lent(sheet, pairs, block)
+    export_lent::question_lent(sheet, pairs, block)
 }
 
 // Such a run, with its nodes by place (#107).
@@ -39,7 +41,7 @@ pub extern "C" fn planner_run_lent(
 ) -> u32
     ensures { λ r. ⌜ CallRunBytes (now (sheet .entry)) (now (pairs .entry)) (now (block .entry)) limit (now (list .entry)) (now (answer .entry)) r (now (list .exit)) (now (answer .exit)) ⌝ }
 {
-    export_lent::lendings::run_lent(sheet, pairs, block, limit, list, answer)
+    export_lent::run_lent(sheet, pairs, block, limit, list, answer)
 }
 
 // Are there at least so many plans (#101)?
@@ -54,7 +56,7 @@ pub extern "C" fn planner_at_least(
 ) -> u32
     ensures { λ r. ⌜ CallEnoughBytes (now (sheet .entry)) (now (pairs .entry)) (now (block .entry)) plans limit (now (answer .entry)) r (now (answer .exit)) ⌝ }
 {
-    export_lent::at_least::at_least(sheet, pairs, block, plans, limit, answer)
+    export_enough::at_least(sheet, pairs, block, plans, limit, answer)
 }
 
 // Whether the exchanges are closed (#112).
@@ -62,7 +64,7 @@ pub extern "C" fn planner_at_least(
 pub extern "C" fn planner_closed(sheet: &[u8], pairs: &[u8], block: &[u8], answer: &mut [u8]) -> u32
     ensures { λ r. ⌜ CallClosedBytes (now (sheet .entry)) (now (pairs .entry)) (now (block .entry)) (now (answer .entry)) r (now (answer .exit)) ⌝ }
 {
-    export_lent::exchanges::closed(sheet, pairs, block, answer)
+    export_closed::closed(sheet, pairs, block, answer)
 }
 
 // The number of families (#104).

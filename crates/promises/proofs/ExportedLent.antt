@@ -47,10 +47,10 @@ use Rattle.export_run.specs.Run.{questionCode, endingBytes, answerCode}
 use Rattle.promises.specs.Exported.{Tells}
 use Rattle.promises.proofs.Exported.{question-code, first-of, second-of, third-of, endingAs, ending-as, is-finish}
 use Rattle.promises.proofs.Exported as X
-use Rattle.export_lent.specs.Tallied.{numbersOf}
+use Rattle.export_counts.specs.Tallied.{numbersOf}
 use Rattle.export_lent.specs.Lent.{placedBytes, lentRunCode, lentRunList, lentRunAnswer}
-use Rattle.export_lent.specs.Enough.{saidCode, saidBytes, enoughCode, enoughBytes}
-use Rattle.export_lent.specs.Closed.{toldCode, toldBytes, closedCode, closedAnswer}
+use Rattle.export_enough.specs.Enough.{saidCode, saidBytes, enoughCode, enoughBytes}
+use Rattle.export_closed.specs.Closed.{toldCode, toldBytes, closedCode, closedAnswer}
 use Rattle.export_lent.specs.Calls.{CallRunBytes}
 use Rattle.promises.specs.ExportedLent.{TellsCounts, RunBytesHeld, Run-bytes, SaidTold, Enough-bytes, ClosedTold, Closed-bytes}
 use Rattle.export_lent.proofs.Lent.{wrong-answer}

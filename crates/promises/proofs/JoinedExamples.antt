@@ -18,7 +18,7 @@ use Rattle.run_cut.specs.Parts.{after, nodesBetween, lastOf}
 use Rattle.run_ranges.specs.Ranges.{resultPart, answerPart, listPart, tallyPart, lastPart}
 use Rattle.run_ranges.specs.Claims.{Part, Call, Done}
 use Rattle.wire.specs.Wire.{threeNumbers}
-use Rattle.export_lent.specs.Tallied.{numbersOf}
+use Rattle.export_counts.specs.Tallied.{numbersOf}
 use Rattle.export_parts.specs.Head.{digestFrom, digest, nameBytes, pathBytes, headOf}
 use Rattle.run_join.specs.Join.{pathAt, wholeHeads, pathShaped, headShaped, alike, joinVerdict, countOf, comes, mayTake, bestOf, stepOf, takenFrom, taken, standAfter, nearestOf}
 use Rattle.run_join.specs.Calls.{answerFor, figureFor, CallJoin}

@@ -17,8 +17,8 @@ use Rattle.run_ranges.specs.Ranges.{partNodes, resultPart, answerPart, plansSai
 use Rattle.run_ranges.specs.Claims.{Part, Call}
 use Rattle.run_join.specs.Join.{fourAt, pathAt, headsIn}
 use Rattle.export_run.specs.Run.{endingBytes}
-use Rattle.export_lent.specs.Tallied.{numbersOf}
-use Rattle.export_lent.proofs.Tallied.{length-numbers}
+use Rattle.export_counts.specs.Tallied.{numbersOf}
+use Rattle.export_counts.proofs.Tallied.{length-numbers}
 use Rattle.export_parts.specs.Head.{nameBytes, pathBytes, headOf, headFor}
 use Rattle.export_parts.proofs.Pieces.{length-path}
 use Rattle.promises.specs.JoinedHeads.{kindSaid, HeadOf, HeldHeads, headBytes, HeldBytes, partAt}

@@ -22,7 +22,9 @@ use Rattle.run_state.specs.declared.Ending.{Ending}
 use Rattle.run.specs.declared.Answer.the-variants.{Ended}
 use Rattle.wire.specs.Wire.{wrongLength, fourAt}
 use Rattle.promises.specs.Exported.{Tells}
-use Rattle.export_lent.specs.Calls.{CallRunBytes, CallEnoughBytes, CallClosedBytes}
+use Rattle.export_lent.specs.Calls.{CallRunBytes}
+use Rattle.export_enough.specs.Calls.{CallEnoughBytes}
+use Rattle.export_closed.specs.Calls.{CallClosedBytes}
 
 -- the bytes from 12 on tell twelve counts, four bytes each
 abbrev pub TellsCounts : List ℕ → Tally → Type 0

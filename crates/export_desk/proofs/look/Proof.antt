@@ -4,7 +4,7 @@ use mathlib.Core.List.{[]}
 use Rattle.model.specs.Lists.{at}
 use Rattle.desk.specs.Desk.{DeskReply}
 use Rattle.desk.specs.Meaning.{means}
-use Rattle.export_lent.specs.Inner.{Twelve}
+use Rattle.export_counts.specs.Inner.{Twelve}
 use Rattle.export_desk.specs.Told.{Sees}
 use Rattle.export_desk.proofs.Replies.{look-reply, look-twelve, unlooked, looked}
 use borrow.Author.Needs.{needs}

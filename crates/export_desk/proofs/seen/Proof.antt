@@ -6,7 +6,7 @@ use native.Mathlib.Omega.{arith}
 use lib.ListN.{length}
 use Rattle.desk.specs.declared.Answer.{Answer}
 use Rattle.desk.specs.Meaning.{means}
-use Rattle.export_lent.specs.Tallied.{numbersOf}
+use Rattle.export_counts.specs.Tallied.{numbersOf}
 use Rattle.export_desk.specs.Told.{fourNumbers, replyCode, lookBytes, Sees}
 use Rattle.export_desk.proofs.Replies.{all-counts, after-four}
 use borrow.Author.Needs.{needs}

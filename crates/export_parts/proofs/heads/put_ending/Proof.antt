@@ -6,7 +6,7 @@ use Rattle.model.specs.Written.{Written}
 use Rattle.run_state.specs.declared.Ending.{Ending}
 use Rattle.run_state.specs.Meaning.{endingOf}
 use Rattle.export_run.specs.Run.{endingBytes}
-use Rattle.export_lent.specs.Tallied.{numbersOf}
+use Rattle.export_counts.specs.Tallied.{numbersOf}
 use Rattle.export_run.specs.Inner.{Counted}
 use borrow.Author.Needs.{needs}
 use Rattle.export_parts.proofs.heads.put_ending.Statement.{statement}

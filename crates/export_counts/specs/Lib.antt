@@ -1,0 +1,3 @@
+-- Counts as bytes.
+pub mod Tallied
+pub mod Inner
