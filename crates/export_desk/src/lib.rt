@@ -2,7 +2,6 @@
 // first. Each function answers 0; or a refusal, and then every buffer is as it came; or, asked first, 255 times 256 where the answer or the desk has
 // another length than is asked.
 use desk::Answer;
-use desk_turns::Reply;
 use wire::WRONG_LENGTH;
 use wire::code;
 use wire::four;
@@ -12,11 +11,11 @@ ghost use mathlib.Core.List.{[]};
 ghost use Prim.Native.Nat.{ℕ, _^_, _≤_, _<_};
 ghost use lib.ListN.{length};
 ghost use Rattle.model.specs.Written.{Written};
-ghost use Rattle.desk.specs.Desk.{sit, turn};
+ghost use Rattle.desk.specs.Desk.{sit};
 ghost use Rattle.desk.specs.Layout.{standingBy};
 ghost use Rattle.desk.specs.Meaning.{means};
 ghost use Rattle.export_counts.specs.Inner.{Twelve};
-ghost use Rattle.export_desk.specs.Told.{fourNumbers, kindOf, replyCode, replyAnswer, lookBytes, CallDesk, CallLeave, CallLook, CallRounds, Holds, Sees};
+ghost use Rattle.export_desk.specs.Told.{fourNumbers, kindOf, replyCode, replyAnswer, lookBytes, CallDesk, CallLeave, CallLook, Holds, Sees};
 
 // Puts four numbers at the front; answers the place after them.
 fn numbers(answer: &mut [u8], kind: usize, a: usize, b: usize, c: usize) -> usize
@@ -43,7 +42,7 @@ fn kind(standing: u8) -> usize
 }
 
 // A reply as the returned number and the answer.
-fn told(answer: &mut [u8], r: Answer) -> u32
+pub fn told(answer: &mut [u8], r: Answer) -> u32
     requires { ⌜ Holds (means r []) (length (now answer)) ⌝ }
     ensures { λ n. ⌜ n ≡ replyCode (means r []) ⌝ }
     ensures { λ _. ⌜ now (answer .exit) ≡ replyAnswer (means r []) (now (answer .entry)) ⌝ }
@@ -107,36 +106,6 @@ pub fn sit(desk: &mut [u8], sheet: &[u8], limit: u32, answer: &mut [u8]) -> u32
     }
     let r = desk::sit(desk, sheet, limit);
     told(answer, r)
-}
-
-// Gives a turn to the next seat whose run hasn't ended. The answer has 16 bytes: its kind, its number, its plans, its nodes (the paper's trials); four
-// zeros where no run waits.
-pub fn turn(desk: &mut [u8], answer: &mut [u8]) -> u32
-    ensures { λ r. ⌜ CallDesk (now (desk .entry)) turn (now (answer .entry)) r (now (desk .exit)) (now (answer .exit)) ⌝ }
-{
-    if answer.len() != 16 {
-        return WRONG_LENGTH;
-    }
-    let r = desk_turns::turn(desk);
-    told(answer, r)
-}
-
-// Gives each seat whose run hasn't ended up to so many turns. The answer has 12 bytes: 1, the seats whose run ended, those whose run goes on, bit k for
-// seat k.
-pub fn rounds(desk: &mut [u8], turns: u32, answer: &mut [u8]) -> u32
-    ensures { λ r. ⌜ CallRounds (now (desk .entry)) turns (now (answer .entry)) r (now (desk .exit)) (now (answer .exit)) ⌝ }
-{
-    if answer.len() != 12 {
-        return WRONG_LENGTH;
-    }
-    let r = desk_turns::rounds(desk, turns);
-    match r {
-        Reply::Refused { number, item } => code(number, item),
-        Reply::Given { ended, going } => {
-            three(answer, 1, ended as usize, going as usize);
-            0
-        }
-    }
 }
 
 // How a seat stands. The answer has 64 bytes: its kind, its number, its plans, its nodes, and these by variable, twelve counts.

@@ -1,4 +1,4 @@
-// The desk for eight halls (paper 02, #113): crate export_desk says what the calls answer and leave.
+// The desk for eight halls (paper 02, #113): crates export_desk and export_turns say what the calls answer and leave.
 ghost use Rattle.desk.specs.Desk.{sit, turn};
 ghost use Rattle.export_desk.specs.Told.{CallDesk, CallLeave, CallLook, CallRounds};
 
@@ -20,7 +20,7 @@ pub extern "C" fn planner_desk_sit(
 pub extern "C" fn planner_desk_turn(desk: &mut [u8], answer: &mut [u8]) -> u32
     ensures { λ r. ⌜ CallDesk (now (desk .entry)) turn (now (answer .entry)) r (now (desk .exit)) (now (answer .exit)) ⌝ }
 {
-    export_desk::turn(desk, answer)
+    export_turns::turn(desk, answer)
 }
 
 // Gives each seat whose run hasn't ended up to so many turns.
@@ -28,7 +28,7 @@ pub extern "C" fn planner_desk_turn(desk: &mut [u8], answer: &mut [u8]) -> u32
 pub extern "C" fn planner_desk_rounds(desk: &mut [u8], rounds: u32, answer: &mut [u8]) -> u32
     ensures { λ r. ⌜ CallRounds (now (desk .entry)) rounds (now (answer .entry)) r (now (desk .exit)) (now (answer .exit)) ⌝ }
 {
-    export_desk::rounds(desk, rounds, answer)
+    export_turns::rounds(desk, rounds, answer)
 }
 
 // How a seat stands.

@@ -1,10 +1,10 @@
 -- `rounds`: the answer's length is asked first; then the call, and its two kinds of reply. Assumes nothing.
 use mathlib.Core.Path.{refl, sym, ap, _∙_}
 use Rattle.desk_turns.specs.Meaning.{meansRounds}
 use Rattle.export_desk.proofs.Replies.{refused-item, unrounded, rounded}
 use borrow.Author.Needs.{needs}
-use Rattle.export_desk.proofs.rounds.Statement.{statement}
-use Rattle.export_desk.proofs.rounds.Tie as tie
+use Rattle.export_turns.proofs.rounds.Statement.{statement}
+use Rattle.export_turns.proofs.rounds.Tie as tie
 
 returns : tie.Need-returns
 returns c = let a = c .before .before .before .args in unrounded (a .desk .now) (a .turns) (a .answer .now) (c .if1 .taken)

@@ -4,11 +4,11 @@ use mathlib.Core.List.{[]}
 use Rattle.model.specs.Lists.{at}
 use Rattle.desk.specs.Desk.{turn, DeskReply}
 use Rattle.desk.specs.Meaning.{means}
 use Rattle.export_desk.specs.Told.{Holds}
 use Rattle.export_desk.proofs.Replies.{turn-reply, unanswered, answered}
 use borrow.Author.Needs.{needs}
-use Rattle.export_desk.proofs.turn.Statement.{statement}
-use Rattle.export_desk.proofs.turn.Tie as tie
+use Rattle.export_turns.proofs.turn.Statement.{statement}
+use Rattle.export_turns.proofs.turn.Tie as tie
 
 returns : tie.Need-returns
 returns c = let a = c .before .before .before .args in unanswered (a .desk .now) turn (a .answer .now) (c .if1 .taken)
