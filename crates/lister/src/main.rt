@@ -67,7 +67,7 @@ fn main() {
     let n = input.count;
     let mut out = report_room();
     let mut answer = [0u8; 12];
-    let code = planner::planner_report(&sheet[..n], &mut out, &mut answer);
+    let code = export_report::write_report(&sheet[..n], &mut out, &mut answer);
     if code != 0 {
         io::write_all(2, b"lister: the report has no room\n");
         return;

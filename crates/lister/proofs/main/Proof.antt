@@ -9,8 +9,8 @@ use borrow.Author.Needs.{needs}
 use Rattle.lister.proofs.main.Statement.{statement}
 use Rattle.lister.proofs.main.Tie as tie
 
-inside : (c : tie.After-length-told) → c .length-told .result ≤ length (c .before .before .before .before .before .planner-report .last .1 .0)
-inside c = omega (arith, c .length-told .ensures, report-inside _ _ _ _ _ _ (c .before .before .before .before .before .planner-report .ensures) (c .before .before .if2 .left) .1)
+inside : (c : tie.After-length-told) → c .length-told .result ≤ length (c .before .before .before .before .before .write-report .last .1 .0)
+inside c = omega (arith, c .length-told .ensures, report-inside _ _ _ _ _ _ (c .before .before .before .before .before .write-report .ensures) (c .before .before .if2 .left) .1)
 
 large-buffer-requires : tie.Need-large-buffer-requires
 large-buffer-requires c κs = search needs
@@ -36,17 +36,17 @@ report-room-requires c κs = search needs
 array-share-prefix-sheet : tie.Need-array-share-prefix-sheet
 array-share-prefix-sheet c = search needs
 
-slice-aggregate-planner-report : tie.Need-slice-aggregate-planner-report
-slice-aggregate-planner-report c = search needs
+slice-aggregate-write-report : tie.Need-slice-aggregate-write-report
+slice-aggregate-write-report c = search needs
 
-slice-aggregate-planner-report-2 : tie.Need-slice-aggregate-planner-report-2
-slice-aggregate-planner-report-2 c = search needs
+slice-aggregate-write-report-2 : tie.Need-slice-aggregate-write-report-2
+slice-aggregate-write-report-2 c = search needs
 
-slice-aggregate-planner-report-3 : tie.Need-slice-aggregate-planner-report-3
-slice-aggregate-planner-report-3 c = search needs
+slice-aggregate-write-report-3 : tie.Need-slice-aggregate-write-report-3
+slice-aggregate-write-report-3 c = search needs
 
-planner-report-requires : tie.Need-planner-report-requires
-planner-report-requires c κs = search needs
+write-report-requires : tie.Need-write-report-requires
+write-report-requires c κs = search needs
 
 slice-aggregate-write-all-2 : tie.Need-slice-aggregate-write-all-2
 slice-aggregate-write-all-2 c = search needs
@@ -67,7 +67,7 @@ array-share-prefix-out : tie.Need-array-share-prefix-out
 array-share-prefix-out c = inside c
 
 slice-aggregate-write-all-3 : tie.Need-slice-aggregate-write-all-3
-slice-aggregate-write-all-3 c = let l = c .before in sym (length-take-le (l .length-told .result) (l .before .before .before .before .before .planner-report .last .1 .0) (inside l))
+slice-aggregate-write-all-3 c = let l = c .before in sym (length-take-le (l .length-told .result) (l .before .before .before .before .before .write-report .last .1 .0) (inside l))
 
 write-all-requires-3 : tie.Need-write-all-requires-3
 write-all-requires-3 c κs = search needs
@@ -96,10 +96,10 @@ main-spec =
     returns
     report-room-requires
     array-share-prefix-sheet
-    slice-aggregate-planner-report
-    slice-aggregate-planner-report-2
-    slice-aggregate-planner-report-3
-    planner-report-requires
+    slice-aggregate-write-report
+    slice-aggregate-write-report-2
+    slice-aggregate-write-report-3
+    write-report-requires
     slice-aggregate-write-all-2
     write-all-requires-2
     returns-2
