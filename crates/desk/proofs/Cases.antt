@@ -1,4 +1,4 @@
--- Worked cases of the desk, by computation. Assumes nothing.
+-- Worked cases of the queue, by computation. Assumes nothing.
 use mathlib.Core.Path.{_≡_, refl}
 use mathlib.Core.List.{[], _∷_}
 use Prim.Native.Nat.{ℕ}
@@ -12,39 +12,39 @@ use Rattle.model.specs.Search.{entriesAt, nogoodsOf, rowWith, supported, pruned
 use Rattle.model.specs.Run.{finished, spent, search, resultOf, written, countsBy}
 use Rattle.model.specs.Examples.{sheetA}
 use Rattle.run_cut.specs.Parts.{after, nodesAfter, nodesBetween, nodesOf, lastOf, goOn, added}
-use Rattle.desk.specs.Desk.{over, hallTurned, firstOf, emptyDesk, Desk, sit, turn, leave, denied, seated, idle, served, left, deskEnd, deskReplies, due, behindLast, roundsDesk, turnsGiven, endedIn, goingOn, lookReply}
+use Rattle.desk.specs.Queue.{over, jobTurned, firstOf, emptyQueue, Queue, submit, turn, release, denied, queued, idle, served, released, queueEnd, queueReplies, due, behindLast, roundsQueue, turnsGiven, endedIn, goingOn, statusReply}
 use Rattle.desk.specs.Examples.{Stay}
 
 -- every definition that computes
 opened : ℕ
-unfolding all any keep flat tabulate upFrom below at total same earlier ascending rowsAscend has maskBelow least members anyEmpty valuesAt satisfies isSolution assignments pair isPair pairsOf within takes doubled pairsAt excluded forbidden respects word words headerOf scopeAt rowsAt afterAt constraintsFrom tableAt problemOf setsVerdict constraintVerdict constraintsVerdict distinct permutesPairs symmetriesVerdict headerVerdict formVerdict verdictOf obeysFrom obeying used filtered entriesAt nogoodsOf rowWith supported pruned narrowed rounds setsAt isLive nodesBelow nodes isPlan search resultOf written after nodesAfter nodesBetween nodesOf lastOf goOn added countsBy hallTurned firstOf deskEnd deskReplies due behindLast
+unfolding all any keep flat tabulate upFrom below at total same earlier ascending rowsAscend has maskBelow least members anyEmpty valuesAt satisfies isSolution assignments pair isPair pairsOf within takes doubled pairsAt excluded forbidden respects word words headerOf scopeAt rowsAt afterAt constraintsFrom tableAt problemOf setsVerdict constraintVerdict constraintsVerdict distinct permutesPairs symmetriesVerdict headerVerdict formVerdict verdictOf obeysFrom obeying used filtered entriesAt nogoodsOf rowWith supported pruned narrowed rounds setsAt isLive nodesBelow nodes isPlan search resultOf written after nodesAfter nodesBetween nodesOf lastOf goOn added countsBy jobTurned firstOf queueEnd queueReplies due behindLast
 opened = 0
 
--- two halls at the desk, the second with allowance 2, a third that may make no node; idle, leaving with short room, leaving, leaving again
-pub desk-case : deskReplies emptyDesk (turn ∷ sit sheetA 1000000 ∷ sit sheetA 2 ∷ sit sheetA 0 ∷ sit [] 5 ∷ leave 1 [] ∷ turn ∷ turn ∷ turn ∷ turn ∷ leave 0 (replicate 5 9) ∷ leave 0 (replicate 8 9) ∷ leave 0 [] ∷ leave 8 [] ∷ sit sheetA 7 ∷ [])
-    ≡ idle ∷ seated 0 ∷ seated 1 ∷ seated 2 ∷ denied 1 0 ∷ left 0 [] ∷ served 0 (over (finished 3 6)) 3 6 ∷ served 2 (over (spent 0 0)) 0 0 ∷ idle ∷ idle
-    ∷ denied 22 0 ∷ left 6 (0 ∷ 1 ∷ 0 ∷ 2 ∷ 1 ∷ 2 ∷ 9 ∷ 9 ∷ []) ∷ denied 38 0 ∷ denied 38 0 ∷ seated 0 ∷ []
+-- two jobs, the second with limit 2, a third that may make no node; idle, releasing with short room, releasing, releasing again
+pub queue-case : queueReplies emptyQueue (turn ∷ submit sheetA 1000000 ∷ submit sheetA 2 ∷ submit sheetA 0 ∷ submit [] 5 ∷ release 1 [] ∷ turn ∷ turn ∷ turn ∷ turn ∷ release 0 (replicate 5 9) ∷ release 0 (replicate 8 9) ∷ release 0 [] ∷ release 8 [] ∷ submit sheetA 7 ∷ [])
+    ≡ idle ∷ queued 0 ∷ queued 1 ∷ queued 2 ∷ denied 1 0 ∷ released 0 [] ∷ served 0 (over (finished 3 6)) 3 6 ∷ served 2 (over (spent 0 0)) 0 0 ∷ idle ∷ idle
+    ∷ denied 22 0 ∷ released 6 (0 ∷ 1 ∷ 0 ∷ 2 ∷ 1 ∷ 2 ∷ 9 ∷ 9 ∷ []) ∷ denied 38 0 ∷ denied 38 0 ∷ queued 0 ∷ []
 unfolding opened
-desk-case = refl
+queue-case = refl
 
--- rounds for two halls, each of which ends in its first turn: the second is served last
-abbrev two : Desk
-two = deskEnd emptyDesk (sit sheetA 1000000 ∷ sit sheetA 2 ∷ [])
+-- rounds for two jobs, each of which ends in its first turn: the second is served last
+abbrev two : Queue
+two = queueEnd emptyQueue (submit sheetA 1000000 ∷ submit sheetA 2 ∷ [])
 
-pub rounds-case : (turnsGiven two 3 ≡ 2) × (roundsDesk two 3 .next ≡ 2) × (endedIn two 3 ≡ 3) × (goingOn two 3 ≡ 0) × (lookReply (roundsDesk two 3) 1 ≡ served 1 (over (spent 1 2)) 1 2)
+pub rounds-case : (turnsGiven two 3 ≡ 2) × (roundsQueue two 3 .next ≡ 2) × (endedIn two 3 ≡ 3) × (goingOn two 3 ≡ 0) × (statusReply (roundsQueue two 3) 1 ≡ served 1 (over (spent 1 2)) 1 2)
 unfolding opened
 rounds-case = (refl, refl, refl, refl, refl)
 
--- halls that stay seated (specs/Examples)
+-- jobs that stay (specs/Examples)
 pub stay : Stay
 unfolding opened
 stay = record {
   replies = refl;
-  looks = refl;
+  shows = refl;
   counts = refl;
-  seat = refl;
+  slot = refl;
   ended = refl;
-  sat = refl;
+  submit-done = refl;
   stays = (tt, tt);
   goes-on = refl;
   counted = refl;

@@ -1,4 +1,4 @@
--- Twelve counts in a seat's bytes, and that none of them is more than all that is counted. Assumes nothing.
+-- Twelve counts in a slot's bytes, and that none of them is more than all that is counted. Assumes nothing.
 use mathlib.Core.Path.{_≡_, refl, sym, ap, _∙_}
 use mathlib.Core.Bool.{Bool, true, false}
 use mathlib.Core.List.{List, [], _∷_}
@@ -42,7 +42,7 @@ added-most xs ys m n f g x = go (ltb x 12) refl
     go true e = let z = at-added xs ys x (ltb-true x 12 e) in let a = f x in let b = g x in omega arith
     go false e = let z = at-out (added xs ys) x (let s = length-added xs ys in let o = ltb-false x 12 e in omega arith) in omega arith
 
--- ---- the counts that a seat's bytes mean
+-- ---- the counts that a slot's bytes mean
 module _ (b : List ℕ) (p : ℕ) where
   pub counts-length : length (countsAt b p) ≡ 12
   unfolding countsAt

@@ -1,11 +1,11 @@
 -- The laws, in the order of the argument.
-pub mod Desk
+pub mod Queue
 pub mod Rounds
 pub mod Cases
 pub mod Sheets
 pub mod Bytes
 pub mod Counts
-pub mod Seats
+pub mod Slots
 pub mod Held
 pub mod Meaning
 pub mod Refines

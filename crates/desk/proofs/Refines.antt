@@ -1,4 +1,4 @@
--- Each call on bytes is the call on the desk that they mean (specs/Claims). Assumes nothing.
+-- Each call on bytes is the call on the queue that they mean (specs/Claims). Assumes nothing.
 use mathlib.Core.Path.{_≡_, refl, sym, ap, ap₂, _∙_, subst}
 use mathlib.Core.Bool.{Bool, true, false}
 use mathlib.Core.List.{List, _∷_, _++_}
@@ -14,99 +14,99 @@ use Rattle.model.specs.Sheet.{verdictOf}
 use Rattle.model.specs.Bytes.{twoBytes, fourBytes}
 use Rattle.model.specs.Written.{placed}
 use Rattle.model.proofs.Lists.{below-e, at-set, at-set-other}
-use Rattle.desk.specs.Desk.{newcomer, Hall, Seat, free, taken, isFree, Desk, seatAt, Found, none-found, seat, lowestFree, sit, leave, sitDesk, fits, leaveSeat, deskAfter}
+use Rattle.desk.specs.Queue.{newJob, Job, Slot, free, taken, isFree, Queue, slotAt, Found, none-found, slot, lowestFree, submit, release, submitQueue, fits, releaseSlot, queueAfter}
 use Rattle.desk.specs.Places.{NEXT}
-use Rattle.desk.specs.Layout.{seatPlace, seatOf, deskOf, headBytes, seatBytes, sitBytes, leaveBytes, callBytes}
-use Rattle.desk.specs.Claims.{DeskBytes, Zeros-empty}
-use Rattle.desk.proofs.Desk.{first-in, no-seats}
+use Rattle.desk.specs.Layout.{slotPlace, slotOf, queueOf, headBytes, slotBytes, submitBytes, releaseBytes, callBytes}
+use Rattle.desk.specs.Claims.{QueueBytes, Zeros-empty}
+use Rattle.desk.proofs.Queue.{first-in, no-slots}
 use Rattle.desk.proofs.Sheets.{answered-length}
 use Rattle.desk.proofs.Bytes.{Small, small-cons, small-append, small-replicate, small-placed, small-set, small-four, small-two}
-use Rattle.desk.proofs.Seats.{row-length, seat-in, seat-out, free-at}
-use Rattle.desk.proofs.Meaning.{seat-same, seats-set, sat-length, sat-seat, sat-others, sat-next}
+use Rattle.desk.proofs.Slots.{row-length, slot-in, slot-out, free-at}
+use Rattle.desk.proofs.Meaning.{slot-same, slots-set, submitted-length, submitted-slot, submitted-others, submitted-next}
 
--- a desk by its seats and where to look
-pub desk-is : {l m : List Seat} {i j : ℕ} → l ≡ m → i ≡ j → _≡_ {A = Desk} (record { seats = l; next = i }) (record { seats = m; next = j })
-desk-is e f = ap₂ (λ (x : List Seat) (y : ℕ). let d : Desk = record { seats = x; next = y } in d) e f
+-- a queue by its slots and where to look
+pub queue-is : {l m : List Slot} {i j : ℕ} → l ≡ m → i ≡ j → _≡_ {A = Queue} (record { slots = l; next = i }) (record { slots = m; next = j })
+queue-is e f = ap₂ (λ (x : List Slot) (y : ℕ). let d : Queue = record { slots = x; next = y } in d) e f
 
 -- ---- zeros
 pub zeros-empty : Zeros-empty
 unfolding below
-zeros-empty b zeros = desk-is (ext-getD free (deskOf b .seats) (replicate 8 free) (row-length (seatOf b) 8 0) each) (zeros NEXT)
+zeros-empty b zeros = queue-is (ext-getD free (queueOf b .slots) (replicate 8 free) (row-length (slotOf b) 8 0) each) (zeros NEXT)
   where
-    each : (k : ℕ) → k < length (deskOf b .seats) → seatAt (deskOf b) k ≡ getD (replicate 8 free) k free
-    each k h = let l = row-length (seatOf b) 8 0 in seat-in b k (omega arith) ∙ free-at b k (zeros (seatPlace k)) ∙ sym (no-seats 8 k)
+    each : (k : ℕ) → k < length (queueOf b .slots) → slotAt (queueOf b) k ≡ getD (replicate 8 free) k free
+    each k h = let l = row-length (slotOf b) 8 0 in slot-in b k (omega arith) ∙ free-at b k (zeros (slotPlace k)) ∙ sym (no-slots 8 k)
 
--- ---- sitting
-module _ (b sheet : List ℕ) (allowance : ℕ) (d : DeskBytes b) (small : Small sheet) (narrow : allowance < 2 ^ 32) where
-  small-seat : accepted ≡ verdictOf sheet → Small (seatBytes sheet allowance)
-  unfolding seatBytes headBytes
-  small-seat ok =
+-- ---- submitting
+module _ (b sheet : List ℕ) (limit : ℕ) (d : QueueBytes b) (small : Small sheet) (narrow : limit < 2 ^ 32) where
+  small-slot : accepted ≡ verdictOf sheet → Small (slotBytes sheet limit)
+  unfolding slotBytes headBytes
+  small-slot ok =
       let l = answered-length sheet ok in
-      small-append ((1 ∷ twoBytes (length sheet)) ++ fourBytes allowance ++ replicate 68 0) sheet
-      (small-append (1 ∷ twoBytes (length sheet)) (fourBytes allowance ++ replicate 68 0) (small-cons 1 (twoBytes (length sheet)) (omega arith) (small-two (length sheet) (omega arith)))
-      (small-append (fourBytes allowance) (replicate 68 0) (small-four allowance narrow) (small-replicate 68)))
+      small-append ((1 ∷ twoBytes (length sheet)) ++ fourBytes limit ++ replicate 68 0) sheet
+      (small-append (1 ∷ twoBytes (length sheet)) (fourBytes limit ++ replicate 68 0) (small-cons 1 (twoBytes (length sheet)) (omega arith) (small-two (length sheet) (omega arith)))
+      (small-append (fourBytes limit) (replicate 68 0) (small-four limit narrow) (small-replicate 68)))
       small
 
-  abbrev Sat : Found → Verdict → Type 0
-  Sat f v = (deskOf (sitBytes f v b (seatBytes sheet allowance)) ≡ sitDesk f v (deskOf b) (newcomer sheet allowance)) × DeskBytes (sitBytes f v b (seatBytes sheet allowance))
+  abbrev SubmitDone : Found → Verdict → Type 0
+  SubmitDone f v = (queueOf (submitBytes f v b (slotBytes sheet limit)) ≡ submitQueue f v (queueOf b) (newJob sheet limit)) × QueueBytes (submitBytes f v b (slotBytes sheet limit))
 
-  sat-by : (f : Found) (v : Verdict) → lowestFree (deskOf b) ≡ f → verdictOf sheet ≡ v → Sat f v
-  sat-by none-found v e g = (refl, d)
-  sat-by (seat k) (refused number item) e g = (refl, d)
-  sat-by (seat k) accepted e g =
-      let h = below-e 8 k (first-in (λ n. isFree (seatAt (deskOf b) n)) (below 8) k e .1) in
+  submitted-by : (f : Found) (v : Verdict) → lowestFree (queueOf b) ≡ f → verdictOf sheet ≡ v → SubmitDone f v
+  submitted-by none-found v e g = (refl, d)
+  submitted-by (slot k) (refused number item) e g = (refl, d)
+  submitted-by (slot k) accepted e g =
+      let h = below-e 8 k (first-in (λ n. isFree (slotAt (queueOf b) n)) (below 8) k e .1) in
       let ok = sym g in
       let w = d .0 in (
-        desk-is (seats-set b (placed b (seatPlace k) (seatBytes sheet allowance)) k (taken (newcomer sheet allowance)) (sat-seat b sheet allowance k w h ok narrow) (sat-others b sheet allowance k w h ok narrow))
-            (sat-next b sheet allowance k w h ok narrow),
-        (sat-length b sheet allowance k w h ok narrow ∙ w, small-placed b (seatPlace k) (seatBytes sheet allowance) (d .1) (small-seat ok)),
+        queue-is (slots-set b (placed b (slotPlace k) (slotBytes sheet limit)) k (taken (newJob sheet limit)) (submitted-slot b sheet limit k w h ok narrow) (submitted-others b sheet limit k w h ok narrow))
+            (submitted-next b sheet limit k w h ok narrow),
+        (submitted-length b sheet limit k w h ok narrow ∙ w, small-placed b (slotPlace k) (slotBytes sheet limit) (d .1) (small-slot ok)),
       )
 
-  pub sit-call : (deskOf (callBytes b (sit sheet allowance)) ≡ deskAfter (deskOf b) (sit sheet allowance)) × DeskBytes (callBytes b (sit sheet allowance))
-  sit-call = sat-by (lowestFree (deskOf b)) (verdictOf sheet) refl refl
+  pub submit-call : (queueOf (callBytes b (submit sheet limit)) ≡ queueAfter (queueOf b) (submit sheet limit)) × QueueBytes (callBytes b (submit sheet limit))
+  submit-call = submitted-by (lowestFree (queueOf b)) (verdictOf sheet) refl refl
 
--- ---- leaving
-module _ (b : List ℕ) (k : ℕ) (d : DeskBytes b) (h : k < 8) where
+-- ---- releasing
+module _ (b : List ℕ) (k : ℕ) (d : QueueBytes b) (h : k < 8) where
   abbrev c : List ℕ
-  c = set b (seatPlace k) 0
+  c = set b (slotPlace k) 0
 
   c-length : length c ≡ length b
-  c-length = length-set b (seatPlace k) 0
+  c-length = length-set b (slotPlace k) 0
 
-  freed : seatOf c k ≡ free
-  freed = free-at c k (at-set b (seatPlace k) 0 (let w = d .0 in omega arith))
+  freed : slotOf c k ≡ free
+  freed = free-at c k (at-set b (slotPlace k) 0 (let w = d .0 in omega arith))
 
-  others : (j : ℕ) → j < 8 → (j ≡ k → ⊥) → seatOf c j ≡ seatOf b j
-  others j l n = seat-same b c j c-length l (d .0) (λ i m. at-set-other b (seatPlace k) 0 (seatPlace j + i) (λ e. omega arith))
+  others : (j : ℕ) → j < 8 → (j ≡ k → ⊥) → slotOf c j ≡ slotOf b j
+  others j l n = slot-same b c j c-length l (d .0) (λ i m. at-set-other b (slotPlace k) 0 (slotPlace j + i) (λ e. omega arith))
 
-  pub left-desk : deskOf c ≡ record { seats = set (deskOf b .seats) k free; next = deskOf b .next }
-  left-desk = desk-is (seats-set b c k free freed others) (at-set-other b (seatPlace k) 0 NEXT (λ e. omega arith))
+  pub released-queue : queueOf c ≡ record { slots = set (queueOf b .slots) k free; next = queueOf b .next }
+  released-queue = queue-is (slots-set b c k free freed others) (at-set-other b (slotPlace k) 0 NEXT (λ e. omega arith))
 
-  pub left-bytes : DeskBytes c
-  left-bytes = (c-length ∙ d .0, small-set b (seatPlace k) 0 (omega arith) (d .1))
+  pub released-bytes : QueueBytes c
+  released-bytes = (c-length ∙ d .0, small-set b (slotPlace k) 0 (omega arith) (d .1))
 
-module _ (b : List ℕ) (k : ℕ) (room : List ℕ) (d : DeskBytes b) where
-  abbrev Gone : Seat → Type 0
-  Gone s = (deskOf (leaveBytes s b k room) ≡ record { seats = set (deskOf b .seats) k (leaveSeat s room); next = deskOf b .next }) × DeskBytes (leaveBytes s b k room)
+module _ (b : List ℕ) (k : ℕ) (room : List ℕ) (d : QueueBytes b) where
+  abbrev ReleaseDone : Slot → Type 0
+  ReleaseDone s = (queueOf (releaseBytes s b k room) ≡ record { slots = set (queueOf b .slots) k (releaseSlot s room); next = queueOf b .next }) × QueueBytes (releaseBytes s b k room)
 
-  -- a seat put back where it was
-  same-desk : (s : Seat) → seatAt (deskOf b) k ≡ s → deskOf b ≡ record { seats = set (deskOf b .seats) k s; next = deskOf b .next }
-  same-desk s e = desk-is (sym (set-getD (deskOf b .seats) k free) ∙ ap (set (deskOf b .seats) k) e) refl
+  -- a slot put back where it was
+  same-queue : (s : Slot) → slotAt (queueOf b) k ≡ s → queueOf b ≡ record { slots = set (queueOf b .slots) k s; next = queueOf b .next }
+  same-queue s e = queue-is (sym (set-getD (queueOf b .slots) k free) ∙ ap (set (queueOf b .slots) k) e) refl
 
-  within : (h : Hall) → seatAt (deskOf b) k ≡ taken h → k < 8
+  within : (h : Job) → slotAt (queueOf b) k ≡ taken h → k < 8
   within h e = go (ltb k 8) refl
     where
       go : (t : Bool) → ltb k 8 ≡ t → k < 8
       go true g = ltb-true k 8 g
-      go false g = absurd (subst (λ (s : Seat). T (isFree s)) (sym (seat-out b k (ltb-false k 8 g)) ∙ e) tt)
+      go false g = absurd (subst (λ (s : Slot). T (isFree s)) (sym (slot-out b k (ltb-false k 8 g)) ∙ e) tt)
 
-  gone : (s : Seat) → seatAt (deskOf b) k ≡ s → Gone s
-  gone free e = (same-desk free e, d)
-  gone (taken h) e = go (fits h room)
+  release-done : (s : Slot) → slotAt (queueOf b) k ≡ s → ReleaseDone s
+  release-done free e = (same-queue free e, d)
+  release-done (taken h) e = go (fits h room)
     where
-      go : (t : Bool) → (deskOf (choose t (set b (seatPlace k) 0) b) ≡ record { seats = set (deskOf b .seats) k (elim t [ true ↦ free | false ↦ taken h ]); next = deskOf b .next }) × DeskBytes (choose t (set b (seatPlace k) 0) b)
-      go true = let l = within h e in (left-desk b k d l, left-bytes b k d l)
-      go false = (same-desk (taken h) e, d)
+      go : (t : Bool) → (queueOf (choose t (set b (slotPlace k) 0) b) ≡ record { slots = set (queueOf b .slots) k (elim t [ true ↦ free | false ↦ taken h ]); next = queueOf b .next }) × QueueBytes (choose t (set b (slotPlace k) 0) b)
+      go true = let l = within h e in (released-queue b k d l, released-bytes b k d l)
+      go false = (same-queue (taken h) e, d)
 
-  pub leave-call : (deskOf (callBytes b (leave k room)) ≡ deskAfter (deskOf b) (leave k room)) × DeskBytes (callBytes b (leave k room))
-  leave-call = gone (seatAt (deskOf b) k) refl
+  pub release-call : (queueOf (callBytes b (release k room)) ≡ queueAfter (queueOf b) (release k room)) × QueueBytes (callBytes b (release k room))
+  release-call = release-done (slotAt (queueOf b) k) refl

@@ -1,4 +1,4 @@
--- A hall's run put into its seat is read back (specs/Layout, `withRun`), and the other seats stay. Assumes nothing.
+-- A job's run put into its slot is read back (specs/Layout, `withRun`), and the other slots stay. Assumes nothing.
 use mathlib.Core.Path.{_≡_, refl, sym, ap, ap₂, _∙_}
 use mathlib.Core.List.{List, [], _∷_, _++_, List·Memᴰ·head, append-assoc}
 use Prim.Native.Nat.{ℕ, _+_, _-_, _*_, _^_, _≤_, _<_, min}
@@ -13,14 +13,14 @@ use Rattle.model.specs.Run.{finished, spent, full, listedPlans}
 use Rattle.model.proofs.Lists.{at-append, at-skip}
 use Rattle.model.proofs.Room.{Wide, wide-tail, length-flat}
 use Rattle.model.proofs.Written.{length-placed, placed-before, placed-in, placed-after}
-use Rattle.desk.specs.Desk.{Standing, running, over, Hall, taken}
+use Rattle.desk.specs.Queue.{Standing, running, over, Job, taken}
 use Rattle.desk.specs.Places.{LIMIT, STANDING, NODES, PLANS, DEPTH, LAST, COUNTS, SHEET, LIST, LIST-BYTES, NEXT}
-use Rattle.desk.specs.Layout.{seatPlace, long, standingBy, nodesAt, plansAt, widthAt, rowsAt, lastAt, hallAt, seatOf, standingByte, figureBytes, runBytes, withRun, stateBytes, countBytes, countsAt}
-use Rattle.desk.specs.Claims.{DeskBytes}
+use Rattle.desk.specs.Layout.{slotPlace, long, standingBy, nodesAt, plansAt, widthAt, rowsAt, lastAt, jobAt, slotOf, standingByte, figureBytes, runBytes, withRun, stateBytes, countBytes, countsAt}
+use Rattle.desk.specs.Claims.{QueueBytes}
 use Rattle.desk.proofs.Bytes.{Small, part-is, word-of, long-of, small-cons, small-nil, small-append, small-replicate, small-placed, small-four, small-two}
 use Rattle.desk.proofs.Counts.{counts-as, count-length, count-byte, count-small}
-use Rattle.desk.proofs.Seats.{taken-at, long-small}
-use Rattle.desk.proofs.Meaning.{hall-is, sheet-same, width-same, long-same, seat-same, others-placed}
+use Rattle.desk.proofs.Slots.{taken-at, long-small}
+use Rattle.desk.proofs.Meaning.{job-is, sheet-same, width-same, long-same, slot-same, others-placed}
 use Rattle.desk.proofs.Turning.{Fits}
 
 -- rows at the front of a list are listed again
@@ -33,9 +33,9 @@ listed-rest n (r ∷ rows) rest w =
     ap₂ (λ (x : List ℕ) (y : List (List ℕ)). x ∷ y) (ap (take n) l ∙ take-at r (flat rows ++ rest) n e)
     (ap (λ (x : List ℕ). listedPlans n (length rows) (drop n x)) l ∙ ap (listedPlans n (length rows)) (drop-at r (flat rows ++ rest) n e) ∙ listed-rest n rows rest (wide-tail w))
 
-module _ (b : List ℕ) (k : ℕ) (d : DeskBytes b) (h : k < 8) (g : Hall) (f : Fits b (seatPlace k) g) where
+module _ (b : List ℕ) (k : ℕ) (d : QueueBytes b) (h : k < 8) (g : Job) (f : Fits b (slotPlace k) g) where
   abbrev p : ℕ
-  p = seatPlace k
+  p = slotPlace k
 
   abbrev L : ℕ
   L = length (g .progress .last)
@@ -133,11 +133,11 @@ module _ (b : List ℕ) (k : ℕ) (d : DeskBytes b) (h : k < 8) (g : Hall) (f : 
       ap (min 4096) (word-of c (p + PLANS) (length (g .progress .rows)) (figure-byte (p + PLANS) 5 (omega arith) (omega arith)) (figure-byte (p + PLANS + 1) 6 (omega arith) (omega arith)))
       ∙ (let z : min 4096 (length (g .progress .rows)) ≡ length (g .progress .rows) = omega arith in z)
 
-  limit-read : long c (p + LIMIT) ≡ g .allowance
+  limit-read : long c (p + LIMIT) ≡ g .limit
   limit-read = long-same b c p run-whole (let w = d .0 in omega arith) (p + LIMIT) (λ i l m. before i (omega arith)) ∙ sym (f .limited)
 
   nodes-read : nodesAt c p ≡ g .progress .made
-  nodes-read = let l = f .allowed in ap₂ min limit-read made-read ∙ (let z : min (g .allowance) (g .progress .made) ≡ g .progress .made = omega arith in z)
+  nodes-read = let l = f .allowed in ap₂ min limit-read made-read ∙ (let z : min (g .limit) (g .progress .made) ≡ g .progress .made = omega arith in z)
 
   counts-read : countsAt c p ≡ g .progress .counts
   unfolding fourBytes at
@@ -181,22 +181,22 @@ module _ (b : List ℕ) (k : ℕ) (d : DeskBytes b) (h : k < 8) (g : Hall) (f : 
   standing-read =
       ap (λ (x : ℕ). standingBy (min 3 x) (plansAt c p) (nodesAt c p)) (figure-byte (p + STANDING) 0 (omega arith) (omega arith)) ∙ ap₂ (standingBy (min 3 (standingByte (g .standing)))) plans-read nodes-read ∙ f .figured
 
-  pub run-hall : hallAt c p ≡ g
-  unfolding hallAt
-  run-hall =
-      hall-is (sheet-same b c p run-whole (let w = d .0 in omega arith) (λ i l m. before i (omega arith)) between ∙ sym (f .sheeted)) limit-read nodes-read counts-read rows-read last-read standing-read
+  pub run-job : jobAt c p ≡ g
+  unfolding jobAt
+  run-job =
+      job-is (sheet-same b c p run-whole (let w = d .0 in omega arith) (λ i l m. before i (omega arith)) between ∙ sym (f .sheeted)) limit-read nodes-read counts-read rows-read last-read standing-read
 
-  pub run-seat : (at b p ≡ 0 → ⊥) → seatOf c k ≡ taken g
-  run-seat n = taken-at c k (λ z. n (sym (before p (omega arith)) ∙ z)) ∙ ap taken run-hall
+  pub run-slot : (at b p ≡ 0 → ⊥) → slotOf c k ≡ taken g
+  run-slot n = taken-at c k (λ z. n (sym (before p (omega arith)) ∙ z)) ∙ ap taken run-job
 
-  pub run-others : (j : ℕ) → j < 8 → (j ≡ k → ⊥) → seatOf c j ≡ seatOf b j
+  pub run-others : (j : ℕ) → j < 8 → (j ≡ k → ⊥) → slotOf c j ≡ slotOf b j
   unfolding withRun
   run-others j l n =
       let e = run-length in
       let t = text-length in
       let w = length₁ ∙ d .0 in
-      seat-same c₁ c j (run-whole ∙ sym length₁) l w (others-placed c₁ k LIST text w h (omega arith) j l n)
-      ∙ seat-same b c₁ j length₁ l (d .0) (others-placed b k STANDING (runBytes g) (d .0) h (omega arith) j l n)
+      slot-same c₁ c j (run-whole ∙ sym length₁) l w (others-placed c₁ k LIST text w h (omega arith) j l n)
+      ∙ slot-same b c₁ j length₁ l (d .0) (others-placed b k STANDING (runBytes g) (d .0) h (omega arith) j l n)
 
   pub run-next : at c NEXT ≡ at b NEXT
   unfolding withRun

@@ -1,4 +1,4 @@
--- A hall that a seat's bytes can hold, and that a turn makes such a hall of it (specs/Layout). Assumes nothing.
+-- A job that a slot's bytes can hold, and that a turn makes such a job of it (specs/Layout). Assumes nothing.
 use mathlib.Core.Path.{_≡_, refl, sym, ap, ap₂, _∙_, subst}
 use mathlib.Core.Bool.{Bool, true, false}
 use mathlib.Core.Logic.{_⊎_, inl, inr, ⊎-elim}
@@ -24,21 +24,21 @@ use Rattle.run_cut.proofs.Counts.{length-added}
 use Rattle.run_cut.proofs.Anywhere.{no-fewer}
 use Rattle.sheet.specs.Form.{compilable}
 use Rattle.sheet.proofs.Compilable.{compilable-fits}
-use Rattle.desk.specs.Desk.{Standing, running, over, Hall, deskRoom, turnLimit, standingAfter, hallTurned}
-use Rattle.desk.specs.Places.{LIMIT, DEPTH, LAST, SHEET, LIST, LIST-BYTES, SEAT}
-use Rattle.desk.specs.Layout.{long, standingBy, standingAt, sheetLength, nodesAt, plansAt, widthAt, rowsAt, lastAt, sheetAt, hallAt, standingByte}
+use Rattle.desk.specs.Queue.{Standing, running, over, Job, listRoom, turnLimit, standingAfter, jobTurned}
+use Rattle.desk.specs.Places.{LIMIT, DEPTH, LAST, SHEET, LIST, LIST-BYTES, SLOT}
+use Rattle.desk.specs.Layout.{long, standingBy, standingAt, sheetLength, nodesAt, plansAt, widthAt, rowsAt, lastAt, sheetAt, jobAt, standingByte}
 use Rattle.desk.proofs.Bytes.{Small, small-nil, small-append, small-take, small-drop}
 use Rattle.desk.proofs.Counts.{count-most, added-most, counts-length, counts-most}
-use Rattle.desk.proofs.Seats.{flat-listed}
+use Rattle.desk.proofs.Slots.{flat-listed}
 
 -- how a run stands, told by its number and its figures
 abbrev pub Figured : Standing → ℕ → ℕ → Type 0
 Figured s plans made = standingBy (min 3 (standingByte s)) plans made ≡ s
 
-pub record Fits (b : List ℕ) (p : ℕ) (h : Hall) : Type 0 where
+pub record Fits (b : List ℕ) (p : ℕ) (h : Job) : Type 0 where
   pub sheeted : h .sheet ≡ sheetAt b p
-  pub limited : h .allowance ≡ long b (p + LIMIT)
-  pub allowed : h .progress .made ≤ h .allowance
+  pub limited : h .limit ≡ long b (p + LIMIT)
+  pub allowed : h .progress .made ≤ h .limit
   pub twelve : length (h .progress .counts) ≡ 12
   pub counted : (x : ℕ) → at (h .progress .counts) x ≤ h .progress .made
   pub few : length (h .progress .rows) ≤ 4096
@@ -48,15 +48,15 @@ pub record Fits (b : List ℕ) (p : ℕ) (h : Hall) : Type 0 where
   pub row-bytes : Small (flat (h .progress .rows))
   pub last-bytes : Small (h .progress .last)
 
--- ---- the hall that a seat's bytes mean
+-- ---- the job that a slot's bytes mean
 standing-figured : (s plans made : ℕ) → Figured (standingBy s plans made) plans made
 standing-figured zero plans made = refl
 standing-figured (suc zero) plans made = refl
 standing-figured (suc (suc zero)) plans made = refl
 standing-figured (suc (suc (suc s))) plans made = refl
 
-pub at-fits : (b : List ℕ) (p : ℕ) → p + SEAT ≤ length b → Small b → Fits b p (hallAt b p)
-unfolding hallAt rowsAt lastAt
+pub at-fits : (b : List ℕ) (p : ℕ) → p + SLOT ≤ length b → Small b → Fits b p (jobAt b p)
+unfolding jobAt rowsAt lastAt
 at-fits b p room small = record {
   sheeted = refl;
   limited = refl;
@@ -91,7 +91,7 @@ node-small q t m = (λ i. byte i (ltb i (length t)) refl, node-values q t m .1)
     byte i true e = let v = node-values q t m .0 i (ltb-true i (length t) e) in omega arith
     byte i false e = let z = at-out t i (ltb-false i (length t) e) in omega arith
 
--- ---- the problem of a seat: its plans have the seat's width, or it has no nodes
+-- ---- the problem of a slot: its plans have the slot's width, or it has no nodes
 abbrev pub Known : List ℕ → ℕ → Problem → Type 0
 Known b p q = ((q .variables ≡ widthAt b p) × (1 ≤ q .variables) × (q .variables ≤ 12)) ⊎ (nodes q ≡ [])
 
@@ -99,7 +99,7 @@ empty-nodes : nodes (problemOf []) ≡ []
 unfolding nodes nodesBelow problemOf headerOf «word» at
 empty-nodes = refl
 
--- the bytes that stand where the seat's sheet does
+-- the bytes that stand where the slot's sheet does
 abbrev pub rawAt : List ℕ → ℕ → List ℕ
 rawAt b p = take (sheetLength b p) (drop (p + SHEET) b)
 
@@ -118,9 +118,9 @@ raw-known b p t =
     let some : 1 ≤ «word» raw 0 = h .some in
     ((let z : «word» raw 0 ≡ min 12 («word» b (p + SHEET)) = omega arith in z), some, few)
 
-pub seat-known : (b : List ℕ) (p : ℕ) → Known b p (problemOf (sheetAt b p))
+pub slot-known : (b : List ℕ) (p : ℕ) → Known b p (problemOf (sheetAt b p))
 unfolding sheetAt
-seat-known b p = go (compilable (rawAt b p)) refl
+slot-known b p = go (compilable (rawAt b p)) refl
   where
     go : (t : Bool) → compilable (rawAt b p) ≡ t → Known b p (problemOf (choose t (rawAt b p) []))
     go false e = inr empty-nodes
@@ -150,16 +150,16 @@ few-of a c n o h = go (leb a c) refl
         absurd (omega arith)
 
 -- ---- a turn
-after-figured : (allowance : ℕ) (e : Ending) (plans made : ℕ) → plansIn e ≡ plans → nodesIn e ≡ made → Figured (standingAfter allowance e) plans made
-after-figured allowance (finished a m) plans made f g = ap₂ (λ (x y : ℕ). over (finished x y)) (sym f) (sym g)
-after-figured allowance (full a m) plans made f g = ap₂ (λ (x y : ℕ). over (full x y)) (sym f) (sym g)
-after-figured allowance (spent a m) plans made f g = go (ltb m allowance)
+after-figured : (limit : ℕ) (e : Ending) (plans made : ℕ) → plansIn e ≡ plans → nodesIn e ≡ made → Figured (standingAfter limit e) plans made
+after-figured limit (finished a m) plans made f g = ap₂ (λ (x y : ℕ). over (finished x y)) (sym f) (sym g)
+after-figured limit (full a m) plans made f g = ap₂ (λ (x y : ℕ). over (full x y)) (sym f) (sym g)
+after-figured limit (spent a m) plans made f g = go (ltb m limit)
   where
     go : (t : Bool) → Figured (elim t [ true ↦ running | false ↦ over (spent a m) ]) plans made
     go true = refl
     go false = ap₂ (λ (x y : ℕ). over (spent x y)) (sym f) (sym g)
 
-module _ (b : List ℕ) (p : ℕ) (h : Hall) (f : Fits b p h) where
+module _ (b : List ℕ) (p : ℕ) (h : Job) (f : Fits b p h) where
   abbrev q : Problem
   q = problemOf (h .sheet)
 
@@ -167,7 +167,7 @@ module _ (b : List ℕ) (p : ℕ) (h : Hall) (f : Fits b p h) where
   ts = nodesAfter q (h .progress .last)
 
   known : Known b p q
-  known = subst (λ (s : List ℕ). Known b p (problemOf s)) (sym (f .sheeted)) (seat-known b p)
+  known = subst (λ (s : List ℕ). Known b p (problemOf s)) (sym (f .sheeted)) (slot-known b p)
 
   of-nodes : (t : List ℕ) → List·Memᴰ t ts → List·Memᴰ t (nodes q)
   unfolding nodesAfter
@@ -183,13 +183,13 @@ module _ (b : List ℕ) (p : ℕ) (h : Hall) (f : Fits b p h) where
       let r = keep-e (isPlan q) (take k ts) t m in
       (of-nodes t (taken q k ts t (r .0)), eqb→eq (length t) (q .variables) (both-l (eqb (length t) (q .variables)) _ (r .1)))
 
-  pub turned-fits : Fits b p (hallTurned h)
-  unfolding hallTurned goOn keep lastOf
+  pub turned-fits : Fits b p (jobTurned h)
+  unfolding jobTurned goOn keep lastOf
   turned-fits =
-      let limit = turnLimit h in
-      let room = deskRoom q in
-      let w = walk q limit room ts (h .progress .made) (h .progress .rows) in
-      let r = search q limit room ts (h .progress .made) (h .progress .rows) in
+      let upto = turnLimit h in
+      let room = listRoom q in
+      let w = walk q upto room ts (h .progress .made) (h .progress .rows) in
+      let r = search q upto room ts (h .progress .made) (h .progress .rows) in
       let a = f .allowed in
       let n = w .allowed (omega arith) in
       let k = few-wide (w .passed) (r .rows) (w .listed) (λ g. w .roomy g) known in
@@ -198,16 +198,16 @@ module _ (b : List ℕ) (p : ℕ) (h : Hall) (f : Fits b p h) where
         limited = f .limited;
         allowed = omega arith;
         twelve = length-added (h .progress .counts) (countsBy settledBy (madeIn q (h .progress) r));
-        counted = λ x. let z = added-most (h .progress .counts) (countsBy settledBy (madeIn q (h .progress) r)) (h .progress .made) (length (madeIn q (h .progress) r)) (f .counted) (count-most settledBy (madeIn q (h .progress) r)) x in let y = length-take (nodesIn (r .ending) - h .progress .made) ts in let u = no-fewer q limit room (h .progress) in omega arith;
+        counted = λ x. let z = added-most (h .progress .counts) (countsBy settledBy (madeIn q (h .progress) r)) (h .progress .made) (length (madeIn q (h .progress) r)) (f .counted) (count-most settledBy (madeIn q (h .progress) r)) x in let y = length-take (nodesIn (r .ending) - h .progress .made) ts in let u = no-fewer q upto room (h .progress) in omega arith;
         few = k .0;
         wide = k .1;
         short = last-short (nodesIn (r .ending) - h .progress .made) known;
-        figured = after-figured (h .allowance) (r .ending) (length (r .rows)) (nodesIn (r .ending)) (w .counted) refl;
+        figured = after-figured (h .limit) (r .ending) (length (r .rows)) (nodesIn (r .ending)) (w .counted) refl;
         row-bytes = subst (λ (l : List (List ℕ)). Small (flat l)) (sym (w .listed)) (rows-small (w .passed));
         last-bytes = last-small (nodesIn (r .ending) - h .progress .made);
       }
     where
-      few-wide : (k : ℕ) (rows : List (List ℕ)) → rows ≡ h .progress .rows ++ keep (isPlan q) (take k ts) → (length (h .progress .rows) * q .variables ≤ deskRoom q → length rows * q .variables ≤ deskRoom q) →
+      few-wide : (k : ℕ) (rows : List (List ℕ)) → rows ≡ h .progress .rows ++ keep (isPlan q) (take k ts) → (length (h .progress .rows) * q .variables ≤ listRoom q → length rows * q .variables ≤ listRoom q) →
           Known b p q → (length rows ≤ 4096) × Wide (widthAt b p) rows
       few-wide k rows e roomy (inl s) =
           let o = f .few in

@@ -1,5 +1,5 @@
--- The desk's bytes: eight seats, and one byte for the seat where the next turn begins to look; specs/Places says where a seat has what. Any bytes of the
--- desk's size are a desk; zeros are the empty one.
+-- The queue's bytes: eight slots, and one byte for the slot where the next turn begins to look; specs/Places says where a slot has what. Any bytes of the
+-- queue's size are a queue; zeros are the empty one.
 use mathlib.Core.List.{List, [], _∷_, _++_, map}
 use Prim.Native.Nat.{ℕ, zero, suc, _+_, _-_, _*_, _%_, min}
 use lib.ListN.{length, take, drop, set, replicate}
@@ -11,12 +11,12 @@ use Rattle.model.specs.Bytes.{twoBytes, fourBytes}
 use Rattle.model.specs.Written.{placed}
 use Rattle.model.specs.Run.{finished, spent, full, listedPlans}
 use Rattle.sheet.specs.Form.{compilable}
-use Rattle.desk.specs.Places.{LENGTH, LIMIT, STANDING, NODES, PLANS, DEPTH, LAST, COUNTS, SHEET, SHEET-BYTES, LIST, LIST-BYTES, SEAT, NEXT, size}
-use Rattle.desk.specs.Desk.{Standing, running, over, Hall, hallTurned, Seat, free, taken, Desk, seatAt, Found, none-found, seat, lowestFree, toServe, DeskCall, sit, turn, leave, DeskReply, denied, fits, deskReply, dueAt, given, roundFrom, roundsDesk, lookReply, noCounts, lookCounts, RoundsReply, not-given, roundsReply}
+use Rattle.desk.specs.Places.{LENGTH, LIMIT, STANDING, NODES, PLANS, DEPTH, LAST, COUNTS, SHEET, SHEET-BYTES, LIST, LIST-BYTES, SLOT, NEXT, size}
+use Rattle.desk.specs.Queue.{Standing, running, over, Job, jobTurned, Slot, free, taken, Queue, slotAt, Found, none-found, slot, lowestFree, toServe, QueueCall, submit, turn, release, QueueReply, denied, fits, queueReply, dueAt, given, roundFrom, roundsQueue, statusReply, noCounts, statusCounts, RoundsReply, not-given, roundsReply}
 
--- where seat k starts
-abbrev pub seatPlace : ℕ → ℕ
-seatPlace k = SEAT * k
+-- where slot k starts
+abbrev pub slotPlace : ℕ → ℕ
+slotPlace k = SLOT * k
 
 -- ---- what the bytes mean
 -- a number in four bytes
@@ -30,8 +30,8 @@ standingBy (suc zero) plans made = over (finished plans made)
 standingBy (suc (suc zero)) plans made = over (spent plans made)
 standingBy (suc (suc (suc k))) plans made = over (full plans made)
 
--- The numbers of the seat at p. One that is too large counts as the largest: 3 for how the run stands, 55,656 bytes of the sheet, 4,096 plans,
--- twelve values of the last node, twelve variables; the allowance for the nodes, and these for each of their counts
+-- The numbers of the slot at p. One that is too large counts as the largest: 3 for how the run stands, 55,656 bytes of the sheet, 4,096 plans,
+-- twelve values of the last node, twelve variables; the limit for the nodes, and these for each of their counts
 abbrev pub standingAt : List ℕ → ℕ → ℕ
 standingAt b p = min 3 (at b (p + STANDING))
 
@@ -58,17 +58,17 @@ unfoldable pub lastAt : List ℕ → ℕ → List ℕ
 lastAt b p = take (min 12 (at b (p + DEPTH))) (drop (p + LAST) b)
 
 -- Bytes that questions 1 to 15 refuse count as the sheet of no bytes, which has no nodes: its run finishes at the next turn. Question 16 is asked
--- only when a hall sits down: a turn needs none of it
+-- only when a job is submitted: a turn needs none of it
 unfoldable pub sheetAt : List ℕ → ℕ → List ℕ
 sheetAt b p =
     let sheet = take (sheetLength b p) (drop (p + SHEET) b) in
     choose (compilable sheet) sheet []
 
-unfoldable pub hallAt : List ℕ → ℕ → Hall
-hallAt b p =
+unfoldable pub jobAt : List ℕ → ℕ → Job
+jobAt b p =
     record {
       sheet = sheetAt b p;
-      allowance = long b (p + LIMIT);
+      limit = long b (p + LIMIT);
       progress = record {
         made = nodesAt b p;
         counts = countsAt b p;
@@ -78,29 +78,29 @@ hallAt b p =
       standing = standingBy (standingAt b p) (plansAt b p) (nodesAt b p);
     }
 
-unfoldable pub seatOf : List ℕ → ℕ → Seat
-seatOf b k = choose (eqb (at b (seatPlace k)) 0) free (taken (hallAt b (seatPlace k)))
+unfoldable pub slotOf : List ℕ → ℕ → Slot
+slotOf b k = choose (eqb (at b (slotPlace k)) 0) free (taken (jobAt b (slotPlace k)))
 
-abbrev pub deskOf : List ℕ → Desk
-deskOf b = record { seats = map (seatOf b) (below 8); next = at b NEXT }
+abbrev pub queueOf : List ℕ → Queue
+queueOf b = record { slots = map (slotOf b) (below 8); next = at b NEXT }
 
 -- ---- the bytes that a call leaves
--- a newcomer's seat, up to the end of its sheet; the bytes after it stay
+-- a new job's slot, up to the end of its sheet; the bytes after it stay
 unfoldable pub headBytes : ℕ → ℕ → List ℕ
-headBytes length allowance = (1 ∷ twoBytes length) ++ fourBytes allowance ++ replicate 68 0
+headBytes length limit = (1 ∷ twoBytes length) ++ fourBytes limit ++ replicate 68 0
 
-unfoldable pub seatBytes : List ℕ → ℕ → List ℕ
-seatBytes sheet allowance = headBytes (length sheet) allowance ++ sheet
+unfoldable pub slotBytes : List ℕ → ℕ → List ℕ
+slotBytes sheet limit = headBytes (length sheet) limit ++ sheet
 
-abbrev pub sitBytes : Found → Verdict → List ℕ → List ℕ → List ℕ
-sitBytes none-found v b t = b
-sitBytes (seat k) (refused number item) b t = b
-sitBytes (seat k) accepted b t = placed b (seatPlace k) t
+abbrev pub submitBytes : Found → Verdict → List ℕ → List ℕ → List ℕ
+submitBytes none-found v b t = b
+submitBytes (slot k) (refused number item) b t = b
+submitBytes (slot k) accepted b t = placed b (slotPlace k) t
 
--- leaving clears the flag alone
-abbrev pub leaveBytes : Seat → List ℕ → ℕ → List ℕ → List ℕ
-leaveBytes free b k room = b
-leaveBytes (taken h) b k room = choose (fits h room) (set b (seatPlace k) 0) b
+-- releasing clears the flag alone
+abbrev pub releaseBytes : Slot → List ℕ → ℕ → List ℕ → List ℕ
+releaseBytes free b k room = b
+releaseBytes (taken h) b k room = choose (fits h room) (set b (slotPlace k) 0) b
 
 -- how a run stands, as a number
 abbrev pub standingByte : Standing → ℕ
@@ -109,56 +109,56 @@ standingByte (over (finished plans made)) = 1
 standingByte (over (spent plans made)) = 2
 standingByte (over (full plans made)) = 3
 
--- a seat's bytes after a turn: how the run stands, its figures, its last node and its counts, and the list's rows
-unfoldable pub figureBytes : Hall → List ℕ
+-- a slot's bytes after a turn: how the run stands, its figures, its last node and its counts, and the list's rows
+unfoldable pub figureBytes : Job → List ℕ
 figureBytes h = (standingByte (h .standing) ∷ fourBytes (h .progress .made)) ++ twoBytes (length (h .progress .rows)) ++ (length (h .progress .last) ∷ [])
 
-unfoldable pub stateBytes : Hall → List ℕ
+unfoldable pub stateBytes : Job → List ℕ
 stateBytes h = figureBytes h ++ h .progress .last ++ replicate (12 - length (h .progress .last)) 0
 
 unfoldable pub countBytes : List ℕ → List ℕ
 countBytes counts = flat (map fourBytes counts)
 
-unfoldable pub runBytes : Hall → List ℕ
+unfoldable pub runBytes : Job → List ℕ
 runBytes h = stateBytes h ++ countBytes (h .progress .counts)
 
-unfoldable pub withRun : List ℕ → ℕ → Hall → List ℕ
+unfoldable pub withRun : List ℕ → ℕ → Job → List ℕ
 withRun b p h = placed (placed b (p + STANDING) (runBytes h)) (p + LIST) (flat (h .progress .rows))
 
 abbrev pub turnBytes : Found → List ℕ → List ℕ
 turnBytes none-found b = b
-turnBytes (seat k) b = set (withRun b (seatPlace k) (hallTurned (hallAt b (seatPlace k)))) NEXT ((k + 1) % 8)
+turnBytes (slot k) b = set (withRun b (slotPlace k) (jobTurned (jobAt b (slotPlace k)))) NEXT ((k + 1) % 8)
 
--- rounds: of each seat to which a turn is due, going round; then where to look
+-- rounds: of each slot to which a turn is due, going round; then where to look
 unfoldable pub roundBytes : ℕ → List ℕ → List ℕ → List ℕ
 roundBytes r [] b = b
-roundBytes r (k ∷ ks) b = roundBytes r ks (choose (eqb (dueAt r (seatOf b k)) 0) b (withRun b (seatPlace k) (given r (hallAt b (seatPlace k)))))
+roundBytes r (k ∷ ks) b = roundBytes r ks (choose (eqb (dueAt r (slotOf b k)) 0) b (withRun b (slotPlace k) (given r (jobAt b (slotPlace k)))))
 
 unfoldable pub roundsBytes : List ℕ → ℕ → List ℕ
-roundsBytes b r = set (roundBytes r (roundFrom (at b NEXT)) b) NEXT (roundsDesk (deskOf b) r .next)
+roundsBytes b r = set (roundBytes r (roundFrom (at b NEXT)) b) NEXT (roundsQueue (queueOf b) r .next)
 
-abbrev pub callBytes : List ℕ → DeskCall → List ℕ
-callBytes b (sit sheet allowance) = sitBytes (lowestFree (deskOf b)) (verdictOf sheet) b (seatBytes sheet allowance)
-callBytes b turn = turnBytes (toServe (deskOf b)) b
-callBytes b (leave k room) = leaveBytes (seatAt (deskOf b) k) b k room
+abbrev pub callBytes : List ℕ → QueueCall → List ℕ
+callBytes b (submit sheet limit) = submitBytes (lowestFree (queueOf b)) (verdictOf sheet) b (slotBytes sheet limit)
+callBytes b turn = turnBytes (toServe (queueOf b)) b
+callBytes b (release k room) = releaseBytes (slotAt (queueOf b) k) b k room
 
--- ---- a call on lent bytes of any length: asked first, refusal 255 where they have not the desk's size
-unfoldable pub replyOn : List ℕ → DeskCall → DeskReply
-replyOn b x = choose (eqb (length b) size) (deskReply (deskOf b) x) (denied 255 0)
+-- ---- a call on lent bytes of any length: asked first, refusal 255 where they have not the queue's size
+unfoldable pub replyOn : List ℕ → QueueCall → QueueReply
+replyOn b x = choose (eqb (length b) size) (queueReply (queueOf b) x) (denied 255 0)
 
--- looking: the reply, and the twelve counts beside it
-unfoldable pub lookOn : List ℕ → ℕ → DeskReply
-lookOn b k = choose (eqb (length b) size) (lookReply (deskOf b) k) (denied 255 0)
+-- the status: the reply, and the twelve counts beside it
+unfoldable pub statusOn : List ℕ → ℕ → QueueReply
+statusOn b k = choose (eqb (length b) size) (statusReply (queueOf b) k) (denied 255 0)
 
 unfoldable pub countsOn : List ℕ → ℕ → List ℕ
-countsOn b k = choose (eqb (length b) size) (lookCounts (deskOf b) k) noCounts
+countsOn b k = choose (eqb (length b) size) (statusCounts (queueOf b) k) noCounts
 
-unfoldable pub bytesAfter : List ℕ → DeskCall → List ℕ
+unfoldable pub bytesAfter : List ℕ → QueueCall → List ℕ
 bytesAfter b x = choose (eqb (length b) size) (callBytes b x) b
 
 -- rounds, likewise
 unfoldable pub roundsOn : List ℕ → ℕ → RoundsReply
-roundsOn b r = choose (eqb (length b) size) (roundsReply (deskOf b) r) (not-given 255 0)
+roundsOn b r = choose (eqb (length b) size) (roundsReply (queueOf b) r) (not-given 255 0)
 
 unfoldable pub roundsAfter : List ℕ → ℕ → List ℕ
 roundsAfter b r = choose (eqb (length b) size) (roundsBytes b r) b

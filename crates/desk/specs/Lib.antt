@@ -1,5 +1,5 @@
--- The desk, its bytes, what the answers mean, and the claims.
-pub mod Desk
+-- The queue, its bytes, what the answers mean, and the claims.
+pub mod Queue
 pub mod Places
 pub mod Layout
 pub mod Meaning

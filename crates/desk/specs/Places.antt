@@ -1,12 +1,12 @@
--- Where a desk's bytes have what: the constants of src/lib.rt.
+-- Where a queue's bytes have what: the constants of src/lib.rt.
 use Prim.Native.Nat.{ℕ}
 
--- ---- in a seat, low bytes first; its first byte says whether it is taken (0: free)
+-- ---- in a slot, low bytes first; its first byte says whether it is taken (0: free)
 -- the sheet's length, two bytes
 abbrev pub LENGTH : ℕ
 LENGTH = 1
 
--- the allowance, four bytes
+-- the limit, four bytes
 abbrev pub LIMIT : ℕ
 LIMIT = 3
 
@@ -47,9 +47,9 @@ LIST = 55731
 abbrev pub LIST-BYTES : ℕ
 LIST-BYTES = 49152
 
--- ---- eight seats, and the byte that says where the next turn begins to look
-abbrev pub SEAT : ℕ
-SEAT = 104883
+-- ---- eight slots, and the byte that says where the next turn begins to look
+abbrev pub SLOT : ℕ
+SLOT = 104883
 
 abbrev pub NEXT : ℕ
 NEXT = 839064

@@ -1,4 +1,4 @@
--- The counts put into a seat's bytes, one after the other. Assumes nothing.
+-- The counts put into a slot's bytes, one after the other. Assumes nothing.
 use mathlib.Core.Path.{_≡_, sym, ap, ap₂, _∙_}
 use mathlib.Core.List.{List, [], _∷_, _++_, map, append-nil}
 use Prim.Native.Nat.{ℕ, _+_, _*_, _≤_, _<_}

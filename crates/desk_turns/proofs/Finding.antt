@@ -1,4 +1,4 @@
--- The seat that a turn serves: the first in the round whose run hasn't ended. Assumes nothing.
+-- The slot that a turn serves: the first in the round whose run hasn't ended. Assumes nothing.
 use mathlib.Core.Path.{_≡_, refl, sym, ap, _∙_}
 use mathlib.Core.Bool.{Bool, true, false}
 use mathlib.Core.List.{List, map, Memᴰ·of-map}
@@ -8,14 +8,14 @@ use lib.Dec.{eqb}
 use borrow.Author.Tests.{eqb-true, eqb-false, lt-ltb, le-ltb, eq-eqb, ne-eqb}
 use Rattle.model.specs.Lists.{at, choose, below}
 use Rattle.model.proofs.Lists.{below-e}
-use Rattle.desk.specs.Desk.{goesOn, waits, seatAt, none-found, seat, toServe}
+use Rattle.desk.specs.Queue.{goesOn, waits, slotAt, none-found, slot, toServe}
 use Rattle.desk.specs.Places.{STANDING, NEXT}
-use Rattle.desk.specs.Layout.{seatPlace, standingBy, plansAt, nodesAt, hallAt, seatOf, deskOf}
+use Rattle.desk.specs.Layout.{slotPlace, standingBy, plansAt, nodesAt, jobAt, slotOf, queueOf}
 use Rattle.desk.specs.Meaning.{found}
-use Rattle.desk.proofs.Desk.{none-first}
-use Rattle.desk.proofs.Seats.{first-at, seat-in, free-at, taken-at}
+use Rattle.desk.proofs.Queue.{none-first}
+use Rattle.desk.proofs.Slots.{first-at, slot-in, free-at, taken-at}
 
--- ---- one seat
+-- ---- one slot
 goes-by : (s plans made : ℕ) → goesOn (standingBy s plans made) ≡ eqb s 0
 goes-by zero plans made = refl
 goes-by (suc zero) plans made = refl
@@ -29,13 +29,13 @@ capped x = go (eqb x 0) refl
     go true e = let z = eqb-true x 0 e in eq-eqb (min 3 x) 0 (omega arith)
     go false e = ne-eqb (min 3 x) 0 (λ z. eqb-false x 0 e (omega arith))
 
-pub free-quiet : (b : List ℕ) (k : ℕ) → at b (seatPlace k) ≡ 0 → false ≡ waits (seatOf b k)
+pub free-quiet : (b : List ℕ) (k : ℕ) → at b (slotPlace k) ≡ 0 → false ≡ waits (slotOf b k)
 free-quiet b k e = sym (ap waits (free-at b k e))
 
-pub taken-waits : (b : List ℕ) (k : ℕ) → (at b (seatPlace k) ≡ 0 → ⊥) → eqb (at b (seatPlace k + STANDING)) 0 ≡ waits (seatOf b k)
-unfolding hallAt
+pub taken-waits : (b : List ℕ) (k : ℕ) → (at b (slotPlace k) ≡ 0 → ⊥) → eqb (at b (slotPlace k + STANDING)) 0 ≡ waits (slotOf b k)
+unfolding jobAt
 taken-waits b k n =
-    let p = seatPlace k in
+    let p = slotPlace k in
     sym (ap waits (taken-at b k n) ∙ goes-by (min 3 (at b (p + STANDING))) (plansAt b p) (nodesAt b p) ∙ capped (at b (p + STANDING)))
 
 -- ---- the round
@@ -44,30 +44,30 @@ module _ (b : List ℕ) where
   place i = (at b NEXT + i) % 8
 
   abbrev pub Quiet : ℕ → Type 0
-  Quiet i = (j : ℕ) → j < i → waits (seatOf b (place j)) ≡ false
+  Quiet i = (j : ℕ) → j < i → waits (slotOf b (place j)) ≡ false
 
   test : ℕ → Bool
-  test k = waits (seatAt (deskOf b) k)
+  test k = waits (slotAt (queueOf b) k)
 
-  at-place : (i : ℕ) → test (place i) ≡ waits (seatOf b (place i))
+  at-place : (i : ℕ) → test (place i) ≡ waits (slotOf b (place i))
   unfolding test
-  at-place i = ap waits (seat-in b (place i) (omega arith))
+  at-place i = ap waits (slot-in b (place i) (omega arith))
 
-  pub quiet-more : (i : ℕ) → Quiet i → waits (seatOf b (place i)) ≡ false → Quiet (i + 1)
+  pub quiet-more : (i : ℕ) → Quiet i → waits (slotOf b (place i)) ≡ false → Quiet (i + 1)
   quiet-more i q e j l = go (eqb j i) refl
     where
-      go : (t : Bool) → eqb j i ≡ t → waits (seatOf b (place j)) ≡ false
-      go true z = ap (λ (k : ℕ). waits (seatOf b (place k))) (eqb-true j i z) ∙ e
+      go : (t : Bool) → eqb j i ≡ t → waits (slotOf b (place j)) ≡ false
+      go true z = ap (λ (k : ℕ). waits (slotOf b (place k))) (eqb-true j i z) ∙ e
       go false z = let n = eqb-false j i z in q j (omega arith)
 
-  pub serve-is : (i : ℕ) → i < 8 → Quiet i → waits (seatOf b (place i)) ≡ true → found (place i) ≡ toServe (deskOf b)
+  pub serve-is : (i : ℕ) → i < 8 → Quiet i → waits (slotOf b (place i)) ≡ true → found (place i) ≡ toServe (queueOf b)
   unfolding test below
   serve-is i l q e =
-      ap (λ (t : Bool). choose t (seat (place i)) none-found) (lt-ltb (place i) 8 (omega arith))
+      ap (λ (t : Bool). choose t (slot (place i)) none-found) (lt-ltb (place i) 8 (omega arith))
       ∙ sym (first-at test place 8 0 i (omega arith) (omega arith) (λ j k m. at-place j ∙ q j m) (at-place i ∙ e))
 
-  pub serve-none : (i : ℕ) → 8 ≤ i → i ≤ 8 → Quiet i → found i ≡ toServe (deskOf b)
+  pub serve-none : (i : ℕ) → 8 ≤ i → i ≤ 8 → Quiet i → found i ≡ toServe (queueOf b)
   unfolding test
   serve-none i l m q =
-      ap (λ (t : Bool). choose t (seat i) none-found) (le-ltb i 8 l)
+      ap (λ (t : Bool). choose t (slot i) none-found) (le-ltb i 8 l)
       ∙ sym (none-first test (map place (below 8)) (λ k n. let r = Memᴰ·of-map place (below 8) n in let h = below-e 8 (r .0) (r .1) in ap test (sym (r .2)) ∙ at-place (r .0) ∙ q (r .0) (omega arith)))

@@ -1,4 +1,4 @@
--- Going on with a seat's run: what is lent to it stands as the seat's bytes say, and what it leaves is put back. Assumes nothing.
+-- Going on with a slot's run: what is lent to it stands as the slot's bytes say, and what it leaves is put back. Assumes nothing.
 use mathlib.Core.Path.{_≡_, refl, sym, ap, ap₂, _∙_, subst}
 use mathlib.Core.List.{List, [], _++_, List·Memᴰ, append-assoc}
 use Prim.Native.Nat.{ℕ, _+_, _-_, _*_, _≤_, min}
@@ -17,17 +17,17 @@ use Rattle.model.proofs.Lists.{of-T}
 use Rattle.model.proofs.Room.{length-listed}
 use Rattle.run_cut.specs.Parts.{Progress}
 use Rattle.sheet.specs.Form.{compilable}
-use Rattle.desk.specs.Desk.{deskRoom}
-use Rattle.desk.specs.Places.{DEPTH, LAST, SHEET, LIST, LIST-BYTES, SEAT}
-use Rattle.desk.specs.Layout.{sheetLength, plansAt, widthAt, rowsAt, lastAt, sheetAt, hallAt}
+use Rattle.desk.specs.Queue.{listRoom}
+use Rattle.desk.specs.Places.{DEPTH, LAST, SHEET, LIST, LIST-BYTES, SLOT}
+use Rattle.desk.specs.Layout.{sheetLength, plansAt, widthAt, rowsAt, lastAt, sheetAt, jobAt}
 use Rattle.desk.proofs.Bytes.{Small}
-use Rattle.desk.proofs.Seats.{flat-listed}
+use Rattle.desk.proofs.Slots.{flat-listed}
 use Rattle.desk.proofs.Turning.{Fits, at-fits, rawAt, raw-known}
 use Rattle.run_resume.specs.Resume.{Put, Stands, PreparedAgain, GoesOn, GoneOn}
 use Rattle.run_resume.proofs.Going.{goes-on}
 use Rattle.desk_turns.specs.Served.{problemAt, goneOn, PartDone}
 
-module _ (b : List ℕ) (p : ℕ) (room : p + SEAT ≤ length b) (small : Small b) where
+module _ (b : List ℕ) (p : ℕ) (room : p + SLOT ≤ length b) (small : Small b) where
   abbrev size : ℕ
   size = 4096 * widthAt b p
 
@@ -36,9 +36,9 @@ module _ (b : List ℕ) (p : ℕ) (room : p + SEAT ≤ length b) (small : Small 
   list = take size (drop (p + LIST) b)
 
   abbrev s : Progress
-  s = hallAt b p .progress
+  s = jobAt b p .progress
 
-  fits : Fits b p (hallAt b p)
+  fits : Fits b p (jobAt b p)
   fits = at-fits b p room small
 
   pub narrow : size ≤ LIST-BYTES
@@ -67,7 +67,7 @@ module _ (b : List ℕ) (p : ℕ) (room : p + SEAT ≤ length b) (small : Small 
       ap₂ (λ (x : List ℕ) (i : ℕ). x ++ drop i list) flat-is e ∙ take-append-drop n list
 
   pub stands : (work₀ work : List ℕ) → Put (plansAt b p) (lastAt b p) work₀ work → Stands s work list
-  unfolding hallAt rowsAt
+  unfolding jobAt rowsAt
   stands work₀ work put =
       record {
         plans = put .plans ∙ sym (length-listed (widthAt b p) (plansAt b p) (take LIST-BYTES (drop (p + LIST) b)));
@@ -78,8 +78,8 @@ module _ (b : List ℕ) (p : ℕ) (room : p + SEAT ≤ length b) (small : Small 
       }
 
   -- where its sheet can be compiled, plans are as wide as the list says
-  pub wide : T (compilable (rawAt b p)) → (length list ≡ size) × (deskRoom (problemAt b p) ≡ size) × (length (s .rows) * problemOf (rawAt b p) .variables ≤ size) × ((r : List ℕ) → List·Memᴰ r (s .rows) → length r ≡ problemOf (rawAt b p) .variables)
-  unfolding sheetAt hallAt
+  pub wide : T (compilable (rawAt b p)) → (length list ≡ size) × (listRoom (problemAt b p) ≡ size) × (length (s .rows) * problemOf (rawAt b p) .variables ≤ size) × ((r : List ℕ) → List·Memᴰ r (s .rows) → length r ≡ problemOf (rawAt b p) .variables)
+  unfolding sheetAt jobAt
   wide t =
       let k = raw-known b p t in
       let e : problemAt b p ≡ problemOf (rawAt b p) = ap (λ (x : _). problemOf (choose x (rawAt b p) [])) (of-T (compilable (rawAt b p)) t) in
@@ -91,7 +91,7 @@ module _ (b : List ℕ) (p : ℕ) (room : p + SEAT ≤ length b) (small : Small 
         λ r m. fits .wide r m ∙ sym (k .0),
       )
 
-  -- ---- what is read of the seat, as the code has it
+  -- ---- what is read of the slot, as the code has it
   abbrev last-part : ℕ → List ℕ
   last-part l = take (p + LAST + l - (p + LAST)) (drop (p + LAST) b)
 
@@ -112,14 +112,14 @@ module _ (b : List ℕ) (p : ℕ) (room : p + SEAT ≤ length b) (small : Small 
         record { plans = put .plans ∙ ek; last = put .last ∙ e; short = put .short; bytes = put .bytes; others = λ i n. put .others i (subst (λ (t : List ℕ). length t ≤ i) (sym e) n); work-length = put .work-length }
 
     pub going : (more : ℕ) (work₀ work stack′ work′ supports′ tables′ numbers′ : List ℕ) (step : ℕ) → Put k (last-part l) work₀ work → PreparedAgain (sheet-part n) more (4096 * w) work stack′ work′ supports′ tables′ numbers′ step →
-        GoesOn (problemAt b p) s (s .made + more) (deskRoom (problemAt b p)) stack′ work′ supports′ tables′ numbers′ (list-part w) step
+        GoesOn (problemAt b p) s (s .made + more) (listRoom (problemAt b p)) stack′ work′ supports′ tables′ numbers′ (list-part w) step
     unfolding sheetAt
     going more work₀ work stack′ work′ supports′ tables′ numbers′ step put q =
         let e = cut (p + SHEET) n (sheetLength b p) en in
         let f : 4096 * w ≡ size = ap (λ (i : ℕ). 4096 * i) ew in
         let g = subst (λ (r : List ℕ). PreparedAgain r more size work stack′ work′ supports′ tables′ numbers′ step) e (subst (λ (i : ℕ). PreparedAgain (sheet-part n) more i work stack′ work′ supports′ tables′ numbers′ step) f q) in
-        subst (λ (r : List ℕ). GoesOn (problemAt b p) s (s .made + more) (deskRoom (problemAt b p)) stack′ work′ supports′ tables′ numbers′ r step) (sym (cut (p + LIST) (4096 * w) size f))
-        (goes-on (rawAt b p) more size work stack′ work′ supports′ tables′ numbers′ step g s (s .made + more) (deskRoom (problemAt b p)) list refl (stands work₀ work (put-as work₀ work put)) (λ d. wide (g .compiled d)))
+        subst (λ (r : List ℕ). GoesOn (problemAt b p) s (s .made + more) (listRoom (problemAt b p)) stack′ work′ supports′ tables′ numbers′ r step) (sym (cut (p + LIST) (4096 * w) size f))
+        (goes-on (rawAt b p) more size work stack′ work′ supports′ tables′ numbers′ step g s (s .made + more) (listRoom (problemAt b p)) list refl (stands work₀ work (put-as work₀ work put)) (λ d. wide (g .compiled d)))
 
   -- a text at the front of the list, put back with the rest
   put-back : (t : List ℕ) → length t ≤ size → take (p + LIST) b ++ ((t ++ drop (length t) list) ++ drop (p + LIST + size) b) ≡ placed b (p + LIST) t
@@ -133,7 +133,7 @@ module _ (b : List ℕ) (p : ℕ) (room : p + SEAT ≤ length b) (small : Small 
       ap (λ (x : List ℕ). take (p + LIST) b ++ x) (append-assoc t (drop m list) (drop (p + LIST + size) b) ∙ ap (λ (x : List ℕ). t ++ x) rest) ∙ sym (append-assoc (take (p + LIST) b) t (drop (p + LIST + m) b))
 
   -- what the run leaves
-  pub gone : (w : ℕ) → w ≡ widthAt b p → (more : ℕ) (work list′ : List ℕ) (stop : ℕ) (tally : Tally) → GoneOn (problemAt b p) s (s .made + more) (deskRoom (problemAt b p)) (list-part w) work list′ stop tally →
+  pub gone : (w : ℕ) → w ≡ widthAt b p → (more : ℕ) (work list′ : List ℕ) (stop : ℕ) (tally : Tally) → GoneOn (problemAt b p) s (s .made + more) (listRoom (problemAt b p)) (list-part w) work list′ stop tally →
       length list′ ≡ length (list-part w) → PartDone b p more (putMid (p + LIST) (p + LIST + 4096 * w - (p + LIST)) b list′) work stop tally
   unfolding written
   gone w ew more work list′ stop tally g n =

@@ -1,4 +1,4 @@
--- Rounds: going by the seats, each is given the turns due to it, and where the turn after them begins to look is kept. Assumes nothing.
+-- Rounds: going by the slots, each is given the turns due to it, and where the turn after them begins to look is kept. Assumes nothing.
 use mathlib.Core.Path.{_≡_, refl, sym, ap, ap₂, _∙_, subst}
 use mathlib.Core.Bool.{Bool, true, false, not}
 use mathlib.Core.Logic.{_⊎_, inl, inr}
@@ -16,37 +16,37 @@ use Rattle.model.specs.Filling.{Gathered}
 use Rattle.model.proofs.Filling.{gathered-is}
 use Rattle.model.proofs.Masks.{is-mask, has-and, has-not}
 use Rattle.model.proofs.Sets.{has-mask, mask-lt}
-use Rattle.desk.specs.Desk.{Seat, free, taken, waits, Desk, seatAt, roundFrom, due, dueAt, given, seatGiven, behindLast, roundsDesk, RoundsReply, gave, not-given, roundsReply}
+use Rattle.desk.specs.Queue.{Slot, free, taken, waits, Queue, slotAt, roundFrom, due, dueAt, given, slotGiven, behindLast, roundsQueue, RoundsReply, gave, not-given, roundsReply}
 use Rattle.desk.specs.Places.{NEXT, size}
-use Rattle.desk.specs.Layout.{seatPlace, hallAt, seatOf, deskOf, withRun, roundBytes, roundsBytes, roundsOn, roundsAfter}
-use Rattle.desk.specs.Claims.{DeskBytes}
-use Rattle.desk.proofs.Seats.{seat-in, seat-out}
+use Rattle.desk.specs.Layout.{slotPlace, jobAt, slotOf, queueOf, withRun, roundBytes, roundsBytes, roundsOn, roundsAfter}
+use Rattle.desk.specs.Claims.{QueueBytes}
+use Rattle.desk.proofs.Slots.{slot-in, slot-out}
 use Rattle.desk.proofs.Rounds.{due-over, due-none}
 use Rattle.desk.proofs.RoundCalls.{Served, serve, rounds-call}
 use Rattle.desk_turns.specs.Served.{ServedAt, GivenAt}
 use Rattle.desk_turns.specs.declared.serve.Served.{Served as Result}
 use Rattle.desk_turns.proofs.Finding.{place}
-use Rattle.desk_turns.proofs.Serving.{seat-is, walk}
+use Rattle.desk_turns.proofs.Serving.{slot-is, walk}
 
--- ---- one seat
-pub none-due : (b : List ℕ) (k r : ℕ) → dueAt r (seatOf b k) ≡ 0 → GivenAt b k r b 0
-none-due b k r e = record { written = sym (ap (λ (t : Bool). choose t b (withRun b (seatPlace k) (given r (hallAt b (seatPlace k))))) (eq-eqb (dueAt r (seatOf b k)) 0 e)); turns = sym e }
+-- ---- one slot
+pub none-due : (b : List ℕ) (k r : ℕ) → dueAt r (slotOf b k) ≡ 0 → GivenAt b k r b 0
+none-due b k r e = record { written = sym (ap (λ (t : Bool). choose t b (withRun b (slotPlace k) (given r (jobAt b (slotPlace k))))) (eq-eqb (dueAt r (slotOf b k)) 0 e)); turns = sym e }
 
-quiet-none : (r : ℕ) (s : Seat) → waits s ≡ false → dueAt r s ≡ 0
+quiet-none : (r : ℕ) (s : Slot) → waits s ≡ false → dueAt r s ≡ 0
 quiet-none r free e = refl
 quiet-none r (taken h) e = due-over r h e
 
 pub no-turns : (b : List ℕ) (k r : ℕ) → r ≡ 0 → GivenAt b k r b 0
-no-turns b k r e = none-due b k r (ap (λ (n : ℕ). dueAt n (seatOf b k)) e ∙ due-none (seatOf b k))
+no-turns b k r e = none-due b k r (ap (λ (n : ℕ). dueAt n (slotOf b k)) e ∙ due-none (slotOf b k))
 
-pub no-wait : (b : List ℕ) (k r : ℕ) → waits (seatOf b k) ≡ false → GivenAt b k r b 0
-no-wait b k r e = none-due b k r (quiet-none r (seatOf b k) e)
+pub no-wait : (b : List ℕ) (k r : ℕ) → waits (slotOf b k) ≡ false → GivenAt b k r b 0
+no-wait b k r e = none-due b k r (quiet-none r (slotOf b k) e)
 
-pub some-due : (b : List ℕ) (k r : ℕ) (d : DeskBytes b) (l : k < 8) (w : waits (seatOf b k) ≡ true) → 1 ≤ r → (c : List ℕ) (s : Result) → ServedAt b k r c s → GivenAt b k r c (s .turns)
+pub some-due : (b : List ℕ) (k r : ℕ) (d : QueueBytes b) (l : k < 8) (w : waits (slotOf b k) ≡ true) → 1 ≤ r → (c : List ℕ) (s : Result) → ServedAt b k r c s → GivenAt b k r c (s .turns)
 some-due b k r d l w o c s q =
-    let e : dueAt r (seatOf b k) ≡ due r (hallAt b (seatPlace k)) = ap (dueAt r) (seat-is b k d l w) in
-    let n : dueAt r (seatOf b k) ≡ 0 → ⊥ = λ z. (let y = walk b k d l w r o .turns in omega arith) in
-    record { written = q .written ∙ sym (ap (λ (t : Bool). choose t b (withRun b (seatPlace k) (given r (hallAt b (seatPlace k))))) (ne-eqb (dueAt r (seatOf b k)) 0 n)); turns = q .turns ∙ sym e }
+    let e : dueAt r (slotOf b k) ≡ due r (jobAt b (slotPlace k)) = ap (dueAt r) (slot-is b k d l w) in
+    let n : dueAt r (slotOf b k) ≡ 0 → ⊥ = λ z. (let y = walk b k d l w r o .turns in omega arith) in
+    record { written = q .written ∙ sym (ap (λ (t : Bool). choose t b (withRun b (slotPlace k) (given r (jobAt b (slotPlace k))))) (ne-eqb (dueAt r (slotOf b k)) 0 n)); turns = q .turns ∙ sym e }
 
 -- ---- the round
 -- a bound of 1 is none
@@ -61,21 +61,21 @@ first-best f (k ∷ ks) next =
     same false e = ap (λ (t : Bool). both t (leb 1 (f k))) e ∙ sym (ap (λ (t : Bool). both t (leb 0 (f k))) e)
 
 module _ (b : List ℕ) (r : ℕ) where
-  -- the turns due to a seat, and the seats from i on
+  -- the turns due to a slot, and the slots from i on
   abbrev turns : ℕ → ℕ
-  turns k = dueAt r (seatAt (deskOf b) k)
+  turns k = dueAt r (slotAt (queueOf b) k)
 
   abbrev rest : ℕ → List ℕ
   rest i = map (place b) (upFrom i (8 - i))
 
   pub record RoundTo (i : ℕ) (cur : List ℕ) (best next : ℕ) : Type 0 where
-    pub bytes : DeskBytes cur
+    pub bytes : QueueBytes cur
     pub run : roundBytes r (rest i) cur ≡ roundBytes r (rest 0) b
     pub behind : behindLast turns (rest i) best next ≡ behindLast turns (rest 0) 0 (at b NEXT)
     pub some : 1 ≤ best
-    pub others : (j : ℕ) → i ≤ j → j < 8 → seatOf cur (place b j) ≡ seatOf b (place b j)
+    pub others : (j : ℕ) → i ≤ j → j < 8 → slotOf cur (place b j) ≡ slotOf b (place b j)
 
-  pub round-begin : DeskBytes b → RoundTo 0 b 1 (at b NEXT)
+  pub round-begin : QueueBytes b → RoundTo 0 b 1 (at b NEXT)
   round-begin d = record { bytes = d; run = refl; behind = first-best turns (rest 0) (at b NEXT); some = omega arith; others = λ j l m. refl }
 
   next-rest : (i : ℕ) → i < 8 → rest i ≡ place b i ∷ rest (i + 1)
@@ -90,7 +90,7 @@ module _ (b : List ℕ) (r : ℕ) where
     inside = omega arith
 
     here : took ≡ turns k
-    here = g .turns ∙ ap (dueAt r) (t .others i (omega arith) l ∙ sym (seat-in b k inside))
+    here = g .turns ∙ ap (dueAt r) (t .others i (omega arith) l ∙ sym (slot-in b k inside))
 
     one : Served r cur (t .bytes) k inside c
     one = subst (Served r cur (t .bytes) k inside) (sym (g .written)) (serve r cur (t .bytes) k inside)
@@ -135,26 +135,26 @@ module _ (b : List ℕ) (r : ℕ) where
             ap₂ (behindLast turns (rest (i + 1))) (q .2) (q .1)
             ∙ sym (ap (λ (x : Bool). choose x (behindLast turns (rest (i + 1)) took ((k + 1) % 8)) (behindLast turns (rest (i + 1)) best next)) (no (q .0))) ∙ sym step ∙ t .behind
 
-  pub round-end : (i : ℕ) (cur : List ℕ) (best next : ℕ) → 8 ≤ i → i ≤ 8 → RoundTo i cur best next → (cur ≡ roundBytes r (roundFrom (at b NEXT)) b) × (next ≡ roundsDesk (deskOf b) r .next)
+  pub round-end : (i : ℕ) (cur : List ℕ) (best next : ℕ) → 8 ≤ i → i ≤ 8 → RoundTo i cur best next → (cur ≡ roundBytes r (roundFrom (at b NEXT)) b) × (next ≡ roundsQueue (queueOf b) r .next)
   unfolding roundBytes behindLast below upFrom
   round-end i cur best next h l t =
       let e : rest i ≡ [] = ap (λ (n : ℕ). map (place b) (upFrom i n)) (let z : 8 - i ≡ 0 = omega arith in z) in
       (sym (ap (λ (ks : List ℕ). roundBytes r ks cur) e) ∙ t .run, sym (ap (λ (ks : List ℕ). behindLast turns ks best next) e) ∙ t .behind)
 
--- ---- the seats that wait, as a set
+-- ---- the slots that wait, as a set
 pub one-lt : (t : Bool) (k s : ℕ) → k < 8 → s ≡ oneIf t k → s < 2 ^ 16
 one-lt true k s l e = subst (λ (x : ℕ). x < 2 ^ 16) (sym e) (pow-lt (let z : k < 16 = omega arith in z))
 one-lt false k s l e = omega arith
 
-pub waiting-is : (b : List ℕ) (s k : ℕ) → 8 ≤ k → k ≤ 8 → s < 2 ^ 16 → Gathered (λ j. waits (seatOf b j)) k s → s ≡ maskOf (λ j. waits (seatAt (deskOf b) j))
-waiting-is b s k h l n g = is-mask s (λ j. waits (seatAt (deskOf b) j)) n (λ j m. each j (ltb j 8) refl)
+pub waiting-is : (b : List ℕ) (s k : ℕ) → 8 ≤ k → k ≤ 8 → s < 2 ^ 16 → Gathered (λ j. waits (slotOf b j)) k s → s ≡ maskOf (λ j. waits (slotAt (queueOf b) j))
+waiting-is b s k h l n g = is-mask s (λ j. waits (slotAt (queueOf b) j)) n (λ j m. each j (ltb j 8) refl)
   where
-    each : (j : ℕ) (t : Bool) → ltb j 8 ≡ t → has s j ≡ waits (seatAt (deskOf b) j)
-    each j true e = let m = ltb-true j 8 e in gathered-is (λ j. waits (seatOf b j)) k s j g (omega arith) ∙ sym (ap waits (seat-in b j m))
-    each j false e = let m = ltb-false j 8 e in g .has-is j ∙ ap (λ (t : Bool). both t (waits (seatOf b j))) (le-ltb j k (omega arith)) ∙ sym (ap waits (seat-out b j m))
+    each : (j : ℕ) (t : Bool) → ltb j 8 ≡ t → has s j ≡ waits (slotAt (queueOf b) j)
+    each j true e = let m = ltb-true j 8 e in gathered-is (λ j. waits (slotOf b j)) k s j g (omega arith) ∙ sym (ap waits (slot-in b j m))
+    each j false e = let m = ltb-false j 8 e in g .has-is j ∙ ap (λ (t : Bool). both t (waits (slotOf b j))) (le-ltb j k (omega arith)) ∙ sym (ap waits (slot-out b j m))
 
-given-waits : (d : Desk) (r k : ℕ) → waits (seatAt (roundsDesk d r) k) ≡ waits (seatGiven r (seatAt d k))
-given-waits d r k = ap waits (List·getD-map (seatGiven r) (d .seats) k free)
+given-waits : (d : Queue) (r k : ℕ) → waits (slotAt (roundsQueue d r) k) ≡ waits (slotGiven r (slotAt d k))
+given-waits d r k = ap waits (List·getD-map (slotGiven r) (d .slots) k free)
 
 -- ---- rounds
 module _ (b : List ℕ) (r : ℕ) where
@@ -163,14 +163,14 @@ module _ (b : List ℕ) (r : ℕ) where
 
   pub rounds-255 : (length b ≡ size → ⊥) → Rounded (not-given 255 0) b
   unfolding roundsOn roundsAfter
-  rounds-255 n = let e = ne-eqb (length b) size n in (sym (ap (λ (t : Bool). choose t (roundsReply (deskOf b) r) (not-given 255 0)) e), sym (ap (λ (t : Bool). choose t (roundsBytes b r) b) e))
+  rounds-255 n = let e = ne-eqb (length b) size n in (sym (ap (λ (t : Bool). choose t (roundsReply (queueOf b) r) (not-given 255 0)) e), sym (ap (λ (t : Bool). choose t (roundsBytes b r) b) e))
 
-  pub rounded : DeskBytes b → (before going next : ℕ) (c c′ : List ℕ) → before ≡ maskOf (λ k. waits (seatAt (deskOf b) k)) → c ≡ roundBytes r (roundFrom (at b NEXT)) b → next ≡ roundsDesk (deskOf b) r .next → c′ ≡ set c NEXT next →
-      going ≡ maskOf (λ k. waits (seatAt (deskOf c′) k)) → Rounded (gave (bitAnd before (65535 - going)) going) c′
+  pub rounded : QueueBytes b → (before going next : ℕ) (c c′ : List ℕ) → before ≡ maskOf (λ k. waits (slotAt (queueOf b) k)) → c ≡ roundBytes r (roundFrom (at b NEXT)) b → next ≡ roundsQueue (queueOf b) r .next → c′ ≡ set c NEXT next →
+      going ≡ maskOf (λ k. waits (slotAt (queueOf c′) k)) → Rounded (gave (bitAnd before (65535 - going)) going) c′
   unfolding roundsOn roundsAfter roundsBytes
   rounded d before going next c c′ eb ec en es eg = (
     ap₂ gave (is-mask ended over ended-small ended-has) (is-mask going on going-small (λ v l. going-has v l))
-        ∙ sym (ap (λ (t : Bool). choose t (roundsReply (deskOf b) r) (not-given 255 0)) whole),
+        ∙ sym (ap (λ (t : Bool). choose t (roundsReply (queueOf b) r) (not-given 255 0)) whole),
     whole-bytes ∙ sym (ap (λ (t : Bool). choose t (roundsBytes b r) b) whole),
   )
     where
@@ -180,14 +180,14 @@ module _ (b : List ℕ) (r : ℕ) where
       whole-bytes : c′ ≡ roundsBytes b r
       whole-bytes = es ∙ ap₂ (λ (x : List ℕ) (y : ℕ). set x NEXT y) ec en
 
-      desk-is : deskOf c′ ≡ roundsDesk (deskOf b) r
-      desk-is = ap deskOf whole-bytes ∙ rounds-call b r d .0
+      queue-is : queueOf c′ ≡ roundsQueue (queueOf b) r
+      queue-is = ap queueOf whole-bytes ∙ rounds-call b r d .0
 
       was : ℕ → Bool
-      was k = waits (seatAt (deskOf b) k)
+      was k = waits (slotAt (queueOf b) k)
 
       on : ℕ → Bool
-      on k = waits (seatGiven r (seatAt (deskOf b) k))
+      on k = waits (slotGiven r (slotAt (queueOf b) k))
 
       over : ℕ → Bool
       over k = both (was k) (not (on k))
@@ -196,10 +196,10 @@ module _ (b : List ℕ) (r : ℕ) where
       ended = bitAnd before (65535 - going)
 
       going-small : going < 2 ^ 16
-      going-small = subst (λ (x : ℕ). x < 2 ^ 16) (sym eg) (mask-lt 16 (λ k. waits (seatAt (deskOf c′) k)))
+      going-small = subst (λ (x : ℕ). x < 2 ^ 16) (sym eg) (mask-lt 16 (λ k. waits (slotAt (queueOf c′) k)))
 
       going-has : (v : ℕ) → v < 16 → has going v ≡ on v
-      going-has v l = ap (λ (x : ℕ). has x v) eg ∙ has-mask 16 (λ k. waits (seatAt (deskOf c′) k)) v l ∙ ap (λ (x : Desk). waits (seatAt x v)) desk-is ∙ given-waits (deskOf b) r v
+      going-has v l = ap (λ (x : ℕ). has x v) eg ∙ has-mask 16 (λ k. waits (slotAt (queueOf c′) k)) v l ∙ ap (λ (x : Queue). waits (slotAt x v)) queue-is ∙ given-waits (queueOf b) r v
 
       before-has : (v : ℕ) → v < 16 → has before v ≡ was v
       before-has v l = ap (λ (x : ℕ). has x v) eb ∙ has-mask 16 was v l

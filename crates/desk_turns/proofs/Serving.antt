@@ -1,4 +1,4 @@
--- A seat that was given turns, and a turn at the desk. Assumes nothing.
+-- A slot that was given turns, and a turn. Assumes nothing.
 use mathlib.Core.Path.{_≡_, refl, sym, ap, ap₂, _∙_, subst}
 use mathlib.Core.Bool.{Bool, true}
 use mathlib.Core.List.{List}
@@ -16,14 +16,14 @@ use Rattle.model.proofs.Tally.{length-counts}
 use Rattle.run_state.specs.Pair.{prefixOf}
 use Rattle.run_state.specs.Walk.{stopIn}
 use Rattle.run_cut.specs.Parts.{nodesAfter, goOn, madeIn, added}
-use Rattle.desk.specs.Desk.{Standing, running, over, goesOn, Hall, deskRoom, standingAfter, hallAfter, hallTurned, turned, Seat, taken, waits, seatTurned, seatAt, Found, none-found, seat, roundFrom, toServe, turn, DeskReply, idle, served, servedAs, turnReply, denied, due, given}
+use Rattle.desk.specs.Queue.{Standing, running, over, goesOn, Job, listRoom, standingAfter, jobAfter, jobTurned, turned, Slot, taken, waits, slotTurned, slotAt, Found, none-found, slot, roundFrom, toServe, turn, QueueReply, idle, served, servedAs, turnReply, denied, due, given}
 use Rattle.desk.specs.Places.{LIMIT, STANDING, COUNTS, LIST, NEXT, size}
-use Rattle.desk.specs.Layout.{seatPlace, long, standingBy, nodesAt, countsAt, hallAt, seatOf, deskOf, standingByte, stateBytes, countBytes, runBytes, withRun, turnBytes, replyOn, bytesAfter}
-use Rattle.desk.specs.Claims.{DeskBytes}
+use Rattle.desk.specs.Layout.{slotPlace, long, standingBy, nodesAt, countsAt, jobAt, slotOf, queueOf, standingByte, stateBytes, countBytes, runBytes, withRun, turnBytes, replyOn, bytesAfter}
+use Rattle.desk.specs.Claims.{QueueBytes}
 use Rattle.desk.specs.Meaning.{found}
-use Rattle.desk.proofs.Desk.{first-in}
+use Rattle.desk.proofs.Queue.{first-in}
 use Rattle.desk.proofs.Bytes.{placed-apart}
-use Rattle.desk.proofs.Seats.{long-small, seat-in, free-at, taken-at, reply-whole, reply-wrong, bytes-whole, bytes-wrong}
+use Rattle.desk.proofs.Slots.{long-small, slot-in, free-at, taken-at, reply-whole, reply-wrong, bytes-whole, bytes-wrong}
 use Rattle.desk.proofs.Turning.{Fits, at-fits}
 use Rattle.desk.proofs.Turned.{state-length, run-length, text-length}
 use Rattle.desk.proofs.Counts.{count-most, counts-most}
@@ -33,32 +33,32 @@ use Rattle.arrays.specs.Places.{PLANS, LAST}
 use Rattle.desk_turns.specs.Served.{problemAt, goneOn, PartDone, Shows, ServedAt}
 use Rattle.desk_turns.specs.declared.serve.Served.{Served}
 
-some-turns : (r : ℕ) (h : Hall) → 1 ≤ r → h .progress .made ≤ h .allowance → goesOn (h .standing) ≡ true → Stretched r h
+some-turns : (r : ℕ) (h : Job) → 1 ≤ r → h .progress .made ≤ h .limit → goesOn (h .standing) ≡ true → Stretched r h
 some-turns zero h o l g = absurd (omega arith)
 some-turns (suc r) h o l g = stretched r h l g
 
--- ---- a seat that waits
-module _ (b : List ℕ) (k : ℕ) (d : DeskBytes b) (l : k < 8) (w : waits (seatOf b k) ≡ true) where
+-- ---- a slot that waits
+module _ (b : List ℕ) (k : ℕ) (d : QueueBytes b) (l : k < 8) (w : waits (slotOf b k) ≡ true) where
   abbrev p : ℕ
-  p = seatPlace k
+  p = slotPlace k
 
-  abbrev h : Hall
-  h = hallAt b p
+  abbrev h : Job
+  h = jobAt b p
 
   held : at b p ≡ 0 → ⊥
-  held e = subst (λ (s : Seat). T (waits s)) (free-at b k e) (T-of (waits (seatOf b k)) w)
+  held e = subst (λ (s : Slot). T (waits s)) (free-at b k e) (T-of (waits (slotOf b k)) w)
 
-  pub seat-is : seatOf b k ≡ taken h
-  seat-is = taken-at b k held
+  pub slot-is : slotOf b k ≡ taken h
+  slot-is = taken-at b k held
 
   goes : goesOn (h .standing) ≡ true
-  goes = sym (ap waits seat-is) ∙ w
+  goes = sym (ap waits slot-is) ∙ w
 
   fits : Fits b p h
   fits = at-fits b p (let z = d .0 in omega arith) (d .1)
 
   module _ (r : ℕ) (o : 1 ≤ r) where
-    abbrev g : Hall
+    abbrev g : Job
     g = given r h
 
     pub walk : Stretched r h
@@ -67,31 +67,31 @@ module _ (b : List ℕ) (k : ℕ) (d : DeskBytes b) (l : k < 8) (w : waits (seat
     fits-after : Fits b p g
     fits-after = turns-fit b p (due r h) h fits
 
-    -- what is known of the seat's limit and nodes
+    -- what is known of the slot's limit and nodes
     pub within : (limit made : ℕ) → limit ≡ long b (p + LIMIT) → made ≡ nodesAt b p → (made ≤ limit) × (limit < 2 ^ 32)
     within limit made e f = let z = long-small b (d .1) (p + LIMIT) in (omega arith, omega arith)
 
     module _ (limit made more : ℕ) (el : limit ≡ long b (p + LIMIT)) (em : made ≡ nodesAt b p) (es : more ≡ min (limit - made) (64 * r)) where
       limits : h .progress .made + more ≡ stretchLimit r h
-      unfolding hallAt
+      unfolding jobAt
       limits = let z = within limit made el em .0 in omega arith
 
       same : goneOn b p more ≡ stretch r h
-      unfolding hallAt
-      same = ap (λ (x : ℕ). goOn (problemAt b p) x (deskRoom (problemAt b p)) (h .progress)) limits
+      unfolding jobAt
+      same = ap (λ (x : ℕ). goOn (problemAt b p) x (listRoom (problemAt b p)) (h .progress)) limits
 
       module _ (c work : List ℕ) (stop : ℕ) (tally : Tally) (q : PartDone b p more c work stop tally) where
         abbrev nodes : ℕ
         nodes = tally .nodes
 
         total-is : made + nodes ≡ nodesIn (stretch r h .ending)
-        unfolding hallAt
+        unfolding jobAt
         total-is = ap (λ (x : ℕ). x + nodes) em ∙ q .made ∙ ap (λ (x : Result). nodesIn (x .ending)) same
 
         total-small : nodesIn (stretch r h .ending) < 2 ^ 32
-        unfolding hallAt
+        unfolding jobAt
         total-small =
-            let e = ap (λ (x : Hall). x .progress .made) (walk .whole) in
+            let e = ap (λ (x : Job). x .progress .made) (walk .whole) in
             let a = fits-after .allowed in
             let f = fits-after .limited in
             let z = long-small b (d .1) (p + LIMIT) in
@@ -105,7 +105,7 @@ module _ (b : List ℕ) (k : ℕ) (d : DeskBytes b) (l : k < 8) (w : waits (seat
         more-twelve = ap length (q .counts) ∙ length-counts settledBy (madeIn (problemAt b p) (h .progress) (goneOn b p more))
 
         pub sums-fit : (before : List ℕ) → before ≡ countsAt b p → (x : ℕ) → at before x + at (tally .counts) x < 2 ^ 32
-        unfolding hallAt
+        unfolding jobAt
         sums-fit before e x =
             let ts = madeIn (problemAt b p) (h .progress) (goneOn b p more) in
             let y = ap (λ (l : List ℕ). at l x) e in
@@ -120,18 +120,18 @@ module _ (b : List ℕ) (k : ℕ) (d : DeskBytes b) (l : k < 8) (w : waits (seat
 
         module _ (standing : ℕ) (est : (e : Ending) → stop ≡ stopIn e → made + nodes ≡ nodesIn e → standing ≡ standingByte (standingAfter limit e)) where
           pub shows : Shows g standing (made + nodes) work
-          unfolding hallAt
+          unfolding jobAt
           shows =
-              let few = subst (λ (x : Hall). length (x .progress .rows) ≤ 4096) (walk .whole) (fits-after .few) in
+              let few = subst (λ (x : Job). length (x .progress .rows) ≤ 4096) (walk .whole) (fits-after .few) in
               let e = total-is in
               let z = total-small in
               let n = q .plans ∙ ap (λ (x : Result). length (x .rows)) same in
-              subst (λ (x : Hall). Shows x standing (made + nodes) work) (sym (walk .whole))
+              subst (λ (x : Job). Shows x standing (made + nodes) work) (sym (walk .whole))
               record {
                 standing = est (stretch r h .ending) (q .stopped ∙ ap (λ (x : Result). stopIn (x .ending)) same) total-is ∙ ap (λ (x : ℕ). standingByte (standingAfter x (stretch r h .ending))) el;
                 made = total-is;
                 plans = n;
-                last = subst (λ (x : Result). prefixOf work (at work LAST) ≡ hallAfter h x .progress .last) same (q .last);
+                last = subst (λ (x : Result). prefixOf work (at work LAST) ≡ jobAfter h x .progress .last) same (q .last);
                 short = q .short;
                 bytes = q .bytes;
                 few = omega arith;
@@ -144,15 +144,15 @@ module _ (b : List ℕ) (k : ℕ) (d : DeskBytes b) (l : k < 8) (w : waits (seat
           pub done : (bytes c₁ before c′ : List ℕ) (turns : ℕ) (plans : ℕ) → bytes ≡ stateBytes g → c₁ ≡ placed c (p + STANDING) bytes → before ≡ countsAt b p →
               c′ ≡ placed c₁ (p + COUNTS) (countBytes (added before (tally .counts))) → plans ≡ at work PLANS → turns ≡ 1 + (nodes - 1) / 64 →
               ServedAt b k r c′ record { standing = standing; plans = plans; nodes = made + nodes; turns = turns }
-          unfolding withRun runBytes hallAt
+          unfolding withRun runBytes jobAt
           done bytes c₁ before c′ turns plans e f m i n t =
               let s = shows in
               let x = run-length b k d l g fits-after in
               let z = state-length b k d l g fits-after in
               let y = text-length b k d l g fits-after in
-              let list : c ≡ placed b (p + LIST) (flat (g .progress .rows)) = q .listed ∙ ap (λ (z : Result). placed b (p + LIST) (flat (z .rows))) same ∙ ap (λ (z : Hall). placed b (p + LIST) (flat (z .progress .rows))) (sym (walk .whole)) in
+              let list : c ≡ placed b (p + LIST) (flat (g .progress .rows)) = q .listed ∙ ap (λ (z : Result). placed b (p + LIST) (flat (z .rows))) same ∙ ap (λ (z : Job). placed b (p + LIST) (flat (z .progress .rows))) (sym (walk .whole)) in
               let counts : added before (tally .counts) ≡ g .progress .counts =
-              ap₂ added m (q .counts ∙ ap (λ (z : Result). countsBy settledBy (madeIn (problemAt b p) (h .progress) z)) same) ∙ sym (ap (λ (z : Hall). z .progress .counts) (walk .whole)) in
+              ap₂ added m (q .counts ∙ ap (λ (z : Result). countsBy settledBy (madeIn (problemAt b p) (h .progress) z)) same) ∙ sym (ap (λ (z : Job). z .progress .counts) (walk .whole)) in
               record {
                 written =
                     i ∙ ap₂ (λ (u v : List ℕ). placed u (p + COUNTS) (countBytes v)) (f ∙ ap₂ (λ (u v : List ℕ). placed u (p + STANDING) v) list e) counts
@@ -173,41 +173,41 @@ byte-number (over (spent plans made)) = refl
 byte-number (over (full plans made)) = refl
 
 module _ (b : List ℕ) where
-  abbrev pub Turned : DeskReply → List ℕ → Type 0
+  abbrev pub Turned : QueueReply → List ℕ → Type 0
   Turned r c = (r ≡ replyOn b turn) × (c ≡ bytesAfter b turn)
 
   pub turn-255 : (length b ≡ size → ⊥) → Turned (denied 255 0) b
   turn-255 n = (sym (reply-wrong b turn n), sym (bytes-wrong b turn n))
 
   module _ (whole : length b ≡ size) where
-    by : (f : Found) → toServe (deskOf b) ≡ f → Turned (turnReply f (deskOf b)) (turnBytes f b)
-    by f e = (sym (reply-whole b turn whole ∙ ap (λ (x : Found). turnReply x (deskOf b)) e), sym (bytes-whole b turn whole ∙ ap (λ (x : Found). turnBytes x b) e))
+    by : (f : Found) → toServe (queueOf b) ≡ f → Turned (turnReply f (queueOf b)) (turnBytes f b)
+    by f e = (sym (reply-whole b turn whole ∙ ap (λ (x : Found). turnReply x (queueOf b)) e), sym (bytes-whole b turn whole ∙ ap (λ (x : Found). turnBytes x b) e))
 
-    pub turn-idle : (k : ℕ) → found k ≡ toServe (deskOf b) → 8 ≤ k → Turned idle b
-    turn-idle k e h = by none-found (sym e ∙ ap (λ (t : Bool). choose t (seat k) none-found) (le-ltb k 8 h))
+    pub turn-idle : (k : ℕ) → found k ≡ toServe (queueOf b) → 8 ≤ k → Turned idle b
+    turn-idle k e h = by none-found (sym e ∙ ap (λ (t : Bool). choose t (slot k) none-found) (le-ltb k 8 h))
 
-    module _ (small : (i : ℕ) → at b i < 256) (k : ℕ) (e : found k ≡ toServe (deskOf b)) (l : k < 8) where
-      serves : toServe (deskOf b) ≡ seat k
-      serves = sym e ∙ ap (λ (t : Bool). choose t (seat k) none-found) (lt-ltb k 8 l)
+    module _ (small : (i : ℕ) → at b i < 256) (k : ℕ) (e : found k ≡ toServe (queueOf b)) (l : k < 8) where
+      serves : toServe (queueOf b) ≡ slot k
+      serves = sym e ∙ ap (λ (t : Bool). choose t (slot k) none-found) (lt-ltb k 8 l)
 
-      pub waiting : waits (seatOf b k) ≡ true
-      waiting = ap waits (sym (seat-in b k l)) ∙ of-T (waits (seatAt (deskOf b) k)) (first-in (λ n. waits (seatAt (deskOf b) n)) (roundFrom (deskOf b .next)) k serves .0)
+      pub waiting : waits (slotOf b k) ≡ true
+      waiting = ap waits (sym (slot-in b k l)) ∙ of-T (waits (slotAt (queueOf b) k)) (first-in (λ n. waits (slotAt (queueOf b) n)) (roundFrom (queueOf b .next)) k serves .0)
 
-      abbrev now : Hall
-      now = hallAt b (seatPlace k)
+      abbrev now : Job
+      now = jobAt b (slotPlace k)
 
-      one : given 1 now ≡ hallTurned now
+      one : given 1 now ≡ jobTurned now
       unfolding due
       one = ap (λ (t : Bool). turned (choose t 1 0) now) (goes b k (whole, small) l waiting)
 
       pub turn-served : (c : List ℕ) (s : Served) → ServedAt b k 1 c s → Turned (served k (standingBy (s .standing) (s .plans) (s .nodes)) (s .plans) (s .nodes)) (set c NEXT ((k + 1) % 8))
       turn-served c s q =
-          let r = by (seat k) serves in
+          let r = by (slot k) serves in
           let f = fits-after b k (whole, small) l waiting 1 (omega arith) in
           let g = given 1 now in
           let stands : standingBy (s .standing) (s .plans) (s .nodes) ≡ g .standing =
           ap (λ (x : ℕ). standingBy x (s .plans) (s .nodes)) (q .standing ∙ sym (byte-number (g .standing))) ∙ ap₂ (standingBy (min 3 (standingByte (g .standing)))) (q .plans) (q .nodes) ∙ f .figured in (
-            ap (λ (x : Standing). served k x (s .plans) (s .nodes)) stands ∙ ap₂ (served k (g .standing)) (q .plans) (q .nodes) ∙ ap (λ (x : Hall). servedAs k (taken x)) one
-                ∙ sym (ap (λ (x : Seat). servedAs k (seatTurned x)) (seat-in b k l ∙ seat-is b k (whole, small) l waiting)) ∙ r .0,
-            ap (λ (x : List ℕ). set x NEXT ((k + 1) % 8)) (q .written ∙ ap (withRun b (seatPlace k)) one) ∙ r .1,
+            ap (λ (x : Standing). served k x (s .plans) (s .nodes)) stands ∙ ap₂ (served k (g .standing)) (q .plans) (q .nodes) ∙ ap (λ (x : Job). servedAs k (taken x)) one
+                ∙ sym (ap (λ (x : Slot). servedAs k (slotTurned x)) (slot-in b k l ∙ slot-is b k (whole, small) l waiting)) ∙ r .0,
+            ap (λ (x : List ℕ). set x NEXT ((k + 1) % 8)) (q .written ∙ ap (withRun b (slotPlace k)) one) ∙ r .1,
           )

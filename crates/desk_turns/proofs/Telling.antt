@@ -1,4 +1,4 @@
--- The bytes of a seat that say where its run stands. Assumes nothing.
+-- The bytes of a slot that say where its run stands. Assumes nothing.
 use mathlib.Core.Path.{_≡_, refl, sym, ap, ap₂, _∙_}
 use mathlib.Core.Bool.{Bool, true, false}
 use mathlib.Core.List.{List, _∷_, _++_, append-assoc}
@@ -13,7 +13,7 @@ use Rattle.model.specs.Filling.{Filled}
 use Rattle.model.proofs.Lists.{at-ext, at-append, at-skip, at-replicate}
 use Rattle.arrays.specs.Places.{PLANS, LAST}
 use Rattle.run_state.proofs.Prefix.{length-prefix, prefix-at}
-use Rattle.desk.specs.Desk.{Hall}
+use Rattle.desk.specs.Queue.{Job}
 use Rattle.desk.specs.Layout.{standingByte, figureBytes, stateBytes}
 use Rattle.desk_turns.specs.Served.{Shows}
 
@@ -25,7 +25,7 @@ begun number total plans last =
 abbrev pub ToldTo : List ℕ → ℕ → List ℕ → List ℕ → Type 0
 ToldTo work i old new = Filled (λ j. 8 + j) (λ j w. w ≡ at work j) i old new
 
-module _ (h : Hall) (number total : ℕ) (work bytes : List ℕ) (s : Shows h number total work) (f : ToldTo work (at work LAST) (begun number total (at work PLANS) (at work LAST)) bytes) where
+module _ (h : Job) (number total : ℕ) (work bytes : List ℕ) (s : Shows h number total work) (f : ToldTo work (at work LAST) (begun number total (at work PLANS) (at work LAST)) bytes) where
   abbrev last : List ℕ
   last = h .progress .last
 

@@ -1,8 +1,8 @@
--- What callers of `turn` and `rounds` hold: the contracts, one record a function. b are the desk's bytes before and c after the call, r came back.
+-- What callers of `turn` and `rounds` hold: the contracts, one record a function. b are the queue's bytes before and c after the call, r came back.
 use mathlib.Core.Path.{_≡_}
 use mathlib.Core.List.{List, []}
 use Prim.Native.Nat.{ℕ}
-use Rattle.desk.specs.Desk.{turn}
+use Rattle.desk.specs.Queue.{turn}
 use Rattle.desk.specs.Layout.{replyOn, bytesAfter, roundsOn, roundsAfter}
 use Rattle.desk.specs.Meaning.{means}
 use Rattle.desk.specs.declared.Answer.{Answer}

@@ -1,5 +1,5 @@
 -- What the answer to rounds means.
-use Rattle.desk.specs.Desk.{RoundsReply, not-given, gave}
+use Rattle.desk.specs.Queue.{RoundsReply, not-given, gave}
 use Rattle.desk_turns.specs.declared.Reply.{Reply}
 use Rattle.desk_turns.specs.declared.Reply.the-variants.{Given, Refused}
 

@@ -1,4 +1,4 @@
-// The run of a seat: going on with it, and putting down where it stands then.
+// The run of a slot: going on with it, and putting down where it stands then.
 use arrays::ALL;
 use arrays::FULL;
 use arrays::LAST;
@@ -14,9 +14,9 @@ use desk::DEPTH;
 use desk::LENGTH;
 use desk::LIMIT;
 use desk::LIST;
-use desk::SEAT;
 use desk::SHEET;
 use desk::SHEET_BYTES;
+use desk::SLOT;
 use desk::STANDING;
 use desk::bounded;
 use desk::byte;
@@ -36,12 +36,12 @@ ghost use Rattle.arrays.specs.Places.{WORK};
 ghost use Rattle.run_cut.specs.Parts.{added};
 ghost use Rattle.run_state.specs.Meaning.{tallyIn};
 ghost use Rattle.run_state.specs.Walk.{stopIn};
-ghost use Rattle.desk.specs.Desk.{Hall, waits, standingAfter};
-ghost use Rattle.desk.specs.Places.{COUNTS, SHEET, SEAT, size};
-ghost use Rattle.desk.specs.Layout.{seatOf, standingByte, stateBytes, countBytes};
+ghost use Rattle.desk.specs.Queue.{Job, waits, standingAfter};
+ghost use Rattle.desk.specs.Places.{COUNTS, SHEET, SLOT, size};
+ghost use Rattle.desk.specs.Layout.{slotOf, standingByte, stateBytes, countBytes};
 ghost use Rattle.desk_turns.specs.Served.{PartDone, Shows, ServedAt};
 
-// How a seat stands after its turns, and how many it took.
+// How a slot stands after its turns, and how many it took.
 pub struct Served {
     pub standing: u8,
     pub plans: usize,
@@ -87,10 +87,10 @@ fn standing_after(stop: u8, made: usize, limit: usize) -> u8
     2
 }
 
-// The bytes of a seat that say where its run stands, but for its counts.
+// The bytes of a slot that say where its run stands, but for its counts.
 fn run_bytes(standing: u8, made: usize, work: &Work) -> [u8; 20]
-    requires { ⌜ ((h : Hall) × Shows h standing made (now work)) ⌝ }
-    ensures { λ r. ⌜ ((h : Hall) → Shows h standing made (now (work .entry)) → r ≡ stateBytes h) ⌝ }
+    requires { ⌜ ((h : Job) × Shows h standing made (now work)) ⌝ }
+    ensures { λ r. ⌜ ((h : Job) → Shows h standing made (now (work .entry)) → r ≡ stateBytes h) ⌝ }
 {
     let plans = work[PLANS];
     let last = work[LAST] as usize;
@@ -124,10 +124,10 @@ fn run_bytes(standing: u8, made: usize, work: &Work) -> [u8; 20]
     bytes
 }
 
-// Puts the counts of the seat at p: those before, and those of its last part.
-fn put_counts(desk: &mut [u8], p: usize, before: [u32; 12], more: [u32; 12])
-    requires { ⌜ (p + SHEET ≤ length (now desk)) × (length before ≡ 12) × (length more ≡ 12) × ((x : ℕ) → at before x + at more x < 2 ^ 32) ⌝ }
-    ensures { λ _. ⌜ now (desk .exit) ≡ placed (now (desk .entry)) (p + COUNTS) (countBytes (added before more)) ⌝ }
+// Puts the counts of the slot at p: those before, and those of its last part.
+fn put_counts(queue: &mut [u8], p: usize, before: [u32; 12], more: [u32; 12])
+    requires { ⌜ (p + SHEET ≤ length (now queue)) × (length before ≡ 12) × (length more ≡ 12) × ((x : ℕ) → at before x + at more x < 2 ^ 32) ⌝ }
+    ensures { λ _. ⌜ now (queue .exit) ≡ placed (now (queue .entry)) (p + COUNTS) (countBytes (added before more)) ⌝ }
 {
     let mut x = 0;
     while x < 12 {
@@ -138,34 +138,34 @@ fn put_counts(desk: &mut [u8], p: usize, before: [u32; 12], more: [u32; 12])
             (k / 65536 % 256) as u8,
             (k / 16777216) as u8,
         ];
-        place(&bytes, desk, p + COUNTS + 4 * x);
+        place(&bytes, queue, p + COUNTS + 4 * x);
         x += 1;
     }
 }
 
-// Goes on with the run of the seat at p by so many nodes at most; the plans go to its list, where it stands to `work`.
-fn go_on(desk: &mut [u8], p: usize, more: u32, work: &mut Work) -> CountedPart
-    requires { ⌜ (p + SEAT ≤ length (now desk)) × (length (now work) ≡ WORK) ⌝ }
-    ensures { λ r. ⌜ PartDone (now (desk .entry)) p more (now (desk .exit)) (now (work .exit)) (r .stop) (tallyIn (r .tally)) ⌝ }
+// Goes on with the run of the slot at p by so many nodes at most; the plans go to its list, where it stands to `work`.
+fn go_on(queue: &mut [u8], p: usize, more: u32, work: &mut Work) -> CountedPart
+    requires { ⌜ (p + SLOT ≤ length (now queue)) × (length (now work) ≡ WORK) ⌝ }
+    ensures { λ r. ⌜ PartDone (now (queue .entry)) p more (now (queue .exit)) (now (work .exit)) (r .stop) (tallyIn (r .tally)) ⌝ }
 {
     let mut stack = [0u16; STACK];
     let mut supports = [0u16; SUPPORTS];
     let mut tables = [0u16; TABLES];
     let mut numbers = [0u64; NUMBERS];
-    let plans = bounded(desk, p + desk::PLANS, 4096);
+    let plans = bounded(queue, p + desk::PLANS, 4096);
     let last = p + desk::LAST;
-    let after = last + byte(desk, p + DEPTH, 12) as usize;
-    run_resume::put_progress(work, plans, &desk[last..after]);
+    let after = last + byte(queue, p + DEPTH, 12) as usize;
+    run_resume::put_progress(work, plans, &queue[last..after]);
     let sheet = p + SHEET;
-    let end = sheet + bounded(desk, p + LENGTH, SHEET_BYTES);
-    let size = 4096 * bounded(desk, sheet, 12);
+    let end = sheet + bounded(queue, p + LENGTH, SHEET_BYTES);
+    let size = 4096 * bounded(queue, sheet, 12);
     let step = run_resume::prepare_again(
         &mut stack,
         work,
         &mut supports,
         &mut tables,
         &mut numbers,
-        &desk[sheet..end],
+        &queue[sheet..end],
         more,
         size,
     );
@@ -177,30 +177,30 @@ fn go_on(desk: &mut [u8], p: usize, more: u32, work: &mut Work) -> CountedPart
         &supports,
         &tables,
         &numbers,
-        &mut desk[list..behind],
+        &mut queue[list..behind],
         step,
     )
 }
 
-// Gives seat k, whose run hasn't ended, up to so many turns at a stretch.
-pub fn serve(desk: &mut [u8], k: usize, turns: u32) -> Served
-    requires { ⌜ (length (now desk) ≡ size) × (k < 8) × (waits (seatOf (now desk) k) ≡ true) × (1 ≤ turns) ⌝ }
-    ensures { λ r. ⌜ ServedAt (now (desk .entry)) k turns (now (desk .exit)) r ⌝ }
+// Gives slot k, whose run hasn't ended, up to so many turns at a stretch.
+pub fn serve(queue: &mut [u8], k: usize, turns: u32) -> Served
+    requires { ⌜ (length (now queue) ≡ size) × (k < 8) × (waits (slotOf (now queue) k) ≡ true) × (1 ≤ turns) ⌝ }
+    ensures { λ r. ⌜ ServedAt (now (queue .entry)) k turns (now (queue .exit)) r ⌝ }
 {
-    let p = SEAT * k;
-    let limit = read_long(desk, p + LIMIT);
-    let made = nodes_at(desk, p);
-    let before = counts_at(desk, p);
+    let p = SLOT * k;
+    let limit = read_long(queue, p + LIMIT);
+    let made = nodes_at(queue, p);
+    let before = counts_at(queue, p);
     let more = share(limit - made, turns);
     let mut work = [0u64; WORK];
-    let part = go_on(desk, p, more, &mut work);
+    let part = go_on(queue, p, more, &mut work);
     let counted = part.tally;
     let nodes = made + counted.nodes as usize;
     let standing = standing_after(part.stop, nodes, limit);
     let bytes = run_bytes(standing, nodes, &work);
-    place(&bytes, desk, p + STANDING);
+    place(&bytes, queue, p + STANDING);
     let counts = counted.counts;
-    put_counts(desk, p, before, counts);
+    put_counts(queue, p, before, counts);
     Served {
         standing,
         plans: work[PLANS] as usize,

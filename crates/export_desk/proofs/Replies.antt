@@ -1,4 +1,4 @@
--- What the desk's exported calls answer: a reply's numbers fit the code and the answer; answers of the length asked and of another. Assumes nothing.
+-- What the queue's exported calls answer: a reply's numbers fit the code and the answer; answers of the length asked and of another. Assumes nothing.
 use mathlib.Core.Path.{_≡_, refl, sym, ap, ap₂, _∙_, subst}
 use mathlib.Core.Bool.{Bool, true, false}
 use mathlib.Core.List.{List, [], _++_, Memᴰ·of-map}
@@ -19,19 +19,19 @@ use Rattle.model.proofs.Written.{written-then}
 use Rattle.wire.specs.Wire.{wrongLength, threeNumbers}
 use Rattle.wire.proofs.Codes.{Small, verdict-small}
 use Rattle.wire.proofs.Numbers.{whole}
-use Rattle.desk.specs.Desk.{Hall, hallTurned, Seat, free, taken, isFree, waits, seatTurned, seatAt, Found, none-found, seat, lowestFree, roundFrom, toServe, DeskCall, sit, turn, leave, DeskReply, denied, servedAs, sitReply, turnReply, fits, leaveFor, leaveReply, lookFor, noCounts, countsOf, RoundsReply, not-given, roundsReply}
+use Rattle.desk.specs.Queue.{Job, jobTurned, Slot, free, taken, isFree, waits, slotTurned, slotAt, Found, none-found, slot, lowestFree, roundFrom, toServe, QueueCall, submit, turn, release, QueueReply, denied, servedAs, submitReply, turnReply, fits, releaseFor, releaseReply, statusFor, noCounts, countsOf, RoundsReply, not-given, roundsReply}
 use Rattle.desk.specs.Places.{LIMIT, size}
-use Rattle.desk.specs.Layout.{seatPlace, standingBy, widthAt, hallAt, deskOf, replyOn, lookOn, countsOn, bytesAfter, roundsOn, roundsAfter}
+use Rattle.desk.specs.Layout.{slotPlace, standingBy, widthAt, jobAt, queueOf, replyOn, statusOn, countsOn, bytesAfter, roundsOn, roundsAfter}
 use Rattle.desk.specs.Meaning.{means, roomAfter}
 use Rattle.desk.specs.declared.Answer.{Answer}
-use Rattle.desk.specs.declared.Answer.the-variants.{Seated, Idle, Stands, Left, Refused}
-use Rattle.desk.proofs.Desk.{first-in}
-use Rattle.desk.proofs.Seats.{long-small, seat-in, seat-out, free-at, taken-at}
+use Rattle.desk.specs.declared.Answer.the-variants.{Queued, Idle, Stands, Released, Refused}
+use Rattle.desk.proofs.Queue.{first-in}
+use Rattle.desk.proofs.Slots.{long-small, slot-in, slot-out, free-at, taken-at}
 use Rattle.desk.proofs.Turning.{Fits, at-fits, turned-fits}
 use Rattle.export_counts.specs.Tallied.{numbersOf}
 use Rattle.export_counts.specs.Inner.{Twelve}
 use Rattle.export_counts.proofs.Tallied.{length-numbers}
-use Rattle.export_desk.specs.Told.{fourNumbers, kindOf, replyCode, replyAnswer, answerLength, deskCode, deskBytes, deskAnswer, leaveRoom, lookBytes, lookCode, lookAnswer, roundsReplyCode, roundsReplyAnswer, roundsCode, roundsDesk, roundsAnswer, CallDesk, CallLeave, CallLook, CallRounds, Holds, Sees}
+use Rattle.export_desk.specs.Told.{fourNumbers, kindOf, replyCode, replyAnswer, answerLength, queueCode, queueBytes, queueAnswer, releaseRoom, statusBytes, statusCode, statusAnswer, roundsReplyCode, roundsReplyAnswer, roundsCode, roundsQueue, roundsAnswer, CallQueue, CallRelease, CallStatus, CallRounds, Holds, Sees}
 
 -- ---- four numbers
 pub put-four : {d e : List ℕ} {r : ℕ} {f : List ℕ} {s : ℕ} {g : List ℕ} {t : ℕ} {h : List ℕ} {u : ℕ} (kind a b c : ℕ) → 16 ≤ length d → Written d 0 (fourBytes kind) e r → Written e r (fourBytes a) f s → Written f s (fourBytes b) g t → Written g t (fourBytes c) h u →
@@ -60,7 +60,7 @@ all-counts kind a b c ks l n w x =
 pub after-four : {d h : List ℕ} {u : ℕ} (kind a b c : ℕ) → Written d 0 (fourNumbers kind a b c) h u → u ≡ 16
 after-four kind a b c w = let m = four-length kind a b c in omega (arith, w .ends)
 
--- the kind of a seat that stands so
+-- the kind of a slot that stands so
 pub kind-runs : (standing plans nodes : ℕ) → standing ≡ 0 → 4 ≡ kindOf (standingBy standing plans nodes)
 kind-runs zero plans nodes e = refl
 kind-runs (suc k) plans nodes e = absurd (omega arith)
@@ -73,24 +73,24 @@ kind-ends (suc (suc (suc k))) plans nodes n = omega arith
 
 -- the room does not matter to them
 pub code-any : (r : Answer) (room : List ℕ) → replyCode (means r []) ≡ replyCode (means r room)
-code-any (Seated s) room = refl
+code-any (Queued s) room = refl
 code-any Idle room = refl
 code-any (Stands s standing plans nodes) room = refl
-code-any (Left bytes) room = refl
+code-any (Released bytes) room = refl
 code-any (Refused number item) room = refl
 
 pub answer-any : (r : Answer) (room answer : List ℕ) → replyAnswer (means r []) answer ≡ replyAnswer (means r room) answer
-answer-any (Seated s) room answer = refl
+answer-any (Queued s) room answer = refl
 answer-any Idle room answer = refl
 answer-any (Stands s standing plans nodes) room answer = refl
-answer-any (Left bytes) room answer = refl
+answer-any (Released bytes) room answer = refl
 answer-any (Refused number item) room answer = refl
 
 pub holds-any : (r : Answer) (room : List ℕ) (n : ℕ) → Holds (means r room) n → Holds (means r []) n
-holds-any (Seated s) room n h = h
+holds-any (Queued s) room n h = h
 holds-any Idle room n h = h
 holds-any (Stands s standing plans nodes) room n h = h
-holds-any (Left bytes) room n h = h
+holds-any (Released bytes) room n h = h
 holds-any (Refused number item) room n h = h
 
 -- ---- a reply fits
@@ -99,96 +99,96 @@ unfolding at
 none-twelve = record { long = refl; small = λ i. let z = at-replicate 12 i in omega arith }
 
 module _ (b : List ℕ) (small : (i : ℕ) → at b i < 256) where
-  sized : (x : DeskReply) (n : ℕ) → (length b ≡ size → Holds x n) → Holds (choose (eqb (length b) size) x (denied 255 0)) n
+  sized : (x : QueueReply) (n : ℕ) → (length b ≡ size → Holds x n) → Holds (choose (eqb (length b) size) x (denied 255 0)) n
   sized x n h = go (eqb (length b) size) refl
     where
       go : (t : Bool) → eqb (length b) size ≡ t → Holds (choose t x (denied 255 0)) n
       go true e = h (eqb-true (length b) size e)
       go false e = omega arith
 
-  sit-holds : (f : Found) (v : Verdict) → ((k : ℕ) → f ≡ seat k → k < 8) → Small v → Holds (sitReply f v) 12
-  sit-holds none-found v l s = omega arith
-  sit-holds (seat k) (refused number item) l s = s
-  sit-holds (seat k) accepted l s = (refl, (let z = l k refl in omega arith))
+  submit-holds : (f : Found) (v : Verdict) → ((k : ℕ) → f ≡ slot k → k < 8) → Small v → Holds (submitReply f v) 12
+  submit-holds none-found v l s = omega arith
+  submit-holds (slot k) (refused number item) l s = s
+  submit-holds (slot k) accepted l s = (refl, (let z = l k refl in omega arith))
 
   module _ (e : length b ≡ size) where
-    hall-fits : (k : ℕ) → k < 8 → Fits b (seatPlace k) (hallAt b (seatPlace k))
-    hall-fits k l = at-fits b (seatPlace k) (omega arith) small
+    job-fits : (k : ℕ) → k < 8 → Fits b (slotPlace k) (jobAt b (slotPlace k))
+    job-fits k l = at-fits b (slotPlace k) (omega arith) small
 
-    -- a seat that nobody holds, or the hall of its bytes
-    by-seat : (P : Seat → Type 0) (k : ℕ) → P free → (k < 8 → P (taken (hallAt b (seatPlace k)))) → P (seatAt (deskOf b) k)
-    by-seat P k f g = go (ltb k 8) refl (eqb (at b (seatPlace k)) 0) refl
+    -- a free slot, or the job of its bytes
+    by-slot : (P : Slot → Type 0) (k : ℕ) → P free → (k < 8 → P (taken (jobAt b (slotPlace k)))) → P (slotAt (queueOf b) k)
+    by-slot P k f g = go (ltb k 8) refl (eqb (at b (slotPlace k)) 0) refl
       where
-        go : (t : Bool) → ltb k 8 ≡ t → (u : Bool) → eqb (at b (seatPlace k)) 0 ≡ u → P (seatAt (deskOf b) k)
-        go false x u y = subst P (sym (seat-out b k (ltb-false k 8 x))) f
-        go true x true y = let l = ltb-true k 8 x in subst P (sym (seat-in b k l ∙ free-at b k (eqb-true (at b (seatPlace k)) 0 y))) f
-        go true x false y = let l = ltb-true k 8 x in subst P (sym (seat-in b k l ∙ taken-at b k (eqb-false (at b (seatPlace k)) 0 y))) (g l)
+        go : (t : Bool) → ltb k 8 ≡ t → (u : Bool) → eqb (at b (slotPlace k)) 0 ≡ u → P (slotAt (queueOf b) k)
+        go false x u y = subst P (sym (slot-out b k (ltb-false k 8 x))) f
+        go true x true y = let l = ltb-true k 8 x in subst P (sym (slot-in b k l ∙ free-at b k (eqb-true (at b (slotPlace k)) 0 y))) f
+        go true x false y = let l = ltb-true k 8 x in subst P (sym (slot-in b k l ∙ taken-at b k (eqb-false (at b (slotPlace k)) 0 y))) (g l)
 
-    hall-holds : (k p : ℕ) (h : Hall) → k < 8 → Fits b p h → Holds (servedAs k (taken h)) 16
-    hall-holds k p h l f = let n = f .few in let a = f .allowed in let m = f .limited in let z = long-small b small (p + LIMIT) in (refl, omega arith, omega arith, omega arith)
+    job-holds : (k p : ℕ) (h : Job) → k < 8 → Fits b p h → Holds (servedAs k (taken h)) 16
+    job-holds k p h l f = let n = f .few in let a = f .allowed in let m = f .limited in let z = long-small b small (p + LIMIT) in (refl, omega arith, omega arith, omega arith)
 
-    look-fits : (k : ℕ) → Sees (lookFor k (seatAt (deskOf b) k)) 64
-    look-fits k = by-seat (λ s. Sees (lookFor k s) 64) k (omega arith) (λ l. let h = hall-holds k (seatPlace k) (hallAt b (seatPlace k)) l (hall-fits k l) in (refl, h .1, h .2, h .3))
+    status-fits : (k : ℕ) → Sees (statusFor k (slotAt (queueOf b) k)) 64
+    status-fits k = by-slot (λ s. Sees (statusFor k s) 64) k (omega arith) (λ l. let h = job-holds k (slotPlace k) (jobAt b (slotPlace k)) l (job-fits k l) in (refl, h .1, h .2, h .3))
 
-    counts-fit : (k : ℕ) → Twelve (countsOf (seatAt (deskOf b) k))
+    counts-fit : (k : ℕ) → Twelve (countsOf (slotAt (queueOf b) k))
     unfolding at
-    counts-fit k = by-seat (λ s. Twelve (countsOf s)) k none-twelve (λ l.
-        let f = hall-fits k l in
-        let z = long-small b small (seatPlace k + LIMIT) in
+    counts-fit k = by-slot (λ s. Twelve (countsOf s)) k none-twelve (λ l.
+        let f = job-fits k l in
+        let z = long-small b small (slotPlace k + LIMIT) in
         let a = f .allowed in
         let e = f .limited in
         record { long = f .twelve; small = λ i. let n = f .counted i in omega arith })
 
-    leave-fits : (k : ℕ) (room : List ℕ) → Holds (leaveReply (seatAt (deskOf b) k) room) 12
-    leave-fits k room = by-seat (λ s. Holds (leaveReply s room) 12) k (omega arith) (λ l. go (fits (hallAt b (seatPlace k)) room) (hall-fits k l))
+    release-fits : (k : ℕ) (room : List ℕ) → Holds (releaseReply (slotAt (queueOf b) k) room) 12
+    release-fits k room = by-slot (λ s. Holds (releaseReply s room) 12) k (omega arith) (λ l. go (fits (jobAt b (slotPlace k)) room) (job-fits k l))
       where
-        go : (t : Bool) → Fits b (seatPlace k) (hallAt b (seatPlace k)) → Holds (leaveFor t (hallAt b (seatPlace k)) room) 12
+        go : (t : Bool) → Fits b (slotPlace k) (jobAt b (slotPlace k)) → Holds (releaseFor t (jobAt b (slotPlace k)) room) 12
         go true f =
-            let n = length-flat (widthAt b (seatPlace k)) (hallAt b (seatPlace k) .progress .rows) (f .wide) in
-            let w : widthAt b (seatPlace k) ≤ 12 = omega arith in
-            let m : length (hallAt b (seatPlace k) .progress .rows) * widthAt b (seatPlace k) ≤ 4096 * 12 = mul-le-mul (f .few) w in
+            let n = length-flat (widthAt b (slotPlace k)) (jobAt b (slotPlace k) .progress .rows) (f .wide) in
+            let w : widthAt b (slotPlace k) ≤ 12 = omega arith in
+            let m : length (jobAt b (slotPlace k) .progress .rows) * widthAt b (slotPlace k) ≤ 4096 * 12 = mul-le-mul (f .few) w in
             (refl, omega arith)
         go false f = omega arith
 
-  pub sit-reply : (sheet : List ℕ) (limit : ℕ) → Holds (replyOn b (sit sheet limit)) 12
+  pub submit-reply : (sheet : List ℕ) (limit : ℕ) → Holds (replyOn b (submit sheet limit)) 12
   unfolding replyOn
-  sit-reply sheet limit =
-      sized (sitReply (lowestFree (deskOf b)) (verdictOf sheet)) 12
-      (λ e. sit-holds (lowestFree (deskOf b)) (verdictOf sheet) (λ k f. below-e 8 k (first-in (λ n. isFree (seatAt (deskOf b) n)) (below 8) k f .1)) (verdict-small sheet))
+  submit-reply sheet limit =
+      sized (submitReply (lowestFree (queueOf b)) (verdictOf sheet)) 12
+      (λ e. submit-holds (lowestFree (queueOf b)) (verdictOf sheet) (λ k f. below-e 8 k (first-in (λ n. isFree (slotAt (queueOf b) n)) (below 8) k f .1)) (verdict-small sheet))
 
-  -- a turn serves one of the eight seats
-  turn-holds : (e : length b ≡ size) (f : Found) → toServe (deskOf b) ≡ f → Holds (turnReply f (deskOf b)) 16
+  -- a turn serves one of the eight slots
+  turn-holds : (e : length b ≡ size) (f : Found) → toServe (queueOf b) ≡ f → Holds (turnReply f (queueOf b)) 16
   turn-holds e none-found q = refl
-  turn-holds e (seat k) q =
-      let m = first-in (λ n. waits (seatAt (deskOf b) n)) (roundFrom (deskOf b .next)) k q .1 in
-      let r = Memᴰ·of-map (λ i. (deskOf b .next + i) % 8) (below 8) m in
-      let l : k < 8 = (let z : (deskOf b .next + r .0) % 8 ≡ k = r .2 in omega arith) in
-      by-seat e (λ s. Holds (servedAs k (seatTurned s)) 16) k (refl, omega arith, omega arith, omega arith)
-      (λ _. hall-holds e k (seatPlace k) (hallTurned (hallAt b (seatPlace k))) l (turned-fits b (seatPlace k) (hallAt b (seatPlace k)) (hall-fits e k l)))
+  turn-holds e (slot k) q =
+      let m = first-in (λ n. waits (slotAt (queueOf b) n)) (roundFrom (queueOf b .next)) k q .1 in
+      let r = Memᴰ·of-map (λ i. (queueOf b .next + i) % 8) (below 8) m in
+      let l : k < 8 = (let z : (queueOf b .next + r .0) % 8 ≡ k = r .2 in omega arith) in
+      by-slot e (λ s. Holds (servedAs k (slotTurned s)) 16) k (refl, omega arith, omega arith, omega arith)
+      (λ _. job-holds e k (slotPlace k) (jobTurned (jobAt b (slotPlace k))) l (turned-fits b (slotPlace k) (jobAt b (slotPlace k)) (job-fits e k l)))
 
   pub turn-reply : Holds (replyOn b turn) 16
   unfolding replyOn
-  turn-reply = sized (turnReply (toServe (deskOf b)) (deskOf b)) 16 (λ e. turn-holds e (toServe (deskOf b)) refl)
+  turn-reply = sized (turnReply (toServe (queueOf b)) (queueOf b)) 16 (λ e. turn-holds e (toServe (queueOf b)) refl)
 
-  pub look-reply : (k : ℕ) → Sees (lookOn b k) 64
-  unfolding lookOn
-  look-reply k = go (eqb (length b) size) refl
+  pub status-reply : (k : ℕ) → Sees (statusOn b k) 64
+  unfolding statusOn
+  status-reply k = go (eqb (length b) size) refl
     where
-      go : (t : Bool) → eqb (length b) size ≡ t → Sees (choose t (lookFor k (seatAt (deskOf b) k)) (denied 255 0)) 64
-      go true e = look-fits (eqb-true (length b) size e) k
+      go : (t : Bool) → eqb (length b) size ≡ t → Sees (choose t (statusFor k (slotAt (queueOf b) k)) (denied 255 0)) 64
+      go true e = status-fits (eqb-true (length b) size e) k
       go false e = omega arith
 
-  pub look-twelve : (k : ℕ) → Twelve (countsOn b k)
+  pub status-twelve : (k : ℕ) → Twelve (countsOn b k)
   unfolding countsOn
-  look-twelve k = go (eqb (length b) size) refl
+  status-twelve k = go (eqb (length b) size) refl
     where
-      go : (t : Bool) → eqb (length b) size ≡ t → Twelve (choose t (countsOf (seatAt (deskOf b) k)) noCounts)
+      go : (t : Bool) → eqb (length b) size ≡ t → Twelve (choose t (countsOf (slotAt (queueOf b) k)) noCounts)
       go true e = counts-fit (eqb-true (length b) size e) k
       go false e = none-twelve
 
-  pub leave-reply : (k : ℕ) (room : List ℕ) → Holds (replyOn b (leave k room)) 12
+  pub release-reply : (k : ℕ) (room : List ℕ) → Holds (replyOn b (release k room)) 12
   unfolding replyOn
-  leave-reply k room = sized (leaveReply (seatAt (deskOf b) k) room) 12 (λ e. leave-fits e k room)
+  release-reply k room = sized (releaseReply (slotAt (queueOf b) k) room) 12 (λ e. release-fits e k room)
 
 -- ---- by the answer's length
 module _ {A : Type 0} (yes other : A) (answer : List ℕ) (n : ℕ) where
@@ -198,63 +198,63 @@ module _ {A : Type 0} (yes other : A) (answer : List ℕ) (n : ℕ) where
   full : length answer ≡ n → yes ≡ choose (eqb (length answer) n) yes other
   full h = sym (ap (λ (t : Bool). choose t yes other) (eq-eqb (length answer) n h))
 
-module _ (b : List ℕ) (x : DeskCall) (answer : List ℕ) where
-  pub unanswered : (length answer ≡ answerLength x → ⊥) → CallDesk b x answer wrongLength b answer
-  unfolding deskCode deskBytes deskAnswer
+module _ (b : List ℕ) (x : QueueCall) (answer : List ℕ) where
+  pub unanswered : (length answer ≡ answerLength x → ⊥) → CallQueue b x answer wrongLength b answer
+  unfolding queueCode queueBytes queueAnswer
   unanswered h = record {
     code = short (replyCode (replyOn b x)) wrongLength answer (answerLength x) h;
     bytes = short (bytesAfter b x) b answer (answerLength x) h;
     told = short (replyAnswer (replyOn b x) answer) answer answer (answerLength x) h;
   }
 
-  pub answered : length answer ≡ answerLength x → (r : DeskReply) → r ≡ replyOn b x → (n : ℕ) (c d : List ℕ) → n ≡ replyCode r → c ≡ bytesAfter b x → d ≡ replyAnswer r answer → CallDesk b x answer n c d
-  unfolding deskCode deskBytes deskAnswer
+  pub answered : length answer ≡ answerLength x → (r : QueueReply) → r ≡ replyOn b x → (n : ℕ) (c d : List ℕ) → n ≡ replyCode r → c ≡ bytesAfter b x → d ≡ replyAnswer r answer → CallQueue b x answer n c d
+  unfolding queueCode queueBytes queueAnswer
   answered h r e n c d f g i = record {
     code = f ∙ ap replyCode e ∙ full (replyCode (replyOn b x)) wrongLength answer (answerLength x) h;
     bytes = g ∙ full (bytesAfter b x) b answer (answerLength x) h;
-    told = i ∙ ap (λ (q : DeskReply). replyAnswer q answer) e ∙ full (replyAnswer (replyOn b x) answer) answer answer (answerLength x) h;
+    told = i ∙ ap (λ (q : QueueReply). replyAnswer q answer) e ∙ full (replyAnswer (replyOn b x) answer) answer answer (answerLength x) h;
   }
 
--- a look changes nothing
+-- reading the status changes nothing
 module _ (b : List ℕ) (k : ℕ) (answer : List ℕ) where
-  pub unlooked : (length answer ≡ 64 → ⊥) → CallLook b k answer wrongLength answer
-  unfolding lookCode lookAnswer
-  unlooked h = record { code = short (replyCode (lookOn b k)) wrongLength answer 64 h; told = short (lookBytes (lookOn b k) (countsOn b k) answer) answer answer 64 h }
+  pub status-short : (length answer ≡ 64 → ⊥) → CallStatus b k answer wrongLength answer
+  unfolding statusCode statusAnswer
+  status-short h = record { code = short (replyCode (statusOn b k)) wrongLength answer 64 h; told = short (statusBytes (statusOn b k) (countsOn b k) answer) answer answer 64 h }
 
-  pub looked : length answer ≡ 64 → (r : DeskReply) (counts : List ℕ) → r ≡ lookOn b k → counts ≡ countsOn b k → (n : ℕ) (d : List ℕ) → n ≡ replyCode r → d ≡ lookBytes r counts answer → CallLook b k answer n d
-  unfolding lookCode lookAnswer
-  looked h r counts e g n d f i = record {
-    code = f ∙ ap replyCode e ∙ full (replyCode (lookOn b k)) wrongLength answer 64 h;
-    told = i ∙ ap₂ (λ (q : DeskReply) (l : List ℕ). lookBytes q l answer) e g ∙ full (lookBytes (lookOn b k) (countsOn b k) answer) answer answer 64 h;
+  pub status-done : length answer ≡ 64 → (r : QueueReply) (counts : List ℕ) → r ≡ statusOn b k → counts ≡ countsOn b k → (n : ℕ) (d : List ℕ) → n ≡ replyCode r → d ≡ statusBytes r counts answer → CallStatus b k answer n d
+  unfolding statusCode statusAnswer
+  status-done h r counts e g n d f i = record {
+    code = f ∙ ap replyCode e ∙ full (replyCode (statusOn b k)) wrongLength answer 64 h;
+    told = i ∙ ap₂ (λ (q : QueueReply) (l : List ℕ). statusBytes q l answer) e g ∙ full (statusBytes (statusOn b k) (countsOn b k) answer) answer answer 64 h;
   }
 
--- a hall that leaves may change its room too
+-- a release may change its room too
 module _ (b : List ℕ) (k : ℕ) (room answer : List ℕ) where
-  pub unleft : (length answer ≡ 12 → ⊥) → CallLeave b k room answer wrongLength b room answer
-  unfolding leaveRoom
-  unleft h =
-      let u = unanswered b (leave k room) answer h in
-      record { code = u .code; bytes = u .bytes; written = short (roomAfter (replyOn b (leave k room)) room) room answer 12 h; told = u .told }
+  pub release-short : (length answer ≡ 12 → ⊥) → CallRelease b k room answer wrongLength b room answer
+  unfolding releaseRoom
+  release-short h =
+      let u = unanswered b (release k room) answer h in
+      record { code = u .code; bytes = u .bytes; written = short (roomAfter (replyOn b (release k room)) room) room answer 12 h; told = u .told }
 
-  pub left-room : length answer ≡ 12 → (r : DeskReply) → r ≡ replyOn b (leave k room) → (n : ℕ) (c out d : List ℕ) → n ≡ replyCode r → c ≡ bytesAfter b (leave k room) → out ≡ roomAfter (replyOn b (leave k room)) room → d ≡ replyAnswer r answer →
-      CallLeave b k room answer n c out d
-  unfolding leaveRoom
-  left-room h r e n c out d f g o i =
-      let u = answered b (leave k room) answer h r e n c d f g i in
-      record { code = u .code; bytes = u .bytes; written = o ∙ full (roomAfter (replyOn b (leave k room)) room) room answer 12 h; told = u .told }
+  pub release-done : length answer ≡ 12 → (r : QueueReply) → r ≡ replyOn b (release k room) → (n : ℕ) (c out d : List ℕ) → n ≡ replyCode r → c ≡ bytesAfter b (release k room) → out ≡ roomAfter (replyOn b (release k room)) room → d ≡ replyAnswer r answer →
+      CallRelease b k room answer n c out d
+  unfolding releaseRoom
+  release-done h r e n c out d f g o i =
+      let u = answered b (release k room) answer h r e n c d f g i in
+      record { code = u .code; bytes = u .bytes; written = o ∙ full (roomAfter (replyOn b (release k room)) room) room answer 12 h; told = u .told }
 
 -- ---- rounds
 pub refused-item : (b : List ℕ) (r number item : ℕ) → not-given number item ≡ roundsOn b r → item < 256
 unfolding roundsOn
 refused-item b r number item e = go (eqb (length b) size) e
   where
-    go : (t : Bool) → not-given number item ≡ choose t (roundsReply (deskOf b) r) (not-given 255 0) → item < 256
+    go : (t : Bool) → not-given number item ≡ choose t (roundsReply (queueOf b) r) (not-given 255 0) → item < 256
     go true f = absurd (let z : _≡_ {A = ℕ} 0 1 = cc in omega arith)
     go false f = let z : item ≡ 0 = cc in omega arith
 
 module _ (b : List ℕ) (r : ℕ) (answer : List ℕ) where
   pub unrounded : (length answer ≡ 12 → ⊥) → CallRounds b r answer wrongLength b answer
-  unfolding roundsCode roundsDesk roundsAnswer
+  unfolding roundsCode roundsQueue roundsAnswer
   unrounded h = record {
     code = short (roundsReplyCode (roundsOn b r)) wrongLength answer 12 h;
     bytes = short (roundsAfter b r) b answer 12 h;
@@ -262,7 +262,7 @@ module _ (b : List ℕ) (r : ℕ) (answer : List ℕ) where
   }
 
   pub rounded : length answer ≡ 12 → (x : RoundsReply) → x ≡ roundsOn b r → (n : ℕ) (c d : List ℕ) → n ≡ roundsReplyCode x → c ≡ roundsAfter b r → d ≡ roundsReplyAnswer x answer → CallRounds b r answer n c d
-  unfolding roundsCode roundsDesk roundsAnswer
+  unfolding roundsCode roundsQueue roundsAnswer
   rounded h x e n c d f g i = record {
     code = f ∙ ap roundsReplyCode e ∙ full (roundsReplyCode (roundsOn b r)) wrongLength answer 12 h;
     bytes = g ∙ full (roundsAfter b r) b answer 12 h;

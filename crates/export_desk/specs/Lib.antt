@@ -1,2 +1,2 @@
--- What the calls about a desk answer and leave in every lent buffer.
+-- What the calls about a queue answer and leave in every lent buffer.
 pub mod Told

@@ -1,5 +1,6 @@
-// The desk for eight halls (paper 02, #113), in DESK_BYTES lent bytes; all bytes 0 are the empty desk. Numbers in an answer have four bytes, low byte
-// first. Each function answers 0; or a refusal, and then every buffer is as it came; or, asked first, 255 times 256 where the answer or the desk has
+// A queue of eight jobs (paper 02, #113: a desk for eight halls), in QUEUE_BYTES lent bytes; all bytes 0 are the empty queue.
+// Numbers in an answer have four bytes, low byte
+// first. Each function answers 0; or a refusal, and then every buffer is as it came; or, asked first, 255 times 256 where the answer or the queue has
 // another length than is asked.
 use desk::Answer;
 use wire::WRONG_LENGTH;
@@ -11,11 +12,11 @@ ghost use mathlib.Core.List.{[]};
 ghost use Prim.Native.Nat.{ℕ, _^_, _≤_, _<_};
 ghost use lib.ListN.{length};
 ghost use Rattle.model.specs.Written.{Written};
-ghost use Rattle.desk.specs.Desk.{sit};
+ghost use Rattle.desk.specs.Queue.{submit};
 ghost use Rattle.desk.specs.Layout.{standingBy};
 ghost use Rattle.desk.specs.Meaning.{means};
 ghost use Rattle.export_counts.specs.Inner.{Twelve};
-ghost use Rattle.export_desk.specs.Told.{fourNumbers, kindOf, replyCode, replyAnswer, lookBytes, CallDesk, CallLeave, CallLook, Holds, Sees};
+ghost use Rattle.export_desk.specs.Told.{fourNumbers, kindOf, replyCode, replyAnswer, statusBytes, CallQueue, CallRelease, CallStatus, Holds, Sees};
 
 // Puts four numbers at the front; answers the place after them.
 fn numbers(answer: &mut [u8], kind: usize, a: usize, b: usize, c: usize) -> usize
@@ -28,7 +29,7 @@ fn numbers(answer: &mut [u8], kind: usize, a: usize, b: usize, c: usize) -> usiz
     four(answer, third, c)
 }
 
-// The kind of a seat: 1 finished, 2 spent, 3 full, 4 running.
+// The kind of a slot: 1 finished, 2 spent, 3 full, 4 running.
 fn kind(standing: u8) -> usize
     ensures { λ r. ⌜ ((plans nodes : ℕ) → r ≡ kindOf (standingBy standing plans nodes)) × (r < 5) ⌝ }
 {
@@ -49,8 +50,8 @@ pub fn told(answer: &mut [u8], r: Answer) -> u32
 {
     match r {
         Answer::Refused { number, item } => code(number, item),
-        Answer::Seated { seat } => {
-            three(answer, 1, seat, 0);
+        Answer::Queued { slot } => {
+            three(answer, 1, slot, 0);
             0
         }
         Answer::Idle => {
@@ -58,76 +59,76 @@ pub fn told(answer: &mut [u8], r: Answer) -> u32
             0
         }
         Answer::Stands {
-            seat,
+            slot,
             standing,
             plans,
             nodes,
         } => {
-            numbers(answer, kind(standing), seat, plans, nodes);
+            numbers(answer, kind(standing), slot, plans, nodes);
             0
         }
-        Answer::Left { bytes } => {
+        Answer::Released { bytes } => {
             three(answer, 1, bytes, 0);
             0
         }
     }
 }
 
-// How a seat stands as the returned number and the answer, with its counts.
+// How a slot stands as the returned number and the answer, with its counts.
 fn seen(answer: &mut [u8], r: Answer, counts: [u32; 12]) -> u32
     requires { ⌜ Sees (means r []) (length (now answer)) × Twelve counts ⌝ }
     ensures { λ n. ⌜ n ≡ replyCode (means r []) ⌝ }
-    ensures { λ _. ⌜ now (answer .exit) ≡ lookBytes (means r []) counts (now (answer .entry)) ⌝ }
+    ensures { λ _. ⌜ now (answer .exit) ≡ statusBytes (means r []) counts (now (answer .entry)) ⌝ }
 {
     match r {
         Answer::Refused { number, item } => code(number, item),
         Answer::Stands {
-            seat,
+            slot,
             standing,
             plans,
             nodes,
         } => {
-            let after = numbers(answer, kind(standing), seat, plans, nodes);
+            let after = numbers(answer, kind(standing), slot, plans, nodes);
             export_counts::numbers(answer, after, counts);
             0
         }
-        Answer::Seated { seat } => 0,
+        Answer::Queued { slot } => 0,
         Answer::Idle => 0,
-        Answer::Left { bytes } => 0,
+        Answer::Released { bytes } => 0,
     }
 }
 
-// Sits down at the lowest free seat. The answer has 12 bytes: 1, the seat, 0.
-pub fn sit(desk: &mut [u8], sheet: &[u8], limit: u32, answer: &mut [u8]) -> u32
-    ensures { λ r. ⌜ CallDesk (now (desk .entry)) (sit (now (sheet .entry)) limit) (now (answer .entry)) r (now (desk .exit)) (now (answer .exit)) ⌝ }
+// Puts a job into the lowest free slot. The answer has 12 bytes: 1, the slot, 0.
+pub fn submit(queue: &mut [u8], sheet: &[u8], limit: u32, answer: &mut [u8]) -> u32
+    ensures { λ r. ⌜ CallQueue (now (queue .entry)) (submit (now (sheet .entry)) limit) (now (answer .entry)) r (now (queue .exit)) (now (answer .exit)) ⌝ }
 {
     if answer.len() != 12 {
         return WRONG_LENGTH;
     }
-    let r = desk::sit(desk, sheet, limit);
+    let r = desk::submit(queue, sheet, limit);
     told(answer, r)
 }
 
-// How a seat stands. The answer has 64 bytes: its kind, its number, its plans, its nodes, and these by variable, twelve counts.
-pub fn look(desk: &[u8], seat: u32, answer: &mut [u8]) -> u32
-    ensures { λ r. ⌜ CallLook (now (desk .entry)) seat (now (answer .entry)) r (now (answer .exit)) ⌝ }
+// How a slot stands. The answer has 64 bytes: its kind, its number, its plans, its nodes, and these by variable, twelve counts.
+pub fn status(queue: &[u8], slot: u32, answer: &mut [u8]) -> u32
+    ensures { λ r. ⌜ CallStatus (now (queue .entry)) slot (now (answer .entry)) r (now (answer .exit)) ⌝ }
 {
     if answer.len() != 64 {
         return WRONG_LENGTH;
     }
-    let s = desk::look(desk, seat);
+    let s = desk::status(queue, slot);
     let counts = s.counts;
     let r = s.answer;
     seen(answer, r, counts)
 }
 
-// Leaves a seat: the plans listed so far go to the front of the room. The answer has 12 bytes: 1, the bytes written, 0.
-pub fn leave(desk: &mut [u8], seat: u32, room: &mut [u8], answer: &mut [u8]) -> u32
-    ensures { λ r. ⌜ CallLeave (now (desk .entry)) seat (now (room .entry)) (now (answer .entry)) r (now (desk .exit)) (now (room .exit)) (now (answer .exit)) ⌝ }
+// Frees a slot: the plans listed so far go to the front of the room. The answer has 12 bytes: 1, the bytes written, 0.
+pub fn release(queue: &mut [u8], slot: u32, room: &mut [u8], answer: &mut [u8]) -> u32
+    ensures { λ r. ⌜ CallRelease (now (queue .entry)) slot (now (room .entry)) (now (answer .entry)) r (now (queue .exit)) (now (room .exit)) (now (answer .exit)) ⌝ }
 {
     if answer.len() != 12 {
         return WRONG_LENGTH;
     }
-    let r = desk::leave(desk, seat, room);
+    let r = desk::release(queue, slot, room);
     told(answer, r)
 }

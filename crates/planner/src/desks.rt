@@ -1,6 +1,6 @@
 // The desk for eight halls (paper 02, #113): crates export_desk and export_turns say what the calls answer and leave.
-ghost use Rattle.desk.specs.Desk.{sit, turn};
-ghost use Rattle.export_desk.specs.Told.{CallDesk, CallLeave, CallLook, CallRounds};
+ghost use Rattle.desk.specs.Queue.{submit, turn};
+ghost use Rattle.export_desk.specs.Told.{CallQueue, CallRelease, CallStatus, CallRounds};
 
 // Sits down at the lowest free seat.
 #[no_mangle]
@@ -10,15 +10,15 @@ pub extern "C" fn planner_desk_sit(
     limit: u32,
     answer: &mut [u8],
 ) -> u32
-    ensures { λ r. ⌜ CallDesk (now (desk .entry)) (sit (now (sheet .entry)) limit) (now (answer .entry)) r (now (desk .exit)) (now (answer .exit)) ⌝ }
+    ensures { λ r. ⌜ CallQueue (now (desk .entry)) (submit (now (sheet .entry)) limit) (now (answer .entry)) r (now (desk .exit)) (now (answer .exit)) ⌝ }
 {
-    export_desk::sit(desk, sheet, limit, answer)
+    export_desk::submit(desk, sheet, limit, answer)
 }
 
 // Gives a turn to the next seat whose run hasn't ended.
 #[no_mangle]
 pub extern "C" fn planner_desk_turn(desk: &mut [u8], answer: &mut [u8]) -> u32
-    ensures { λ r. ⌜ CallDesk (now (desk .entry)) turn (now (answer .entry)) r (now (desk .exit)) (now (answer .exit)) ⌝ }
+    ensures { λ r. ⌜ CallQueue (now (desk .entry)) turn (now (answer .entry)) r (now (desk .exit)) (now (answer .exit)) ⌝ }
 {
     export_turns::turn(desk, answer)
 }
@@ -34,9 +34,9 @@ pub extern "C" fn planner_desk_rounds(desk: &mut [u8], rounds: u32, answer: &mut
 // How a seat stands.
 #[no_mangle]
 pub extern "C" fn planner_desk_look(desk: &[u8], seat: u32, answer: &mut [u8]) -> u32
-    ensures { λ r. ⌜ CallLook (now (desk .entry)) seat (now (answer .entry)) r (now (answer .exit)) ⌝ }
+    ensures { λ r. ⌜ CallStatus (now (desk .entry)) seat (now (answer .entry)) r (now (answer .exit)) ⌝ }
 {
-    export_desk::look(desk, seat, answer)
+    export_desk::status(desk, seat, answer)
 }
 
 // Leaves a seat: the plans listed so far go to the front of the room.
@@ -47,7 +47,7 @@ pub extern "C" fn planner_desk_leave(
     room: &mut [u8],
     answer: &mut [u8],
 ) -> u32
-    ensures { λ r. ⌜ CallLeave (now (desk .entry)) seat (now (room .entry)) (now (answer .entry)) r (now (desk .exit)) (now (room .exit)) (now (answer .exit)) ⌝ }
+    ensures { λ r. ⌜ CallRelease (now (desk .entry)) seat (now (room .entry)) (now (answer .entry)) r (now (desk .exit)) (now (room .exit)) (now (answer .exit)) ⌝ }
 {
-    export_desk::leave(desk, seat, room, answer)
+    export_desk::release(desk, seat, room, answer)
 }

@@ -8,16 +8,16 @@ use Rattle.model.proofs.Filling.{filled-begin, filled-turn, filled-end}
 use Rattle.desk.specs.Places.{LIMIT, COUNTS}
 use Rattle.desk.specs.Layout.{long, nodesAt}
 use Rattle.desk.proofs.Counts.{counts-as}
-use Rattle.desk.proofs.Seats.{long-small}
+use Rattle.desk.proofs.Slots.{long-small}
 use borrow.Author.Needs.{needs}
 use Rattle.desk.proofs.counts_at.Statement.{statement}
 use Rattle.desk.proofs.counts_at.Tie as tie
 
 abbrev Inv-loop : tie.InvT-loop
-Inv-loop desk p nodes counts₀ x₀ counts x = (x ≤ 12) × Filled (λ i. i) (λ i w. w ≡ min (nodesAt desk p) (long desk (p + COUNTS + 4 * i))) x counts₀ counts
+Inv-loop queue p nodes counts₀ x₀ counts x = (x ≤ 12) × Filled (λ i. i) (λ i w. w ≡ min (nodesAt queue p) (long queue (p + COUNTS + 4 * i))) x counts₀ counts
 
 abbrev μ-loop : tie.MeasureT-loop
-μ-loop desk p nodes counts₀ x₀ counts x = 12 - x
+μ-loop queue p nodes counts₀ x₀ counts x = 12 - x
 
 nodes-at-requires : tie.Need-nodes-at-requires Inv-loop μ-loop
 nodes-at-requires c κs = search needs
@@ -25,7 +25,7 @@ nodes-at-requires c κs = search needs
 cast-nodes : tie.Need-cast-nodes Inv-loop μ-loop
 unfolding at
 cast-nodes c =
-    let z = long-small (c .before .before .args .desk .now) (λ i. omega (arith, c .before .shared-slice-known .given i)) (c .before .before .args .p + LIMIT) in
+    let z = long-small (c .before .before .args .queue .now) (λ i. omega (arith, c .before .shared-slice-known .given i)) (c .before .before .args .p + LIMIT) in
     search (needs, z, c .nodes-at .ensures)
 
 loop-holds : tie.Need-loop-holds Inv-loop μ-loop

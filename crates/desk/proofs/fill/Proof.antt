@@ -8,7 +8,7 @@ use Rattle.model.specs.Bytes.{fourBytes}
 use Rattle.model.specs.Written.{placed}
 use Rattle.model.proofs.Written.{placed-then}
 use Rattle.desk.specs.Places.{SHEET}
-use Rattle.desk.specs.Layout.{headBytes, seatBytes}
+use Rattle.desk.specs.Layout.{headBytes, slotBytes}
 use borrow.Author.Needs.{needs}
 use Rattle.desk.proofs.fill.Statement.{statement}
 use Rattle.desk.proofs.fill.Tie as tie
@@ -80,12 +80,12 @@ same-length : tie.Need-same-length
 same-length c = search needs
 
 returns : tie.Need-returns
-unfolding seatBytes headBytes fourBytes
+unfolding slotBytes headBytes fourBytes
 returns c =
     let a = c .before .before .before .before .before .before .before .before .before .before .before .args in
     let n = length (a .sheet .now) in
     c .before .before .place2 .ensures ∙ ap (λ (l : List ℕ). placed l (a .p + SHEET) (a .sheet .now)) (c .before .before .before .before .before .before .place .ensures)
-    ∙ placed-then (a .desk .now) (a .p) (headBytes n (a .limit)) (omega (arith, c .before .before .before .before .before .before .before .before .before .before .before .pre .0)) (a .sheet .now)
+    ∙ placed-then (a .queue .now) (a .p) (headBytes n (a .limit)) (omega (arith, c .before .before .before .before .before .before .before .before .before .before .before .pre .0)) (a .sheet .now)
 
 pub fill-spec : {M : Type 1} → statement M
 fill-spec =

@@ -1,19 +1,19 @@
--- `lowest_free`: after k turns the first k seats are taken. Assumes nothing.
+-- `lowest_free`: after k turns the first k slots are taken. Assumes nothing.
 use mathlib.Core.Path.{_≡_}
 use Prim.Native.Nat.{ℕ, _≤_, _<_, _-_}
 use native.Mathlib.Omega.{arith}
 use Rattle.model.specs.Lists.{at}
-use Rattle.desk.specs.Layout.{seatPlace}
-use Rattle.desk.proofs.Seats.{lowest-is, lowest-none, more-taken}
+use Rattle.desk.specs.Layout.{slotPlace}
+use Rattle.desk.proofs.Slots.{lowest-is, lowest-none, more-taken}
 use borrow.Author.Needs.{needs}
 use Rattle.desk.proofs.lowest_free.Statement.{statement}
 use Rattle.desk.proofs.lowest_free.Tie as tie
 
 abbrev Inv-loop : tie.InvT-loop
-Inv-loop desk k₀ k = (k ≤ 8) × ((j : ℕ) → j < k → at desk (seatPlace j) ≡ 0 → ⊥)
+Inv-loop queue k₀ k = (k ≤ 8) × ((j : ℕ) → j < k → at queue (slotPlace j) ≡ 0 → ⊥)
 
 abbrev μ-loop : tie.MeasureT-loop
-μ-loop desk k₀ k = 8 - k
+μ-loop queue k₀ k = 8 - k
 
 loop-holds : tie.Need-loop-holds Inv-loop μ-loop
 loop-holds c = (search needs, λ j h. absurd (omega arith))
@@ -28,7 +28,7 @@ returns : tie.Need-returns Inv-loop μ-loop
 unfolding at
 returns c =
     let l = c .before .before .before .loop in
-    lowest-is (c .before .before .before .before .args .desk .now) (l .k) (omega arith) (l .inv .1) (c .if1 .taken)
+    lowest-is (c .before .before .before .before .args .queue .now) (l .k) (omega arith) (l .inv .1) (c .if1 .taken)
 
 add-k : tie.Need-add-k Inv-loop μ-loop
 add-k c = search needs
@@ -40,12 +40,12 @@ loop-again : tie.Need-loop-again Inv-loop μ-loop
 unfolding at
 loop-again c =
     let l = c .before .before .before .loop in
-    (omega arith, more-taken (c .before .before .before .before .args .desk .now) (l .k) (l .inv .1) (c .if1 .left))
+    (omega arith, more-taken (c .before .before .before .before .args .queue .now) (l .k) (l .inv .1) (c .if1 .left))
 
 returns-2 : tie.Need-returns-2 Inv-loop μ-loop
 returns-2 c =
     let l = c .before .loop in
-    lowest-none (c .before .before .args .desk .now) (l .k) (omega arith) (λ j h. l .inv .1 j (omega arith))
+    lowest-none (c .before .before .args .queue .now) (l .k) (omega arith) (λ j h. l .inv .1 j (omega arith))
 
 pub lowest-free-spec : {M : Type 1} → statement M
 lowest-free-spec =

@@ -4,7 +4,7 @@ use Prim.Native.Nat.{ℕ, _+_, _*_}
 use native.Mathlib.Omega.{arith}
 use Rattle.model.specs.Lists.{at}
 use Rattle.desk.specs.Layout.{long}
-use Rattle.desk.proofs.Seats.{word-small}
+use Rattle.desk.proofs.Slots.{word-small}
 use borrow.Author.Needs.{needs}
 use Rattle.desk.proofs.read_long.Statement.{statement}
 use Rattle.desk.proofs.read_long.Tie as tie
@@ -21,15 +21,15 @@ read-word-requires-2 c κs = search needs
 mul-result : tie.Need-mul-result
 unfolding at
 mul-result c =
-    let y = word-small (c .before .before .before .args .desk .now) (λ i. omega (arith, c .before .before .shared-slice-known .given i)) (c .before .before .before .args .at + 2) in
+    let y = word-small (c .before .before .before .args .queue .now) (λ i. omega (arith, c .before .before .shared-slice-known .given i)) (c .before .before .before .args .at + 2) in
     let z = c .read-word2 .ensures in
     search (needs, y, z)
 
 add-result : tie.Need-add-result
 unfolding at
 add-result c =
-    let x = word-small (c .before .before .before .args .desk .now) (λ i. omega (arith, c .before .before .shared-slice-known .given i)) (c .before .before .before .args .at) in
-    let y = word-small (c .before .before .before .args .desk .now) (λ i. omega (arith, c .before .before .shared-slice-known .given i)) (c .before .before .before .args .at + 2) in
+    let x = word-small (c .before .before .before .args .queue .now) (λ i. omega (arith, c .before .before .shared-slice-known .given i)) (c .before .before .before .args .at) in
+    let y = word-small (c .before .before .before .args .queue .now) (λ i. omega (arith, c .before .before .shared-slice-known .given i)) (c .before .before .before .args .at + 2) in
     search (needs, x, y, c .before .read-word .ensures, c .read-word2 .ensures)
 
 returns : tie.Need-returns

@@ -1,4 +1,4 @@
--- `rounds`: the desk's size, the seats that wait, their turns, and those that still wait. Assumes nothing.
+-- `rounds`: the queue's size, the slots that wait, their turns, and those that still wait. Assumes nothing.
 use mathlib.Core.Path.{refl}
 use native.Mathlib.Omega.{arith}
 use lib.ListN.{length-set}
@@ -18,8 +18,8 @@ waiting-requires c κs = search needs
 go-round-requires : tie.Need-go-round-requires
 go-round-requires c κs = search needs
 
-slice-write-desk : tie.Need-slice-write-desk
-slice-write-desk c = search needs
+slice-write-queue : tie.Need-slice-write-queue
+slice-write-queue c = search needs
 
 waiting-requires-2 : tie.Need-waiting-requires-2
 waiting-requires-2 c κs = simp length-set (omega arith)
@@ -38,7 +38,7 @@ rounds-spec =
     returns
     waiting-requires
     go-round-requires
-    slice-write-desk
+    slice-write-queue
     waiting-requires-2
     same-length
     returns-2)

@@ -7,7 +7,7 @@ use lib.ListN.{length}
 use Rattle.desk.specs.declared.Answer.{Answer}
 use Rattle.desk.specs.Meaning.{means}
 use Rattle.export_counts.specs.Tallied.{numbersOf}
-use Rattle.export_desk.specs.Told.{fourNumbers, replyCode, lookBytes, Sees}
+use Rattle.export_desk.specs.Told.{fourNumbers, replyCode, statusBytes, Sees}
 use Rattle.export_desk.proofs.Replies.{all-counts, after-four}
 use borrow.Author.Needs.{needs}
 use Rattle.export_desk.proofs.seen.Statement.{statement}
@@ -49,7 +49,7 @@ returns : tie.Need-returns
 returns c =
     let a = c .before .before .before .before .before .args in
     let e = sym (c .before .before .r .given .1) in
-    (c .code .ensures ∙ ap (λ (q : Answer). replyCode (means q [])) e, ap (λ (q : Answer). lookBytes (means q []) (a .counts) (a .answer .now)) e)
+    (c .code .ensures ∙ ap (λ (q : Answer). replyCode (means q [])) e, ap (λ (q : Answer). statusBytes (means q []) (a .counts) (a .answer .now)) e)
 
 same-length : tie.Need-same-length
 same-length c = search needs
@@ -63,7 +63,7 @@ returns-2 c =
     let k = c .before .before .before .before .before .before .before .kind .ensures .0 (g .0 .1 .1 .0) (g .0 .1 .1 .1 .0) in (
       ap (λ (q : Answer). replyCode (means q [])) e,
       all-counts _ (g .0 .0) (g .0 .1 .1 .0) (g .0 .1 .1 .1 .0) (a .counts) (h .0) (c .before .before .before .before .before .before .before .before .before .before .before .before .before .pre .1 .long) (c .before .before .before .before .before .before .numbers .ensures) (c .before .before .numbers2 .ensures)
-          ∙ ap (λ (i : ℕ). fourNumbers i (g .0 .0) (g .0 .1 .1 .0) (g .0 .1 .1 .1 .0) ++ numbersOf (a .counts)) k ∙ ap (λ (q : Answer). lookBytes (means q []) (a .counts) (a .answer .now)) e,
+          ∙ ap (λ (i : ℕ). fourNumbers i (g .0 .0) (g .0 .1 .1 .0) (g .0 .1 .1 .1 .0) ++ numbersOf (a .counts)) k ∙ ap (λ (q : Answer). statusBytes (means q []) (a .counts) (a .answer .now)) e,
     )
 
 returns-3 : tie.Need-returns-3

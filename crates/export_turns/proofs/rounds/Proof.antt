@@ -7,7 +7,7 @@ use Rattle.export_turns.proofs.rounds.Statement.{statement}
 use Rattle.export_turns.proofs.rounds.Tie as tie
 
 returns : tie.Need-returns
-returns c = let a = c .before .before .before .args in unrounded (a .desk .now) (a .turns) (a .answer .now) (c .if1 .taken)
+returns c = let a = c .before .before .before .args in unrounded (a .queue .now) (a .turns) (a .answer .now) (c .if1 .taken)
 
 rounds-requires : tie.Need-rounds-requires
 rounds-requires c κs = search needs
@@ -40,7 +40,7 @@ returns-2 c =
     let a = c .before .before .before .before .before .before .before .before .before .before .before .args in
     let f = c .before .before .before .before .before .before .rounds in
     let e = ap meansRounds (c .before .before .r .given .1) in
-    rounded (a .desk .now) (a .turns) (a .answer .now) (c .before .before .before .before .before .before .before .before .if1 .left) _ (sym e ∙ f .ensures .answers) (c .code .result) (f .last .0) (a .answer .now) (c .code .ensures) (f .ensures .leaves) refl
+    rounded (a .queue .now) (a .turns) (a .answer .now) (c .before .before .before .before .before .before .before .before .if1 .left) _ (sym e ∙ f .ensures .answers) (c .code .result) (f .last .0) (a .answer .now) (c .code .ensures) (f .ensures .leaves) refl
 
 same-length-2 : tie.Need-same-length-2
 same-length-2 c = search needs
@@ -54,7 +54,7 @@ returns-3 c =
     let f = c .before .before .before .before .before .before .before .before .before .rounds in
     let e = ap meansRounds (c .before .before .before .before .before .r2 .given .1) in
     let t = c .before .before .three in
-    rounded (a .desk .now) (a .turns) (a .answer .now) (c .before .before .before .before .before .before .before .before .before .before .before .if1 .left) _ (sym e ∙ f .ensures .answers) 0 (f .last .0) (t .last .0) refl (f .ensures .leaves) (t .ensures)
+    rounded (a .queue .now) (a .turns) (a .answer .now) (c .before .before .before .before .before .before .before .before .before .before .before .if1 .left) _ (sym e ∙ f .ensures .answers) 0 (f .last .0) (t .last .0) refl (f .ensures .leaves) (t .ensures)
 
 pub rounds-spec : {M : Type 1} → statement M
 rounds-spec =

@@ -2,7 +2,7 @@
 use mathlib.Core.Path.{sym, subst}
 use mathlib.Core.List.{[]}
 use Rattle.model.specs.Lists.{at}
-use Rattle.desk.specs.Desk.{turn, DeskReply}
+use Rattle.desk.specs.Queue.{turn, QueueReply}
 use Rattle.desk.specs.Meaning.{means}
 use Rattle.export_desk.specs.Told.{Holds}
 use Rattle.export_desk.proofs.Replies.{turn-reply, unanswered, answered}
@@ -11,7 +11,7 @@ use Rattle.export_turns.proofs.turn.Statement.{statement}
 use Rattle.export_turns.proofs.turn.Tie as tie
 
 returns : tie.Need-returns
-returns c = let a = c .before .before .before .args in unanswered (a .desk .now) turn (a .answer .now) (c .if1 .taken)
+returns c = let a = c .before .before .before .args in unanswered (a .queue .now) turn (a .answer .now) (c .if1 .taken)
 
 turn-requires : tie.Need-turn-requires
 turn-requires c κs = search needs
@@ -20,7 +20,7 @@ told-requires : tie.Need-told-requires
 unfolding at
 told-requires c κs =
     let f = c .before .before .before .turn in
-    subst (Holds (means (f .result) [])) (sym (c .before .before .before .before .before .if1 .left)) (subst (λ (q : DeskReply). Holds q 16) (sym (f .ensures .answers)) (turn-reply (c .before .before .before .before .before .before .before .before .args .desk .now) (λ i. c .before .before .before .before .before .before .before .slice-known .given i .fits)))
+    subst (Holds (means (f .result) [])) (sym (c .before .before .before .before .before .if1 .left)) (subst (λ (q : QueueReply). Holds q 16) (sym (f .ensures .answers)) (turn-reply (c .before .before .before .before .before .before .before .before .args .queue .now) (λ i. c .before .before .before .before .before .before .before .slice-known .given i .fits)))
 
 same-length : tie.Need-same-length
 same-length c = search needs
@@ -33,7 +33,7 @@ returns-2 c =
     let a = c .before .before .before .before .before .before .before .before .before .before .before .args in
     let f = c .before .before .before .before .before .before .turn in
     let t = c .before .before .told in
-    answered (a .desk .now) turn (a .answer .now) (c .before .before .before .before .before .before .before .before .if1 .left) (means (f .result) []) (f .ensures .answers) (t .result) (f .last .0) (t .last .0) (t .ensures .0) (f .ensures .leaves) (t .ensures .1)
+    answered (a .queue .now) turn (a .answer .now) (c .before .before .before .before .before .before .before .before .if1 .left) (means (f .result) []) (f .ensures .answers) (t .result) (f .last .0) (t .last .0) (t .ensures .0) (f .ensures .leaves) (t .ensures .1)
 
 pub turn-spec : {M : Type 1} → statement M
 turn-spec =

@@ -1,4 +1,4 @@
--- `give`: no turns, a seat that doesn't wait, a seat that is served. Assumes nothing.
+-- `give`: no turns, a slot that doesn't wait, a slot that is served. Assumes nothing.
 use mathlib.Core.Path.{_≡_, sym, _∙_}
 use Prim.Native.Nat.{ℕ, _≤_}
 use native.Mathlib.Omega.{arith}

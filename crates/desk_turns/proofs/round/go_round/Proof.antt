@@ -1,4 +1,4 @@
--- `go_round`: after i turns of the loop the first i seats of the round were given the turns due to them. Assumes nothing.
+-- `go_round`: after i turns of the loop the first i slots of the round were given the turns due to them. Assumes nothing.
 use mathlib.Core.Path.{sym, _∙_}
 use mathlib.Core.Logic.{inl, inr, ⊎-elim}
 use Prim.Native.Nat.{_-_, _≤_}
@@ -11,10 +11,10 @@ use Rattle.desk_turns.proofs.round.go_round.Statement.{statement}
 use Rattle.desk_turns.proofs.round.go_round.Tie as tie
 
 abbrev Inv-loop : tie.InvT-loop
-Inv-loop desk₀ turns first next₀ best₀ i₀ desk next best i = (i ≤ 8) × RoundTo desk₀ turns i desk best next
+Inv-loop queue₀ turns first next₀ best₀ i₀ queue next best i = (i ≤ 8) × RoundTo queue₀ turns i queue best next
 
 abbrev μ-loop : tie.MeasureT-loop
-μ-loop desk₀ turns first next₀ best₀ i₀ desk next best i = 8 - i
+μ-loop queue₀ turns first next₀ best₀ i₀ queue next best i = 8 - i
 
 slice-read-first : tie.Need-slice-read-first Inv-loop μ-loop
 slice-read-first c = search needs

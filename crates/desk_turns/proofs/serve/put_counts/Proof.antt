@@ -16,13 +16,13 @@ use Rattle.desk_turns.proofs.serve.put_counts.Statement.{statement}
 use Rattle.desk_turns.proofs.serve.put_counts.Tie as tie
 
 abbrev Inv-loop : tie.InvT-loop
-Inv-loop desk₀ p before more x₀ desk x = (x ≤ 12) × (length desk ≡ length desk₀) × (desk ≡ placed desk₀ (p + COUNTS) (countBytes (take x (added before more))))
+Inv-loop queue₀ p before more x₀ queue x = (x ≤ 12) × (length queue ≡ length queue₀) × (queue ≡ placed queue₀ (p + COUNTS) (countBytes (take x (added before more))))
 
 abbrev μ-loop : tie.MeasureT-loop
-μ-loop desk₀ p before more x₀ desk x = 12 - x
+μ-loop queue₀ p before more x₀ queue x = 12 - x
 
 loop-holds : tie.Need-loop-holds Inv-loop μ-loop
-loop-holds c = let a = c .before .args in (omega arith, refl, counts-begin (a .desk .now) (added (a .t3) (a .t4)) (a .p + COUNTS))
+loop-holds c = let a = c .before .args in (omega arith, refl, counts-begin (a .queue .now) (added (a .t3) (a .t4)) (a .p + COUNTS))
 
 mul-k : tie.Need-mul-k Inv-loop μ-loop
 mul-k c = search needs
@@ -83,7 +83,7 @@ loop-again c =
     let n = length-added (a .args .t3) (a .args .t4) in (
       omega (arith, t),
       c .before .before .place .kept .1 .0 ∙ l .loop .inv .1,
-      counts-turn (a .args .desk .now) (added (a .args .t3) (a .args .t4)) (a .args .p + COUNTS) (l .loop .x) _ _ _ (omega (arith, n, t)) (omega (arith, n, a .pre .0)) (l .loop .inv .2)
+      counts-turn (a .args .queue .now) (added (a .args .t3) (a .args .t4)) (a .args .p + COUNTS) (l .loop .x) _ _ _ (omega (arith, n, t)) (omega (arith, n, a .pre .0)) (l .loop .inv .2)
           (ap fourBytes (sym (at-added (a .args .t3) (a .args .t4) (l .loop .x) (omega (arith, t))))) (c .before .before .place .ensures),
     )
 
@@ -94,7 +94,7 @@ returns : tie.Need-returns Inv-loop μ-loop
 returns c =
     let l = c .before in
     let a = l .before .before in
-    counts-end (a .args .desk .now) (added (a .args .t3) (a .args .t4)) (a .args .p + COUNTS) (l .loop .x) _ (omega (arith, c .loop-test .left, length-added (a .args .t3) (a .args .t4))) (l .loop .inv .2)
+    counts-end (a .args .queue .now) (added (a .args .t3) (a .args .t4)) (a .args .p + COUNTS) (l .loop .x) _ (omega (arith, c .loop-test .left, length-added (a .args .t3) (a .args .t4))) (l .loop .inv .2)
 
 pub put-counts-spec : {M : Type 1} → statement M
 put-counts-spec =

@@ -3,7 +3,7 @@ use mathlib.Core.Path.{refl, ap, _∙_}
 use native.Mathlib.Omega.{arith}
 use lib.ListN.{length}
 use Rattle.model.specs.Lists.{at}
-use Rattle.desk.specs.Claims.{DeskBytes}
+use Rattle.desk.specs.Claims.{QueueBytes}
 use Rattle.desk.proofs.Counts.{counts-length}
 use Rattle.desk_turns.proofs.Serving.{within, fits-total, more-twelve, sums-fit, shows, done}
 use borrow.Author.Needs.{needs}
@@ -32,8 +32,8 @@ share-requires : tie.Need-share-requires
 unfolding at
 share-requires c κs =
     let a = c .before .before .before .before .before .before .before in
-    let d : DeskBytes (a .args .desk .now) = (a .pre .0, λ i. c .before .before .before .before .before .before .slice-known .given i .fits) in
-    let z = within (a .args .desk .now) (a .args .k) d (a .pre .1) (a .pre .2) (a .args .turns) (a .pre .3) _ _ (c .before .before .before .before .read-long .ensures) (c .before .before .nodes-at .ensures) in
+    let d : QueueBytes (a .args .queue .now) = (a .pre .0, λ i. c .before .before .before .before .before .before .slice-known .given i .fits) in
+    let z = within (a .args .queue .now) (a .args .k) d (a .pre .1) (a .pre .2) (a .args .turns) (a .pre .3) _ _ (c .before .before .before .before .read-long .ensures) (c .before .before .nodes-at .ensures) in
     omega arith
 
 go-on-requires : tie.Need-go-on-requires
@@ -46,8 +46,8 @@ add-nodes : tie.Need-add-nodes
 unfolding at
 add-nodes c =
     let a = c .before .before .before .before .before .before .before .before .before .before .before .before .before .before .before in
-    let d : DeskBytes (a .args .desk .now) = (a .pre .0, λ i. c .before .before .before .before .before .before .before .before .before .before .before .before .before .before .slice-known .given i .fits) in
-    omega (arith, fits-total (a .args .desk .now) (a .args .k) d (a .pre .1) (a .pre .2) (a .args .turns) (a .pre .3) _ _ _ (c .before .before .before .before .before .before .before .before .before .before .before .before .read-long .ensures) (c .before .before .before .before .before .before .before .before .before .before .nodes-at .ensures) (c .before .before .before .before .before .before .before .share .ensures) _ _ _ _ (c .before .before .before .before .go-on .ensures))
+    let d : QueueBytes (a .args .queue .now) = (a .pre .0, λ i. c .before .before .before .before .before .before .before .before .before .before .before .before .before .before .slice-known .given i .fits) in
+    omega (arith, fits-total (a .args .queue .now) (a .args .k) d (a .pre .1) (a .pre .2) (a .args .turns) (a .pre .3) _ _ _ (c .before .before .before .before .before .before .before .before .before .before .before .before .read-long .ensures) (c .before .before .before .before .before .before .before .before .before .before .nodes-at .ensures) (c .before .before .before .before .before .before .before .share .ensures) _ _ _ _ (c .before .before .before .before .go-on .ensures))
 
 standing-after-requires : tie.Need-standing-after-requires
 standing-after-requires c κs = search needs
@@ -56,8 +56,8 @@ run-bytes-requires : tie.Need-run-bytes-requires
 unfolding at
 run-bytes-requires c κs =
     let a = c .before .before .before .before .before .before .before .before .before .before .before .before .before .before .before .before .before in
-    let d : DeskBytes (a .args .desk .now) = (a .pre .0, λ i. c .before .before .before .before .before .before .before .before .before .before .before .before .before .before .before .before .slice-known .given i .fits) in
-    (_, shows (a .args .desk .now) (a .args .k) d (a .pre .1) (a .pre .2) (a .args .turns) (a .pre .3) _ _ _ (c .before .before .before .before .before .before .before .before .before .before .before .before .before .before .read-long .ensures) (c .before .before .before .before .before .before .before .before .before .before .before .before .nodes-at .ensures) (c .before .before .before .before .before .before .before .before .before .share .ensures) _ _ _ _ (c .before .before .before .before .before .before .go-on .ensures) _ (c .before .standing-after .ensures))
+    let d : QueueBytes (a .args .queue .now) = (a .pre .0, λ i. c .before .before .before .before .before .before .before .before .before .before .before .before .before .before .before .before .slice-known .given i .fits) in
+    (_, shows (a .args .queue .now) (a .args .k) d (a .pre .1) (a .pre .2) (a .args .turns) (a .pre .3) _ _ _ (c .before .before .before .before .before .before .before .before .before .before .before .before .before .before .read-long .ensures) (c .before .before .before .before .before .before .before .before .before .before .before .before .nodes-at .ensures) (c .before .before .before .before .before .before .before .before .before .share .ensures) _ _ _ _ (c .before .before .before .before .before .before .go-on .ensures) _ (c .before .standing-after .ensures))
 
 slice-aggregate-place : tie.Need-slice-aggregate-place
 slice-aggregate-place c = search needs
@@ -72,10 +72,10 @@ put-counts-requires : tie.Need-put-counts-requires
 unfolding at
 put-counts-requires c κs =
     let a = c .before .before .before .before .before .before .before .before .before .before .before .before .before .before .before .before .before .before .before .before .before .before .before .before .before in
-    let d : DeskBytes (a .args .desk .now) = (a .pre .0, λ i. c .before .before .before .before .before .before .before .before .before .before .before .before .before .before .before .before .before .before .before .before .before .before .before .before .slice-known .given i .fits) in
+    let d : QueueBytes (a .args .queue .now) = (a .pre .0, λ i. c .before .before .before .before .before .before .before .before .before .before .before .before .before .before .before .before .before .before .before .before .before .before .before .before .slice-known .given i .fits) in
     let q = c .before .before .before .before .before .before .before .before .before .before .before .before .before .before .go-on .ensures in
     let e = c .before .before .before .before .before .before .before .before .before .before .before .before .before .before .before .before .before .before .counts-at .ensures in
-    (search needs, ap length e ∙ counts-length _ _, more-twelve (a .args .desk .now) (a .args .k) d (a .pre .1) (a .pre .2) (a .args .turns) (a .pre .3) _ _ _ (c .before .before .before .before .before .before .before .before .before .before .before .before .before .before .before .before .before .before .before .before .before .before .read-long .ensures) (c .before .before .before .before .before .before .before .before .before .before .before .before .before .before .before .before .before .before .before .before .nodes-at .ensures) (c .before .before .before .before .before .before .before .before .before .before .before .before .before .before .before .before .before .share .ensures) _ _ _ _ q, sums-fit (a .args .desk .now) (a .args .k) d (a .pre .1) (a .pre .2) (a .args .turns) (a .pre .3) _ _ _ (c .before .before .before .before .before .before .before .before .before .before .before .before .before .before .before .before .before .before .before .before .before .before .read-long .ensures) (c .before .before .before .before .before .before .before .before .before .before .before .before .before .before .before .before .before .before .before .before .nodes-at .ensures) (c .before .before .before .before .before .before .before .before .before .before .before .before .before .before .before .before .before .share .ensures) _ _ _ _ q _ e)
+    (search needs, ap length e ∙ counts-length _ _, more-twelve (a .args .queue .now) (a .args .k) d (a .pre .1) (a .pre .2) (a .args .turns) (a .pre .3) _ _ _ (c .before .before .before .before .before .before .before .before .before .before .before .before .before .before .before .before .before .before .before .before .before .before .read-long .ensures) (c .before .before .before .before .before .before .before .before .before .before .before .before .before .before .before .before .before .before .before .before .nodes-at .ensures) (c .before .before .before .before .before .before .before .before .before .before .before .before .before .before .before .before .before .share .ensures) _ _ _ _ q, sums-fit (a .args .queue .now) (a .args .k) d (a .pre .1) (a .pre .2) (a .args .turns) (a .pre .3) _ _ _ (c .before .before .before .before .before .before .before .before .before .before .before .before .before .before .before .before .before .before .before .before .before .before .read-long .ensures) (c .before .before .before .before .before .before .before .before .before .before .before .before .before .before .before .before .before .before .before .before .nodes-at .ensures) (c .before .before .before .before .before .before .before .before .before .before .before .before .before .before .before .before .before .share .ensures) _ _ _ _ q _ e)
 
 array-read-t37 : tie.Need-array-read-t37
 array-read-t37 c = search needs
@@ -90,9 +90,9 @@ returns : tie.Need-returns
 unfolding at
 returns c =
     let a = c .before .before .before .before .before .before .before .before .before .before .before .before .before .before .before .before .before .before .before .before .before .before .before .before .before .before .before .before .before in
-    let d : DeskBytes (a .args .desk .now) = (a .pre .0, λ i. c .before .before .before .before .before .before .before .before .before .before .before .before .before .before .before .before .before .before .before .before .before .before .before .before .before .before .before .before .slice-known .given i .fits) in
-    let shown = shows (a .args .desk .now) (a .args .k) d (a .pre .1) (a .pre .2) (a .args .turns) (a .pre .3) _ _ _ (c .before .before .before .before .before .before .before .before .before .before .before .before .before .before .before .before .before .before .before .before .before .before .before .before .before .before .read-long .ensures) (c .before .before .before .before .before .before .before .before .before .before .before .before .before .before .before .before .before .before .before .before .before .before .before .before .nodes-at .ensures) (c .before .before .before .before .before .before .before .before .before .before .before .before .before .before .before .before .before .before .before .before .before .share .ensures) _ _ _ _ (c .before .before .before .before .before .before .before .before .before .before .before .before .before .before .before .before .before .before .go-on .ensures) _ (c .before .before .before .before .before .before .before .before .before .before .before .before .before .standing-after .ensures) in
-    done (a .args .desk .now) (a .args .k) d (a .pre .1) (a .pre .2) (a .args .turns) (a .pre .3) _ _ _ (c .before .before .before .before .before .before .before .before .before .before .before .before .before .before .before .before .before .before .before .before .before .before .before .before .before .before .read-long .ensures) (c .before .before .before .before .before .before .before .before .before .before .before .before .before .before .before .before .before .before .before .before .before .before .before .before .nodes-at .ensures) (c .before .before .before .before .before .before .before .before .before .before .before .before .before .before .before .before .before .before .before .before .before .share .ensures) _ _ _ _ (c .before .before .before .before .before .before .before .before .before .before .before .before .before .before .before .before .before .before .go-on .ensures) _ (c .before .before .before .before .before .before .before .before .before .before .before .before .before .standing-after .ensures) _ _ _ _ _ _ (c .before .before .before .before .before .before .before .before .before .before .before .run-bytes .ensures _ shown) (c .before .before .before .before .before .before .before .before .place .ensures) (c .before .before .before .before .before .before .before .before .before .before .before .before .before .before .before .before .before .before .before .before .before .before .counts-at .ensures) (c .before .before .before .put-counts .ensures) refl (c .turns-for .ensures)
+    let d : QueueBytes (a .args .queue .now) = (a .pre .0, λ i. c .before .before .before .before .before .before .before .before .before .before .before .before .before .before .before .before .before .before .before .before .before .before .before .before .before .before .before .before .slice-known .given i .fits) in
+    let shown = shows (a .args .queue .now) (a .args .k) d (a .pre .1) (a .pre .2) (a .args .turns) (a .pre .3) _ _ _ (c .before .before .before .before .before .before .before .before .before .before .before .before .before .before .before .before .before .before .before .before .before .before .before .before .before .before .read-long .ensures) (c .before .before .before .before .before .before .before .before .before .before .before .before .before .before .before .before .before .before .before .before .before .before .before .before .nodes-at .ensures) (c .before .before .before .before .before .before .before .before .before .before .before .before .before .before .before .before .before .before .before .before .before .share .ensures) _ _ _ _ (c .before .before .before .before .before .before .before .before .before .before .before .before .before .before .before .before .before .before .go-on .ensures) _ (c .before .before .before .before .before .before .before .before .before .before .before .before .before .standing-after .ensures) in
+    done (a .args .queue .now) (a .args .k) d (a .pre .1) (a .pre .2) (a .args .turns) (a .pre .3) _ _ _ (c .before .before .before .before .before .before .before .before .before .before .before .before .before .before .before .before .before .before .before .before .before .before .before .before .before .before .read-long .ensures) (c .before .before .before .before .before .before .before .before .before .before .before .before .before .before .before .before .before .before .before .before .before .before .before .before .nodes-at .ensures) (c .before .before .before .before .before .before .before .before .before .before .before .before .before .before .before .before .before .before .before .before .before .share .ensures) _ _ _ _ (c .before .before .before .before .before .before .before .before .before .before .before .before .before .before .before .before .before .before .go-on .ensures) _ (c .before .before .before .before .before .before .before .before .before .before .before .before .before .standing-after .ensures) _ _ _ _ _ _ (c .before .before .before .before .before .before .before .before .before .before .before .run-bytes .ensures _ shown) (c .before .before .before .before .before .before .before .before .place .ensures) (c .before .before .before .before .before .before .before .before .before .before .before .before .before .before .before .before .before .before .before .before .before .before .counts-at .ensures) (c .before .before .before .put-counts .ensures) refl (c .turns-for .ensures)
 
 pub serve-spec : {M : Type 1} → statement M
 serve-spec =

@@ -5,7 +5,7 @@ use Prim.Native.Nat.{ℕ, _≤_, _<_}
 use native.Mathlib.Omega.{arith}
 use borrow.Author.Tests.{lt-ltb, le-ltb}
 use Rattle.model.specs.Run.{finished, spent, full}
-use Rattle.desk.specs.Desk.{running, over, standingAfter}
+use Rattle.desk.specs.Queue.{running, over, standingAfter}
 use Rattle.desk.specs.Layout.{standingByte}
 use Rattle.desk_turns.proofs.serve.standing_after.Statement.{statement}
 use Rattle.desk_turns.proofs.serve.standing_after.Tie as tie

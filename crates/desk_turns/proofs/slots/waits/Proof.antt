@@ -1,9 +1,9 @@
--- `waits`: the seat's flag, and the byte that says how its run stands. Assumes nothing.
+-- `waits`: the slot's flag, and the byte that says how its run stands. Assumes nothing.
 use Rattle.model.specs.Lists.{at}
 use Rattle.desk_turns.proofs.Finding.{free-quiet, taken-waits}
 use borrow.Author.Needs.{needs}
-use Rattle.desk_turns.proofs.seats.waits.Statement.{statement}
-use Rattle.desk_turns.proofs.seats.waits.Tie as tie
+use Rattle.desk_turns.proofs.slots.waits.Statement.{statement}
+use Rattle.desk_turns.proofs.slots.waits.Tie as tie
 
 mul-p : tie.Need-mul-p
 mul-p c = search needs
@@ -13,7 +13,7 @@ shared-slice-read-if1 c = search needs
 
 returns : tie.Need-returns
 unfolding at
-returns c = free-quiet (c .before .before .args .desk .now) (c .before .before .args .k) (c .if1 .taken)
+returns c = free-quiet (c .before .before .args .queue .now) (c .before .before .args .k) (c .if1 .taken)
 
 add-result : tie.Need-add-result
 add-result c = search needs
@@ -23,7 +23,7 @@ shared-slice-read-result c = search needs
 
 returns-2 : tie.Need-returns-2
 unfolding at
-returns-2 c = taken-waits (c .before .before .before .args .desk .now) (c .before .before .before .args .k) (c .before .if1 .left)
+returns-2 c = taken-waits (c .before .before .before .args .queue .now) (c .before .before .before .args .k) (c .before .if1 .left)
 
 pub waits-spec : {M : Type 1} → statement M
 waits-spec =

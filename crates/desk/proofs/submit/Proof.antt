@@ -1,16 +1,16 @@
--- `sit`: the desk's size, the lowest free seat, the sheet's questions. Assumes nothing.
+-- `submit`: the queue's size, the lowest free slot, the sheet's questions. Assumes nothing.
 use mathlib.Core.Path.{sym, ap, _∙_}
 use native.Mathlib.Omega.{arith}
 use Rattle.sheet.specs.Meaning.{means}
 use Rattle.desk.proofs.Sheets.{answered-length}
-use Rattle.desk.proofs.Seats.{sit-255, sit-37, sit-refused, sit-yes}
-use Rattle.desk.proofs.Held.{sat}
+use Rattle.desk.proofs.Slots.{submit-255, submit-37, submit-refused, submit-yes}
+use Rattle.desk.proofs.Held.{submit-done}
 use borrow.Author.Needs.{needs}
-use Rattle.desk.proofs.sit.Statement.{statement}
-use Rattle.desk.proofs.sit.Tie as tie
+use Rattle.desk.proofs.submit.Statement.{statement}
+use Rattle.desk.proofs.submit.Tie as tie
 
 returns : tie.Need-returns
-returns c = let a = c .before .before .before .args in sat (sit-255 (a .desk .now) (a .sheet .now) (a .limit) (c .if1 .taken))
+returns c = let a = c .before .before .before .args in submit-done (submit-255 (a .queue .now) (a .sheet .now) (a .limit) (c .if1 .taken))
 
 lowest-free-requires : tie.Need-lowest-free-requires
 lowest-free-requires c κs = search needs
@@ -21,7 +21,7 @@ same-length c = search needs
 returns-2 : tie.Need-returns-2
 returns-2 c =
     let a = c .before .before .before .before .before .before .args in
-    sat (sit-37 (a .desk .now) (a .sheet .now) (a .limit) (omega (arith, c .before .before .before .if1 .left)) _ (c .before .lowest-free .ensures) (c .if2 .taken))
+    submit-done (submit-37 (a .queue .now) (a .sheet .now) (a .limit) (omega (arith, c .before .before .before .if1 .left)) _ (c .before .lowest-free .ensures) (c .if2 .taken))
 
 question-requires : tie.Need-question-requires
 question-requires c κs = search needs
@@ -36,7 +36,7 @@ returns-3 : tie.Need-returns-3
 returns-3 c =
     let a = c .before .before .before .before .before .before .before .before .before .before .args in
     let g = c .before .asked .given in
-    sat (sit-refused (a .desk .now) (a .sheet .now) (a .limit) (omega (arith, c .before .before .before .before .before .before .before .if1 .left)) _ _ _ (c .before .before .before .before .before .lowest-free .ensures) (c .before .before .before .before .if2 .left) (sym (ap means (g .1)) ∙ c .before .before .before .question .ensures))
+    submit-done (submit-refused (a .queue .now) (a .sheet .now) (a .limit) (omega (arith, c .before .before .before .before .before .before .before .if1 .left)) _ _ _ (c .before .before .before .before .before .lowest-free .ensures) (c .before .before .before .before .if2 .left) (sym (ap means (g .1)) ∙ c .before .before .before .question .ensures))
 
 enum-told : tie.Need-enum-told
 enum-told c = search needs
@@ -56,10 +56,10 @@ same-length-3 c = search needs
 returns-4 : tie.Need-returns-4
 returns-4 c =
     let a = c .before .before .before .before .before .before .before .before .before .before .before .before .before .args in
-    sat (sit-yes (a .desk .now) (a .sheet .now) (a .limit) (omega (arith, c .before .before .before .before .before .before .before .before .before .before .if1 .left)) _ _ (c .before .before .before .before .before .before .before .before .lowest-free .ensures) (c .before .before .before .before .before .before .before .if2 .left) (sym (ap means (c .before .before .before .before .enum-told .given .1)) ∙ c .before .before .before .before .before .before .question .ensures) (c .before .before .fill .ensures))
+    submit-done (submit-yes (a .queue .now) (a .sheet .now) (a .limit) (omega (arith, c .before .before .before .before .before .before .before .before .before .before .if1 .left)) _ _ (c .before .before .before .before .before .before .before .before .lowest-free .ensures) (c .before .before .before .before .before .before .before .if2 .left) (sym (ap means (c .before .before .before .before .enum-told .given .1)) ∙ c .before .before .before .before .before .before .question .ensures) (c .before .before .fill .ensures))
 
-pub sit-spec : {M : Type 1} → statement M
-sit-spec =
+pub submit-spec : {M : Type 1} → statement M
+submit-spec =
     tie.close
     (tie.spec
     returns

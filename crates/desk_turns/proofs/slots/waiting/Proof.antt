@@ -1,4 +1,4 @@
--- `waiting`: after k turns of the loop the set has those of the first k seats that wait. Assumes nothing.
+-- `waiting`: after k turns of the loop the set has those of the first k slots that wait. Assumes nothing.
 use mathlib.Core.Bool.{Bool}
 use mathlib.Core.Path.{ap, _∙_}
 use Prim.Native.Nat.{ℕ, _-_, _^_, _≤_, _<_}
@@ -7,18 +7,18 @@ use lib.Bits.{or-lt}
 use Rattle.model.specs.ValueSets.{oneIf}
 use Rattle.model.specs.Filling.{Gathered}
 use Rattle.model.proofs.Filling.{gathered-begin, gathered-turn}
-use Rattle.desk.specs.Desk.{waits}
-use Rattle.desk.specs.Layout.{seatOf}
+use Rattle.desk.specs.Queue.{waits}
+use Rattle.desk.specs.Layout.{slotOf}
 use Rattle.desk_turns.proofs.Rounding.{one-lt, waiting-is}
 use borrow.Author.Needs.{needs}
-use Rattle.desk_turns.proofs.seats.waiting.Statement.{statement}
-use Rattle.desk_turns.proofs.seats.waiting.Tie as tie
+use Rattle.desk_turns.proofs.slots.waiting.Statement.{statement}
+use Rattle.desk_turns.proofs.slots.waiting.Tie as tie
 
 abbrev Inv-loop : tie.InvT-loop
-Inv-loop desk set₀ k₀ set k = (k ≤ 8) × (set < 2 ^ 16) × Gathered (λ j. waits (seatOf desk j)) k set
+Inv-loop queue set₀ k₀ set k = (k ≤ 8) × (set < 2 ^ 16) × Gathered (λ j. waits (slotOf queue j)) k set
 
 abbrev μ-loop : tie.MeasureT-loop
-μ-loop desk set₀ k₀ set k = 8 - k
+μ-loop queue set₀ k₀ set k = 8 - k
 
 loop-holds : tie.Need-loop-holds Inv-loop μ-loop
 loop-holds c = (omega arith, omega arith, gathered-begin _)
@@ -26,8 +26,8 @@ loop-holds c = (omega arith, omega arith, gathered-begin _)
 waits-requires : tie.Need-waits-requires Inv-loop μ-loop
 waits-requires c κs = search needs
 
-seat-if-requires : tie.Need-seat-if-requires Inv-loop μ-loop
-seat-if-requires c κs = search needs
+slot-if-requires : tie.Need-slot-if-requires Inv-loop μ-loop
+slot-if-requires c κs = search needs
 
 add-k : tie.Need-add-k Inv-loop μ-loop
 add-k c = search needs
@@ -38,16 +38,16 @@ loop-less c = search needs
 loop-again : tie.Need-loop-again Inv-loop μ-loop
 loop-again c =
     let l = c .before .before .before .loop in
-    let e = c .seat-if .ensures ∙ ap (λ (b : Bool). oneIf b (l .k)) (c .before .waits .ensures) in (
+    let e = c .slot-if .ensures ∙ ap (λ (b : Bool). oneIf b (l .k)) (c .before .waits .ensures) in (
       omega (arith, c .before .before .loop-test .taken),
-      or-lt 16 (l .set) (c .seat-if .result) (l .inv .1) (one-lt (c .before .waits .result) (l .k) (c .seat-if .result) (c .before .before .loop-test .taken) (c .seat-if .ensures)),
-      gathered-turn (λ (j : ℕ). waits (seatOf (c .before .before .before .before .before .args .desk .now) j)) (l .k) (l .set) (c .seat-if .result) (l .inv .2) e,
+      or-lt 16 (l .set) (c .slot-if .result) (l .inv .1) (one-lt (c .before .waits .result) (l .k) (c .slot-if .result) (c .before .before .loop-test .taken) (c .slot-if .ensures)),
+      gathered-turn (λ (j : ℕ). waits (slotOf (c .before .before .before .before .before .args .queue .now) j)) (l .k) (l .set) (c .slot-if .result) (l .inv .2) e,
     )
 
 returns : tie.Need-returns Inv-loop μ-loop
 returns c =
     let l = c .before .loop in
-    waiting-is (c .before .before .before .args .desk .now) (l .set) (l .k) (c .loop-test .left) (l .inv .0) (l .inv .1) (l .inv .2)
+    waiting-is (c .before .before .before .args .queue .now) (l .set) (l .k) (c .loop-test .left) (l .inv .0) (l .inv .1) (l .inv .2)
 
 pub waiting-spec : {M : Type 1} → statement M
 waiting-spec =
@@ -57,7 +57,7 @@ waiting-spec =
     μ-loop
     loop-holds
     waits-requires
-    seat-if-requires
+    slot-if-requires
     add-k
     loop-less
     loop-again

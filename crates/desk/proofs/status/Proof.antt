@@ -1,23 +1,23 @@
--- `look`: the desk's size, the seat's number, whether it is taken. Assumes nothing.
+-- `status`: the queue's size, the slot's number, whether it is taken. Assumes nothing.
 use native.Mathlib.Omega.{arith}
 use Rattle.model.specs.Lists.{at}
-use Rattle.desk.proofs.Seats.{look-255, look-out, look-free, look-yes}
-use Rattle.desk.proofs.Held.{looked, unseen}
+use Rattle.desk.proofs.Slots.{status-255, status-out, status-free, status-yes}
+use Rattle.desk.proofs.Held.{status-done, unseen}
 use borrow.Author.Needs.{needs}
-use Rattle.desk.proofs.look.Statement.{statement}
-use Rattle.desk.proofs.look.Tie as tie
+use Rattle.desk.proofs.status.Statement.{statement}
+use Rattle.desk.proofs.status.Tie as tie
 
 unseen-requires : tie.Need-unseen-requires
 unseen-requires c κs = search needs
 
 returns : tie.Need-returns
-returns c = let a = c .before .before .before .args in unseen (c .unseen .ensures) (look-255 (a .desk .now) (a .seat) (c .before .if1 .taken))
+returns c = let a = c .before .before .before .args in unseen (c .unseen .ensures) (status-255 (a .queue .now) (a .slot) (c .before .if1 .taken))
 
 unseen-requires-2 : tie.Need-unseen-requires-2
 unseen-requires-2 c κs = search needs
 
 returns-2 : tie.Need-returns-2
-returns-2 c = let a = c .before .before .before .before .args in unseen (c .unseen2 .ensures) (look-out (a .desk .now) (a .seat) (omega (arith, c .before .before .if1 .left)) (c .before .if2 .taken))
+returns-2 c = let a = c .before .before .before .before .args in unseen (c .unseen2 .ensures) (status-out (a .queue .now) (a .slot) (omega (arith, c .before .before .if1 .left)) (c .before .if2 .taken))
 
 mul-p : tie.Need-mul-p
 mul-p c = search needs
@@ -32,7 +32,7 @@ returns-3 : tie.Need-returns-3
 unfolding at
 returns-3 c =
     let a = c .before .before .before .before .before .before .args in
-    unseen (c .unseen3 .ensures) (look-free (a .desk .now) (a .seat) (omega (arith, c .before .before .before .before .if1 .left)) (c .before .before .before .if2 .left) (c .before .if3 .taken))
+    unseen (c .unseen3 .ensures) (status-free (a .queue .now) (a .slot) (omega (arith, c .before .before .before .before .if1 .left)) (c .before .before .before .if2 .left) (c .before .if3 .taken))
 
 add-byte : tie.Need-add-byte
 add-byte c = search needs
@@ -56,10 +56,10 @@ returns-4 : tie.Need-returns-4
 unfolding at
 returns-4 c =
     let a = c .before .before .before .before .before .before .before .before .before .args in
-    looked (look-yes (a .desk .now) (a .seat) (omega (arith, c .before .before .before .before .before .before .before .if1 .left)) (c .before .before .before .before .before .before .if2 .left) _ _ _ _ (c .before .before .before .before .if3 .left) (c .before .before .before .byte .ensures) (c .before .before .bounded .ensures) (c .before .nodes-at .ensures) (c .counts-at .ensures))
+    status-done (status-yes (a .queue .now) (a .slot) (omega (arith, c .before .before .before .before .before .before .before .if1 .left)) (c .before .before .before .before .before .before .if2 .left) _ _ _ _ (c .before .before .before .before .if3 .left) (c .before .before .before .byte .ensures) (c .before .before .bounded .ensures) (c .before .nodes-at .ensures) (c .counts-at .ensures))
 
-pub look-spec : {M : Type 1} → statement M
-look-spec =
+pub status-spec : {M : Type 1} → statement M
+status-spec =
     tie.close
     (tie.spec
     unseen-requires

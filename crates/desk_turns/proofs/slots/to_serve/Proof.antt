@@ -1,4 +1,4 @@
--- `to_serve`: after i turns of the loop the first i seats of the round don't wait. Assumes nothing.
+-- `to_serve`: after i turns of the loop the first i slots of the round don't wait. Assumes nothing.
 use mathlib.Core.Path.{sym, _∙_}
 use Prim.Native.Nat.{_≤_, _-_}
 use native.Mathlib.Omega.{arith}
@@ -6,14 +6,14 @@ use Rattle.model.specs.Lists.{at}
 use Rattle.desk_turns.proofs.Finding.{Quiet, quiet-more, serve-is, serve-none}
 use Rattle.desk.specs.Places.{NEXT}
 use borrow.Author.Needs.{needs}
-use Rattle.desk_turns.proofs.seats.to_serve.Statement.{statement}
-use Rattle.desk_turns.proofs.seats.to_serve.Tie as tie
+use Rattle.desk_turns.proofs.slots.to_serve.Statement.{statement}
+use Rattle.desk_turns.proofs.slots.to_serve.Tie as tie
 
 abbrev Inv-loop : tie.InvT-loop
-Inv-loop desk next i₀ i = (i ≤ 8) × Quiet desk i
+Inv-loop queue next i₀ i = (i ≤ 8) × Quiet queue i
 
 abbrev μ-loop : tie.MeasureT-loop
-μ-loop desk next i₀ i = 8 - i
+μ-loop queue next i₀ i = 8 - i
 
 shared-slice-read-next : tie.Need-shared-slice-read-next Inv-loop μ-loop
 shared-slice-read-next c = search needs
@@ -34,7 +34,7 @@ returns : tie.Need-returns Inv-loop μ-loop
 unfolding at
 returns c =
     let l = c .before .before .before .loop in
-    serve-is (c .before .before .before .before .before .before .args .desk .now) (l .i) (c .before .before .loop-test .taken) (l .inv .1) (sym (c .before .waits .ensures) ∙ c .if1 .taken)
+    serve-is (c .before .before .before .before .before .before .args .queue .now) (l .i) (c .before .before .loop-test .taken) (l .inv .1) (sym (c .before .waits .ensures) ∙ c .if1 .taken)
 
 add-i : tie.Need-add-i Inv-loop μ-loop
 add-i c = search needs
@@ -46,12 +46,12 @@ loop-again : tie.Need-loop-again Inv-loop μ-loop
 unfolding at
 loop-again c =
     let l = c .before .before .before .loop in
-    (omega (arith, c .before .before .loop-test .taken), quiet-more (c .before .before .before .before .before .before .args .desk .now) (l .i) (l .inv .1) (sym (c .before .waits .ensures) ∙ c .if1 .left))
+    (omega (arith, c .before .before .loop-test .taken), quiet-more (c .before .before .before .before .before .before .args .queue .now) (l .i) (l .inv .1) (sym (c .before .waits .ensures) ∙ c .if1 .left))
 
 returns-2 : tie.Need-returns-2 Inv-loop μ-loop
 returns-2 c =
     let l = c .before .loop in
-    serve-none (c .before .before .before .before .args .desk .now) (l .i) (c .loop-test .left) (l .inv .0) (l .inv .1)
+    serve-none (c .before .before .before .before .args .queue .now) (l .i) (c .loop-test .left) (l .inv .0) (l .inv .1)
 
 pub to-serve-spec : {M : Type 1} → statement M
 to-serve-spec =

@@ -1,0 +1,267 @@
+-- A queue of jobs in eight slots (paper 02, #113: a desk, its halls and seats): each holds a job's sheet, its limit (the paper's allowance) and its run so
+-- far; a turn makes 64 nodes (the paper's trials)
+-- of one of the runs.
+use mathlib.Core.Bool.{Bool, true, false, not}
+use mathlib.Core.List.{List, [], _∷_, map}
+use Prim.Native.Nat.{ℕ, zero, suc, _+_, _*_, _%_, min}
+use lib.ListN.{length, set, getD, replicate}
+use lib.Dec.{leb, ltb}
+use Rattle.model.specs.Lists.{both, choose, flat, below, total}
+use Rattle.model.specs.ValueSets.{maskOf}
+use Rattle.model.specs.Problem.{Problem}
+use Rattle.model.specs.Verdict.{Verdict, accepted, refused}
+use Rattle.model.specs.Sheet.{verdictOf, problemOf}
+use Rattle.model.specs.Run.{Ending, finished, spent, full, Result, written}
+use Rattle.run_cut.specs.Parts.{Progress, start, goOn, progressAfter}
+
+-- ---- a job at its slot
+pub data Standing : Type 0 where
+  running : Standing
+  over : Ending → Standing
+
+abbrev pub goesOn : Standing → Bool
+goesOn running = true
+goesOn (over e) = false
+
+pub record Job : Type 0 where
+  pub sheet : List ℕ
+  pub limit : ℕ
+  pub progress : Progress
+  pub standing : Standing
+
+abbrev pub newJob : List ℕ → ℕ → Job
+newJob b limit = record { sheet = b; limit = limit; progress = start; standing = running }
+
+-- room for 4,096 plans, in bytes
+abbrev pub listRoom : Problem → ℕ
+listRoom p = 4096 * p .variables
+
+-- how many nodes are made at the end of a turn that does not end the run before
+abbrev pub turnLimit : Job → ℕ
+turnLimit h = min (h .limit) (h .progress .made + 64)
+
+-- spent before the limit is made: the run goes on at the next turn
+abbrev pub standingAfter : ℕ → Ending → Standing
+standingAfter limit (finished plans made) = over (finished plans made)
+standingAfter limit (full plans made) = over (full plans made)
+standingAfter limit (spent plans made) = elim (ltb made limit) [ true ↦ running | false ↦ over (spent plans made) ]
+
+-- the job after a turn, given how the rest of its run up to the turn's limit ended
+abbrev pub jobAfter : Job → Result → Job
+jobAfter h r = record {
+  sheet = h .sheet;
+  limit = h .limit;
+  progress = progressAfter (problemOf (h .sheet)) (h .progress) r;
+  standing = standingAfter (h .limit) (r .ending);
+}
+
+unfoldable pub jobTurned : Job → Job
+jobTurned h = jobAfter h (goOn (problemOf (h .sheet)) (turnLimit h) (listRoom (problemOf (h .sheet))) (h .progress))
+
+-- after m turns
+abbrev pub turned : ℕ → Job → Job
+turned zero h = h
+turned (suc m) h = turned m (jobTurned h)
+
+-- ---- the queue
+pub data Slot : Type 0 where
+  free : Slot
+  taken : Job → Slot
+
+abbrev pub isFree : Slot → Bool
+isFree free = true
+isFree (taken h) = false
+
+-- a job is there whose run hasn't ended
+abbrev pub waits : Slot → Bool
+waits free = false
+waits (taken h) = goesOn (h .standing)
+
+abbrev pub slotTurned : Slot → Slot
+slotTurned free = free
+slotTurned (taken h) = taken (jobTurned h)
+
+-- next is where the next turn begins to look: behind the slot last served, at first at slot 0
+pub record Queue : Type 0 where
+  pub slots : List Slot
+  pub next : ℕ
+
+abbrev pub emptyQueue : Queue
+emptyQueue = record { slots = replicate 8 free; next = 0 }
+
+-- a slot past the eighth is free
+abbrev pub slotAt : Queue → ℕ → Slot
+slotAt d k = getD (d .slots) k free
+
+-- the first of some slots that passes a test
+pub data Found : Type 0 where
+  none-found : Found
+  slot : ℕ → Found
+
+unfoldable pub firstOf : (ℕ → Bool) → List ℕ → Found
+firstOf q [] = none-found
+firstOf q (k ∷ ks) = elim (q k) [ true ↦ slot k | false ↦ firstOf q ks ]
+
+abbrev pub lowestFree : Queue → Found
+lowestFree d = firstOf (λ k. isFree (slotAt d k)) (below 8)
+
+-- once round the slots
+abbrev pub roundFrom : ℕ → List ℕ
+roundFrom k = map (λ i. (k + i) % 8) (below 8)
+
+abbrev pub toServe : Queue → Found
+toServe d = firstOf (λ k. waits (slotAt d k)) (roundFrom (d .next))
+
+-- ---- the calls
+-- submit a sheet with a limit; give a turn; release a slot, with room for the plans listed so far
+pub data QueueCall : Type 0 where
+  submit : List ℕ → ℕ → QueueCall
+  turn : QueueCall
+  release : ℕ → List ℕ → QueueCall
+
+-- a refusal; the slot of a new job; no run waits; the slot served, how its run stands, its plans and its nodes so far; the bytes written, and the
+-- room afterwards
+pub data QueueReply : Type 0 where
+  denied : ℕ → ℕ → QueueReply
+  queued : ℕ → QueueReply
+  idle : QueueReply
+  served : ℕ → Standing → ℕ → ℕ → QueueReply
+  released : ℕ → List ℕ → QueueReply
+
+-- how a slot stands, with its figures
+abbrev pub standingOf : Slot → Standing
+standingOf free = running
+standingOf (taken h) = h .standing
+
+abbrev pub plansOf : Slot → ℕ
+plansOf free = 0
+plansOf (taken h) = length (h .progress .rows)
+
+abbrev pub madeOf : Slot → ℕ
+madeOf free = 0
+madeOf (taken h) = h .progress .made
+
+abbrev pub servedAs : ℕ → Slot → QueueReply
+servedAs k s = served k (standingOf s) (plansOf s) (madeOf s)
+
+abbrev pub withSlot : Queue → ℕ → Slot → Queue
+withSlot d k s = record { slots = set (d .slots) k s; next = d .next }
+
+-- submitting: 37, then the sheet's questions
+abbrev pub submitReply : Found → Verdict → QueueReply
+submitReply none-found v = denied 37 0
+submitReply (slot k) (refused number item) = denied number item
+submitReply (slot k) accepted = queued k
+
+abbrev pub submitQueue : Found → Verdict → Queue → Job → Queue
+submitQueue none-found v d h = d
+submitQueue (slot k) (refused number item) d h = d
+submitQueue (slot k) accepted d h = withSlot d k (taken h)
+
+-- a turn: the slot served, and how it stands after it; with no such slot it does nothing and says so
+abbrev pub turnReply : Found → Queue → QueueReply
+turnReply none-found d = idle
+turnReply (slot k) d = servedAs k (slotTurned (slotAt d k))
+
+abbrev pub turnQueue : Found → Queue → Queue
+turnQueue none-found d = d
+turnQueue (slot k) d = record { slots = set (d .slots) k (slotTurned (slotAt d k)); next = (k + 1) % 8 }
+
+-- releasing: 38, then 22; the plans listed so far at the front of the room
+abbrev pub fits : Job → List ℕ → Bool
+fits h room = leb (length (flat (h .progress .rows))) (length room)
+
+abbrev pub releaseFor : Bool → Job → List ℕ → QueueReply
+releaseFor true h room = released (length (flat (h .progress .rows))) (written (h .progress .rows) room)
+releaseFor false h room = denied 22 0
+
+abbrev pub releaseReply : Slot → List ℕ → QueueReply
+releaseReply free room = denied 38 0
+releaseReply (taken h) room = releaseFor (fits h room) h room
+
+abbrev pub releaseSlot : Slot → List ℕ → Slot
+releaseSlot free room = free
+releaseSlot (taken h) room = elim (fits h room) [ true ↦ free | false ↦ taken h ]
+
+abbrev pub queueReply : Queue → QueueCall → QueueReply
+queueReply d (submit b limit) = submitReply (lowestFree d) (verdictOf b)
+queueReply d turn = turnReply (toServe d) d
+queueReply d (release k room) = releaseReply (slotAt d k) room
+
+abbrev pub queueAfter : Queue → QueueCall → Queue
+queueAfter d (submit b limit) = submitQueue (lowestFree d) (verdictOf b) d (newJob b limit)
+queueAfter d turn = turnQueue (toServe d) d
+queueAfter d (release k room) = withSlot d k (releaseSlot (slotAt d k) room)
+
+unfoldable pub queueEnd : Queue → List QueueCall → Queue
+queueEnd d [] = d
+queueEnd d (x ∷ xs) = queueEnd (queueAfter d x) xs
+
+unfoldable pub queueReplies : Queue → List QueueCall → List QueueReply
+queueReplies d [] = []
+queueReplies d (x ∷ xs) = queueReply d x ∷ queueReplies (queueAfter d x) xs
+
+-- ---- the status of a slot: how it stands; 38 where it is free
+abbrev pub statusFor : ℕ → Slot → QueueReply
+statusFor k free = denied 38 0
+statusFor k (taken h) = servedAs k (taken h)
+
+abbrev pub statusReply : Queue → ℕ → QueueReply
+statusReply d k = statusFor k (slotAt d k)
+
+-- and its nodes by variable, twelve counts; zeros where it is free
+abbrev pub noCounts : List ℕ
+noCounts = replicate 12 0
+
+abbrev pub countsOf : Slot → List ℕ
+countsOf free = noCounts
+countsOf (taken h) = h .progress .counts
+
+abbrev pub statusCounts : Queue → ℕ → List ℕ
+statusCounts d k = countsOf (slotAt d k)
+
+-- ---- rounds: each slot whose run hasn't ended gets up to r turns
+-- how many of r turns a job takes until its run ends
+unfoldable pub due : ℕ → Job → ℕ
+due zero h = 0
+due (suc r) h = choose (goesOn (h .standing)) (suc (due r (jobTurned h))) 0
+
+abbrev pub dueAt : ℕ → Slot → ℕ
+dueAt r free = 0
+dueAt r (taken h) = due r h
+
+abbrev pub given : ℕ → Job → Job
+given r h = turned (due r h) h
+
+abbrev pub slotGiven : ℕ → Slot → Slot
+slotGiven r free = free
+slotGiven r (taken h) = taken (given r h)
+
+-- Where the turn after them begins to look. The turns go round and round, so the slot served last is, of those that take the most turns, the last
+-- of the round: going round, each slot that takes a turn, and no fewer than those before it, is the last one served so far
+unfoldable pub behindLast : (ℕ → ℕ) → List ℕ → ℕ → ℕ → ℕ
+behindLast turns [] best next = next
+behindLast turns (k ∷ ks) best next =
+    choose (both (ltb 0 (turns k)) (leb best (turns k))) (behindLast turns ks (turns k) ((k + 1) % 8)) (behindLast turns ks best next)
+
+abbrev pub roundsQueue : Queue → ℕ → Queue
+roundsQueue d r = record { slots = map (slotGiven r) (d .slots); next = behindLast (λ k. dueAt r (slotAt d k)) (roundFrom (d .next)) 0 (d .next) }
+
+-- how many turns that are
+abbrev pub turnsGiven : Queue → ℕ → ℕ
+turnsGiven d r = total (map (λ k. dueAt r (slotAt d k)) (roundFrom (d .next)))
+
+-- what rounds answer: the slots whose run ended in them, and those whose run goes on, as sets of slots
+abbrev pub endedIn : Queue → ℕ → ℕ
+endedIn d r = maskOf (λ k. both (waits (slotAt d k)) (not (waits (slotGiven r (slotAt d k)))))
+
+abbrev pub goingOn : Queue → ℕ → ℕ
+goingOn d r = maskOf (λ k. waits (slotGiven r (slotAt d k)))
+
+-- a refusal, or these two sets
+pub data RoundsReply : Type 0 where
+  not-given : ℕ → ℕ → RoundsReply
+  gave : ℕ → ℕ → RoundsReply
+
+abbrev pub roundsReply : Queue → ℕ → RoundsReply
+roundsReply d r = gave (endedIn d r) (goingOn d r)
