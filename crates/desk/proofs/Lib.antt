@@ -14,4 +14,3 @@ pub mod Turned
 pub mod Calls
 pub mod RoundCalls
 pub mod Stretch
-pub mod Tied

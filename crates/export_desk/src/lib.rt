@@ -105,7 +105,7 @@ pub fn submit(queue: &mut [u8], sheet: &[u8], limit: u32, answer: &mut [u8]) -> 
     if answer.len() != 12 {
         return WRONG_LENGTH;
     }
-    let r = desk::submit(queue, sheet, limit);
+    let r = desk_submit::submit(queue, sheet, limit);
     told(answer, r)
 }
 
@@ -116,7 +116,7 @@ pub fn status(queue: &[u8], slot: u32, answer: &mut [u8]) -> u32
     if answer.len() != 64 {
         return WRONG_LENGTH;
     }
-    let s = desk::status(queue, slot);
+    let s = desk_slots::status(queue, slot);
     let counts = s.counts;
     let r = s.answer;
     seen(answer, r, counts)
@@ -129,6 +129,6 @@ pub fn release(queue: &mut [u8], slot: u32, room: &mut [u8], answer: &mut [u8]) 
     if answer.len() != 12 {
         return WRONG_LENGTH;
     }
-    let r = desk::release(queue, slot, room);
+    let r = desk_slots::release(queue, slot, room);
     told(answer, r)
 }

@@ -2,12 +2,12 @@
 use mathlib.Core.Path.{sym, ap, _∙_}
 use native.Mathlib.Omega.{arith}
 use Rattle.sheet.specs.Meaning.{means}
 use Rattle.desk.proofs.Sheets.{answered-length}
 use Rattle.desk.proofs.Slots.{submit-255, submit-37, submit-refused, submit-yes}
 use Rattle.desk.proofs.Held.{submit-done}
 use borrow.Author.Needs.{needs}
-use Rattle.desk.proofs.submit.Statement.{statement}
-use Rattle.desk.proofs.submit.Tie as tie
+use Rattle.desk_submit.proofs.submit.Statement.{statement}
+use Rattle.desk_submit.proofs.submit.Tie as tie
 
 returns : tie.Need-returns
 returns c = let a = c .before .before .before .args in submit-done (submit-255 (a .queue .now) (a .sheet .now) (a .limit) (c .if1 .taken))

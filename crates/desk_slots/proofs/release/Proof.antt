@@ -3,12 +3,12 @@ use mathlib.Core.Path.{refl}
 use Prim.Native.Nat.{_+_, _-_, _*_}
 use native.Mathlib.Omega.{arith}
 use Rattle.model.specs.Lists.{at}
 use Rattle.desk.specs.Places.{LIST, SLOT}
 use Rattle.desk.proofs.Slots.{release-255, release-out, release-free, release-22, release-yes}
 use Rattle.desk.proofs.Held.{release-done}
 use borrow.Author.Needs.{needs}
-use Rattle.desk.proofs.release.Statement.{statement}
-use Rattle.desk.proofs.release.Tie as tie
+use Rattle.desk_slots.proofs.release.Statement.{statement}
+use Rattle.desk_slots.proofs.release.Tie as tie
 
 returns : tie.Need-returns
 returns c = let a = c .before .before .before .args in release-done (release-255 (a .queue .now) (a .slot) (a .room .now) (c .if1 .taken))

@@ -4,8 +4,8 @@ use Prim.Native.Nat.{ℕ, _*_, _≤_}
 use native.Mathlib.Nat.{mul-le-mul}
 use native.Mathlib.Omega.{arith}
 use borrow.Author.Needs.{needs}
-use Rattle.desk.proofs.list_length.Statement.{statement}
-use Rattle.desk.proofs.list_length.Tie as tie
+use Rattle.desk_slots.proofs.list_length.Statement.{statement}
+use Rattle.desk_slots.proofs.list_length.Tie as tie
 
 add-bounded : tie.Need-add-bounded
 add-bounded c = search needs

@@ -3,11 +3,11 @@ use mathlib.Core.Path.{_≡_}
 use Prim.Native.Nat.{ℕ, _≤_, _<_, _-_}
 use native.Mathlib.Omega.{arith}
 use Rattle.model.specs.Lists.{at}
 use Rattle.desk.specs.Layout.{slotPlace}
 use Rattle.desk.proofs.Slots.{lowest-is, lowest-none, more-taken}
 use borrow.Author.Needs.{needs}
-use Rattle.desk.proofs.lowest_free.Statement.{statement}
-use Rattle.desk.proofs.lowest_free.Tie as tie
+use Rattle.desk_submit.proofs.lowest_free.Statement.{statement}
+use Rattle.desk_submit.proofs.lowest_free.Tie as tie
 
 abbrev Inv-loop : tie.InvT-loop
 Inv-loop queue k₀ k = (k ≤ 8) × ((j : ℕ) → j < k → at queue (slotPlace j) ≡ 0 → ⊥)

@@ -1,11 +1,11 @@
 -- `status`: the queue's size, the slot's number, whether it is taken. Assumes nothing.
 use native.Mathlib.Omega.{arith}
 use Rattle.model.specs.Lists.{at}
 use Rattle.desk.proofs.Slots.{status-255, status-out, status-free, status-yes}
 use Rattle.desk.proofs.Held.{status-done, unseen}
 use borrow.Author.Needs.{needs}
-use Rattle.desk.proofs.status.Statement.{statement}
-use Rattle.desk.proofs.status.Tie as tie
+use Rattle.desk_slots.proofs.status.Statement.{statement}
+use Rattle.desk_slots.proofs.status.Tie as tie
 
 unseen-requires : tie.Need-unseen-requires
 unseen-requires c κs = search needs

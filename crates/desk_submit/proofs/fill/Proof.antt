@@ -7,11 +7,11 @@ use lib.ListN.{length}
 use Rattle.model.specs.Bytes.{fourBytes}
 use Rattle.model.specs.Written.{placed}
 use Rattle.model.proofs.Written.{placed-then}
 use Rattle.desk.specs.Places.{SHEET}
 use Rattle.desk.specs.Layout.{headBytes, slotBytes}
 use borrow.Author.Needs.{needs}
-use Rattle.desk.proofs.fill.Statement.{statement}
-use Rattle.desk.proofs.fill.Tie as tie
+use Rattle.desk_submit.proofs.fill.Statement.{statement}
+use Rattle.desk_submit.proofs.fill.Tie as tie
 
 array-write-head : tie.Need-array-write-head
 array-write-head c = search needs
