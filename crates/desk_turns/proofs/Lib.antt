@@ -1,4 +1,3 @@
-pub mod Finding
 pub mod Going
 pub mod Telling
 pub mod Counting

@@ -7,25 +7,22 @@ use Prim.Native.Nat.{ℕ, suc, _+_, _-_, _%_, _^_, _≤_, _<_}
 use native.Mathlib.Omega.{arith}
 use lib.Bits.{bitAnd, and-lt}
 use lib.Dec.{eqb, ltb, leb}
-use lib.Pow.{pow-lt}
 use lib.ListN.{length, set, List·getD-map}
-use borrow.Author.Tests.{eq-eqb, ne-eqb, lt-ltb, le-ltb, le-leb, lt-leb, ltb-true, ltb-false}
+use borrow.Author.Tests.{eq-eqb, ne-eqb, lt-ltb, le-leb, lt-leb, ltb-true}
 use Rattle.model.specs.Lists.{at, both, choose, below, upFrom}
-use Rattle.model.specs.ValueSets.{has, maskOf, oneIf}
-use Rattle.model.specs.Filling.{Gathered}
-use Rattle.model.proofs.Filling.{gathered-is}
+use Rattle.model.specs.ValueSets.{has, maskOf}
 use Rattle.model.proofs.Masks.{is-mask, has-and, has-not}
 use Rattle.model.proofs.Sets.{has-mask, mask-lt}
 use Rattle.desk.specs.Queue.{Slot, free, taken, waits, Queue, slotAt, roundFrom, due, dueAt, given, slotGiven, behindLast, roundsQueue, RoundsReply, gave, not-given, roundsReply}
 use Rattle.desk.specs.Places.{NEXT, size}
 use Rattle.desk.specs.Layout.{slotPlace, jobAt, slotOf, queueOf, withRun, roundBytes, roundsBytes, roundsOn, roundsAfter}
 use Rattle.desk.specs.Claims.{QueueBytes}
-use Rattle.desk.proofs.Slots.{slot-in, slot-out}
+use Rattle.desk.proofs.Slots.{slot-in}
 use Rattle.desk.proofs.Rounds.{due-over, due-none}
 use Rattle.desk.proofs.RoundCalls.{Served, serve, rounds-call}
 use Rattle.desk_turns.specs.Served.{ServedAt, GivenAt}
 use Rattle.desk_turns.specs.declared.serve.Served.{Served as Result}
-use Rattle.desk_turns.proofs.Finding.{place}
+use Rattle.desk_waits.proofs.Finding.{place}
 use Rattle.desk_turns.proofs.Serving.{slot-is, walk}
 
 -- ---- one slot
@@ -141,18 +138,7 @@ module _ (b : List ℕ) (r : ℕ) where
       let e : rest i ≡ [] = ap (λ (n : ℕ). map (place b) (upFrom i n)) (let z : 8 - i ≡ 0 = omega arith in z) in
       (sym (ap (λ (ks : List ℕ). roundBytes r ks cur) e) ∙ t .run, sym (ap (λ (ks : List ℕ). behindLast turns ks best next) e) ∙ t .behind)
 
--- ---- the slots that wait, as a set
-pub one-lt : (t : Bool) (k s : ℕ) → k < 8 → s ≡ oneIf t k → s < 2 ^ 16
-one-lt true k s l e = subst (λ (x : ℕ). x < 2 ^ 16) (sym e) (pow-lt (let z : k < 16 = omega arith in z))
-one-lt false k s l e = omega arith
-
-pub waiting-is : (b : List ℕ) (s k : ℕ) → 8 ≤ k → k ≤ 8 → s < 2 ^ 16 → Gathered (λ j. waits (slotOf b j)) k s → s ≡ maskOf (λ j. waits (slotAt (queueOf b) j))
-waiting-is b s k h l n g = is-mask s (λ j. waits (slotAt (queueOf b) j)) n (λ j m. each j (ltb j 8) refl)
-  where
-    each : (j : ℕ) (t : Bool) → ltb j 8 ≡ t → has s j ≡ waits (slotAt (queueOf b) j)
-    each j true e = let m = ltb-true j 8 e in gathered-is (λ j. waits (slotOf b j)) k s j g (omega arith) ∙ sym (ap waits (slot-in b j m))
-    each j false e = let m = ltb-false j 8 e in g .has-is j ∙ ap (λ (t : Bool). both t (waits (slotOf b j))) (le-ltb j k (omega arith)) ∙ sym (ap waits (slot-out b j m))
-
+-- ---- the slots that wait afterwards
 given-waits : (d : Queue) (r k : ℕ) → waits (slotAt (roundsQueue d r) k) ≡ waits (slotGiven r (slotAt d k))
 given-waits d r k = ap waits (List·getD-map (slotGiven r) (d .slots) k free)
 

@@ -1,15 +1,14 @@
 // Turns of the queue (paper 02, #113): the run of a slot goes on from its last node, by 64 nodes (the paper's trials) a turn.
 mod round;
 mod serve;
-mod slots;
 
 use desk::Answer;
 use desk::NEXT;
 use desk::QUEUE_BYTES;
+use desk_waits::to_serve;
+use desk_waits::waiting;
 use round::go_round;
 use serve::serve;
-use slots::to_serve;
-use slots::waiting;
 ghost use Rattle.desk_turns.specs.Calls.{Turned, Rounded};
 
 // What rounds answer: the slots whose run ended in them and those whose run goes on, bit k for slot k.

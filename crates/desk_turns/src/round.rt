@@ -1,7 +1,7 @@
 // Turns of all slots, going round.
 use crate::serve::serve;
-use crate::slots::waits;
 use desk::NEXT;
+use desk_waits::waits;
 ghost use mathlib.Core.Path.{_≡_};
 ghost use Prim.Native.Nat.{_<_};
 ghost use lib.ListN.{length};

@@ -3,11 +3,11 @@ use mathlib.Core.Path.{sym, _∙_}
 use Prim.Native.Nat.{_≤_, _-_}
 use native.Mathlib.Omega.{arith}
 use Rattle.model.specs.Lists.{at}
-use Rattle.desk_turns.proofs.Finding.{Quiet, quiet-more, serve-is, serve-none}
+use Rattle.desk_waits.proofs.Finding.{Quiet, quiet-more, serve-is, serve-none}
 use Rattle.desk.specs.Places.{NEXT}
 use borrow.Author.Needs.{needs}
-use Rattle.desk_turns.proofs.slots.to_serve.Statement.{statement}
-use Rattle.desk_turns.proofs.slots.to_serve.Tie as tie
+use Rattle.desk_waits.proofs.to_serve.Statement.{statement}
+use Rattle.desk_waits.proofs.to_serve.Tie as tie
 
 abbrev Inv-loop : tie.InvT-loop
 Inv-loop queue next i₀ i = (i ≤ 8) × Quiet queue i

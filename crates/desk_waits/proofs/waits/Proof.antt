@@ -1,9 +1,9 @@
 -- `waits`: the slot's flag, and the byte that says how its run stands. Assumes nothing.
 use Rattle.model.specs.Lists.{at}
-use Rattle.desk_turns.proofs.Finding.{free-quiet, taken-waits}
+use Rattle.desk_waits.proofs.Finding.{free-quiet, taken-waits}
 use borrow.Author.Needs.{needs}
-use Rattle.desk_turns.proofs.slots.waits.Statement.{statement}
-use Rattle.desk_turns.proofs.slots.waits.Tie as tie
+use Rattle.desk_waits.proofs.waits.Statement.{statement}
+use Rattle.desk_waits.proofs.waits.Tie as tie
 
 mul-p : tie.Need-mul-p
 mul-p c = search needs

@@ -4,8 +4,8 @@ use mathlib.Core.Path.{sym, ap, _∙_}
 use Rattle.model.specs.ValueSets.{oneIf}
 use Rattle.model.proofs.Members.{one-bit}
 use borrow.Author.Needs.{needs}
-use Rattle.desk_turns.proofs.slots.slot_if.Statement.{statement}
-use Rattle.desk_turns.proofs.slots.slot_if.Tie as tie
+use Rattle.desk_waits.proofs.slot_if.Statement.{statement}
+use Rattle.desk_waits.proofs.slot_if.Tie as tie
 
 cast-result : tie.Need-cast-result
 cast-result c = search needs

@@ -1,19 +1,24 @@
--- The slot that a turn serves: the first in the round whose run hasn't ended. Assumes nothing.
-use mathlib.Core.Path.{_≡_, refl, sym, ap, _∙_}
+-- The slot that a turn serves: the first in the round whose run hasn't ended; all such slots. Assumes nothing.
+use mathlib.Core.Path.{_≡_, refl, sym, ap, _∙_, subst}
 use mathlib.Core.Bool.{Bool, true, false}
 use mathlib.Core.List.{List, map, Memᴰ·of-map}
-use Prim.Native.Nat.{ℕ, zero, suc, _+_, _%_, _≤_, _<_, min}
+use Prim.Native.Nat.{ℕ, zero, suc, _+_, _%_, _^_, _≤_, _<_, min}
 use native.Mathlib.Omega.{arith}
-use lib.Dec.{eqb}
-use borrow.Author.Tests.{eqb-true, eqb-false, lt-ltb, le-ltb, eq-eqb, ne-eqb}
-use Rattle.model.specs.Lists.{at, choose, below}
+use lib.Dec.{eqb, ltb}
+use lib.Pow.{pow-lt}
+use borrow.Author.Tests.{eqb-true, eqb-false, lt-ltb, le-ltb, ltb-true, ltb-false, eq-eqb, ne-eqb}
+use Rattle.model.specs.Lists.{at, both, choose, below}
+use Rattle.model.specs.ValueSets.{has, maskOf, oneIf}
+use Rattle.model.specs.Filling.{Gathered}
 use Rattle.model.proofs.Lists.{below-e}
+use Rattle.model.proofs.Filling.{gathered-is}
+use Rattle.model.proofs.Masks.{is-mask}
 use Rattle.desk.specs.Queue.{goesOn, waits, slotAt, none-found, slot, toServe}
 use Rattle.desk.specs.Places.{STANDING, NEXT}
 use Rattle.desk.specs.Layout.{slotPlace, standingBy, plansAt, nodesAt, jobAt, slotOf, queueOf}
 use Rattle.desk.specs.Meaning.{found}
 use Rattle.desk.proofs.Queue.{none-first}
-use Rattle.desk.proofs.Slots.{first-at, slot-in, free-at, taken-at}
+use Rattle.desk.proofs.Slots.{first-at, slot-in, slot-out, free-at, taken-at}
 
 -- ---- one slot
 goes-by : (s plans made : ℕ) → goesOn (standingBy s plans made) ≡ eqb s 0
@@ -71,3 +76,15 @@ module _ (b : List ℕ) where
   serve-none i l m q =
       ap (λ (t : Bool). choose t (slot i) none-found) (le-ltb i 8 l)
       ∙ sym (none-first test (map place (below 8)) (λ k n. let r = Memᴰ·of-map place (below 8) n in let h = below-e 8 (r .0) (r .1) in ap test (sym (r .2)) ∙ at-place (r .0) ∙ q (r .0) (omega arith)))
+
+-- ---- the slots that wait, as a set
+pub one-lt : (t : Bool) (k s : ℕ) → k < 8 → s ≡ oneIf t k → s < 2 ^ 16
+one-lt true k s l e = subst (λ (x : ℕ). x < 2 ^ 16) (sym e) (pow-lt (let z : k < 16 = omega arith in z))
+one-lt false k s l e = omega arith
+
+pub waiting-is : (b : List ℕ) (s k : ℕ) → 8 ≤ k → k ≤ 8 → s < 2 ^ 16 → Gathered (λ j. waits (slotOf b j)) k s → s ≡ maskOf (λ j. waits (slotAt (queueOf b) j))
+waiting-is b s k h l n g = is-mask s (λ j. waits (slotAt (queueOf b) j)) n (λ j m. each j (ltb j 8) refl)
+  where
+    each : (j : ℕ) (t : Bool) → ltb j 8 ≡ t → has s j ≡ waits (slotAt (queueOf b) j)
+    each j true e = let m = ltb-true j 8 e in gathered-is (λ j. waits (slotOf b j)) k s j g (omega arith) ∙ sym (ap waits (slot-in b j m))
+    each j false e = let m = ltb-false j 8 e in g .has-is j ∙ ap (λ (t : Bool). both t (waits (slotOf b j))) (le-ltb j k (omega arith)) ∙ sym (ap waits (slot-out b j m))

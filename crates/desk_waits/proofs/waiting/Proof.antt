@@ -9,10 +9,10 @@ use Rattle.model.specs.Filling.{Gathered}
 use Rattle.model.proofs.Filling.{gathered-begin, gathered-turn}
 use Rattle.desk.specs.Queue.{waits}
 use Rattle.desk.specs.Layout.{slotOf}
-use Rattle.desk_turns.proofs.Rounding.{one-lt, waiting-is}
+use Rattle.desk_waits.proofs.Finding.{one-lt, waiting-is}
 use borrow.Author.Needs.{needs}
-use Rattle.desk_turns.proofs.slots.waiting.Statement.{statement}
-use Rattle.desk_turns.proofs.slots.waiting.Tie as tie
+use Rattle.desk_waits.proofs.waiting.Statement.{statement}
+use Rattle.desk_waits.proofs.waiting.Tie as tie
 
 abbrev Inv-loop : tie.InvT-loop
 Inv-loop queue set₀ k₀ set k = (k ≤ 8) × (set < 2 ^ 16) × Gathered (λ j. waits (slotOf queue j)) k set
