@@ -16,7 +16,7 @@ use Rattle.model.specs.Verdict.{Verdict, accepted, refused, ask, reply, kept}
 use Rattle.model.specs.Sheet.{word, Header, headerOf, scopeAt, rowsAt, afterAt, permutesPairs, problemOf, setsVerdict, constraintVerdict, constraintsVerdict, symmetriesVerdict, headerVerdict, formVerdict, verdictOf}
 use Rattle.model.specs.Run.{Ending, finished, spent, full, plansIn, nodesIn, Result, search, resultOf, Answer, ended, answerOf, written, listOf, Tally, settledBy, countsBy, tallyAt, tallyFor, tallyOf}
 use Rattle.run_cut.specs.Parts.{nodesAfter, lastOf, Progress, start, progressAt, goOn, added, countsAfter, resumed}
-use Rattle.desk.specs.Queue.{Standing, running, over, goesOn, Job, newJob, listRoom, turnLimit, standingAfter, jobAfter, jobTurned, turned, Slot, free, taken, isFree, waits, slotTurned, Queue, emptyQueue, slotAt, Found, none-found, slot, firstOf, lowestFree, toServe, QueueCall, submit, turn, release, QueueReply, denied, queued, idle, served, released, servedAs, submitReply, submitQueue, turnReply, turnQueue, fits, releaseFor, releaseReply, releaseSlot, queueReply, queueAfter, queueEnd, queueReplies, countsOf}
+use Rattle.desk.specs.Queue.{Standing, running, over, goesOn, Job, newJob, listRoom, turnLimit, standingAfter, jobAfter, jobTurned, turned, Slot, free, taken, isFree, waits, slotTurned, Queue, emptyQueue, slotAt, Found, none-found, slot, firstOf, lowestFree, toServe, QueueCall, submit, turn, release, QueueReply, denied, queued, idle, served, released, standingOf, plansOf, madeOf, servedAs, submitReply, submitQueue, turnReply, turnQueue, fits, releaseFor, releaseReply, releaseSlot, queueReply, queueAfter, queueEnd, queueReplies, countsOf}
 use Rattle.desk.specs.Claims.{serves, turnsIn, timesServed, Throughout, Remains, Waits, Fair, alone, HoldsAs, Holds, As-alone, Same-as-run, Turn-of-64, Sixty-four-each, Turn-answers, Refused-same, Idle-exactly, Past-eighth, By-own-turns, Others-nothing, Releases, Lowest-slot, Slots-taken, Keeps-slot}
 use Rattle.model.proofs.Lists.{T-of, of-T, of-not, any-cons, either-l, either-r, below-i, below-e}
 use Rattle.model.proofs.Room.{length-flat}
@@ -24,12 +24,13 @@ use Rattle.model.proofs.Runs.{Ended, walk, rows-counted, rows-fit, rows-sized}
 use Rattle.run_cut.proofs.Resume.{stands, from-start, from-cut, in-parts, last-moves}
 use Rattle.run_cut.proofs.Anywhere.{no-fewer, counts-move}
 
--- ---- the first that passes a test
-slot-is : (j k : ℕ) → slot j ≡ slot k → j ≡ k
-slot-is j k e = cc
+-- constructors that differ
+never : _≡_ {A = ℕ} 0 1 → ⊥
+never z = omega arith
 
+-- ---- the first that passes a test
 none-not : (k : ℕ) → none-found ≡ slot k → ⊥
-none-not k e = let z : _≡_ {A = ℕ} 0 1 = cc in omega arith
+none-not k e = never (cc)
 
 pub first-in : (q : ℕ → Bool) (ks : List ℕ) (k : ℕ) → firstOf q ks ≡ slot k → T (q k) × List·Memᴰ k ks
 unfolding firstOf
@@ -37,7 +38,7 @@ first-in q [] k e = absurd (none-not k e)
 first-in q (j ∷ ks) k e = go (q j) refl e (first-in q ks k)
   where
     go : (b : Bool) → q j ≡ b → elim b [ true ↦ slot j | false ↦ firstOf q ks ] ≡ slot k → (firstOf q ks ≡ slot k → T (q k) × List·Memᴰ k ks) → T (q k) × List·Memᴰ k (j ∷ ks)
-    go true f e ih = let i = slot-is j k e in (subst (λ (z : ℕ). T (q z)) i (T-of (q j) f), List·Memᴰ·head (sym i))
+    go true f e ih = let i : j ≡ k = cc in (rw i at (T-of (q j) f), List·Memᴰ·head (sym i))
     go false f e ih = let r = ih e in (r .0, List·Memᴰ·tail (r .1))
 
 pub first-none : (q : ℕ → Bool) (ks : List ℕ) → firstOf q ks ≡ none-found → (j : ℕ) → List·Memᴰ j ks → q j ≡ false
@@ -66,7 +67,7 @@ first-lowest q a (suc n) k e = go (q a) refl e (first-lowest q (suc a) n k)
   where
     go : (b : Bool) → q a ≡ b → elim b [ true ↦ slot a | false ↦ firstOf q (upFrom (suc a) n) ] ≡ slot k →
         (firstOf q (upFrom (suc a) n) ≡ slot k → (k < suc a + n) × ((j : ℕ) → suc a ≤ j → j < k → q j ≡ false)) → (k < a + suc n) × ((j : ℕ) → a ≤ j → j < k → q j ≡ false)
-    go true f e ih = let i = slot-is a k e in (omega arith, λ j l m. absurd (omega arith))
+    go true f e ih = let i : a ≡ k = cc in (omega arith, λ j l m. absurd (omega arith))
     go false f e ih = let r = ih e in (omega (arith, r .0), λ j l m. each j (eqb j a) refl l m (r .1 j))
       where
         each : (j : ℕ) (b : Bool) → eqb j a ≡ b → a ≤ j → j < k → (suc a ≤ j → j < k → q j ≡ false) → q j ≡ false
@@ -85,9 +86,6 @@ first-round q f a (suc n) i l m t = go (q (f a)) refl (eqb a i) refl (first-roun
     go false e false g ih = let d = eqb-false a i g in ih (omega arith) (omega arith) t
 
 -- ---- slots
-taken-is : (g h : Job) → taken g ≡ taken h → g ≡ h
-taken-is g h e = cc
-
 not-free : (s : Slot) (h : Job) → s ≡ taken h → isFree s ≡ false
 not-free s h e = ap isFree e
 
@@ -378,7 +376,7 @@ at-least p upto room ts made k (spent plans total) q = omega (arith, q .1)
 at-least p upto room ts made k (full plans total) q = omega (arith, q .0)
 
 over-not : (e : Ending) → over e ≡ running → ⊥
-over-not e q = let z : _≡_ {A = ℕ} 0 1 = cc in omega arith
+over-not e q = never (cc)
 
 goes-on : (p : Problem) (limit upto room : ℕ) (ts : List (List ℕ)) (made k : ℕ) (e : Ending) → Ended p upto room ts made k e → standingAfter limit e ≡ running → (nodesIn e ≡ upto) × (nodesIn e < limit)
 goes-on p limit upto room ts made k (finished plans total) q s = absurd (over-not (finished plans total) s)
@@ -480,9 +478,9 @@ keeps-slot d xs k h q r =
     (turned m h, by-own-turns d xs k h q r, t .0, t .1)
 
 submits : (f : Found) (v : Verdict) (k : ℕ) → submitReply f v ≡ queued k → (f ≡ slot k) × (v ≡ accepted)
-submits none-found v k e = let q : denied 37 0 ≡ queued k = e in let z : _≡_ {A = ℕ} 0 1 = cc in absurd (omega arith)
-submits (slot j) (refused number item) k e = let q : denied number item ≡ queued k = e in let z : _≡_ {A = ℕ} 0 1 = cc in absurd (omega arith)
-submits (slot j) accepted k e = let q : queued j ≡ queued k = e in let x : j ≡ k = cc in (ap slot x, refl)
+submits none-found v k e = absurd (never (cc))
+submits (slot j) (refused number item) k e = absurd (never (cc))
+submits (slot j) accepted k e = ((cc), refl)
 
 pub lowest-slot : Lowest-slot
 unfolding below
@@ -509,7 +507,7 @@ ask-range true number item later a b r = r
 ask-range false number item later a b r = record { within = λ n i e. let z : number ≡ n = cc in (omega arith, omega arith) }
 
 accepted-range : Range accepted
-accepted-range = record { within = λ n i e. absurd (let z : _≡_ {A = ℕ} 0 1 = cc in omega arith) }
+accepted-range = record { within = λ n i e. absurd (never (cc)) }
 
 sets-range : (b : List ℕ) (h : Header) (xs : List ℕ) (later : Verdict) → Range later → Range (setsVerdict b h xs later)
 unfolding setsVerdict
@@ -555,10 +553,9 @@ verdict-range b =
     (symmetries-range (problemOf b) 0 (problemOf b .symmetries)))))))))))
 
 submit-refused : (f : Found) (v : Verdict) (number item : ℕ) → Range v → submitReply f v ≡ denied number item → ((number ≡ 37) × (f ≡ none-found)) ⊎ ((1 ≤ number) × (number ≤ 16) × (v ≡ refused number item))
-submit-refused none-found v number item r e = let q : denied 37 0 ≡ denied number item = e in let n : number ≡ 37 = cc in inl (n, refl)
-submit-refused (slot k) accepted number item r e = let q : queued k ≡ denied number item = e in let z : _≡_ {A = ℕ} 0 1 = cc in absurd (omega arith)
+submit-refused none-found v number item r e = let n : number ≡ 37 = cc in inl (n, refl)
+submit-refused (slot k) accepted number item r e = absurd (never (cc))
 submit-refused (slot k) (refused a b) number item r e =
-    let q : denied a b ≡ denied number item = e in
     let x : a ≡ number = cc in
     let y : b ≡ item = cc in
     let w = r .within number item (ap₂ refused x y) in
@@ -605,7 +602,7 @@ count-from : (d : Queue) (xs : List QueueCall) (k : ℕ) (h : Job) (c : ℕ) →
     (g : Job) → slotAt (queueEnd d xs) k ≡ taken g → g .standing ≡ running → g .progress .made ≡ 64 * (c + timesServed k (queueReplies d xs))
 unfolding queueEnd queueReplies timesServed
 count-from d [] k h c u m q r g e s =
-    let z = taken-is h g (sym q ∙ e) in
+    let z : h ≡ g = cc in
     subst (λ (x : Job). x .progress .made ≡ 64 * (c + 0)) z (let y = m (ap (λ (x : Job). x .standing) z ∙ s) in omega arith)
 count-from d (x ∷ xs) k h c u m q r g e s =
     go (serves k (queueReply d x)) refl (one-call d x k h (r .0) q) (λ h′ c′ u′ m′ q′. count-from (queueAfter d x) xs k h′ c′ u′ m′ q′ (r .1) g e s)
@@ -631,104 +628,56 @@ sixty-four-each d xs k b limit g q r e s =
     ∙ (let i : 64 * (0 + timesServed k (queueReplies d xs)) ≡ 64 * timesServed k (queueReplies d xs) = omega arith in i)
 
 -- ---- what a turn answers
-isServed : QueueReply → Bool
-isServed (denied number item) = false
-isServed (queued j) = false
-isServed idle = false
-isServed (served j s plans made) = true
-isServed (released count room) = false
-
-servedAt : QueueReply → ℕ
-servedAt (denied number item) = 0
-servedAt (queued j) = 0
-servedAt idle = 0
-servedAt (served j s plans made) = j
-servedAt (released count room) = 0
-
-servedHow : QueueReply → Standing
-servedHow (denied number item) = running
-servedHow (queued j) = running
-servedHow idle = running
-servedHow (served j s plans made) = s
-servedHow (released count room) = running
-
-servedPlans : QueueReply → ℕ
-servedPlans (denied number item) = 0
-servedPlans (queued j) = 0
-servedPlans idle = 0
-servedPlans (served j s plans made) = plans
-servedPlans (released count room) = 0
-
-servedNodes : QueueReply → ℕ
-servedNodes (denied number item) = 0
-servedNodes (queued j) = 0
-servedNodes idle = 0
-servedNodes (served j s plans made) = made
-servedNodes (released count room) = 0
-
 answered : (f : Found) (d : Queue) (k : ℕ) (s : Standing) (plans made : ℕ) → turnReply f d ≡ served k s plans made → (f ≡ slot k) × (servedAs k (slotTurned (slotAt d k)) ≡ served k s plans made)
-unfolding isServed servedAt
-answered none-found d k s plans made e = absurd (subst (λ (r : QueueReply). T (isServed r)) (sym e) tt)
-answered (slot j) d k s plans made e = let z : j ≡ k = ap servedAt e in (ap slot z, ap (λ (n : ℕ). servedAs n (slotTurned (slotAt d n))) (sym z) ∙ e)
+answered none-found d k s plans made e = absurd (never (cc))
+answered (slot j) d k s plans made e = let z : j ≡ k = cc in (ap slot z, rw z at e)
 
 pub job-of : (s : Slot) → T (waits s) → (h : Job) × (s ≡ taken h)
 job-of free t = absurd t
 job-of (taken h) t = (h, refl)
 
 pub turn-answers : Turn-answers
-unfolding servedHow servedPlans servedNodes
 turn-answers d k s plans made e =
     let a = answered (toServe d) d k s plans made e in
     let h = job-of (slotAt d k) (to-serve-waits d k (a .0)) in
-    let r : servedAs k (taken (jobTurned (h .0))) ≡ served k s plans made = sym (ap (λ (x : Slot). servedAs k (slotTurned x)) (h .1)) ∙ a .1 in (
+    let g = jobTurned (h .0) in
+    let r : served k (g .standing) (length (g .progress .rows)) (g .progress .made) ≡ served k s plans made = sym (ap (λ (x : Slot). servedAs k (slotTurned x)) (h .1)) ∙ a .1 in (
       h .0,
       h .1,
       ap (λ (f : Found). slotAt (turnQueue f d) k) (a .0) ∙ getD-set-same (d .slots) k (slotTurned (slotAt d k)) free (held-lt (d .slots) k (h .0) (h .1)) ∙ ap slotTurned (h .1),
-      ap servedHow r,
-      ap servedPlans r,
-      ap servedNodes r,
+      (cc),
+      (cc),
+      (cc),
     )
 
 -- ---- refusals
-isDenied : QueueReply → Bool
-isDenied (denied number item) = true
-isDenied (queued j) = false
-isDenied idle = false
-isDenied (served j s plans made) = false
-isDenied (released count room) = false
+submit-denied : (f : Found) (v : Verdict) (d : Queue) (h : Job) (number item : ℕ) → submitReply f v ≡ denied number item → submitQueue f v d h ≡ d
+submit-denied none-found v d h number item e = refl
+submit-denied (slot k) (refused n i) d h number item e = refl
+submit-denied (slot k) accepted d h number item e = absurd (never (cc))
 
-submit-denied : (f : Found) (v : Verdict) (d : Queue) (h : Job) → T (isDenied (submitReply f v)) → submitQueue f v d h ≡ d
-unfolding isDenied
-submit-denied none-found v d h t = refl
-submit-denied (slot k) (refused number item) d h t = refl
-submit-denied (slot k) accepted d h t = absurd t
+turn-denied : (f : Found) (d : Queue) (number item : ℕ) → turnReply f d ≡ denied number item → ⊥
+turn-denied none-found d number item e = never (cc)
+turn-denied (slot k) d number item e = never (cc)
 
-turn-denied : (f : Found) (d : Queue) → T (isDenied (turnReply f d)) → ⊥
-unfolding isDenied
-turn-denied none-found d t = t
-turn-denied (slot k) d t = t
-
-release-denied : (s : Slot) (room : List ℕ) → T (isDenied (releaseReply s room)) → releaseSlot s room ≡ s
-unfolding isDenied
-release-denied free room t = refl
-release-denied (taken h) room t = go (fits h room) t
+release-denied : (s : Slot) (room : List ℕ) (number item : ℕ) → releaseReply s room ≡ denied number item → releaseSlot s room ≡ s
+release-denied free room number item e = refl
+release-denied (taken h) room number item e = go (fits h room) e
   where
-    go : (b : Bool) → T (isDenied (releaseFor b h room)) → _≡_ {A = Slot} (elim b [ true ↦ free | false ↦ taken h ]) (taken h)
-    go true t = absurd t
-    go false t = refl
+    go : (b : Bool) → releaseFor b h room ≡ denied number item → _≡_ {A = Slot} (elim b [ true ↦ free | false ↦ taken h ]) (taken h)
+    go true e = absurd (never (cc))
+    go false e = refl
 
 pub refused-same : Refused-same
-unfolding isDenied
-refused-same d (submit b limit) number item e = submit-denied (lowestFree d) (verdictOf b) d (newJob b limit) (subst (λ (r : QueueReply). T (isDenied r)) (sym e) tt)
-refused-same d turn number item e = absurd (turn-denied (toServe d) d (subst (λ (r : QueueReply). T (isDenied r)) (sym e) tt))
+refused-same d (submit b limit) number item e = submit-denied (lowestFree d) (verdictOf b) d (newJob b limit) number item e
+refused-same d turn number item e = absurd (turn-denied (toServe d) d number item e)
 refused-same d (release k room) number item e =
     ap (λ (l : List Slot). let x : Queue = record { slots = l; next = d .next } in x)
-    (ap (set (d .slots) k) (release-denied (slotAt d k) room (subst (λ (r : QueueReply). T (isDenied r)) (sym e) tt)) ∙ set-getD (d .slots) k free)
+    (ap (set (d .slots) k) (release-denied (slotAt d k) room number item e) ∙ set-getD (d .slots) k free)
 
 idle-none : (f : Found) (d : Queue) → turnReply f d ≡ idle → f ≡ none-found
-unfolding isServed
 idle-none none-found d e = refl
-idle-none (slot k) d e = absurd (subst (λ (r : QueueReply). T (isServed r)) e tt)
+idle-none (slot k) d e = absurd (never (cc))
 
 pub idle-exactly : Idle-exactly
 idle-exactly d = (all-done, λ f. let z = none-waits f in (ap (λ (x : Found). turnReply x d) z, ap (λ (x : Found). turnQueue x d) z))

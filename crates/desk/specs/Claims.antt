@@ -113,7 +113,7 @@ By-own-turns =
     (d : Queue) (xs : List QueueCall) (k : ℕ) (h : Job) → slotAt d k ≡ taken h → Throughout (Remains k) d xs →
     slotAt (queueEnd d xs) k ≡ taken (turned (timesServed k (queueReplies d xs)) h)
 
--- so two jobs alike, at any slots of any desks, whatever the others do there, are alike again once each was served as often
+-- so two jobs alike, at any slots of any queues, whatever the others do there, are alike again once each was served as often
 abbrev pub Others-nothing : Type 0
 Others-nothing =
     (d d′ : Queue) (xs ys : List QueueCall) (k k′ : ℕ) (h : Job) → slotAt d k ≡ taken h → slotAt d′ k′ ≡ taken h → Throughout (Remains k) d xs → Throughout (Remains k′) d′ ys →

@@ -1,5 +1,4 @@
--- A queue of jobs in eight slots (paper 02, #113: a desk, its halls and seats): each holds a job's sheet, its limit (the paper's allowance) and its run so
--- far; a turn makes 64 nodes (the paper's trials)
+-- A queue of jobs in eight slots (paper 02, #113: a desk, its halls and seats): a sheet, a limit (the allowance) and the run so far each; a turn makes 64 nodes (trials)
 -- of one of the runs.
 use mathlib.Core.Bool.{Bool, true, false, not}
 use mathlib.Core.List.{List, [], _∷_, map}
