@@ -35,6 +35,9 @@ pub const SHEET: usize = 75;
 
 pub const LIST: usize = 55731;
 
+// The bytes from STANDING up to COUNTS.
+pub const STATE: usize = 20;
+
 // The most bytes of a sheet.
 pub const SHEET_BYTES: usize = 55656;
 

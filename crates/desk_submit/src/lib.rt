@@ -5,6 +5,7 @@ use desk::LIMIT;
 use desk::QUEUE_BYTES;
 use desk::SHEET;
 use desk::SLOT;
+use wire::four;
 use wire::place;
 ghost use mathlib.Core.Path.{_≡_};
 ghost use Prim.Native.Nat.{_+_, _≤_};
@@ -41,10 +42,7 @@ fn fill(queue: &mut [u8], p: usize, sheet: &[u8], limit: u32)
     head[0] = 1;
     head[LENGTH] = (n % 256) as u8;
     head[LENGTH + 1] = (n / 256) as u8;
-    head[LIMIT] = (limit % 256) as u8;
-    head[LIMIT + 1] = (limit / 256 % 256) as u8;
-    head[LIMIT + 2] = (limit / 65536 % 256) as u8;
-    head[LIMIT + 3] = (limit / 16777216) as u8;
+    four(&mut head, LIMIT, limit as usize);
     place(&head, queue, p);
     place(sheet, queue, p + SHEET);
 }

@@ -5,27 +5,36 @@ use mathlib.Core.List.{List, _∷_, _++_, append-assoc}
 use Prim.Native.Nat.{ℕ, _+_, _-_, _/_, _%_, _≤_, _<_}
 use native.Mathlib.Omega.{arith}
 use lib.Dec.{ltb}
-use lib.ListN.{length, replicate, length-append, length-replicate}
+use lib.ListN.{length, set, replicate, length-append, length-replicate}
 use borrow.Author.Tests.{ltb-true, ltb-false}
 use Rattle.model.specs.Lists.{at}
 use Rattle.model.specs.Bytes.{fourBytes}
+use Rattle.model.specs.Written.{placed}
 use Rattle.model.specs.Filling.{Filled}
 use Rattle.model.proofs.Lists.{at-ext, at-append, at-skip, at-replicate}
 use Rattle.arrays.specs.Places.{PLANS, LAST}
 use Rattle.run_state.proofs.Prefix.{length-prefix, prefix-at}
 use Rattle.desk.specs.Queue.{Job}
+use Rattle.desk.specs.Places.{STANDING, NODES, DEPTH}
+use Rattle.desk.specs.Places as places
 use Rattle.desk.specs.Layout.{standingByte, figureBytes, stateBytes}
 use Rattle.desk_turns.specs.Served.{Shows}
 
--- as the code begins: the figures, and twelve zeros
+-- the figures, and twelve zeros
 abbrev pub begun : ℕ → ℕ → ℕ → ℕ → List ℕ
 begun number total plans last =
     number ∷ total % 256 ∷ total / 256 % 256 ∷ total / 65536 % 256 ∷ total / 16777216 ∷ plans % 256 ∷ plans / 256 ∷ last ∷ replicate 12 0
 
+-- as the code puts them into zeros
+pub begun-is : (head : List ℕ) (number total plans last : ℕ) → head ≡ placed (set (replicate 20 0) 0 number) (NODES - STANDING) (fourBytes total) →
+    set (set (set head (places.PLANS - STANDING) (plans % 256)) (places.PLANS + 1 - STANDING) (plans / 256)) (DEPTH - STANDING) last ≡ begun number total plans last
+unfolding placed fourBytes
+begun-is head number total plans last e = rw e
+
 abbrev pub ToldTo : List ℕ → ℕ → List ℕ → List ℕ → Type 0
 ToldTo work i old new = Filled (λ j. 8 + j) (λ j w. w ≡ at work j) i old new
 
-module _ (h : Job) (number total : ℕ) (work bytes : List ℕ) (s : Shows h number total work) (f : ToldTo work (at work LAST) (begun number total (at work PLANS) (at work LAST)) bytes) where
+module _ (h : Job) (number total : ℕ) (work old bytes : List ℕ) (s : Shows h number total work) (eo : old ≡ begun number total (at work PLANS) (at work LAST)) (f : ToldTo work (at work LAST) old bytes) where
   abbrev last : List ℕ
   last = h .progress .last
 
@@ -35,10 +44,10 @@ module _ (h : Job) (number total : ℕ) (work bytes : List ℕ) (s : Shows h num
   length-last : n ≡ at work LAST
   length-last = ap length (sym (s .last)) ∙ length-prefix work (at work LAST)
 
-  figures : begun number total (at work PLANS) (at work LAST) ≡ figureBytes h ++ replicate 12 0
+  figures : old ≡ figureBytes h ++ replicate 12 0
   unfolding figureBytes fourBytes
   figures =
-      ap₂ (λ (x y : ℕ). begun x y (at work PLANS) (at work LAST)) (s .standing) (s .made)
+      eo ∙ ap₂ (λ (x y : ℕ). begun x y (at work PLANS) (at work LAST)) (s .standing) (s .made)
       ∙ ap₂ (λ (x y : ℕ). begun (standingByte (h .standing)) (h .progress .made) x y) (s .plans) (sym length-last)
 
   figures-length : length (figureBytes h) ≡ 8
@@ -53,7 +62,7 @@ module _ (h : Job) (number total : ℕ) (work bytes : List ℕ) (s : Shows h num
   told = at-ext bytes (stateBytes h) (size-is ∙ sym state-size) (λ x l. each x (ltb x 8) refl (ltb x (8 + n)) refl (let e = size-is in omega arith))
     where
       size-is : length bytes ≡ 20
-      size-is = f .size
+      size-is = f .size ∙ ap length eo
 
       state-size : length (stateBytes h) ≡ 20
       state-size =

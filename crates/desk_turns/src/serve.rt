@@ -14,16 +14,19 @@ use desk::DEPTH;
 use desk::LENGTH;
 use desk::LIMIT;
 use desk::LIST;
+use desk::NODES;
 use desk::SHEET;
 use desk::SHEET_BYTES;
 use desk::SLOT;
 use desk::STANDING;
+use desk::STATE;
 use desk::bounded;
 use desk::byte;
 use desk::counts_at;
 use desk::nodes_at;
 use desk::read_long;
 use run_tree::CountedPart;
+use wire::four;
 use wire::place;
 ghost use mathlib.Core.Path.{_≡_};
 ghost use mathlib.Core.Bool.{true};
@@ -88,37 +91,21 @@ fn standing_after(stop: u8, made: usize, limit: usize) -> u8
 }
 
 // The bytes of a slot that say where its run stands, but for its counts.
-fn run_bytes(standing: u8, made: usize, work: &Work) -> [u8; 20]
+fn run_bytes(standing: u8, made: usize, work: &Work) -> [u8; STATE]
     requires { ⌜ ((h : Job) × Shows h standing made (now work)) ⌝ }
     ensures { λ r. ⌜ ((h : Job) → Shows h standing made (now (work .entry)) → r ≡ stateBytes h) ⌝ }
 {
     let plans = work[PLANS];
     let last = work[LAST] as usize;
-    let mut bytes = [
-        standing,
-        (made % 256) as u8,
-        (made / 256 % 256) as u8,
-        (made / 65536 % 256) as u8,
-        (made / 16777216) as u8,
-        (plans % 256) as u8,
-        (plans / 256) as u8,
-        last as u8,
-        0,
-        0,
-        0,
-        0,
-        0,
-        0,
-        0,
-        0,
-        0,
-        0,
-        0,
-        0,
-    ];
+    let mut bytes = [0u8; STATE];
+    bytes[0] = standing;
+    four(&mut bytes, NODES - STANDING, made);
+    bytes[desk::PLANS - STANDING] = (plans % 256) as u8;
+    bytes[desk::PLANS + 1 - STANDING] = (plans / 256) as u8;
+    bytes[DEPTH - STANDING] = last as u8;
     let mut i = 0;
     while i < last {
-        bytes[8 + i] = work[i] as u8;
+        bytes[desk::LAST - STANDING + i] = work[i] as u8;
         i += 1;
     }
     bytes
@@ -132,13 +119,7 @@ fn put_counts(queue: &mut [u8], p: usize, before: [u32; 12], more: [u32; 12])
     let mut x = 0;
     while x < 12 {
         let k = before[x] + more[x];
-        let bytes = [
-            (k % 256) as u8,
-            (k / 256 % 256) as u8,
-            (k / 65536 % 256) as u8,
-            (k / 16777216) as u8,
-        ];
-        place(&bytes, queue, p + COUNTS + 4 * x);
+        four(queue, p + COUNTS + 4 * x, k as usize);
         x += 1;
     }
 }

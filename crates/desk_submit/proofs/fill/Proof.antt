@@ -31,38 +31,11 @@ add-head c = search needs
 array-write-head-3 : tie.Need-array-write-head-3
 array-write-head-3 c = search needs
 
-cast-head-3 : tie.Need-cast-head-3
-cast-head-3 c = search needs
+slice-aggregate-four : tie.Need-slice-aggregate-four
+slice-aggregate-four c = search needs
 
-array-write-head-4 : tie.Need-array-write-head-4
-array-write-head-4 c = search needs
-
-cast-head-4 : tie.Need-cast-head-4
-cast-head-4 c = search needs
-
-add-head-2 : tie.Need-add-head-2
-add-head-2 c = search needs
-
-array-write-head-5 : tie.Need-array-write-head-5
-array-write-head-5 c = search needs
-
-cast-head-5 : tie.Need-cast-head-5
-cast-head-5 c = search needs
-
-add-head-3 : tie.Need-add-head-3
-add-head-3 c = search needs
-
-array-write-head-6 : tie.Need-array-write-head-6
-array-write-head-6 c = search needs
-
-cast-head-6 : tie.Need-cast-head-6
-cast-head-6 c = search needs
-
-add-head-4 : tie.Need-add-head-4
-add-head-4 c = search needs
-
-array-write-head-7 : tie.Need-array-write-head-7
-array-write-head-7 c = search needs
+four-requires : tie.Need-four-requires
+four-requires c κs = search needs
 
 slice-aggregate-place : tie.Need-slice-aggregate-place
 slice-aggregate-place c = search needs
@@ -80,12 +53,13 @@ same-length : tie.Need-same-length
 same-length c = search needs
 
 returns : tie.Need-returns
-unfolding slotBytes headBytes fourBytes
+unfolding slotBytes headBytes fourBytes placed
 returns c =
-    let a = c .before .before .before .before .before .before .before .before .before .before .before .args in
+    let a = c .before .before .before .before .before .before .before .before .before .before .before .before .before .before .args in
     let n = length (a .sheet .now) in
-    c .before .before .place2 .ensures ∙ ap (λ (l : List ℕ). placed l (a .p + SHEET) (a .sheet .now)) (c .before .before .before .before .before .before .place .ensures)
-    ∙ placed-then (a .queue .now) (a .p) (headBytes n (a .limit)) (omega (arith, c .before .before .before .before .before .before .before .before .before .before .before .pre .0)) (a .sheet .now)
+    c .before .before .place2 .ensures
+    ∙ ap (λ (l : List ℕ). placed l (a .p + SHEET) (a .sheet .now)) (c .before .before .before .before .before .before .place .ensures ∙ ap (placed (a .queue .now) (a .p)) (c .before .before .before .before .before .before .before .before .before .before .four .ensures .bytes))
+    ∙ placed-then (a .queue .now) (a .p) (headBytes n (a .limit)) (omega (arith, c .before .before .before .before .before .before .before .before .before .before .before .before .before .before .pre .0)) (a .sheet .now)
 
 pub fill-spec : {M : Type 1} → statement M
 fill-spec =
@@ -97,17 +71,8 @@ fill-spec =
     cast-head-2
     add-head
     array-write-head-3
-    cast-head-3
-    array-write-head-4
-    cast-head-4
-    add-head-2
-    array-write-head-5
-    cast-head-5
-    add-head-3
-    array-write-head-6
-    cast-head-6
-    add-head-4
-    array-write-head-7
+    slice-aggregate-four
+    four-requires
     slice-aggregate-place
     place-requires
     add-place

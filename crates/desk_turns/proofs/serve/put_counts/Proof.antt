@@ -40,33 +40,22 @@ add-k : tie.Need-add-k Inv-loop μ-loop
 unfolding at
 add-k c = search (needs, c .before .before .before .pre .3 (c .before .loop .x))
 
-cast-t19 : tie.Need-cast-t19 Inv-loop μ-loop
-cast-t19 c = search needs
+add-four : tie.Need-add-four Inv-loop μ-loop
+add-four c = search needs
 
-cast-t21 : tie.Need-cast-t21 Inv-loop μ-loop
-cast-t21 c = search needs
+mul-four : tie.Need-mul-four Inv-loop μ-loop
+mul-four c = search needs
 
-cast-t24 : tie.Need-cast-t24 Inv-loop μ-loop
-cast-t24 c = search needs
+add-four-2 : tie.Need-add-four-2 Inv-loop μ-loop
+add-four-2 c = search needs
 
-cast-t26 : tie.Need-cast-t26 Inv-loop μ-loop
+cast-four : tie.Need-cast-four Inv-loop μ-loop
 unfolding at
-cast-t26 c = search (needs, c .before .before .before .pre .3 (c .before .loop .x))
+cast-four c = search (needs, c .before .before .before .before .pre .3 (c .before .before .loop .x))
 
-slice-aggregate-place : tie.Need-slice-aggregate-place Inv-loop μ-loop
-slice-aggregate-place c = search needs
-
-add-place : tie.Need-add-place Inv-loop μ-loop
-add-place c = search needs
-
-mul-place : tie.Need-mul-place Inv-loop μ-loop
-mul-place c = search needs
-
-add-place-2 : tie.Need-add-place-2 Inv-loop μ-loop
-add-place-2 c = search needs
-
-place-requires : tie.Need-place-requires Inv-loop μ-loop
-place-requires c κs = search needs
+four-requires : tie.Need-four-requires Inv-loop μ-loop
+unfolding at
+four-requires c κs = search (needs, c .before .before .before .before .pre .3 (c .before .before .loop .x))
 
 add-x : tie.Need-add-x Inv-loop μ-loop
 add-x c = search needs
@@ -77,14 +66,14 @@ loop-less c = search needs
 loop-again : tie.Need-loop-again Inv-loop μ-loop
 unfolding at fourBytes
 loop-again c =
-    let l = c .before .before .before .before .before .before in
+    let l = c .before .before .before .before .before in
     let a = l .before .before in
-    let t = c .before .before .before .before .before .loop-test .taken in
+    let t = c .before .before .before .before .loop-test .taken in
     let n = length-added (a .args .t3) (a .args .t4) in (
       omega (arith, t),
-      c .before .before .place .kept .1 .0 ∙ l .loop .inv .1,
+      c .before .before .four .kept .0 ∙ l .loop .inv .1,
       counts-turn (a .args .queue .now) (added (a .args .t3) (a .args .t4)) (a .args .p + COUNTS) (l .loop .x) _ _ _ (omega (arith, n, t)) (omega (arith, n, a .pre .0)) (l .loop .inv .2)
-          (ap fourBytes (sym (at-added (a .args .t3) (a .args .t4) (l .loop .x) (omega (arith, t))))) (c .before .before .place .ensures),
+          (ap fourBytes (sym (at-added (a .args .t3) (a .args .t4) (l .loop .x) (omega (arith, t))))) (c .before .before .four .ensures .bytes),
     )
 
 same-length : tie.Need-same-length Inv-loop μ-loop
@@ -108,15 +97,11 @@ put-counts-spec =
     mul-k-2
     array-read-k-2
     add-k
-    cast-t19
-    cast-t21
-    cast-t24
-    cast-t26
-    slice-aggregate-place
-    add-place
-    mul-place
-    add-place-2
-    place-requires
+    add-four
+    mul-four
+    add-four-2
+    cast-four
+    four-requires
     add-x
     loop-less
     loop-again
