@@ -11,7 +11,7 @@ use Rattle.model.specs.Bytes.{twoBytes, fourBytes}
 use Rattle.model.specs.Written.{placed}
 use Rattle.model.specs.Run.{finished, spent, full, listedPlans}
 use Rattle.sheet.specs.Form.{compilable}
-use Rattle.desk.specs.Places.{LENGTH, LIMIT, STANDING, NODES, PLANS, DEPTH, LAST, COUNTS, SHEET, SHEET-BYTES, LIST, LIST-BYTES, SLOT, NEXT, size}
+use Rattle.desk.specs.Places.{LENGTH, LIMIT, STANDING, NODES, PLANS, DEPTH, LAST, COUNTS, SHEET, SHEET-BYTES, LIST, LIST-PLANS, LIST-BYTES, SLOT, NEXT, size}
 use Rattle.desk.specs.Queue.{Standing, running, over, Job, jobTurned, Slot, free, taken, Queue, slotAt, Found, none-found, slot, lowestFree, toServe, QueueCall, submit, turn, release, QueueReply, denied, fits, queueReply, dueAt, given, roundFrom, roundsQueue, statusReply, noCounts, statusCounts, RoundsReply, not-given, roundsReply}
 
 -- where slot k starts
@@ -45,7 +45,7 @@ unfoldable pub countsAt : List ℕ → ℕ → List ℕ
 countsAt b p = tabulate 12 (λ x. min (nodesAt b p) (long b (p + COUNTS + 4 * x)))
 
 abbrev pub plansAt : List ℕ → ℕ → ℕ
-plansAt b p = min 4096 («word» b (p + PLANS))
+plansAt b p = min LIST-PLANS («word» b (p + PLANS))
 
 -- a plan has as many bytes as the sheet's first number says
 abbrev pub widthAt : List ℕ → ℕ → ℕ

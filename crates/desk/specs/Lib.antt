@@ -1,6 +1,6 @@
 -- The queue, its bytes, what the answers mean, and the claims.
-pub mod Queue
 pub mod Places
+pub mod Queue
 pub mod Layout
 pub mod Meaning
 pub mod Calls

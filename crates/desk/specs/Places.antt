@@ -44,6 +44,9 @@ SHEET-BYTES = 55656
 abbrev pub LIST : ℕ
 LIST = 55731
 
+abbrev pub LIST-PLANS : ℕ
+LIST-PLANS = 4096
+
 abbrev pub LIST-BYTES : ℕ
 LIST-BYTES = 49152
 
@@ -56,3 +59,7 @@ NEXT = 839064
 
 abbrev pub size : ℕ
 size = 839065
+
+-- the nodes of a turn, unless the run ends in it
+abbrev pub QUANTUM : ℕ
+QUANTUM = 64

@@ -12,6 +12,7 @@ use Rattle.model.specs.Verdict.{Verdict, accepted, refused}
 use Rattle.model.specs.Sheet.{verdictOf, problemOf}
 use Rattle.model.specs.Run.{Ending, finished, spent, full, Result, written}
 use Rattle.run_cut.specs.Parts.{Progress, start, goOn, progressAfter}
+use Rattle.desk.specs.Places.{LIST-PLANS, QUANTUM}
 
 -- ---- a job at its slot
 pub data Standing : Type 0 where
@@ -33,11 +34,11 @@ newJob b limit = record { sheet = b; limit = limit; progress = start; standing =
 
 -- room for 4,096 plans, in bytes
 abbrev pub listRoom : Problem → ℕ
-listRoom p = 4096 * p .variables
+listRoom p = LIST-PLANS * p .variables
 
 -- how many nodes are made at the end of a turn that does not end the run before
 abbrev pub turnLimit : Job → ℕ
-turnLimit h = min (h .limit) (h .progress .made + 64)
+turnLimit h = min (h .limit) (h .progress .made + QUANTUM)
 
 -- spent before the limit is made: the run goes on at the next turn
 abbrev pub standingAfter : ℕ → Ending → Standing

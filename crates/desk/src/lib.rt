@@ -38,6 +38,9 @@ pub const LIST: usize = 55731;
 // The bytes from STANDING up to COUNTS.
 pub const STATE: usize = 20;
 
+// The most plans of a list.
+pub const LIST_PLANS: usize = 4096;
+
 // The most bytes of a sheet.
 pub const SHEET_BYTES: usize = 55656;
 

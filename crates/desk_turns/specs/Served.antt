@@ -13,7 +13,7 @@ use Rattle.arrays.specs.Places.{PLANS, LAST}
 use Rattle.run_cut.specs.Parts.{goOn, madeIn, lastAfter}
 use Rattle.run_state.specs.Pair.{prefixOf}
 use Rattle.run_state.specs.Walk.{stopIn}
-use Rattle.desk.specs.Places.{LIST}
+use Rattle.desk.specs.Places.{LIST, LIST-PLANS}
 use Rattle.desk.specs.Queue.{Job, listRoom, given, due, dueAt}
 use Rattle.desk.specs.Layout.{slotPlace, sheetAt, jobAt, slotOf, standingByte, withRun}
 use Rattle.desk_turns.specs.declared.serve.Served.{Served}
@@ -44,7 +44,7 @@ pub record Shows (h : Job) (number total : ℕ) (work : List ℕ) : Type 0 where
   pub last : prefixOf work (at work LAST) ≡ h .progress .last
   pub short : at work LAST ≤ 12
   pub bytes : (i : ℕ) → i < at work LAST → at work i < 256
-  pub few : at work PLANS ≤ 4096
+  pub few : at work PLANS ≤ LIST-PLANS
   pub narrow : total < 2 ^ 32
 
 -- a slot was given up to so many turns: its bytes, how it stands then, and how many it took

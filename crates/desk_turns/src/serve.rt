@@ -14,6 +14,7 @@ use desk::DEPTH;
 use desk::LENGTH;
 use desk::LIMIT;
 use desk::LIST;
+use desk::LIST_PLANS;
 use desk::NODES;
 use desk::SHEET;
 use desk::SHEET_BYTES;
@@ -40,9 +41,12 @@ ghost use Rattle.run_cut.specs.Parts.{added};
 ghost use Rattle.run_state.specs.Meaning.{tallyIn};
 ghost use Rattle.run_state.specs.Walk.{stopIn};
 ghost use Rattle.desk.specs.Queue.{Job, waits, standingAfter};
-ghost use Rattle.desk.specs.Places.{COUNTS, SHEET, SLOT, size};
+ghost use Rattle.desk.specs.Places.{COUNTS, SHEET, SLOT, size, QUANTUM};
 ghost use Rattle.desk.specs.Layout.{slotOf, standingByte, stateBytes, countBytes};
 ghost use Rattle.desk_turns.specs.Served.{PartDone, Shows, ServedAt};
+
+// The nodes of a turn.
+const QUANTUM: usize = 64;
 
 // How a slot stands after its turns, and how many it took.
 pub struct Served {
@@ -55,9 +59,9 @@ pub struct Served {
 // How many of the nodes left so many turns may make.
 fn share(left: usize, turns: u32) -> u32
     requires { ⌜ left < 2 ^ 32 ⌝ }
-    ensures { λ r. ⌜ r ≡ min left (64 * turns) ⌝ }
+    ensures { λ r. ⌜ r ≡ min left (QUANTUM * turns) ⌝ }
 {
-    let most = 64 * turns as usize;
+    let most = QUANTUM * turns as usize;
     if left < most {
         return left as u32;
     }
@@ -66,12 +70,12 @@ fn share(left: usize, turns: u32) -> u32
 
 // How many turns made so many nodes.
 fn turns_for(nodes: u32) -> usize
-    ensures { λ r. ⌜ r ≡ 1 + (nodes - 1) / 64 ⌝ }
+    ensures { λ r. ⌜ r ≡ 1 + (nodes - 1) / QUANTUM ⌝ }
 {
     if nodes == 0 {
         return 1;
     }
-    1 + (nodes as usize - 1) / 64
+    1 + (nodes as usize - 1) / QUANTUM
 }
 
 // How a run stands that stopped with so many nodes: 0 running, 1 finished, 2 spent, 3 full.
@@ -133,13 +137,13 @@ fn go_on(queue: &mut [u8], p: usize, more: u32, work: &mut Work) -> CountedPart
     let mut supports = [0u16; SUPPORTS];
     let mut tables = [0u16; TABLES];
     let mut numbers = [0u64; NUMBERS];
-    let plans = bounded(queue, p + desk::PLANS, 4096);
+    let plans = bounded(queue, p + desk::PLANS, LIST_PLANS);
     let last = p + desk::LAST;
     let after = last + byte(queue, p + DEPTH, 12) as usize;
     run_resume::put_progress(work, plans, &queue[last..after]);
     let sheet = p + SHEET;
     let end = sheet + bounded(queue, p + LENGTH, SHEET_BYTES);
-    let size = 4096 * bounded(queue, sheet, 12);
+    let size = LIST_PLANS * bounded(queue, sheet, 12);
     let step = run_resume::prepare_again(
         &mut stack,
         work,
